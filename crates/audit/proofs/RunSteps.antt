@@ -1,7 +1,7 @@
 -- A run, once its text is made.
 use Rattle.std.proofs.Common.{◌≡◌, ◌∙◌, ◌⊎◌, ◌++◌, ℕ, List, [], ◌∷◌, Option, Some, None, Result, Ok, Err, refl, sym, ap, subst, inl, inr, append-nil, false}
 use Rattle.std.specs.List.{concat}
-use Rattle.std.specs.Prelude.{IfSome, IfErr, IsOk, MatchResult}
+use Rattle.std.specs.Prelude.{Bool, IfSome, IfErr, IfOk, IsOk, MatchResult, option_map}
 use Rattle.std.specs.Io.KnownBytes.{Appends, Keeps}
 use Rattle.byte_stream.specs.Fault.{CountsFault}
 use Rattle.byte_stream.specs.Intake.{TakesAtMost}
@@ -12,28 +12,29 @@ use Rattle.report.specs.declared.fault.Input.TheVariants as inputs
 use Rattle.report.specs.declared.fault.Outcome.{Outcome}
 use Rattle.report.specs.declared.fault.RunFault.{RunFault}
 use Rattle.report.specs.declared.fault.RunFault.TheVariants as faults
-use Rattle.claim_file.specs.declared.claim.Claim.{Claim}
 use Rattle.claim_file.specs.Claim.{ClaimData, data_of as claim_data}
-use Rattle.pairing.specs.declared.compact.CompactCollection.{CompactCollection}
 use Rattle.pairing.specs.Compact.{compact_data}
 use Rattle.pairing.specs.Pairing.{Collection}
 use Rattle.report.specs.CertificateInput.{max_certificate}
-use Rattle.report.specs.ClaimInput.{IsOfClaim, claim_read, max_claim}
+use Rattle.report.specs.ClaimInput.{claim_read, max_claim}
 use Rattle.report.specs.Input.{most_read}
 use Rattle.report.specs.RefutationInput.{max_refutation}
 use Rattle.report.specs.Publication.{IsAnswerFor, IsMadeFor, IsUnwritten, Publishes, Ready}
 use Rattle.report.specs.Reports.{Report, Reports, GetsText, is_claim, is_second, is_capture, is_sums, is_device, refused}
-use Rattle.report.specs.Reading.{IsFromOutside, Reads}
+use Rattle.report.specs.Reading.{IsFromOutside}
 use Rattle.report.specs.Run.{RunState}
 use Rattle.report.specs.Runs.{HasClaim, HasLawfulHeader, IsBeforeCapture, IsBeforeSecond, IsUnwrittenAt, Runs}
 use Rattle.report.proofs.InputIntake.{takes_within}
-use Rattle.audit.specs.CaptureInput.{IsOfCapture, capture_read}
-use Rattle.audit.specs.Evidence.{evidence_of}
-use Rattle.audit.specs.Question.{AskedData, Finding, no_finding}
-use Rattle.audit.specs.Second.{HasSecond, IsOfSecond, SecondData, SecondKind, most_second}
+use Rattle.audit.specs.CaptureInput.{capture_read}
+use Rattle.audit.specs.Evidence.{evidence_data, evidence_of}
+use Rattle.audit.specs.Question.{AreInputsOf, AskedData, Finding, ShowsOf, for_a_program, no_finding}
+use Rattle.audit.specs.Second.{HasSecond, SecondData, SecondKind, most_second, second_read}
 use Rattle.audit.specs.Second.{no_second, certificate_second, refutation_second}
-use Rattle.audit.specs.Report.{IsMadeAfter, after_capture, after_claim, after_second, report_of_bytes, run_report}
-use Rattle.audit.specs.Finding.{IsFindingIn, IsFindingOf}
+use Rattle.audit.specs.Report.{InputsData, IsOfMaking, Tells, TellsFinding, TellsTwice, inputs_data, inputs_read, report_on, run_report, with_second}
+use Rattle.audit.specs.Run.{IsToldToo, RunsFor, RunsTwice}
+use Rattle.audit.specs.declared.engine.Inputs.{Inputs}
+use Rattle.audit.proofs.Capture.{header_was_read}
+use Rattle.audit.proofs.Showing.{BytesLaws, finding_shown, nothing_shown, refused_twice}
 
 -- ---- the fault of an answer
 
@@ -95,15 +96,8 @@ unwritten before after (Err fault) answer h p =
 
 -- ---- how much is taken of the inputs
 
--- what is taken of a claim
-pub claim_taken : (read : Result Claim RunFault) (made : Result Ready RunFault) (before after : FeedState) →
-    IfErr read (λ fault. made ≡ Err fault) → TakesAtMost (most_read inputs.Claim max_claim read) before after →
-    TakesAtMost (most_read inputs.Claim max_claim made) before after
-claim_taken (Ok claim) made before after is h = takes_within inputs.Claim max_claim made before after h
-claim_taken (Err fault) made before after is h = rw is h
-
 -- what is taken of a second input that was read is within its limit at any later answer
-pub second_taken : {V : Type 0} (kind : SecondKind) (read : V) (answer : Result Ready RunFault)
+pub second_taken : {A V : Type 0} (kind : SecondKind) (read : V) (answer : Result A RunFault)
     (before after : FeedState) → TakesAtMost (most_second {A = V} kind (Ok read)) before after →
     TakesAtMost (most_second kind answer) before after
 second_taken no_second read answer before after h = h
@@ -124,22 +118,6 @@ same_most_second : (kind : SecondKind) (made : Result Ready RunFault) (answer : 
 same_most_second no_second made answer stays = refl
 same_most_second certificate_second made answer stays = same_most inputs.Certificate max_certificate made answer stays
 same_most_second refutation_second made answer stays = same_most inputs.Refutation max_refutation made answer stays
-
--- ---- what was lawful if memory is refused
-
--- no later input was looked at, or the claim was read
-pub claim_was_read : (P : Type 0) (known : Option (List ℕ)) (read : Result Claim RunFault) →
-    IfSome known (λ bytes. Reads claim_data (claim_read bytes) read) → IfErr read (λ fault. P) → P ⊎ HasClaim known
-claim_was_read P None (Ok claim) reads unread = inr tt
-claim_was_read P (Some bytes) (Ok claim) reads unread = inr (rw reads refl)
-claim_was_read P known (Err fault) reads unread = inl unread
-
--- the second input was read
-pub second_was_read : {V : Type 0} (said : V → SecondData) (known : Option (Result SecondData RunFault)) (value : V) →
-    IfSome known (λ expected. Reads said expected (Ok value)) → IfSome known IsOk
-second_was_read said None value reads = tt
-second_was_read said (Some (Ok expected)) value reads = refl
-second_was_read said (Some (Err fault)) value reads = cc
 
 -- ---- the whole
 
@@ -204,117 +182,301 @@ module _ {T F : Type 0} (asked : AskedData) (finding : Finding) (before after : 
     capture_memory = λ is. h.capture_memory (was_memory made answer p.stays is);
   }
 
--- ---- an input that is refused
+-- ---- what was read
+
+-- a fault says the same of a device and of a length, whatever was to be had
+same_device : (A B : Type 0) (which : Input → Bool) (fault : RunFault) →
+    is_device {A = A} which (Err fault) ≡ is_device {A = B} which (Err fault)
+same_device A B which (faults.Device input) = refl
+same_device A B which fault = refl
+
+same_read : (A B : Type 0) (which : Input) (limit : ℕ) (fault : RunFault) →
+    most_read {X = A} which limit (Err fault) ≡ most_read {X = B} which limit (Err fault)
+same_read A B which limit (faults.TooBig input) = refl
+same_read A B which limit fault = refl
+
+same_second : (A B : Type 0) (kind : SecondKind) (fault : RunFault) →
+    most_second {A = A} kind (Err fault) ≡ most_second {A = B} kind (Err fault)
+same_second A B no_second fault = refl
+same_second A B certificate_second fault = same_read A B inputs.Certificate max_certificate fault
+same_second A B refutation_second fault = same_read A B inputs.Refutation max_refutation fault
+
+same_fault : (A B : Type 0) (fault other : RunFault) → (let x : Result A RunFault = Err fault in x) ≡ Err other →
+    (let y : Result B RunFault = Err fault in y) ≡ Err other
+same_fault A B fault other is = let same : fault ≡ other = cc in ap Err same
+
+-- what is known of a run once its inputs are read, or aren't
+pub record HasRead {T F V : Type 0} (kind : SecondKind) (said : V → SecondData) (before after : RunState)
+    (second second' : T) (capture capture' : F) (read : Result (Inputs V) RunFault) : Type 0 where
+  pub of_bytes : IfOk read (λ i. AreInputsOf kind (said i.second) (evidence_data i.evidence)
+      before.claim before.second before.capture)
+  pub refused : IfErr read (λ fault. IfSome
+      (inputs_read kind before.claim.remaining before.second.remaining before.capture.remaining)
+      (λ known. IsFromOutside fault ⊎ (known ≡ Err fault)))
+  pub unwritten : IfErr read (λ fault. IsUnwritten (Err fault))
+  pub claim_faults : CountsFault (is_device is_claim read) before.claim.faults after.claim.faults
+  pub second_faults : CountsFault (is_device is_second read) before.second.faults after.second.faults
+  pub capture_faults : CountsFault (is_device is_capture read) before.capture.faults after.capture.faults
+  pub second_untouched : IfErr read (λ fault. IsBeforeSecond fault → second' ≡ second)
+  pub capture_untouched : IfErr read (λ fault. IsBeforeCapture fault → capture' ≡ capture)
+  pub claim_at_most : TakesAtMost (most_read inputs.Claim max_claim read) before.claim after.claim
+  pub second_at_most : TakesAtMost (most_second kind read) before.second after.second
+  pub capture_at_most : TakesAtMost most_taken before.capture after.capture
+  pub claim_memory : read ≡ Err faults.Memory →
+      ((second' ≡ second) × (capture' ≡ capture)) ⊎ HasClaim before.claim.remaining
+  pub second_memory : read ≡ Err faults.Memory → (capture' ≡ capture) ⊎ HasSecond kind before.second.remaining
+  pub capture_memory : read ≡ Err faults.Memory → (capture' ≡ capture) ⊎ HasLawfulHeader before.capture.remaining
 
 made_outside : (report : Report) (fault : RunFault) → IsFromOutside fault → IsMadeFor report (Err fault)
 made_outside report faults.Memory h = tt
 made_outside report (faults.Device input) h = tt
 made_outside report fault h = absurd h
 
--- it says nothing about a report, if there is one
-any_outside : (report : Option Report) (fault : RunFault) → IsFromOutside fault →
-    IfSome report (λ r. IsMadeFor r (Err fault))
-any_outside None fault h = tt
-any_outside (Some r) fault h = made_outside r fault h
+-- an input was read
+pub was_read : {A : Type 0} (known : Option A) (B : Type 0) (meaning : A → Result B RunFault) (value : B) →
+    IfSome known (λ a. meaning a ≡ Ok value) → IfSome known (λ a. IsOk (meaning a))
+was_read None B meaning value is = tt
+was_read (Some a) B meaning value is = rw is refl
 
--- an input's fault is no failed write, nor that of a file of sums
-isnt_written : (IsOf : RunFault → Type 0) → ((sent : ℕ) → ¬ (IsOf (faults.Write sent))) →
-    ¬ (IsOf (faults.Device inputs.Sums)) → (fault : RunFault) → IsOf fault → IsUnwritten (Err fault)
-isnt_written IsOf no_write no_sums (faults.Write sent) h = no_write sent h
-isnt_written IsOf no_write no_sums (faults.Device inputs.Sums) h = no_sums h
-isnt_written IsOf no_write no_sums fault h = tt
+-- a refusal is what the bytes of the inputs call for
+refused_report : (asked : AskedData) (finding : Finding) (fault : RunFault) → IsUnwritten (Err fault) →
+    (known : Option (Result InputsData RunFault)) → IfSome known (λ k. IsFromOutside fault ⊎ (k ≡ Err fault)) →
+    IfSome (option_map (report_on asked finding) known) (λ report. IsMadeFor report (Err fault))
+refused_report asked finding fault nothing None h = tt
+refused_report asked finding fault nothing (Some k) (inl outside) =
+    made_outside (report_on asked finding k) fault outside
+refused_report asked finding fault nothing (Some k) (inr is) =
+    subst (λ (k : Result InputsData RunFault). IsMadeFor (report_on asked finding k) (Err fault)) (sym is)
+    (refusal_for fault nothing)
 
--- the refusal is what reading gave
-same_refusal : {A : Type 0} (other : Result A RunFault) (fault : RunFault) → IsUnwritten (Err fault) →
-    IsFromOutside fault ⊎ (other ≡ Err fault) → MatchResult other (λ value. Unit {0})
-    (λ f. IsMadeFor (refused f) (Err fault))
-same_refusal (Ok value) fault unwritten h = tt
-same_refusal (Err other) fault unwritten (inl outside) = made_outside (refused other) fault outside
-same_refusal (Err other) fault unwritten (inr same) =
-    subst (λ (f : RunFault). IsMadeFor (refused f) (Err fault)) (let is : fault ≡ other = cc in is)
-    (refusal_for fault unwritten)
+-- what was read is what the bytes of the inputs say
+module _ (said : SecondData) (claim : ClaimData) (collection : Collection) where
+  known_after : (second : Option (Result SecondData RunFault)) (capture : Option (List ℕ)) →
+      IfSome second (λ read. read ≡ Ok said) → IfSome capture (λ bytes. capture_read claim bytes ≡ Ok collection) →
+      IfSome (with_second claim second capture) (λ known. known ≡ Ok (inputs_data said (evidence_of claim collection)))
+  known_after None capture second_is capture_is = tt
+  known_after (Some (Err fault)) capture second_is capture_is = absurd cc
+  known_after (Some (Ok other)) None second_is capture_is = tt
+  known_after (Some (Ok other)) (Some bytes) second_is capture_is =
+      let same : other ≡ said = cc in rw (same, capture_is) refl
 
-module _ {V : Type 0} (said : V → SecondData) (asked : AskedData) (finding : Finding) (claim : ClaimData)
-    (fault : RunFault) where
-  -- the second input's refusal is what the bytes of the inputs call for
-  pub second_refusal : IsOfSecond fault → (second : Option (Result SecondData RunFault)) (capture : Option (List ℕ)) →
-      IfSome second (λ expected. Reads said expected (Err fault)) →
-      IfSome (after_second asked finding claim second capture) (λ report. IsMadeFor report (Err fault))
-  second_refusal of None capture reads = tt
-  second_refusal of (Some (Err other)) capture reads =
-      same_refusal (let read : Result SecondData RunFault = Err other in read) fault
-      (isnt_written IsOfSecond (λ sent h. h) (λ h. h) fault of) reads
-  second_refusal of (Some (Ok known)) capture (inl outside) =
-      any_outside (after_second asked finding claim (Some (Ok known)) capture) fault outside
-  second_refusal of (Some (Ok known)) capture (inr is) = absurd cc
+  known_inputs : (kind : SecondKind) (bytes second capture : Option (List ℕ)) →
+      IfSome bytes (λ b. claim_read b ≡ Ok claim) → IfSome (second_read kind second) (λ read. read ≡ Ok said) →
+      IfSome capture (λ b. capture_read claim b ≡ Ok collection) →
+      IfSome (inputs_read kind bytes second capture)
+      (λ known. known ≡ Ok (inputs_data said (evidence_of claim collection)))
+  known_inputs kind None second capture claim_is second_is capture_is = tt
+  known_inputs kind (Some b) second capture claim_is second_is capture_is =
+      rw claim_is (known_after (second_read kind second) capture second_is capture_is)
 
-module _ (asked : AskedData) (finding : Finding) (fault : RunFault) (of : IsOfClaim fault)
-    (second capture : Option (List ℕ)) where
-  -- the claim's refusal is
-  pub claim_refusal : (expected : Result ClaimData RunFault) → Reads claim_data expected (Err fault) →
-      IfSome (after_claim asked finding expected second capture) (λ report. IsMadeFor report (Err fault))
-  claim_refusal (Err other) reads =
-      same_refusal (let read : Result ClaimData RunFault = Err other in read) fault
-      (isnt_written IsOfClaim (λ sent h. h) (λ h. h) fault of) reads
-  claim_refusal (Ok known) (inl outside) =
-      any_outside (after_claim asked finding (Ok known) second capture) fault outside
-  claim_refusal (Ok known) (inr is) = absurd cc
+known_report : (asked : AskedData) (finding : Finding) (read : InputsData) (P : Report → Type 0)
+    (known : Option (Result InputsData RunFault)) → IfSome known (λ k. k ≡ Ok read) →
+    P (report_on asked finding (Ok read)) → IfSome (option_map (report_on asked finding) known) P
+known_report asked finding read P None is holds = tt
+known_report asked finding read P (Some k) is holds = rw is holds
 
-module _ (asked : AskedData) (finding : Finding) (claim : ClaimData) (fault : RunFault) (of : IsOfCapture fault) where
-  refused_after : (said : SecondData) (read : Result Collection RunFault) → Reads compact_data read (Err fault) →
-      IsMadeFor (after_capture asked finding said claim read) (Err fault)
-  refused_after said read (inl outside) = made_outside (after_capture asked finding said claim read) fault outside
-  refused_after said read (inr is) =
-      subst (λ (r : Result Collection RunFault). IsMadeFor (after_capture asked finding said claim r) (Err fault))
-      (sym is) (refusal_for fault (isnt_written IsOfCapture (λ sent h. h) (λ h. h) fault of))
+-- what holds of the report on what was read holds of the report on the bytes
+pub report_known : (asked : AskedData) (finding : Finding) (said : SecondData) (claim : ClaimData)
+    (collection : Collection) (before : RunState) →
+    AreInputsOf asked.second said (evidence_of claim collection) before.claim before.second before.capture →
+    (P : Report → Type 0) → P (report_on asked finding (Ok (inputs_data said (evidence_of claim collection)))) →
+    IfSome (run_report asked finding before) P
+report_known asked finding said claim collection before are P holds =
+    known_report asked finding (inputs_data said (evidence_of claim collection)) P _
+    (known_inputs said claim collection asked.second before.claim.remaining before.second.remaining
+    before.capture.remaining are.claim_is are.second_is are.capture_is) holds
 
-  -- its refusal is what the bytes of the inputs call for
-  pub capture_refusal : {V : Type 0} (said : V → SecondData) (value : V)
-      (second : Option (Result SecondData RunFault)) (capture : Option (List ℕ)) →
-      IfSome second (λ expected. Reads said expected (Ok value)) →
-      IfSome capture (λ bytes. Reads compact_data (capture_read claim bytes) (Err fault)) →
-      IfSome (after_second asked finding claim second capture) (λ report. IsMadeFor report (Err fault))
-  capture_refusal said value None capture read refused = tt
-  capture_refusal said value (Some (Err other)) capture read refused = absurd cc
-  capture_refusal said value (Some (Ok known)) None read refused = tt
-  capture_refusal said value (Some (Ok known)) (Some bytes) read refused =
-      refused_after known (capture_read claim bytes) refused
+-- ---- what is made of it
 
--- ---- no input is refused
+-- nothing can be made of evidence for want of memory, or since there are too many pieces
+of_making : (P : RunFault → Type 0) → P faults.Pieces → P faults.Memory → (made : Result Ready RunFault) →
+    IfErr made IsOfMaking → IfErr made P
+of_making P pieces memory (Ok m) h = tt
+of_making P pieces memory (Err faults.Pieces) h = pieces
+of_making P pieces memory (Err faults.Memory) h = memory
+of_making P pieces memory (Err fault) h = absurd h
 
-module _ {V : Type 0} (said : V → SecondData) (asked : AskedData) (finding : Finding) (claim : ClaimData) (value : V)
-    (held : CompactCollection) (made : Result Ready RunFault) where
-  -- what was made of the evidence is what the bytes of the inputs call for
-  pub evidence_made : (second : Option (Result SecondData RunFault)) (capture : Option (List ℕ)) →
-      IfSome second (λ expected. Reads said expected (Ok value)) →
-      IfSome capture (λ bytes. Reads compact_data (capture_read claim bytes) (Ok held)) →
-      IsMadeFor (asked.question.report asked.style finding (said value) (evidence_of claim (compact_data held))) made →
-      IfSome (after_second asked finding claim second capture) (λ report. IsMadeFor report made)
-  evidence_made None capture read collected is = tt
-  evidence_made (Some (Err other)) capture read collected is = absurd cc
-  evidence_made (Some (Ok known)) None read collected is = tt
-  evidence_made (Some (Ok known)) (Some bytes) read collected is =
-      let same : said value ≡ known = cc in
-      rw collected (rw same at is)
+unwritten_made : (made : Result Ready RunFault) → IfErr made IsOfMaking → IsUnwritten made
+unwritten_made (Ok m) h = tt
+unwritten_made (Err faults.Pieces) h = tt
+unwritten_made (Err faults.Memory) h = tt
+unwritten_made (Err fault) h = absurd h
 
--- a finding on the evidence is one on the bytes of the capture
-pub finding_after : (finding : Finding) (claim : ClaimData) (collection : Collection) (capture : Option (List ℕ)) →
-    IfSome capture (λ bytes. capture_read claim bytes ≡ Ok collection) →
-    IsFindingOf (evidence_of claim collection) finding → IfSome capture (IsFindingIn finding claim)
-finding_after finding claim collection None collected found = tt
-finding_after finding claim collection (Some bytes) collected found = inr (collection, collected, found)
+pub no_device : (which : Input → Bool) (made : Result Ready RunFault) → IfErr made IsOfMaking →
+    is_device which made ≡ false
+no_device which (Ok m) h = refl
+no_device which (Err faults.Pieces) h = refl
+no_device which (Err faults.Memory) h = refl
+no_device which (Err fault) h = absurd h
 
--- nothing was looked for
-pub none_after : (claim : ClaimData) (capture : Option (List ℕ)) → IfSome capture (IsFindingIn no_finding claim)
-none_after claim None = tt
-none_after claim (Some bytes) = inl refl
+module _ {T F V : Type 0} (asked : AskedData) (said : V → SecondData) (finding : Finding) (before after : RunState)
+    (second second' : T) (capture capture' : F) where
+  pub made_of_refusal : (fault : RunFault) →
+      HasRead asked.second said before after second second' capture capture' (Err fault) →
+      HasMade asked finding before after second second' capture capture' (Err fault)
+  made_of_refusal fault h = record {
+    is_made = refused_report asked finding fault h.unwritten _ h.refused;
+    unwritten = h.unwritten;
+    claim_faults = subst (λ (b : Bool). CountsFault b before.claim.faults after.claim.faults)
+        (same_device (Inputs V) Ready is_claim fault) h.claim_faults;
+    second_faults = subst (λ (b : Bool). CountsFault b before.second.faults after.second.faults)
+        (same_device (Inputs V) Ready is_second fault) h.second_faults;
+    capture_faults = subst (λ (b : Bool). CountsFault b before.capture.faults after.capture.faults)
+        (same_device (Inputs V) Ready is_capture fault) h.capture_faults;
+    second_untouched = h.second_untouched;
+    capture_untouched = h.capture_untouched;
+    claim_at_most = subst (λ (n : ℕ). TakesAtMost n before.claim after.claim)
+        (same_read (Inputs V) Ready inputs.Claim max_claim fault) h.claim_at_most;
+    second_at_most = subst (λ (n : ℕ). TakesAtMost n before.second after.second)
+        (same_second (Inputs V) Ready asked.second fault) h.second_at_most;
+    capture_at_most = h.capture_at_most;
+    claim_memory = λ is. h.claim_memory (same_fault Ready (Inputs V) fault faults.Memory is);
+    second_memory = λ is. h.second_memory (same_fault Ready (Inputs V) fault faults.Memory is);
+    capture_memory = λ is. h.capture_memory (same_fault Ready (Inputs V) fault faults.Memory is);
+  }
 
--- ---- from the claim's bytes
+  pub made_of_inputs : (i : Inputs V) (made : Result Ready RunFault) →
+      HasRead asked.second said before after second second' capture capture' (Ok i) →
+      IsMadeFor (report_on asked finding (Ok (inputs_data (said i.second) (evidence_data i.evidence)))) made →
+      IfErr made IsOfMaking → HasMade asked finding before after second second' capture capture' made
+  made_of_inputs i made h is_made making = record {
+    is_made = report_known asked finding (said i.second) (claim_data i.evidence.claim) (compact_data i.evidence.held)
+        before h.of_bytes (λ report. IsMadeFor report made) is_made;
+    unwritten = unwritten_made made making;
+    claim_faults = rw (no_device is_claim made making) h.claim_faults;
+    second_faults = rw (no_device is_second made making) h.second_faults;
+    capture_faults = rw (no_device is_capture made making) h.capture_faults;
+    second_untouched = of_making (λ fault. IsBeforeSecond fault → second' ≡ second) (λ no. absurd no)
+        (λ no. absurd no) made making;
+    capture_untouched = of_making (λ fault. IsBeforeCapture fault → capture' ≡ capture) (λ no. absurd no)
+        (λ no. absurd no) made making;
+    claim_at_most = takes_within inputs.Claim max_claim made before.claim after.claim h.claim_at_most;
+    second_at_most = second_taken asked.second i made before.second after.second h.second_at_most;
+    capture_at_most = h.capture_at_most;
+    claim_memory = λ is. inr (was_read before.claim.remaining ClaimData claim_read _ h.of_bytes.claim_is);
+    second_memory = λ is. inr (was_read (second_read asked.second before.second.remaining) SecondData (λ r. r) _
+        h.of_bytes.second_is);
+    capture_memory = λ is. inr (header_was_read (claim_data i.evidence.claim) before.capture.remaining
+        i.evidence.held h.of_bytes.capture_is);
+  }
 
--- what was made of a claim that was read, or refused, is what its bytes call for
-pub made_of_bytes : (asked : AskedData) (claim second capture : Option (List ℕ)) (read : Result Claim RunFault)
-    (made : Result Ready RunFault) → IfSome claim (λ bytes. Reads claim_data (claim_read bytes) read) →
-    (after : IsMadeAfter asked read second capture made) →
-    IfSome (report_of_bytes asked after.finding claim second capture) (λ report. IsMadeFor report made)
-made_of_bytes asked None second capture read made reads after = tt
-made_of_bytes asked (Some bytes) second capture read made reads after = after.is_made (claim_read bytes) reads
+-- ---- a run
+
+-- what the outcome of an answer shows
+shown_answer : (P Q : Outcome → Type 0) → ((outcome : Outcome) → P outcome → Q outcome) →
+    (made : Result Ready RunFault) (answer : Result Outcome RunFault) → IsAnswerFor made answer →
+    IfOk made (λ m. P m.outcome) → IfOk answer Q
+shown_answer P Q of (Ok m) answer (inl same) h = rw same (of m.outcome h)
+shown_answer P Q of (Ok m) answer (inr (sent, is)) h = rw is tt
+shown_answer P Q of (Err fault) answer same h = rw same tt
+
+module _ {V : Type 0} (asked : AskedData) (said : V → SecondData) (claim second capture : FeedState)
+    (sink sink' : SinkState) (answer : Result Outcome RunFault) where
+  pub shown_of : (i : Inputs V) → AreInputsOf asked.second (said i.second) (evidence_data i.evidence)
+      claim second capture → (report : Report) →
+      Tells asked report (inputs_data (said i.second) (evidence_data i.evidence)) sink sink' answer →
+      IfOk answer (asked.question.Shows claim second capture)
+  shown_of i are report tells =
+      shown_answer (ShowsOf asked.question asked.second (said i.second) (evidence_data i.evidence))
+      (asked.question.Shows claim second capture) (λ outcome shows. shows claim second capture are)
+      tells.made answer tells.publishes.stays tells.shows
+
+  pub told_shows : (read : Result (Inputs V) RunFault) → IfOk read (λ i. AreInputsOf asked.second (said i.second)
+      (evidence_data i.evidence) claim second capture) →
+      MatchResult read (λ i. TellsFinding asked (inputs_data (said i.second) (evidence_data i.evidence))
+      sink sink' answer) (λ fault. Publishes sink sink' (Err fault) answer) →
+      IfOk answer (asked.question.Shows claim second capture)
+  told_shows (Ok i) are told =
+      shown_of i are (report_on asked told.finding (Ok (inputs_data (said i.second) (evidence_data i.evidence)))) told.tells
+  told_shows (Err fault) are published = rw published.stays tt
+
+module _ {T F V : Type 0} (laws : BytesLaws) (asked : AskedData) (said : V → SecondData) (before after : RunState)
+    (second second' : T) (capture capture' : F) (answer : Result Outcome RunFault) where
+  pub told_runs : (read : Result (Inputs V) RunFault) →
+      HasRead asked.second said before after second second' capture capture' read →
+      MatchResult read (λ i. TellsFinding asked (inputs_data (said i.second) (evidence_data i.evidence))
+      before.sink after.sink answer) (λ fault. Publishes before.sink after.sink (Err fault) answer) →
+      RunsFor asked before after second second' capture capture' answer
+  told_runs (Ok i) h told = record {
+    finding = told.finding;
+    found = finding_shown laws (evidence_data i.evidence) told.finding before.claim before.capture
+        h.of_bytes.claim_is h.of_bytes.capture_is told.found;
+    runs = made_runs asked told.finding before after second second' capture capture' told.tells.made answer
+        (made_of_inputs asked said told.finding before after second second' capture capture' i told.tells.made h
+        told.tells.is_made told.tells.of_making) told.tells.publishes;
+  }
+  told_runs (Err fault) h published = record {
+    finding = no_finding;
+    found = nothing_shown before.claim before.capture;
+    runs = made_runs asked no_finding before after second second' capture capture' (Err fault) answer
+        (made_of_refusal asked said no_finding before after second second' capture capture' fault h) published;
+  }
+
+-- ---- a finding that is told twice
+
+module _ {T F V : Type 0} (laws : BytesLaws) (asked : AskedData) (said : V → SecondData) (before after : RunState)
+    (second second' : T) (capture capture' : F) (out out' : SinkState) (answer : Result Outcome RunFault) where
+  abbrev pub Told : Inputs V → Type 0
+  Told i = TellsTwice asked (inputs_data (said i.second) (evidence_data i.evidence)) before.sink after.sink out out' answer
+
+  told_too : (i : Inputs V) → HasRead asked.second said before after second second' capture capture' (Ok i) →
+      (told : Told i) (drafted : Result Outcome RunFault) → told.drafted ≡ drafted →
+      MatchResult drafted (λ outcome. IsToldToo asked told.finding before after out out' drafted answer)
+      (λ fault. (answer ≡ Err fault) × (out' ≡ out))
+  told_too i h told (Ok outcome) is =
+      let inputs = inputs_data (said i.second) (evidence_data i.evidence) in
+      let report = report_on asked told.finding (Ok inputs) in
+      let tells : Tells asked report inputs out out' answer = rw is at told.then_tells in
+      let text = tells.publishes.text report tells.is_made in
+      record {
+        inputs = inputs;
+        are_inputs = h.of_bytes;
+        found = told.found;
+        draft = rw is at (told.drafts.publishes.text (report_on (for_a_program asked) told.finding (Ok inputs))
+            told.drafts.is_made);
+        text = text;
+        of_bytes = report_known asked told.finding (said i.second) (claim_data i.evidence.claim)
+            (compact_data i.evidence.held) before h.of_bytes
+            (λ report. GetsText report out.contents out'.contents answer) text;
+        closed = tells.publishes.closed;
+        sink = tells.publishes.sink;
+        unfailed = λ which. tells.publishes.device which ∙ no_device which tells.made tells.of_making;
+      }
+  told_too i h told (Err fault) is = rw is at told.then_tells
+
+  shown_too : (i : Inputs V) → HasRead asked.second said before after second second' capture capture' (Ok i) →
+      (told : Told i) (drafted : Result Outcome RunFault) → told.drafted ≡ drafted →
+      IfOk answer (asked.question.Shows before.claim before.second before.capture)
+  shown_too i h told (Ok outcome) is =
+      shown_of asked said before.claim before.second before.capture out out' answer i h.of_bytes
+      (report_on asked told.finding (Ok (inputs_data (said i.second) (evidence_data i.evidence))))
+      (rw is at told.then_tells)
+  shown_too i h told (Err fault) is = let given_up = rw is at told.then_tells in rw given_up.0 tt
+
+  pub told_twice : (read : Result (Inputs V) RunFault) →
+      HasRead asked.second said before after second second' capture capture' read →
+      MatchResult read Told
+      (λ fault. Publishes before.sink after.sink (Err fault) answer × (out' ≡ out)) →
+      RunsTwice asked before after second second' capture capture' out out' answer
+  told_twice (Ok i) h told = record {
+    finding = told.finding;
+    found = finding_shown laws (evidence_data i.evidence) told.finding before.claim before.capture
+        h.of_bytes.claim_is h.of_bytes.capture_is told.found;
+    drafted = told.drafted;
+    runs = made_runs (for_a_program asked) told.finding before after second second' capture capture'
+        told.drafts.made told.drafted
+        (made_of_inputs (for_a_program asked) said told.finding before after second second' capture capture' i
+        told.drafts.made h told.drafts.is_made told.drafts.of_making) told.drafts.publishes;
+    then_told = told_too i h told told.drafted refl;
+    shows = shown_too i h told told.drafted refl;
+  }
+  told_twice (Err fault) h (published, untold) = record {
+    finding = no_finding;
+    found = nothing_shown before.claim before.capture;
+    drafted = answer;
+    runs = made_runs (for_a_program asked) no_finding before after second second' capture capture' (Err fault) answer
+        (made_of_refusal (for_a_program asked) said no_finding before after second second' capture capture' fault h)
+        published;
+    then_told = refused_twice _ (out' ≡ out) fault answer published.stays untold;
+    shows = rw published.stays tt;
+  }

@@ -1,17 +1,23 @@
 -- What the outcome of a search shows.
-use Rattle.std.proofs.Common.{◌≡◌, ℕ, List, Ok}
+use Rattle.std.proofs.Common.{◌≡◌, ◌⊎◌, ℕ, List, Result, Ok, Err, inl, inr, sym, subst}
 use Rattle.sample_interval.specs.declared.kinds.Sample.{Sample}
+use Rattle.finder.specs.declared.fault.FindFault.{FindFault}
+use Rattle.finder.specs.declared.fault.FindFault.TheVariants.{TooManyPieces, Memory}
 use Rattle.finder.specs.declared.found.Found.{Found}
 use Rattle.finder.specs.declared.found.Found.TheVariants as founds
 use Rattle.finder.specs.Answer.{Finds}
-use Rattle.finder.specs.Found.{data_of}
+use Rattle.finder.specs.Found.{FoundData, data_of}
 use Rattle.certificate.specs.Certificate.{data_of as certificate_data}
+use Rattle.line_writer.specs.declared.field.Style.{Style}
+use Rattle.report.specs.Publication.{IsMadeFor}
+use Rattle.report.specs.declared.fault.RunFault.{RunFault}
 use Rattle.report.specs.declared.fault.Outcome.{Outcome}
 use Rattle.report.specs.declared.fault.Outcome.TheVariants.{Yes, No}
 use Rattle.audit.specs.Evidence.{EvidenceData, samples_in}
-use Rattle.audit.specs.Find.{IsFoundOf, IsNotFoundOf, IsSearchOf, find, found_outcome}
+use Rattle.audit.specs.Find.{IsFoundOf, IsNotFoundOf, IsSearchOf, find, find_report, find_run_fault_of, found_report, found_in, found_outcome}
 use Rattle.audit.specs.Question.{ShowsOf}
 use Rattle.audit.specs.Second.{no_second, nothing_said}
+use Rattle.audit.proofs.SettlementShowing.{refused_made}
 use Rattle.audit.proofs.Showing.{of_evidence}
 
 module _ (step : ℕ) (e : EvidenceData) where
@@ -43,3 +49,13 @@ module _ (step : ℕ) (e : EvidenceData) where
       ShowsOf (find step) no_second nothing_said e outcome
   search_shown Yes h = of_evidence (IsFoundOf step) e h
   search_shown No h = of_evidence (IsNotFoundOf step) e h
+
+-- why nothing is found is the report
+pub search_refused : (style : Style) (step : ℕ) (e : EvidenceData) (fault : FindFault) (told : RunFault) →
+    told ≡ find_run_fault_of fault → (fault ≡ Memory) ⊎ (found_in step e ≡ Err fault) →
+    IsMadeFor (find_report style step e) (Err told)
+search_refused style step e Memory told is why = rw is tt
+search_refused style step e TooManyPieces told is (inl memory) = absurd cc
+search_refused style step e TooManyPieces told is (inr same) =
+    subst (λ (r : Result FoundData FindFault). IsMadeFor (found_report style step e.claim r) (Err told)) (sym same)
+    (refused_made TooManyPieces told is)

@@ -21,8 +21,7 @@ use Rattle.report.specs.Reports.{refused}
 use Rattle.audit.specs.Check.{verdict_on}
 use Rattle.audit.specs.Evidence.{EvidenceData, samples_in}
 use Rattle.audit.specs.Find.{find_run_fault_of}
-use Rattle.audit.specs.Finding.{IsFindingOf, IsSettlementOf}
-use Rattle.audit.specs.Question.{no_finding}
+use Rattle.audit.specs.Finding.{IsSettlementOf}
 use Rattle.audit.specs.Settle.{IsSettledOf}
 
 module _ (e : EvidenceData) (agree : AllPairs SameRequest e.collection.exchanges)
@@ -46,10 +45,6 @@ module _ (e : EvidenceData) (agree : AllPairs SameRequest e.collection.exchanges
   settled_of (settles.fitted_by_none conflicts) h = h
   settled_of (settles.no_evidence groups) h = h
   settled_of (settles.left_open begin end hull covers) h = h
-
--- nothing was looked for, and nothing is said
-pub nothing_found : (e : EvidenceData) → IsFindingOf e no_finding
-nothing_found e = record { settled = tt; least = tt }
 
 -- why nothing is known shows what it says
 pub fault_found : (e : EvidenceData) (fault : FindFault)

@@ -1,38 +1,50 @@
 -- The text of a settled claim, on the least bound where it names that.
-use Rattle.std.proofs.Common.{◌≡◌, List, ℕ, None, Result, Ok, Err, refl}
-use Rattle.std.specs.Prelude.{IfOk, MatchResult}
+use Rattle.std.proofs.Common.{◌≡◌, Bool, true, false, List, ℕ, [], Option, Some, None, Result, Ok, Err, refl}
+use Rattle.std.specs.Prelude.{IfOk, IsSome, is_some, unwrap_or}
+use Rattle.finder.specs.Settlement as settles
 use Rattle.finder.specs.Settlement.{SettledData}
+use Rattle.finder.specs.declared.carried.LeastCarried.{LeastCarried}
 use Rattle.line_writer.specs.declared.field.Style.{Style}
-use Rattle.report.specs.Publication.{Ready}
-use Rattle.report.specs.declared.fault.Outcome.{Outcome}
-use Rattle.report.specs.declared.fault.RunFault.{RunFault}
-use Rattle.report.specs.declared.fault.RunFault.TheVariants.{Memory}
+use Rattle.line_writer.specs.declared.field.Style.TheVariants as styles
+use Rattle.report.specs.Reports.{whole_text}
 use Rattle.audit.specs.Evidence.{EvidenceData}
-use Rattle.audit.specs.Report.{IsMadeOf}
-use Rattle.audit.specs.Second.{nothing_said}
-use Rattle.audit.specs.Settle.{IsSettledOf, IsTextFor, settle, settled_outcome}
+use Rattle.audit.specs.Settle.{answer_on, is_on_least, names_least, nanoseconds_in, report_of, settled_answer, settled_outcome, text_for}
 
-module _ (e : EvidenceData) (settled : SettledData) (holds : IsSettledOf e settled) (style : Style) where
-  -- a text on some bound that was found makes the report on that
-  of_text : (text : List ℕ) → IsTextFor style e settled text → (outcome : Outcome) →
-      outcome ≡ settled_outcome settled →
-      IsMadeOf settle style nothing_said e (Ok (record { text = text; outcome = outcome }))
-  of_text text is outcome told = record {
-    finding = record { settled = Ok settled; least = is.found };
-    found = record { settled = holds; least = is.shows };
-    is_made = rw (is.text_is, told) (refl, refl);
-  }
+-- the report on a text that is known
+pub report_is : (settled : SettledData) (known : Option (List ℕ)) → IsSome known →
+    report_of settled known ≡ whole_text (unwrap_or known []) (settled_outcome settled)
+report_is settled (Some text) is = refl
+report_is settled None is = absurd cc
 
-  -- what is told of a text that was made, or wasn't
-  pub text_made : {T E : Type 0} (text : Result T E) (items : T → List ℕ) (outcome : Outcome)
-      (made : Result Ready RunFault) → outcome ≡ settled_outcome settled →
-      MatchResult text (λ t. made ≡ Ok (record { text = items t; outcome = outcome })) (λ _. made ≡ Err Memory) →
-      IfOk text (λ t. IsTextFor style e settled (items t)) → IsMadeOf settle style nothing_said e made
-  text_made (Ok t) items outcome made told is text =
-      rw is (of_text (items t) text outcome told)
-  text_made (Err fault) items outcome made told is text =
-      rw is (record {
-        finding = record { settled = Ok settled; least = None };
-        found = record { settled = holds; least = tt };
-        is_made = tt;
-      })
+pub items_known : {T E : Type 0} (text : Result T E) (items : T → List ℕ) (known : Option (List ℕ)) →
+    IfOk text (λ t. known ≡ Some (items t)) → IfOk text (λ t. items t ≡ unwrap_or known [])
+items_known (Ok t) items known is = rw is refl
+items_known (Err fault) items known is = tt
+
+-- ---- a bound is there if it is needed
+
+module _ (e : EvidenceData) (settled : SettledData) where
+  on_bound : (named : Bool) (least : Option (Option LeastCarried)) → is_some least ≡ named →
+      IsSome (answer_on e settled named least)
+  on_bound false least is = refl
+  on_bound true (Some found) is = refl
+  on_bound true None is = absurd cc
+
+pub enough_with : (style : Style) (e : EvidenceData) (settled : SettledData) (least : Option (Option LeastCarried)) →
+    is_some least ≡ is_on_least style settled → IsSome (text_for style e least settled)
+enough_with styles.Plain e settled least is = refl
+enough_with styles.Human e settled least is = on_bound e settled (names_least settled) least is
+enough_with styles.Columns e settled least is = on_bound e settled (names_least settled) least is
+
+-- an answer that needs no bound is the same on any
+pub answered : (e : EvidenceData) (settled : SettledData) (least : Option (Option LeastCarried)) →
+    IsSome (answer_on e settled (names_least settled) least) →
+    answer_on e settled (names_least settled) least ≡ Some (settled_answer e (nanoseconds_in least) settled)
+unfolding settled_answer
+answered e (settles.shown certificate) (Some found) is = refl
+answered e (settles.shown certificate) None is = absurd cc
+answered e (settles.left_open begin end hull covers) (Some found) is = refl
+answered e (settles.left_open begin end hull covers) None is = absurd cc
+answered e (settles.refuted refutation) least is = refl
+answered e (settles.fitted_by_none conflicts) least is = refl
+answered e (settles.no_evidence groups) least is = refl

@@ -1,36 +1,34 @@
 -- What an outcome shows, from the bytes of the inputs.
 use Rattle.std.proofs.Common.{◌≡◌, ℕ, true, List, Option, Some, None, Result, Ok, Err, refl, sym, subst, inl, inr}
 use Rattle.std.specs.Prelude.{IfSome, IfOk, IfErr, MatchResult}
-use Rattle.byte_stream.specs.State.{FeedState}
+use Rattle.byte_stream.specs.State.{FeedState, SinkState}
 use Rattle.certificate.specs.Certificate.{CertificateData}
 use Rattle.certificate.specs.Refutation.{RefutationData}
-use Rattle.claim_file.specs.declared.claim.Claim.{Claim}
-use Rattle.claim_file.specs.Claim.{ClaimData, data_of as claim_data}
 use Rattle.finder.specs.Settlement as settles
 use Rattle.finder.specs.Settlement.{SettledData}
 use Rattle.finder.specs.declared.carried.LeastCarried.{LeastCarried}
 use Rattle.finder.specs.declared.fault.FindFault.{FindFault}
-use Rattle.line_writer.specs.declared.field.Style.{Style}
+use Rattle.finder.specs.declared.fault.FindFault.TheVariants as finds
+use Rattle.audit.specs.Find.{find_run_fault_of}
 use Rattle.report.specs.declared.fault.Outcome.{Outcome}
 use Rattle.report.specs.declared.fault.RunFault.{RunFault}
 use Rattle.report.specs.CertificateInput.{certificate_read}
 use Rattle.report.specs.ClaimInput.{claim_read}
 use Rattle.report.specs.declared.fault.RunFault.TheVariants as faults
-use Rattle.report.specs.Publication.{IsAnswerFor, IsMadeFor, Ready}
-use Rattle.report.specs.Reading.{Reads}
-use Rattle.report.specs.Reports.{whole_text}
+use Rattle.report.specs.Publication.{IsMadeFor, Publishes, Ready}
+use Rattle.report.specs.Reports.{Report, whole_text}
 use Rattle.report.specs.RefutationInput.{refutation_read}
 use Rattle.audit.specs.CaptureInput.{capture_read}
 use Rattle.audit.specs.Check.{ArePiecesTraced, HasVerdictYes, IsTracedTo}
-use Rattle.audit.specs.Evidence.{EvidenceData, GiveEvidence, IsEvidenceOf, OfClaimAndCapture, evidence_of}
+use Rattle.audit.specs.Evidence.{EvidenceData, GiveEvidence, IsEvidenceOf, OfClaimAndCapture}
 use Rattle.audit.specs.Contested.{CourseContests}
 use Rattle.audit.specs.Headline.{ShowsHeadline}
 use Rattle.audit.specs.Nanoseconds.{GivesNanoseconds}
-use Rattle.audit.specs.Question.{AreInputsOf, Finding, QuestionData, ShowsOf, no_finding}
+use Rattle.audit.specs.Question.{AreInputsOf, AskedData, Finding, QuestionData, ShowsOf, no_finding}
 use Rattle.audit.specs.Second.{SecondData, SecondKind, certificate_said, certificate_second, of_certificate, of_refutation, refutation_said, refutation_second, second_read}
 use Rattle.audit.specs.Refute.{IsContestedOf}
-use Rattle.audit.specs.Report.{IsMadeOf, ShowsAfter}
-use Rattle.audit.specs.Finding.{IsFindingFrom, IsFindingIn, IsFindingOf, IsSettlementFrom, IsSettlementOf, ShowsFinding}
+use Rattle.audit.specs.Report.{InputsData, IsOfMaking, IsUnfound, PublishesWhole, Tells}
+use Rattle.audit.specs.Finding.{IsFindingFrom, IsFindingOf, IsSettlementFrom, IsSettlementOf, ShowsFinding}
 use Rattle.audit.specs.Least.{IsLeastBoundOf}
 use Rattle.audit.specs.Settle.{IsSettledFrom, IsSettledOf, IsShownOf}
 use Rattle.audit.proofs.Excess.{standing_beyond}
@@ -89,10 +87,6 @@ refutation_is r None is = tt
 refutation_is r (Some s) is = refutation_of (refutation_read s) r is
 
 -- ---- a yes, and what was found
-
--- nothing was found, and so nothing is said
-nothing_from : (finding : Finding) (b f : List ℕ) → finding ≡ no_finding → IsFindingFrom finding b f
-nothing_from finding b f is = rw is (record { settled = inl refl; least = tt })
 
 module _ (nanoseconds : GivesNanoseconds) (b f : List ℕ) (e : EvidenceData) (is : IsEvidenceOf b f e)
     (certificate : CertificateData) (h : HasVerdictYes certificate e) where
@@ -153,72 +147,39 @@ module _ (laws : BytesLaws) (b f : List ℕ) (e : EvidenceData) (is : IsEvidence
     least = least_of finding.least h.least;
   }
 
-finding_from : (laws : BytesLaws) (c : ClaimData) (b f : List ℕ) (finding : Finding) → claim_read b ≡ Ok c
-    → IsFindingIn finding c f → IsFindingFrom finding b f
-finding_from laws c b f finding is (inl none) = nothing_from finding b f none
-finding_from laws c b f finding is (inr (collection, collected, h)) =
-    finding_of laws b f (evidence_of c collection) (record { claim_is = is; collection_is = collected }) finding h
-
 -- ---- a run
 
--- a claim that was read is what its bytes give
-known_claim : (claim : Option (List ℕ)) (c : Claim) →
-    IfSome claim (λ bytes. Reads claim_data (claim_read bytes) (Ok c)) →
-    IfSome claim (λ bytes. claim_read bytes ≡ Ok (claim_data c))
-known_claim None c reads = tt
-known_claim (Some bytes) c reads = reads
-
 -- what a run found is shown of the bytes of its inputs
-module _ (laws : BytesLaws) (finding : Finding) (read : Result Claim RunFault) where
-  of_bytes : (claim capture : Option (List ℕ)) → IfSome claim (λ bytes. Reads claim_data (claim_read bytes) read) →
-      MatchResult read (λ c. IfSome capture (IsFindingIn finding (claim_data c))) (λ fault. finding ≡ no_finding) →
-      IfSome claim (λ b. IfSome capture (IsFindingFrom finding b))
-  of_bytes None capture reads found = tt
-  of_bytes (Some b) None reads found = tt
-  of_bytes (Some b) (Some f) reads found = at read reads found where
-    at : (r : Result Claim RunFault) → Reads claim_data (claim_read b) r →
-        MatchResult r (λ c. IsFindingIn finding (claim_data c) f) (λ fault. finding ≡ no_finding) →
-        IsFindingFrom finding b f
-    at (Ok c) is h = finding_from laws (claim_data c) b f finding is h
-    at (Err fault) is h = nothing_from finding b f h
+pub finding_shown : (laws : BytesLaws) (e : EvidenceData) (finding : Finding) (claim capture : FeedState) →
+    IfSome claim.remaining (λ b. claim_read b ≡ Ok e.claim) →
+    IfSome capture.remaining (λ f. capture_read e.claim f ≡ Ok e.collection) → IsFindingOf e finding →
+    ShowsFinding finding claim capture
+finding_shown laws e finding claim capture claim_is capture_is found =
+    both e (IsFindingFrom finding) (λ b f is. finding_of laws b f e is finding found)
+    claim.remaining capture.remaining claim_is capture_is
 
-  pub run_finds : (claim capture : FeedState) →
-      IfSome claim.remaining (λ bytes. Reads claim_data (claim_read bytes) read) →
-      MatchResult read (λ c. IfSome capture.remaining (IsFindingIn finding (claim_data c)))
-      (λ fault. finding ≡ no_finding) → ShowsFinding finding claim capture
-  run_finds claim capture reads found = of_bytes claim.remaining capture.remaining reads found
+nothing_of : (claim capture : Option (List ℕ)) → IfSome claim (λ b. IfSome capture (IsFindingFrom no_finding b))
+nothing_of None capture = tt
+nothing_of (Some b) None = tt
+nothing_of (Some b) (Some f) = record { settled = inl refl; least = tt }
 
--- what was made after the capture was read shows the same of any feed that says the claim
-pub shows_after : (kind : SecondKind) (said : SecondData) (question : QuestionData) (e : EvidenceData)
-    (second capture : FeedState) (made : Result Ready RunFault) →
-    IfSome (second_read kind second.remaining) (λ read. read ≡ Ok said) →
-    IfSome capture.remaining (λ bytes. capture_read e.claim bytes ≡ Ok e.collection) →
-    IfOk made (λ m. ShowsOf question kind said e m.outcome) →
-    IfOk made (λ m. ShowsAfter question e.claim second capture m.outcome)
-shows_after kind said question e second capture (Err fault) second_is capture_is shows = tt
-shows_after kind said question e second capture (Ok m) second_is capture_is shows = λ feed claim_is.
-    shows feed second capture (record { claim_is = claim_is; second_is = second_is; capture_is = capture_is })
+pub nothing_shown : (claim capture : FeedState) → ShowsFinding no_finding claim capture
+nothing_shown claim capture = nothing_of claim.remaining capture.remaining
 
-module _ (question : QuestionData) (claim second capture : FeedState) where
-  -- what the outcome of a run shows
-  pub run_shows : (read : Result Claim RunFault) (made : Result Ready RunFault) (answer : Result Outcome RunFault) →
-      IfSome claim.remaining (λ bytes. Reads claim_data (claim_read bytes) read) →
-      IfErr read (λ fault. made ≡ Err fault) →
-      IfOk made (λ m. IfOk read (λ c. ShowsAfter question (claim_data c) second capture m.outcome)) →
-      IsAnswerFor made answer → IfOk answer (question.Shows claim second capture)
-  run_shows read (Err fault) answer reads refused after same = rw same tt
-  run_shows read (Ok m) answer reads refused after (inr (sent, is)) = rw is tt
-  run_shows (Err fault) (Ok m) answer reads refused after (inl same) = cc
-  run_shows (Ok c) (Ok m) answer reads refused after (inl same) =
-      rw same (after claim (known_claim claim.remaining c reads))
+-- ---- what is told
 
--- ---- what was made
+-- nothing was looked for, and nothing is said
+pub nothing_found : (e : EvidenceData) → IsFindingOf e no_finding
+nothing_found e = record { settled = tt; least = tt }
 
--- a report on what was found is one on nothing, if nothing was looked for
-pub unfound : {question : QuestionData} {style : Style} {said : SecondData} {e : EvidenceData}
-    {made : Result Ready RunFault} → IsMadeFor (question.report style no_finding said e) made →
-    IsMadeOf question style said e made
-unfound is = record { finding = no_finding; found = record { settled = tt; least = tt }; is_made = is }
+-- memory was refused before anything was found
+pub memory_unfound : (question : QuestionData) (inputs : InputsData) → IsUnfound question inputs faults.Memory
+memory_unfound question inputs = record {
+  finding = no_finding;
+  found = nothing_found inputs.evidence;
+  of_making = tt;
+  is_made = λ style. tt;
+}
 
 pub made_whole_is : {T E : Type 0} (text : Result T E) (items : T → List ℕ) (outcome : Outcome)
     (made : Result Ready RunFault) (expected : List ℕ) →
@@ -230,3 +191,35 @@ pub outcome_shows : (made : Result Ready RunFault) (outcome : Outcome) (P : Outc
     IfOk made (λ m. m.outcome ≡ outcome) → IfOk made (λ m. P m.outcome)
 outcome_shows (Ok m) outcome P holds is = subst P (sym is) holds
 outcome_shows (Err fault) outcome P holds is = tt
+
+-- a text that was made whole, or wasn't, is told
+pub told_whole : {asked : AskedData} {report : Report} {inputs : InputsData} {expected : List ℕ} {outcome : Outcome}
+    {before after : SinkState} {answer : Result Outcome RunFault} → report ≡ whole_text expected outcome →
+    ShowsOf asked.question asked.second inputs.said inputs.evidence outcome →
+    PublishesWhole (whole_text expected outcome) outcome before after answer →
+    Tells asked report inputs before after answer
+told_whole {asked} {report} {inputs} {expected} {outcome} is shows whole = record {
+  made = whole.made;
+  is_made = rw is whole.is_made;
+  of_making = whole.of_making;
+  shows = outcome_shows whole.made outcome
+      (ShowsOf asked.question asked.second inputs.said inputs.evidence) shows whole.outcome_is;
+  publishes = whole.publishes;
+}
+
+-- why nothing is made is told
+pub told_fault : {asked : AskedData} {report : Report} {inputs : InputsData} {fault : RunFault}
+    {before after : SinkState} {answer : Result Outcome RunFault} → IsOfMaking fault → IsMadeFor report (Err fault) →
+    Publishes before after (Err fault) answer → Tells asked report inputs before after answer
+told_fault {fault = fault} making is publishes =
+    record { made = Err fault; is_made = is; of_making = making; shows = tt; publishes = publishes }
+
+pub making_fault : (fault : FindFault) (told : RunFault) → told ≡ find_run_fault_of fault → IsOfMaking told
+making_fault finds.TooManyPieces told is = rw is tt
+making_fault finds.Memory told is = rw is tt
+
+-- a fault is told, and nothing behind it
+pub refused_twice : (P : Outcome → Type 0) (X : Type 0) (fault : RunFault) (answer : Result Outcome RunFault) →
+    answer ≡ Err fault → X → MatchResult answer P (λ f. (answer ≡ Err f) × X)
+refused_twice P X fault (Ok outcome) is holds = absurd cc
+refused_twice P X fault (Err other) is holds = (refl, holds)

@@ -1,6 +1,6 @@
 -- The report of `envelope`: the hull of each piece, and the least bound that holds; and what it
 -- says about every course of events.
-use Rattle.std.specs.Prelude.{◌≡◌, ℕ, All, Option, Some, None, Result, Ok, Err}
+use Rattle.std.specs.Prelude.{◌≡◌, ℕ, All, Option, Some, None, is_some, Result, Ok, Err}
 use Rattle.byte_stream.specs.State.{FeedState}
 use Rattle.checker.specs.Traceability.{HoldsError, IsContradicted}
 use Rattle.intersection.specs.declared.kinds.Hull.TheVariants.{Empty}
@@ -9,6 +9,7 @@ use Rattle.finder.specs.declared.fault.FindFault.{FindFault}
 use Rattle.finder.specs.declared.least.LeastBound.{LeastBound}
 use Rattle.finder.specs.declared.least.LeastBound.TheVariants.{Holds, NoneHolds}
 use Rattle.finder.specs.Envelope.{EnvelopeData, IsLeast, envelope_of}
+use Rattle.finder.specs.Answer.{FindsEnvelope}
 use Rattle.finder.specs.Found.{hull_at}
 use Rattle.finder.specs.Piece.{count_of}
 use Rattle.report.specs.declared.fault.Outcome.{Outcome}
@@ -22,7 +23,8 @@ use Rattle.audit_text.specs.declared.least_line.LeastLine.{LeastLine}
 use Rattle.audit.specs.Evidence.{EvidenceData, GiveEvidence, OfClaimAndCapture, samples_in}
 use Rattle.audit.specs.Find.{find_run_fault_of}
 use Rattle.audit.specs.Least.{least_line_of}
-use Rattle.audit.specs.Question.{QuestionData}
+use Rattle.audit.specs.Question.{Finding, QuestionData, no_finding}
+use Rattle.audit.specs.declared.question.envelope.EnvelopeFinding.{EnvelopeFinding}
 
 -- the outcome: yes if a bound holds
 abbrev pub bound_outcome : LeastBound → Outcome
@@ -73,6 +75,16 @@ pub record IsEnvelopeOf (step : ℕ) (outcome : Outcome) (e : EvidenceData) : Ty
 abbrev pub IsEnveloped : ℕ → Outcome → FeedState → FeedState → Type 0
 IsEnveloped step outcome claim capture =
     OfClaimAndCapture claim capture (GiveEvidence (IsEnvelopeOf step outcome))
+
+-- what the report is on
+abbrev pub envelope_finding : EnvelopeFinding → Finding
+envelope_finding found = record { settled = no_finding.settled; least = found.least }
+
+-- This is the envelope of evidence, with a least bound if one is asked for.
+pub record IsEnvelopeFor (asked : Envelope) (e : EvidenceData) (found : EnvelopeFinding)
+    : Type 0 where
+  pub finds : FindsEnvelope (samples_in e) e.claim asked.step.seconds (Ok found.envelope)
+  pub asked_is : is_some found.least ≡ asked.least
 
 -- How far off may the clock have been, piece by piece?
 abbrev pub envelope : Envelope → QuestionData

@@ -96,6 +96,11 @@ abbrev pub IsSearchOf : ℕ → EvidenceData → Outcome → Type 0
 IsSearchOf step e outcomes.Yes = IsFoundOf step e
 IsSearchOf step e outcomes.No = IsNotFoundOf step e
 
+-- This is what is found of evidence, and it shows what it says.
+pub record IsFoundBy (step : ℕ) (e : EvidenceData) (found : FoundData) : Type 0 where
+  pub found_is : found_in step e ≡ Ok found
+  pub shows : IsSearchOf step e (found_outcome found)
+
 abbrev pub ShowsSearch : ℕ → FeedState → FeedState → Outcome → Type 0
 ShowsSearch step claim capture outcomes.Yes = IsFound step claim capture
 ShowsSearch step claim capture outcomes.No = IsNotFound step claim capture

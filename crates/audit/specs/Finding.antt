@@ -1,15 +1,12 @@
 -- What a finding shows of the evidence, and of the bytes that give it.
 use Rattle.std.specs.Prelude.{◌≡◌, ◌⊎◌, ℕ, List, Result, Ok, Err, IfSome}
 use Rattle.byte_stream.specs.State.{FeedState}
-use Rattle.claim_file.specs.Claim.{ClaimData}
-use Rattle.pairing.specs.Pairing.{Collection}
 use Rattle.finder.specs.Settlement.{HasTooManyPieces, SettledData}
 use Rattle.finder.specs.declared.fault.FindFault.{FindFault}
 use Rattle.finder.specs.declared.fault.FindFault.TheVariants.{TooManyPieces, Memory}
-use Rattle.audit.specs.CaptureInput.{capture_read}
-use Rattle.audit.specs.Evidence.{EvidenceData, GiveEvidence, OfClaimAndCapture, evidence_of}
+use Rattle.audit.specs.Evidence.{EvidenceData, GiveEvidence, OfClaimAndCapture}
 use Rattle.audit.specs.Least.{IsLeastBoundOf}
-use Rattle.audit.specs.Question.{Finding, no_finding}
+use Rattle.audit.specs.Question.{Finding}
 use Rattle.audit.specs.Settle.{IsSettledFrom, IsSettledOf}
 
 -- ---- what it shows of evidence
@@ -23,12 +20,6 @@ IsSettlementOf e (Err Memory) = Unit {0}
 pub record IsFindingOf (e : EvidenceData) (finding : Finding) : Type 0 where
   pub settled : IsSettlementOf e finding.settled
   pub least : IfSome finding.least (IsLeastBoundOf e)
-
--- the same of a claim and the bytes of a capture, if anything was looked for
-abbrev pub IsFindingIn : Finding → ClaimData → List ℕ → Type 0
-IsFindingIn finding claim capture = (finding ≡ no_finding)
-    ⊎ ((collection : Collection) × (capture_read claim capture ≡ Ok collection)
-    × IsFindingOf (evidence_of claim collection) finding)
 
 -- ---- what it shows of bytes
 

@@ -41,10 +41,3 @@ pub record IsLeastBoundOf (e : EvidenceData) (found : Option LeastCarried) : Typ
       m < least.bound_ns → NoneOfFewIsAccepted (samples_in e) (with_bound e.claim m))
   pub enough : SomeCourse e.claim e.collection.exchanges → IfSome found (λ least. (m : ℕ) →
       least.bound_ns ≤ m → m ≤ max_bound_ns → IsCarried (samples_in e) (with_bound e.claim m))
-
--- A line that is asked for, or not, of evidence: it is that on a bound that was found, which shows
--- what it says.
-pub record IsLineFor (step : ℕ) (asked : Bool) (e : EvidenceData) (line : LeastLine) : Type 0 where
-  pub found : Option (Option LeastCarried)
-  pub shows : IfSome found (IsLeastBoundOf e)
-  pub line_is : least_line_of e.claim step asked found ≡ Some line

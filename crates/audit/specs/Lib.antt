@@ -1,7 +1,6 @@
 pub mod CaptureInput
 pub mod Evidence
 pub mod Samples
-pub mod Finished
 pub mod Second
 pub mod At
 pub mod Check

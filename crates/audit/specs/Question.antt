@@ -43,6 +43,10 @@ pub record AskedData : Type 1 where
 abbrev pub asked_of : QuestionData → SecondKind → Style → AskedData
 asked_of question second style = record { question = question; second = second; style = style }
 
+-- the same question, asked for a program
+abbrev pub for_a_program : AskedData → AskedData
+for_a_program asked = asked_of asked.question asked.second Plain
+
 -- a question whose answer is for a program
 abbrev pub plainly : QuestionData → SecondKind → AskedData
 plainly question second = asked_of question second Plain

@@ -1,54 +1,74 @@
 -- What a run writes and answers for the bytes of its inputs: the first refusal in the order claim,
--- second input, capture, or the report that is made of them.
-use Rattle.std.specs.Prelude.{◌≡◌, ℕ, List, IfSome, Option, Some, None, Result, Ok, Err, MatchResult}
-use Rattle.byte_stream.specs.State.{FeedState}
-use Rattle.claim_file.specs.Claim.{ClaimData, data_of as claim_data}
-use Rattle.claim_file.specs.declared.claim.Claim.{Claim}
+-- second input, capture, or the report on what they say.
+use Rattle.std.specs.Prelude.{◌≡◌, ℕ, List, Option, Some, None, Result, Ok, Err, IfErr, IfOk, MatchResult, option_map}
+use Rattle.byte_stream.specs.State.{SinkState}
+use Rattle.claim_file.specs.Claim.{ClaimData}
 use Rattle.pairing.specs.Pairing.{Collection}
 use Rattle.report.specs.ClaimInput.{claim_read}
 use Rattle.report.specs.declared.fault.Outcome.{Outcome}
 use Rattle.report.specs.declared.fault.RunFault.{RunFault}
 use Rattle.report.specs.declared.fault.RunFault.TheVariants.{Pieces, Memory}
-use Rattle.report.specs.Publication.{IsMadeFor, Ready}
-use Rattle.report.specs.Reading.{Reads}
+use Rattle.report.specs.Publication.{IsMadeFor, Publishes, Ready}
 use Rattle.report.specs.Reports.{Report, refused}
 use Rattle.report.specs.Run.{RunState}
 use Rattle.line_writer.specs.declared.field.Style.{Style}
 use Rattle.audit.specs.CaptureInput.{capture_read}
 use Rattle.audit.specs.Evidence.{EvidenceData, evidence_of}
-use Rattle.audit.specs.Finding.{IsFindingIn, IsFindingOf}
-use Rattle.audit.specs.Question.{AskedData, Finding, QuestionData, no_finding}
-use Rattle.audit.specs.Second.{SecondData, second_read}
+use Rattle.audit.specs.Finding.{IsFindingOf}
+use Rattle.audit.specs.Question.{AskedData, Finding, QuestionData, ShowsOf, for_a_program}
+use Rattle.audit.specs.Second.{SecondData, SecondKind, second_read}
+
+-- ---- what the inputs say
+
+-- the second input, and the evidence of claim and capture
+pub record InputsData : Type 0 where
+  pub said : SecondData
+  pub evidence : EvidenceData
+
+abbrev pub inputs_data : SecondData → EvidenceData → InputsData
+inputs_data said evidence = record { said = said; evidence = evidence }
 
 -- what a capture gives that is held against a claim
-abbrev pub after_capture : AskedData → Finding →
-    SecondData → ClaimData → Result Collection RunFault → Report
-after_capture asked finding said claim (Ok collection) =
-    asked.question.report asked.style finding said (evidence_of claim collection)
-after_capture asked finding said claim (Err fault) = refused fault
+abbrev pub with_capture :
+    SecondData → ClaimData → Result Collection RunFault → Result InputsData RunFault
+with_capture said claim (Ok collection) = Ok (inputs_data said (evidence_of claim collection))
+with_capture said claim (Err fault) = Err fault
 
 -- a refusal of the second input needs no capture
-abbrev pub after_second : AskedData → Finding →
-    ClaimData → Option (Result SecondData RunFault) → Option (List ℕ) → Option Report
-after_second asked finding claim None capture = None
-after_second asked finding claim (Some (Err fault)) capture = Some (refused fault)
-after_second asked finding claim (Some (Ok said)) None = None
-after_second asked finding claim (Some (Ok said)) (Some capture) =
-    Some (after_capture asked finding said claim (capture_read claim capture))
+abbrev pub with_second : ClaimData → Option (Result SecondData RunFault) → Option (List ℕ)
+    → Option (Result InputsData RunFault)
+with_second claim None capture = None
+with_second claim (Some (Err fault)) capture = Some (Err fault)
+with_second claim (Some (Ok said)) None = None
+with_second claim (Some (Ok said)) (Some capture) =
+    Some (with_capture said claim (capture_read claim capture))
 
 -- a refusal of the claim needs neither of the others
-abbrev pub after_claim : AskedData → Finding →
-    Result ClaimData RunFault → Option (List ℕ) → Option (List ℕ) → Option Report
-after_claim asked finding (Err fault) second capture = Some (refused fault)
-after_claim asked finding (Ok claim) second capture =
-    after_second asked finding claim (second_read asked.second second) capture
+abbrev pub with_claim : SecondKind → Result ClaimData RunFault → Option (List ℕ)
+    → Option (List ℕ) → Option (Result InputsData RunFault)
+with_claim kind (Err fault) second capture = Some (Err fault)
+with_claim kind (Ok claim) second capture = with_second claim (second_read kind second) capture
+
+-- what the bytes of the inputs say, or the first refusal, as far as they are known
+abbrev pub inputs_read : SecondKind → Option (List ℕ) → Option (List ℕ) → Option (List ℕ)
+    → Option (Result InputsData RunFault)
+inputs_read kind None second capture = None
+inputs_read kind (Some claim) second capture =
+    with_claim kind (claim_read claim) second capture
+
+-- ---- the report
+
+-- the report on what the inputs say
+abbrev pub report_on : AskedData → Finding → Result InputsData RunFault → Report
+report_on asked finding (Ok inputs) =
+    asked.question.report asked.style finding inputs.said inputs.evidence
+report_on asked finding (Err fault) = refused fault
 
 -- the report on the bytes of the inputs, as far as they are known
 abbrev pub report_of_bytes : AskedData → Finding →
     Option (List ℕ) → Option (List ℕ) → Option (List ℕ) → Option Report
-report_of_bytes asked finding None second capture = None
-report_of_bytes asked finding (Some claim) second capture =
-    after_claim asked finding (claim_read claim) second capture
+report_of_bytes asked finding claim second capture =
+    option_map (report_on asked finding) (inputs_read asked.second claim second capture)
 
 -- the report of a run that begins so
 abbrev pub run_report : AskedData → Finding → RunState → Option Report
@@ -56,36 +76,59 @@ run_report asked finding before =
     report_of_bytes asked finding before.claim.remaining before.second.remaining
     before.capture.remaining
 
--- ---- what was made
+-- ---- what is told
 
--- What was made of a second input and evidence is the report on a finding, which shows what it
--- says.
-pub record IsMadeOf (question : QuestionData) (style : Style) (said : SecondData)
-    (e : EvidenceData) (made : Result Ready RunFault) : Type 0 where
-  pub finding : Finding
-  pub found : IsFindingOf e finding
-  pub is_made : IsMadeFor (question.report style finding said e) made
-
--- why nothing can be made of evidence
+-- why nothing can be told of evidence
 abbrev pub IsOfMaking : RunFault → Type 0
 IsOfMaking Pieces = Unit {0}
 IsOfMaking Memory = Unit {0}
 IsOfMaking _ = ⊥
 
--- What was made of a claim that was read, or refused, and the bytes of the other inputs is the
--- report on a finding.
-pub record IsMadeAfter (asked : AskedData) (claim : Result Claim RunFault)
-    (second capture : Option (List ℕ)) (made : Result Ready RunFault) : Type 0 where
+-- Why nothing is found of what the inputs say: that is the report, in any style.
+pub record IsUnfound (question : QuestionData) (inputs : InputsData) (fault : RunFault)
+    : Type 0 where
   pub finding : Finding
-  pub found : MatchResult claim
-      (λ c. IfSome capture (IsFindingIn finding (claim_data c)))
-      (λ fault. finding ≡ no_finding)
-  pub is_made : (expected : Result ClaimData RunFault) → Reads claim_data expected claim →
-      IfSome (after_claim asked finding expected second capture) (λ report. IsMadeFor report made)
+  pub found : IsFindingOf inputs.evidence finding
+  pub of_making : IsOfMaking fault
+  pub is_made : (style : Style)
+      → IsMadeFor (question.report style finding inputs.said inputs.evidence) (Err fault)
 
--- An outcome that was come to from a claim, and from these other inputs, shows what the question
--- says, of any feed whose bytes, if they are known, say the claim.
-abbrev pub ShowsAfter : QuestionData → ClaimData → FeedState → FeedState → Outcome → Type 0
-ShowsAfter question claim second capture outcome = (feed : FeedState)
-    → IfSome feed.remaining (λ bytes. claim_read bytes ≡ Ok claim)
-    → question.Shows feed second capture outcome
+-- The report on a text that was made whole, or wasn't for want of memory, is published.
+pub record PublishesWhole (report : Report) (outcome : Outcome) (before after : SinkState)
+    (answer : Result Outcome RunFault) : Type 0 where
+  pub made : Result Ready RunFault
+  pub is_made : IsMadeFor report made
+  pub of_making : IfErr made IsOfMaking
+  pub outcome_is : IfOk made (λ m. m.outcome ≡ outcome)
+  pub publishes : Publishes before after made answer
+
+-- A report on what the inputs say is made and published, and its outcome shows what the question
+-- says.
+pub record Tells (asked : AskedData) (report : Report) (inputs : InputsData)
+    (before after : SinkState) (answer : Result Outcome RunFault) : Type 0 where
+  pub made : Result Ready RunFault
+  pub is_made : IsMadeFor report made
+  pub of_making : IfErr made IsOfMaking
+  pub shows : IfOk made (λ m.
+      ShowsOf asked.question asked.second inputs.said inputs.evidence m.outcome)
+  pub publishes : Publishes before after made answer
+
+-- The report on a finding, which shows what it says, is told.
+pub record TellsFinding (asked : AskedData) (inputs : InputsData) (before after : SinkState)
+    (answer : Result Outcome RunFault) : Type 0 where
+  pub finding : Finding
+  pub found : IsFindingOf inputs.evidence finding
+  pub tells : Tells asked (report_on asked finding (Ok inputs)) inputs before after answer
+
+-- One finding is told twice: for a program in a draft, and if that is whole, as it is asked for on
+-- the output.
+pub record TellsTwice (asked : AskedData) (inputs : InputsData) (draft draft' out out' : SinkState)
+    (answer : Result Outcome RunFault) : Type 0 where
+  pub finding : Finding
+  pub found : IsFindingOf inputs.evidence finding
+  pub drafted : Result Outcome RunFault
+  pub drafts : Tells (for_a_program asked) (report_on (for_a_program asked) finding (Ok inputs))
+      inputs draft draft' drafted
+  pub then_tells : MatchResult drafted
+      (λ outcome. Tells asked (report_on asked finding (Ok inputs)) inputs out out' answer)
+      (λ fault. (answer ≡ Err fault) × (out' ≡ out))

@@ -1,17 +1,19 @@
 -- What a run needs and what it promises.
-use Rattle.std.specs.Prelude.{◌≡◌, ℕ, Result, Ok}
+use Rattle.std.specs.Prelude.{◌≡◌, ℕ, Bool, false, Result, Ok, Err, IfOk, IfSome, MatchResult}
 use Rattle.byte_stream.specs.State.{FeedState, IsReadable, IsWritable, SinkState}
 use Rattle.report.specs.ExitStatus.{status_of}
 use Rattle.report.specs.declared.conclusion.Conclusion.{Conclusion}
+use Rattle.report.specs.declared.fault.Input.{Input}
 use Rattle.report.specs.declared.fault.Outcome.{Outcome}
 use Rattle.report.specs.declared.fault.RunFault.{RunFault}
+use Rattle.report.specs.Reports.{CountsSink, GetsText, is_device}
 use Rattle.report.specs.Run.{RunState}
 use Rattle.report.specs.Runs.{Runs}
 use Rattle.report.specs.Conclusion.{IsConcluded}
-use Rattle.audit.specs.Question.{AskedData, Finding, QuestionData, plainly}
+use Rattle.audit.specs.Question.{AreInputsOf, AskedData, Finding, QuestionData, for_a_program, plainly}
 use Rattle.audit.specs.Second.{HasSecond, most_second, no_second}
-use Rattle.audit.specs.Report.{run_report}
-use Rattle.audit.specs.Finding.{ShowsFinding}
+use Rattle.audit.specs.Report.{InputsData, report_on, run_report}
+use Rattle.audit.specs.Finding.{IsFindingOf, ShowsFinding}
 
 -- A run may begin: each input may be pulled from, and its sink may be written to.
 pub record MayRun (before : RunState) : Type 0 where
@@ -30,7 +32,42 @@ pub record RunsFor {T F : Type 0} (asked : AskedData) (before after : RunState)
   pub runs : Runs (run_report asked finding before) (most_second asked.second answer)
       (HasSecond asked.second) before after second second' capture capture' answer
 
--- the same of a question without a second input, whose answer is for a program
+-- What the inputs say is told on the output too: the same finding, of the same evidence, as the
+-- draft has it. Where their bytes are known both texts are those that the bytes call for; of a
+-- device's, which nobody knows, they are of one claim and of exchanges that were collected once.
+pub record IsToldToo (asked : AskedData) (finding : Finding) (before after : RunState)
+    (out out' : SinkState) (drafted answer : Result Outcome RunFault) : Type 0 where
+  pub inputs : InputsData
+  pub are_inputs : AreInputsOf asked.second inputs.said inputs.evidence
+      before.claim before.second before.capture
+  pub found : IsFindingOf inputs.evidence finding
+  pub draft : GetsText (report_on (for_a_program asked) finding (Ok inputs))
+      before.sink.contents after.sink.contents drafted
+  pub text : GetsText (report_on asked finding (Ok inputs)) out.contents out'.contents answer
+  pub of_bytes : IfSome (run_report asked finding before) (λ report.
+      GetsText report out.contents out'.contents answer)
+  pub closed : out'.is_open ≡ false
+  pub sink : CountsSink answer out.faults out'.faults
+  pub unfailed : (which : Input → Bool) → is_device which answer ≡ false
+
+-- What a run promises that tells one finding twice: the draft, which is its sink, gets the text for
+-- a program as in any run. If that is given up, it is the answer, and the output is as it was; if
+-- it is whole, the output gets the text that is asked for.
+pub record RunsTwice {T F : Type 0} (asked : AskedData) (before after : RunState)
+    (second second' : T) (capture capture' : F) (out out' : SinkState)
+    (answer : Result Outcome RunFault) : Type 0 where
+  pub finding : Finding
+  pub found : ShowsFinding finding before.claim before.capture
+  pub drafted : Result Outcome RunFault
+  pub runs : Runs (run_report (for_a_program asked) finding before)
+      (most_second asked.second drafted) (HasSecond asked.second)
+      before after second second' capture capture' drafted
+  pub then_told : MatchResult drafted
+      (λ outcome. IsToldToo asked finding before after out out' drafted answer)
+      (λ fault. (answer ≡ Err fault) × (out' ≡ out))
+  pub shows : IfOk answer (asked.question.Shows before.claim before.second before.capture)
+
+-- what a run promises of a question without a second input, whose answer is for a program
 abbrev pub RunsAlone : {F : Type 0} → QuestionData → RunState → RunState → F → F →
     Result Outcome RunFault → Type 0
 RunsAlone question before after capture capture' answer =

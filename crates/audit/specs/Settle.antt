@@ -1,14 +1,14 @@
 -- The report of `settle`, and what it shows: that the claim is shown, refuted, fitted by no course
 -- or without evidence, or that it stays open. Which refutation and which least bound are found has
 -- no definition of its own, so the report is one on what was found.
-use Rattle.std.specs.Prelude.{◌≡◌, ℕ, Bool, true, false, List, length, AllPairs, ◌++◌, codes, Option, Some, None, IfSome, Result, Ok, Err}
+use Rattle.std.specs.Prelude.{◌≡◌, ℕ, Bool, true, false, List, length, AllPairs, ◌++◌, codes, Option, Some, None, IsSome, Result, Ok, Err}
 use Rattle.byte_stream.specs.Bytes.{IsBytes}
 use Rattle.byte_stream.specs.State.{FeedState}
 use Rattle.certificate.specs.Certificate.{CertificateData}
 use Rattle.certificate.specs.RefutationWriting.{refutation_text}
 use Rattle.certificate.specs.Refutation.{RefutationData}
 use Rattle.certificate.specs.Writing.{certificate_text}
-use Rattle.finder.specs.Settlement.{SettledData, shown, refuted, fitted_by_none, no_evidence, left_open}
+use Rattle.finder.specs.Settlement.{SettledData, settled_data, shown, refuted, fitted_by_none, no_evidence, left_open}
 use Rattle.finder.specs.Settlement.{IsFittedByNone, IsLeftOpen, IsShownBy, IsUnheard}
 use Rattle.finder.specs.declared.carried.LeastCarried.{LeastCarried}
 use Rattle.finder.specs.declared.fault.FindFault.{FindFault}
@@ -27,8 +27,9 @@ use Rattle.audit.specs.Evidence.{EvidenceData, GiveEvidence, OfClaimAndCapture}
 use Rattle.audit.specs.Find.{find_run_fault_of}
 use Rattle.audit.specs.Headline.{IsShown}
 use Rattle.audit.specs.Refute.{IsContestedOf}
-use Rattle.audit.specs.Least.{IsLeastBoundOf, nanoseconds_of}
+use Rattle.audit.specs.Least.{nanoseconds_of}
 use Rattle.audit.specs.Question.{Finding, QuestionData}
+use Rattle.audit.specs.declared.question.settle.Settlement.{Settlement}
 
 -- for a program: a certificate's or a refutation's compact text and a line feed, or lines
 unfoldable pub settled_text : EvidenceData → SettledData → List ℕ
@@ -58,6 +59,11 @@ names_least (shown certificate) = true
 names_least (left_open begin end hull covers) = true
 names_least settled = false
 
+-- the bound in nanoseconds, if one was looked for and found
+abbrev pub nanoseconds_in : Option (Option LeastCarried) → Option ℕ
+nanoseconds_in None = None
+nanoseconds_in (Some found) = nanoseconds_of found
+
 -- an answer for a person that names the least bound, or that needs none; there is none if it needs
 -- one and none was looked for
 abbrev pub answer_on : EvidenceData → SettledData → Bool → Option (Option LeastCarried)
@@ -72,18 +78,19 @@ abbrev pub text_for : Style → EvidenceData → Option (Option LeastCarried) �
 text_for Plain e found settled = Some (settled_text e settled)
 text_for style e found settled = answer_on e settled (names_least settled) found
 
--- This is an answer on some bound that was found, if it needs one, which shows what it says.
-pub record IsAnswerOf (e : EvidenceData) (settled : SettledData) (text : List ℕ) : Type 0 where
-  pub found : Option (Option LeastCarried)
-  pub shows : IfSome found (IsLeastBoundOf e)
-  pub text_is : answer_on e settled (names_least settled) found ≡ Some text
+-- the answer for a person on what was found, if it is known
+abbrev pub answer_in : EvidenceData → Settlement → Option (List ℕ)
+answer_in e found = answer_on e (settled_data found.settled)
+    (names_least (settled_data found.settled)) found.least
 
--- This is the text on some bound that was found, if it needs one.
-pub record IsTextFor (style : Style) (e : EvidenceData) (settled : SettledData)
-    (text : List ℕ) : Type 0 where
-  pub found : Option (Option LeastCarried)
-  pub shows : IfSome found (IsLeastBoundOf e)
-  pub text_is : text_for style e found settled ≡ Some text
+-- a text in this style is on the least bound
+abbrev pub is_on_least : Style → SettledData → Bool
+is_on_least Plain settled = false
+is_on_least style settled = names_least settled
+
+-- What was found is enough for a text in this style.
+abbrev pub IsEnoughFor : Style → EvidenceData → Settlement → Type 0
+IsEnoughFor style e found = IsSome (text_for style e found.least (settled_data found.settled))
 
 -- the outcome: yes if the claim is shown
 abbrev pub settled_outcome : SettledData → Outcome
@@ -100,6 +107,10 @@ abbrev pub settle_report : Style → Finding → EvidenceData → Result Settled
 settle_report style finding e (Ok settled) =
     report_of settled (text_for style e finding.least settled)
 settle_report style finding e (Err fault) = refused (find_run_fault_of fault)
+
+-- what the report is on
+abbrev pub finding_of : Settlement → Finding
+finding_of found = record { settled = Ok (settled_data found.settled); least = found.least }
 
 -- ---- what a finding shows of evidence
 

@@ -5,35 +5,36 @@
 //! each function here is one promise, `RunsFor`: the text and the answer are those that the bytes
 //! of the inputs call for; with it stands what an outcome shows.
 
-ghost use Rattle.std.specs.Prelude.{◌≡◌, ◌⊎◌, Ok, Err, IfOk, IfErr};
+ghost use Rattle.std.specs.Prelude.{◌≡◌, ◌⊎◌, Err, IfOk, IfErr, IfSome, MatchResult};
 ghost use Rattle.byte_stream.specs.Fault.{CountsFault};
 ghost use Rattle.byte_stream.specs.Intake.{TakesAtMost};
 ghost use Rattle.byte_stream.specs.State.{IsReadable, IsWritable};
 ghost use Rattle.pcap_reader.specs.Limit.{most_taken};
-ghost use Rattle.claim_file.specs.Claim.{IsLawful, data_of as claim_data};
-ghost use Rattle.report.specs.ClaimInput.{IsOfClaim};
-ghost use Rattle.report.specs.Publication.{IsUnwritten};
+ghost use Rattle.report.specs.ClaimInput.{max_claim};
+ghost use Rattle.report.specs.Input.{most_read};
+ghost use Rattle.report.specs.Publication.{IsUnwritten, Publishes};
+ghost use Rattle.report.specs.Reading.{IsFromOutside};
 ghost use Rattle.report.specs.Reports.{is_claim, is_second, is_capture, is_device};
 ghost use Rattle.report.specs.Run.{run_state};
-ghost use Rattle.report.specs.Runs.{HasLawfulHeader, IsBeforeCapture, IsBeforeSecond};
-ghost use Rattle.audit.specs.Question.{asked_of};
-ghost use Rattle.audit.specs.Report.{IsMadeAfter, ShowsAfter};
-ghost use Rattle.audit.specs.Run.{AnswersFor, MayRun, RunsFor, ShowsAt};
+ghost use Rattle.report.specs.Runs.{HasClaim, HasLawfulHeader, IsBeforeCapture, IsBeforeSecond};
+ghost use Rattle.report.specs.declared.fault.Input.TheVariants.{Claim};
+ghost use Rattle.audit.specs.Evidence.{IsLawfulEvidence, evidence_data};
+ghost use Rattle.audit.specs.Question.{AreInputsOf, asked_of};
+ghost use Rattle.audit.specs.Report.{TellsFinding, TellsTwice, inputs_data, inputs_read};
+ghost use Rattle.audit.specs.Run.{AnswersFor, MayRun, RunsFor, RunsTwice, ShowsAt};
 ghost use Rattle.audit.specs.Second.{HasSecond, most_second};
 
 use crate::capture_input::read_capture_from;
 use crate::evidence::Evidence;
-use crate::finished::{Finished, publish_finished};
 use crate::laws::{
     bounds_of_bytes_hold_in_nanoseconds, course_beyond_the_bound_contests_the_claim,
     yes_shows_the_headline,
 };
 use crate::question::Question;
-use crate::second::SecondSource;
+use crate::second::{SecondInput, SecondSource};
 use byte_stream::{Feed, Sink};
-use claim_file::Claim;
 use line_writer::Style;
-use report::{Conclusion, Outcome, RunFault, conclude, read_claim_from};
+use report::{Conclusion, Outcome, RunFault, conclude, publish, read_claim_from};
 use std::alloc::Global;
 use std::hash::BuildHasher;
 
@@ -46,29 +47,38 @@ pub struct Outputs<S, E> {
     pub err: E,
 }
 
-/// Reads the second input and the capture for a claim that was read, or refused, and makes what
-/// goes out. The capture's feed is handed back beside it.
-fn make_report<Q: Question, T: SecondSource<Q::Second>, F: Feed, H: BuildHasher + Drop>(
+/// What the inputs of a question say.
+#[derive(Drop)]
+struct Inputs<V> {
+    /// The second input.
+    second: V,
+    /// Claim and capture.
+    evidence: Evidence,
+}
+
+/// Reads the claim, the second input and the capture. The capture's feed is handed back beside what
+/// they say.
+fn read_inputs<V: SecondInput, C: Feed, T: SecondSource<V>, F: Feed, H: BuildHasher + Drop>(
     alloc: Global,
-    question: Q,
-    style: Style,
-    claim: Result<Claim, RunFault>,
+    claim: &mut C,
     second: &mut T,
     capture: F,
     hasher: H,
-) -> (F, Result<Finished, RunFault>)
-    requires lawful { IfOk claim (λ c. IsLawful (claim_data c)) }
-    requires claim_fault { IfErr claim IsOfClaim }
+) -> (F, Result<Inputs<V>, RunFault>)
+    requires claim { IsReadable (C.state claim.old) }
     requires second { IsReadable (T.state second.old) }
     requires capture { IsReadable (F.state capture) }
-    ensures made { IsMadeAfter (asked_of (Q.asks question) Q.Second.kind style) claim
-        (T.state second.old).remaining (F.state capture).remaining result.1 }
-    ensures unwritten { IsUnwritten result.1 }
-    ensures shows { IfOk result.1 (λ made. IfOk claim (λ c. ShowsAfter (Q.asks question)
-        (claim_data c) (T.state second.old) (F.state capture) made.outcome)) }
-    ensures read { IfErr claim (λ fault. result.1 ≡ Err fault) }
-    ensures unread { IfErr claim (λ fault. (second.new ≡ second.old) × (result.0 ≡ capture)) }
-    ensures claim_device { is_device is_claim result.1 ≡ is_device is_claim claim }
+    ensures of_bytes { IfOk result.1 (λ inputs. AreInputsOf V.kind (V.said inputs.second)
+        (evidence_data inputs.evidence)
+        (C.state claim.old) (T.state second.old) (F.state capture)) }
+    ensures lawful { IfOk result.1 (λ inputs. V.IsLawful inputs.second
+        × IsLawfulEvidence inputs.evidence) }
+    ensures refused { IfErr result.1 (λ fault. IfSome (inputs_read V.kind
+        (C.state claim.old).remaining (T.state second.old).remaining (F.state capture).remaining)
+        (λ known. IsFromOutside fault ⊎ (known ≡ Err fault))) }
+    ensures unwritten { IfErr result.1 (λ fault. IsUnwritten (Err fault)) }
+    ensures claim_faults { CountsFault (is_device is_claim result.1)
+        (C.state claim.old).faults (C.state claim.new).faults }
     ensures second_faults { CountsFault (is_device is_second result.1)
         (T.state second.old).faults (T.state second.new).faults }
     ensures capture_faults { CountsFault (is_device is_capture result.1)
@@ -77,30 +87,135 @@ fn make_report<Q: Question, T: SecondSource<Q::Second>, F: Feed, H: BuildHasher 
         IsBeforeSecond fault → second.new ≡ second.old) }
     ensures capture_untouched { IfErr result.1 (λ fault.
         IsBeforeCapture fault → result.0 ≡ capture) }
-    ensures second_at_most { TakesAtMost (most_second Q.Second.kind result.1)
+    ensures claim_at_most { TakesAtMost (most_read Claim max_claim result.1)
+        (C.state claim.old) (C.state claim.new) }
+    ensures second_at_most { TakesAtMost (most_second V.kind result.1)
         (T.state second.old) (T.state second.new) }
     ensures capture_at_most { TakesAtMost most_taken
         (F.state capture) (F.state result.0) }
+    ensures claim_memory { result.1 ≡ Err RunFault.Memory →
+        ((second.new ≡ second.old) × (result.0 ≡ capture))
+        ⊎ HasClaim (C.state claim.old).remaining }
     ensures second_memory { result.1 ≡ Err RunFault.Memory →
-        (result.0 ≡ capture) ⊎ HasSecond Q.Second.kind (T.state second.old).remaining }
+        (result.0 ≡ capture) ⊎ HasSecond V.kind (T.state second.old).remaining }
     ensures capture_memory { result.1 ≡ Err RunFault.Memory →
         (result.0 ≡ capture) ⊎ HasLawfulHeader (F.state capture).remaining }
 {
-    let claim = match claim {
+    let claim = match read_claim_from(alloc, claim) {
         Ok(claim) => claim,
         Err(fault) => return (capture, Err(fault)),
     };
-    let said = match second.read_second(alloc) {
-        Ok(said) => said,
+    let second = match second.read_second(alloc) {
+        Ok(second) => second,
         Err(fault) => return (capture, Err(fault)),
     };
     let (capture, collected) = read_capture_from(alloc, capture, &claim, hasher);
     match collected {
         Ok(held) => {
             let evidence = Evidence { claim, held };
-            (capture, question.make(alloc, style, &said, evidence))
+            (capture, Ok(Inputs { second, evidence }))
         }
         Err(fault) => (capture, Err(fault)),
+    }
+}
+
+/// Tells what a question finds of inputs that were read.
+fn tell_finding<Q: Question, S: Sink>(
+    alloc: Global,
+    question: Q,
+    style: Style,
+    inputs: &Inputs<Q::Second>,
+    out: &mut S,
+) -> Result<Outcome, RunFault>
+    requires second { Q.Second.IsLawful inputs.now.second }
+    requires evidence { IsLawfulEvidence inputs.now.evidence }
+    requires out { IsWritable (S.state out.old) }
+    ensures { TellsFinding (asked_of (Q.asks question) Q.Second.kind style)
+        (inputs_data (Q.Second.said inputs.now.second) (evidence_data inputs.now.evidence))
+        (S.state out.old) (S.state out.new) result }
+{
+    let (second, evidence) = (&inputs.second, &inputs.evidence);
+    match question.find(alloc, style, second, evidence) {
+        Ok(found) => question.tell(alloc, style, second, evidence, &found, out),
+        Err(fault) => publish(out, &Err(fault)),
+    }
+}
+
+/// Tells it twice: for a program in `draft`, and if that is whole in this style on `out`.
+fn tell_finding_twice<Q: Question, D: Sink, S: Sink>(
+    alloc: Global,
+    question: Q,
+    style: Style,
+    inputs: &Inputs<Q::Second>,
+    draft: &mut D,
+    out: &mut S,
+) -> Result<Outcome, RunFault>
+    requires second { Q.Second.IsLawful inputs.now.second }
+    requires evidence { IsLawfulEvidence inputs.now.evidence }
+    requires draft { IsWritable (D.state draft.old) }
+    requires out { IsWritable (S.state out.old) }
+    ensures { TellsTwice (asked_of (Q.asks question) Q.Second.kind style)
+        (inputs_data (Q.Second.said inputs.now.second) (evidence_data inputs.now.evidence))
+        (D.state draft.old) (D.state draft.new) (S.state out.old) (S.state out.new) result }
+{
+    let (second, evidence) = (&inputs.second, &inputs.evidence);
+    match question.find(alloc, style, second, evidence) {
+        Ok(found) => {
+            match question.tell(alloc, Style::Plain, second, evidence, &found, draft) {
+                Ok(_) => question.tell(alloc, style, second, evidence, &found, out),
+                Err(fault) => Err(fault),
+            }
+        }
+        Err(fault) => publish(draft, &Err(fault)),
+    }
+}
+
+/// Tells what a question finds of inputs that were read, or finishes the sink.
+fn tell_inputs<Q: Question, S: Sink>(
+    alloc: Global,
+    question: Q,
+    style: Style,
+    inputs: Result<Inputs<Q::Second>, RunFault>,
+    out: &mut S,
+) -> Result<Outcome, RunFault>
+    requires lawful { IfOk inputs (λ i. Q.Second.IsLawful i.second × IsLawfulEvidence i.evidence) }
+    requires unwritten { IfErr inputs (λ fault. IsUnwritten (Err fault)) }
+    requires out { IsWritable (S.state out.old) }
+    ensures { MatchResult inputs
+        (λ i. TellsFinding (asked_of (Q.asks question) Q.Second.kind style)
+        (inputs_data (Q.Second.said i.second) (evidence_data i.evidence))
+        (S.state out.old) (S.state out.new) result)
+        (λ fault. Publishes (S.state out.old) (S.state out.new) (Err fault) result) }
+{
+    match inputs {
+        Ok(inputs) => tell_finding(alloc, question, style, &inputs, out),
+        Err(fault) => publish(out, &Err(fault)),
+    }
+}
+
+/// Tells it twice, or finishes the draft.
+fn tell_inputs_twice<Q: Question, D: Sink, S: Sink>(
+    alloc: Global,
+    question: Q,
+    style: Style,
+    inputs: Result<Inputs<Q::Second>, RunFault>,
+    draft: &mut D,
+    out: &mut S,
+) -> Result<Outcome, RunFault>
+    requires lawful { IfOk inputs (λ i. Q.Second.IsLawful i.second × IsLawfulEvidence i.evidence) }
+    requires unwritten { IfErr inputs (λ fault. IsUnwritten (Err fault)) }
+    requires draft { IsWritable (D.state draft.old) }
+    requires out { IsWritable (S.state out.old) }
+    ensures { MatchResult inputs
+        (λ i. TellsTwice (asked_of (Q.asks question) Q.Second.kind style)
+        (inputs_data (Q.Second.said i.second) (evidence_data i.evidence))
+        (D.state draft.old) (D.state draft.new) (S.state out.old) (S.state out.new) result)
+        (λ fault. Publishes (D.state draft.old) (D.state draft.new) (Err fault) result
+        × (S.state out.new ≡ S.state out.old)) }
+{
+    match inputs {
+        Ok(inputs) => tell_finding_twice(alloc, question, style, &inputs, draft, out),
+        Err(fault) => publish(draft, &Err(fault)),
     }
 }
 
@@ -139,12 +254,51 @@ pub fn run<
     ensures shows { IfOk result.1 ((Q.asks question).Shows
         (C.state claim.old) (T.state second.old) (F.state capture)) }
 {
-    let claim = read_claim_from(alloc, claim);
-    let (capture, made) = make_report(alloc, question, style, claim, second, capture, hasher);
+    let (capture, inputs) = read_inputs(alloc, claim, second, capture, hasher);
     bounds_of_bytes_hold_in_nanoseconds();
     yes_shows_the_headline();
     course_beyond_the_bound_contests_the_claim();
-    let answer = publish_finished(out, made);
+    let answer = tell_inputs(alloc, question, style, inputs, out);
+    (capture, answer)
+}
+
+/// Answers a question as `run` does, and tells what it finds twice: for a program on `draft`, and if
+/// that is whole, in this style on `out`, the same finding.
+///
+/// Nothing is written on `out` unless `draft` has got its whole text and was finished. `Write(n)`
+/// comes if `draft` failed after exactly n bytes of its text, or `out` after n bytes of the other.
+pub fn run_twice<
+    Q: Question,
+    C: Feed,
+    T: SecondSource<Q::Second>,
+    F: Feed,
+    D: Sink,
+    S: Sink,
+    H: BuildHasher + Drop,
+>(
+    alloc: Global,
+    question: Q,
+    style: Style,
+    claim: &mut C,
+    second: &mut T,
+    capture: F,
+    draft: &mut D,
+    out: &mut S,
+    hasher: H,
+) -> (F, Result<Outcome, RunFault>)
+    requires run { MayRun (run_state
+        (C.state claim.old) (T.state second.old) (F.state capture) (D.state draft.old)) }
+    requires out { IsWritable (S.state out.old) }
+    ensures { RunsTwice (asked_of (Q.asks question) Q.Second.kind style)
+        (run_state (C.state claim.old) (T.state second.old) (F.state capture) (D.state draft.old))
+        (run_state (C.state claim.new) (T.state second.new) (F.state result.0) (D.state draft.new))
+        second.old second.new capture result.0 (S.state out.old) (S.state out.new) result.1 }
+{
+    let (capture, inputs) = read_inputs(alloc, claim, second, capture, hasher);
+    bounds_of_bytes_hold_in_nanoseconds();
+    yes_shows_the_headline();
+    course_beyond_the_bound_contests_the_claim();
+    let answer = tell_inputs_twice(alloc, question, style, inputs, draft, out);
     (capture, answer)
 }
 

@@ -1,12 +1,12 @@
 //! The line of the least bound that a certificate carries.
 
-ghost use Rattle.std.specs.Prelude.{◌≡◌, ◌≤◌, true, false, Some, IfOk, IfSome};
+ghost use Rattle.std.specs.Prelude.{◌≡◌, ◌≤◌, Some, IfOk, IfSome, is_some};
 ghost use Rattle.certificate.specs.Certificate.{max_pieces};
 ghost use Rattle.claim_file.specs.Claim.{data_of};
 ghost use Rattle.finder.specs.Piece.{count_of};
 ghost use Rattle.audit.specs.Evidence.{IsLawfulEvidence, evidence_data};
 ghost use Rattle.audit.specs.Least as spec;
-ghost use Rattle.audit.specs.Least.{IsLeastBoundOf, IsLineFor};
+ghost use Rattle.audit.specs.Least.{IsLeastBoundOf, least_line_of};
 
 use crate::evidence::Evidence;
 use crate::sample_list::samples_of;
@@ -60,20 +60,37 @@ fn line_of(step: Step, evidence: &Evidence, found: Option<LeastCarried>) -> Leas
     }
 }
 
-/// The line, if it is asked for: only then is the bound looked for.
-pub(crate) fn line_for(
+/// The least bound, if it is asked for: only then is it looked for.
+pub(crate) fn least_if(
     alloc: Global,
-    step: Step,
     asked: bool,
     evidence: &Evidence,
-) -> Result<LeastLine, AllocError>
-    requires evidence { IsLawfulEvidence evidence.now }
-    requires few { count_of (data_of evidence.now.claim) step.seconds ≤ max_pieces }
-    ensures { IfOk result (IsLineFor step.seconds asked (evidence_data evidence.now)) }
+) -> Result<Option<Option<LeastCarried>>, AllocError>
+    requires { IsLawfulEvidence evidence.now }
+    ensures least { IfOk result (λ least. IfSome least (IsLeastBoundOf (evidence_data evidence.now))) }
+    ensures asked { IfOk result (λ least. is_some least ≡ asked) }
 {
     if !asked {
-        return Ok(LeastLine::NotAsked);
+        return Ok(None);
     }
     let found = least_carried(alloc, evidence)?;
-    Ok(line_of(step, evidence, found))
+    Ok(Some(found))
+}
+
+/// The line, if a bound was looked for.
+pub(crate) fn line_on(
+    step: Step,
+    evidence: &Evidence,
+    least: Option<Option<LeastCarried>>,
+) -> LeastLine
+    requires evidence { IsLawfulEvidence evidence.now }
+    requires few { count_of (data_of evidence.now.claim) step.seconds ≤ max_pieces }
+    requires least { IfSome least (IsLeastBoundOf (evidence_data evidence.now)) }
+    ensures { least_line_of (data_of evidence.now.claim) step.seconds (is_some least) least
+        ≡ Some result }
+{
+    match least {
+        Some(found) => line_of(step, evidence, found),
+        None => LeastLine::NotAsked,
+    }
 }

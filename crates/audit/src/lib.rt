@@ -2,7 +2,8 @@
 //!
 //! [`run`] reads the claim, then the question's second input if it has one, and then the capture,
 //! and writes its text, which is made whole before or, if it's the samples for a program, line by
-//! line as it goes out; [`answer`] does the same and reports the answer by an exit status. What may
+//! line as it goes out; [`run_twice`] tells what was found for a program and then in another style;
+//! [`answer`] does as `run` and reports the answer by an exit status. What may
 //! be asked is a [`Question`], a small module for each command in `question` and in `specs/`, and
 //! a text has a style, for a program or for a person; how it is shown is said by audit_text.
 //! `specs/Run` says what a run needs and promises, `specs/Report` what it writes, and
@@ -24,19 +25,18 @@ mod capture_input;
 mod commands;
 mod engine;
 mod evidence;
-mod finished;
 pub mod laws;
 mod least_line;
 mod question;
 mod sample_list;
 mod sample_output;
 mod second;
+mod whole_text;
 
 pub use audit_text::{Envelope, PLAIN_ENVELOPE, Step};
 pub use commands::{answer_check, run_at, run_check, run_find, run_refute, run_samples, run_seek};
-pub use engine::{Outputs, answer, run};
+pub use engine::{Outputs, answer, run, run_twice};
 pub use evidence::Evidence;
-pub use finished::{Finished, Making};
 pub use line_writer::Style;
-pub use question::{At, Check, Find, Question, Refute, Request};
+pub use question::{At, Check, Find, Question, Refute, Request, RequestFinding};
 pub use second::{SecondInput, SecondSource};

@@ -1,14 +1,18 @@
 //! What may be asked of a claim and a capture.
 //!
-//! A [`Question`] says what its second input is, what its report is and what its outcome shows, and
-//! makes the report. Each stands in a module of its own, here and in `specs/`. A [`Request`] is any
-//! of those without a second input.
+//! A [`Question`] says what its second input is, what its report is and what its outcome shows. It
+//! finds what there is to be told once, and tells it in any style. Each stands in a module of its
+//! own, here and in `specs/`. A [`Request`] is any of those without a second input.
 
-ghost use Rattle.std.specs.Prelude.{IfOk, IfErr};
-ghost use Rattle.audit.specs.Evidence.{IsLawfulEvidence, evidence_data};
-ghost use Rattle.audit.specs.Question.{QuestionData, ShowsOf};
-ghost use Rattle.audit.specs.Report.{IsMadeOf, IsOfMaking};
-ghost use Rattle.audit.specs.Request.{question_of};
+ghost use Rattle.std.specs.Prelude.{◌≡◌, None, IfOk, IfErr};
+ghost use Rattle.byte_stream.specs.State.{IsWritable};
+ghost use Rattle.line_writer.specs.declared.field.Style.{Style};
+ghost use Rattle.line_writer.specs.declared.field.Style.TheVariants.{Plain};
+ghost use Rattle.audit.specs.Evidence.{EvidenceData, IsLawfulEvidence, evidence_data};
+ghost use Rattle.audit.specs.Finding.{IsFindingOf};
+ghost use Rattle.audit.specs.Question.{Finding as FindingData, QuestionData, asked_of};
+ghost use Rattle.audit.specs.Report.{IsUnfound, Tells, inputs_data};
+ghost use Rattle.audit.specs.Request.{IsFoundFor, finding_in, question_of};
 
 mod at;
 mod check;
@@ -20,17 +24,20 @@ mod samples;
 mod settle;
 
 use crate::evidence::Evidence;
-use crate::finished::Making;
 pub use crate::question::at::At;
 pub use crate::question::check::Check;
+use crate::question::envelope::EnvelopeFinding;
 pub use crate::question::find::Find;
 use crate::question::find_refutation::FindRefutation;
 pub use crate::question::refute::Refute;
 use crate::question::samples::Samples;
-use crate::question::settle::Settle;
+use crate::question::settle::{Settle, Settlement};
 use crate::second::SecondInput;
 use audit_text::Envelope;
+use byte_stream::Sink;
+use finder::Found;
 use line_writer::Style;
+use report::{Outcome, RunFault};
 use std::alloc::Global;
 
 /// What is asked of a claim and a capture.
@@ -38,18 +45,56 @@ pub trait Question: Copy {
     /// The second input: a certificate, a refutation, or `()`.
     type Second: SecondInput;
 
+    /// What is found of the inputs before any of it is told: `()` if a text is all that is made.
+    type Finding: Drop;
+
     /// Its report on a second input and evidence, and what its outcome shows of inputs.
     ghost asks: { Self → QuestionData };
 
-    /// Makes what goes out in this style.
-    fn make(self, alloc: Global, style: Style, second: &Self::Second, evidence: Evidence) -> Making
+    /// What its report is on.
+    ghost finding: { Self.Finding → FindingData };
+
+    /// This is what it finds of evidence, and enough for a text in a style.
+    ghost IsFound: { Self → Style → EvidenceData → Self.Finding → Type 0 };
+
+    /// Finds what is to be told in this style, and for a program.
+    fn find(
+        self,
+        alloc: Global,
+        style: Style,
+        second: &Self::Second,
+        evidence: &Evidence,
+    ) -> Result<Self::Finding, RunFault>
         requires second { Self.Second.IsLawful second.now }
-        requires evidence { IsLawfulEvidence evidence }
-        ensures made { IsMadeOf (asks self) style
-            (Self.Second.said second.now) (evidence_data evidence) result }
-        ensures fault { IfErr result IsOfMaking }
-        ensures shows { IfOk result (λ made. ShowsOf (asks self) Self.Second.kind
-            (Self.Second.said second.now) (evidence_data evidence) made.outcome) };
+        requires evidence { IsLawfulEvidence evidence.now }
+        ensures found { IfOk result (λ found.
+            IsFindingOf (evidence_data evidence.now) (finding found)) }
+        ensures in_style { IfOk result (IsFound self style (evidence_data evidence.now)) }
+        ensures for_a_program { IfOk result (IsFound self Plain (evidence_data evidence.now)) }
+        ensures fault { IfErr result (IsUnfound (asks self) (inputs_data
+            (Self.Second.said second.now) (evidence_data evidence.now))) };
+
+    /// Writes the text of what was found in this style, once all memory for it is taken, and
+    /// finishes the sink.
+    fn tell<S: Sink>(
+        self,
+        alloc: Global,
+        style: Style,
+        second: &Self::Second,
+        evidence: &Evidence,
+        found: &Self::Finding,
+        out: &mut S,
+    ) -> Result<Outcome, RunFault>
+        requires second { Self.Second.IsLawful second.now }
+        requires evidence { IsLawfulEvidence evidence.now }
+        requires finding { IsFindingOf (evidence_data evidence.now) (finding found.now) }
+        requires found { IsFound self style (evidence_data evidence.now) found.now }
+        requires out { IsWritable (S.state out.old) }
+        ensures { Tells (asked_of (asks self) Self.Second.kind style)
+            ((asks self).report style (finding found.now)
+            (Self.Second.said second.now) (evidence_data evidence.now))
+            (inputs_data (Self.Second.said second.now) (evidence_data evidence.now))
+            (S.state out.old) (S.state out.new) result };
 }
 
 /// A question without a second input.
@@ -69,19 +114,102 @@ pub enum Request {
     Envelope(Envelope),
 }
 
+/// What is found for a request, if its finding isn't `()`.
+#[derive(Drop)]
+pub struct RequestFinding {
+    /// What settles the claim.
+    pub(crate) settlement: Option<Settlement>,
+    /// What was found in pieces of one length.
+    pub(crate) search: Option<Found>,
+    /// The hulls.
+    pub(crate) envelope: Option<EnvelopeFinding>,
+}
+
+impl RequestFinding {
+    /// Nothing was looked for.
+    fn none() -> RequestFinding
+        ensures { result ≡ record { settlement = None; search = None; envelope = None } }
+    {
+        RequestFinding {
+            settlement: None,
+            search: None,
+            envelope: None,
+        }
+    }
+}
+
 impl Question for Request {
     type Second = ();
 
+    type Finding = RequestFinding;
+
     ghost asks = { question_of };
 
-    fn make(self, alloc: Global, style: Style, second: &(), evidence: Evidence) -> Making {
+    ghost finding = { finding_in };
+
+    ghost IsFound = { IsFoundFor };
+
+    fn find(
+        self,
+        alloc: Global,
+        style: Style,
+        second: &(),
+        evidence: &Evidence,
+    ) -> Result<RequestFinding, RunFault> {
+        let none = RequestFinding::none();
         match self {
-            Request::Samples => Samples.make(alloc, style, second, evidence),
-            Request::At(at) => at.make(alloc, style, second, evidence),
-            Request::Settle => Settle.make(alloc, style, second, evidence),
-            Request::Find(find) => find.make(alloc, style, second, evidence),
-            Request::FindRefutation => FindRefutation.make(alloc, style, second, evidence),
-            Request::Envelope(envelope) => envelope.make(alloc, style, second, evidence),
+            Request::Settle => match Settle.find(alloc, style, second, evidence) {
+                Ok(found) => Ok(RequestFinding {
+                    settlement: Some(found),
+                    ..none
+                }),
+                Err(fault) => Err(fault),
+            },
+            Request::Find(find) => match find.find(alloc, style, second, evidence) {
+                Ok(found) => Ok(RequestFinding {
+                    search: Some(found),
+                    ..none
+                }),
+                Err(fault) => Err(fault),
+            },
+            Request::Envelope(envelope) => match envelope.find(alloc, style, second, evidence) {
+                Ok(found) => Ok(RequestFinding {
+                    envelope: Some(found),
+                    ..none
+                }),
+                Err(fault) => Err(fault),
+            },
+            Request::Samples | Request::At(_) | Request::FindRefutation => Ok(none),
+        }
+    }
+
+    fn tell<S: Sink>(
+        self,
+        alloc: Global,
+        style: Style,
+        second: &(),
+        evidence: &Evidence,
+        found: &RequestFinding,
+        out: &mut S,
+    ) -> Result<Outcome, RunFault> {
+        match self {
+            Request::Samples => Samples.tell(alloc, style, second, evidence, &(), out),
+            Request::At(at) => at.tell(alloc, style, second, evidence, &(), out),
+            Request::Settle => match &found.settlement {
+                Some(found) => Settle.tell(alloc, style, second, evidence, found, out),
+                None => unreachable!(),
+            },
+            Request::Find(find) => match &found.search {
+                Some(found) => find.tell(alloc, style, second, evidence, found, out),
+                None => unreachable!(),
+            },
+            Request::FindRefutation => {
+                FindRefutation.tell(alloc, style, second, evidence, &(), out)
+            }
+            Request::Envelope(envelope) => match &found.envelope {
+                Some(found) => envelope.tell(alloc, style, second, evidence, found, out),
+                None => unreachable!(),
+            },
         }
     }
 }

@@ -1,16 +1,12 @@
 -- What a run over inputs in memory comes to, by what the engine promises of any run.
-use Rattle.std.proofs.Common.{◌≡◌, ℕ, List, [], Result, refl, subst}
-use Rattle.std.specs.Prelude.{IfOk}
+use Rattle.std.proofs.Common.{◌≡◌, ℕ, List, refl, subst}
 use Rattle.byte_stream.specs.State.{FeedState, SinkState}
 use Rattle.report.specs.Run.{RunState, run_state}
 use Rattle.report.specs.declared.conclusion.Conclusion.{Conclusion}
-use Rattle.report.specs.declared.fault.Outcome.{Outcome}
-use Rattle.report.specs.declared.fault.RunFault.{RunFault}
 use Rattle.audit.specs.Question.{AskedData}
-use Rattle.audit.specs.Run.{AnswersFor, RunsFor, ShowsAt}
+use Rattle.audit.specs.Run.{AnswersFor, ShowsAt}
 use Rattle.in_memory.specs.Answer.{HaveNotFailed, IsAnsweredFor}
 use Rattle.in_memory.specs.Holding.{Feeds, feed_of}
-use Rattle.in_memory.specs.Twice.{IsRunOn}
 
 -- these feeds are feeds of these bytes
 pub record AreFeedsOf (c s f : List ℕ) (feeds : Feeds) : Type 0 where
@@ -57,32 +53,4 @@ module _ {T F : Type 0} {asked : AskedData} {c s f : List ℕ} {sink err err' : 
           conclusion_is = answers.conclusion_is;
         };
         shows = of_memory told.feeds told.are (λ x y z. ShowsAt conclusion.code asked.question x y z) told.shows;
-      }
-
--- the same of a run whose answer isn't reported yet, without a second input
-pub record Ran {T F : Type 0} (asked : AskedData) (c f : List ℕ) (sink : SinkState) (ended : RunState)
-    (second second' : T) (capture capture' : F) (answer : Result Outcome RunFault) : Type 0 where
-  pub feeds : Feeds
-  pub are : AreFeedsOf c [] f feeds
-  pub runs : RunsFor asked (run_state feeds.claim feeds.second feeds.capture sink) ended
-      second second' capture capture' answer
-  pub shows : IfOk answer (asked.question.Shows feeds.claim feeds.second feeds.capture)
-  pub unfailed : HaveNotFailed ended
-
-module _ {T F : Type 0} {asked : AskedData} {c f : List ℕ} {sink : SinkState} {ended : RunState}
-    {second second' : T} {capture capture' : F} {answer : Result Outcome RunFault}
-    (ran : Ran asked c f sink ended second second' capture capture' answer) where
-  pub run_on : IsRunOn asked c f sink ended.sink answer
-  run_on =
-      let runs = of_memory ran.feeds ran.are (λ x y z. RunsFor asked (run_state x y z sink) ended
-      second second' capture capture' answer) ran.runs in
-      record {
-        ended = ended;
-        sink_is = refl;
-        unfailed = ran.unfailed;
-        finding = runs.finding;
-        found = runs.found;
-        reports = runs.runs.reports;
-        unwritten = runs.runs.unwritten;
-        shows = of_memory ran.feeds ran.are (λ x y z. IfOk answer (asked.question.Shows x y z)) ran.shows;
       }

@@ -3,4 +3,3 @@ pub mod Holding
 pub mod InputBytes
 pub mod Shown
 pub mod Sums
-pub mod Twice

@@ -1,5 +1,4 @@
-//! A question, answered on inputs that are read whole into memory: held to their sums, or answered
-//! on twice.
+//! A question, answered on inputs that are read whole into memory and held to their sums.
 //!
 //! What a file holds isn't known before it is read, so nothing can be promised beforehand of its
 //! bytes. Here the inputs are read whole into memory, each is held to the SHA-256 that a file of
@@ -7,9 +6,6 @@
 //! handed back. Of exit status 0 and 1 [`answer_by_sums`] says that what it hands back has these
 //! sums, and that the answer is the definitions' for it (`specs/Answer`); [`laws`] say what that
 //! shows.
-//!
-//! [`run_twice`] holds the inputs to nothing, and answers on the same bytes twice: for a program
-//! into a draft, and then, if that is whole, for a person (`specs/Twice`).
 //!
 //! Once the inputs are held to their sums, their bytes are lent to the engine, as `answer_with` of
 //! `in_memory/src/memory_answer.rt` does, with its proof:
@@ -33,11 +29,9 @@ mod memory_answer;
 mod named_feed;
 mod second;
 mod sums;
-mod twice;
 
 pub use engine::answer_by_sums;
 pub use input_bytes::InputBytes;
 pub use named_feed::NamedFeed;
 pub use second::SummedSource;
 pub use sums::MAX_SUMS;
-pub use twice::run_twice;

@@ -7,9 +7,8 @@ use Rattle.report.specs.declared.fault.Outcome.{Outcome}
 use Rattle.report.specs.declared.fault.RunFault.{RunFault}
 use Rattle.report.specs.declared.fault.RunFault.TheVariants.{Memory, Write}
 use Rattle.audit.specs.Question.{AskedData}
-use Rattle.audit.specs.Run.{RunsFor}
+use Rattle.audit.specs.Run.{RunsFor, RunsTwice}
 use Rattle.in_memory.specs.Holding.{Feeds}
-use Rattle.in_memory.specs.Twice.{RunsTwice}
 use Rattle.program.specs.Inputs.{run_over}
 use Rattle.program.specs.Invocation.{is_human}
 use Rattle.program.specs.Opening.{AreOpened, Places}
@@ -24,11 +23,12 @@ pub record IsDraftedAlone (asked : AskedData) (feeds : Feeds) (draft draft' out 
   pub shows : IfOk answer (asked.question.Shows feeds.claim feeds.second feeds.capture)
   pub untold : out' ≡ out
 
--- The text for a program goes there, and what a person is told of the same bytes to the output.
+-- The text for a program goes there, and what a person is told of the same finding to the output.
 pub record IsDraftedAndTold (asked : AskedData) (feeds : Feeds)
     (draft draft' out out' : SinkState) (answer : Result Outcome RunFault) : Type 0 where
   pub after : Feeds
-  pub runs : RunsTwice asked feeds after draft draft' out out' answer
+  pub runs : RunsTwice asked (run_over feeds draft) (run_over after draft')
+      feeds.second after.second feeds.capture after.capture out out' answer
 
 -- what a question comes to, for a program or for a person
 pub record IsDrafted (asked : AskedData) (feeds : Feeds) (draft draft' out out' : SinkState)

@@ -15,10 +15,10 @@ use crate::files::Files;
 use crate::hindrance::Hindrance;
 use crate::inputs::Inputs;
 use crate::invocation::Paths;
-use audit::{Question, Request, Style, run};
+use audit::{Question, Request, Style, run, run_twice};
 use byte_stream::Sink;
 use fault_words::Obstacle;
-use in_memory::{NamedFeed, run_twice};
+use in_memory::NamedFeed;
 use report::{Outcome, RunFault};
 use std::alloc::{AllocError, Global};
 use std::hash::BuildHasher;
@@ -50,13 +50,15 @@ fn draft<
     let Inputs {
         mut claim,
         mut second,
-        mut capture,
+        capture,
     } = inputs;
+    let (claim, second) = (&mut claim, &mut second);
     if is_human(style) {
-        let (claim, capture) = (&mut claim, &mut capture);
-        run_twice(alloc, question, style, claim, capture, draft, out, hasher)
+        run_twice(
+            alloc, question, style, claim, second, capture, draft, out, hasher,
+        )
+        .1
     } else {
-        let (claim, second) = (&mut claim, &mut second);
         run(
             alloc, question, style, claim, second, capture, draft, hasher,
         )

@@ -3,9 +3,7 @@
 ghost use Rattle.std.specs.Prelude.{IfSome, option_map};
 ghost use Rattle.byte_stream.specs.State.{IsReadable, IsWritable};
 ghost use Rattle.audit.specs.Run.{MayRun};
-ghost use Rattle.audit.specs.Check.{check};
 ghost use Rattle.audit.specs.Question.{asked_of};
-ghost use Rattle.audit.specs.Second.{certificate_second};
 ghost use Rattle.in_memory.specs.InputBytes.{data_of};
 ghost use Rattle.program.specs.Inputs.{feeds_of, names_in, run_over};
 ghost use Rattle.program.specs.Invocation.{judged_of};
@@ -13,7 +11,7 @@ ghost use Rattle.program.specs.Response.{AnswersBySums, IsAnswered, IsJudgedBy, 
 
 use crate::inputs::{Inputs, Opened};
 use crate::invocation::Judgement;
-use audit::{Check, Outputs, Question, Style, answer, answer_check};
+use audit::{Check, Outputs, Question, Style, answer};
 use byte_stream::Sink;
 use in_memory::{InputBytes, MAX_SUMS, NamedFeed, SummedSource, answer_by_sums};
 use report::{Conclusion, Input, conclude, read_input};
@@ -58,29 +56,6 @@ fn answer_alone<
     } = inputs;
     let (claim, second) = (&mut claim, &mut second);
     answer(alloc, question, style, claim, second, capture, to, hasher).1
-}
-
-/// Checks a certificate. The result is what that comes to.
-fn check_alone<N: NamedFeed + Drop, S: Sink, E: Sink, H: BuildHasher + Drop>(
-    alloc: Global,
-    style: Style,
-    inputs: Inputs<N, N>,
-    to: &mut Outputs<S, E>,
-    hasher: H,
-) -> Conclusion
-    requires run { MayRun (run_over (feeds_of N.state N.state inputs) (S.state to.old.out)) }
-    requires err { IsWritable (E.state to.old.err) }
-    ensures { IsAnswered (asked_of check certificate_second style)
-        (feeds_of N.state N.state inputs) (S.state to.old.out) (S.state to.new.out)
-        (E.state to.old.err) (E.state to.new.err) result }
-{
-    let Inputs {
-        mut claim,
-        mut second,
-        capture,
-    } = inputs;
-    let (claim, second) = (&mut claim, &mut second);
-    answer_check(alloc, style, claim, second, capture, to, hasher).1
 }
 
 /// Answers a question, with each input held to its line in the text of a file of sums, under its
@@ -197,31 +172,6 @@ pub(crate) fn ask<
     }
 }
 
-/// Checks a certificate, by a file of sums if there is one. What was read then is handed back
-/// beside what that comes to.
-fn check_one<N: NamedFeed + Drop, S: Sink, E: Sink, H: BuildHasher + Drop>(
-    alloc: Global,
-    style: Style,
-    opened: Opened<N, N>,
-    to: &mut Outputs<S, E>,
-    hasher: H,
-) -> (Option<Summed>, Conclusion)
-    requires run { MayRun (run_over (feeds_of N.state N.state opened.inputs)
-        (S.state to.old.out)) }
-    requires err { IsWritable (E.state to.old.err) }
-    requires sums { IfSome opened.sums (λ file. IsReadable (N.state file)) }
-    ensures responds { Responds (asked_of check certificate_second style)
-        (names_in N.named N.named opened.inputs) (feeds_of N.state N.state opened.inputs)
-        (option_map N.state opened.sums) (S.state to.old.out) (S.state to.new.out)
-        (E.state to.old.err) (E.state to.new.err) result.0 result.1 }
-{
-    let Opened { inputs, sums } = opened;
-    match sums {
-        Some(sums) => answer_by_file(alloc, Check, style, inputs, sums, to, hasher),
-        None => (None, check_alone(alloc, style, inputs, to, hasher)),
-    }
-}
-
 /// Judges a certificate or a refutation, by a file of sums if there is one. What was read then is
 /// handed back beside what that comes to.
 pub(crate) fn judge<N: NamedFeed + Drop, S: Sink, E: Sink, H: BuildHasher + Drop>(
@@ -242,7 +192,7 @@ pub(crate) fn judge<N: NamedFeed + Drop, S: Sink, E: Sink, H: BuildHasher + Drop
         (E.state to.old.err) (E.state to.new.err) result.0 result.1 }
 {
     match judgement {
-        Judgement::Check => check_one(alloc, style, opened, to, hasher),
+        Judgement::Check => ask(alloc, Check, style, opened, to, hasher),
         Judgement::Refute(refute) => ask(alloc, refute, style, opened, to, hasher),
     }
 }

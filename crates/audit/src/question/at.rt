@@ -6,18 +6,20 @@ ghost use Rattle.span_cover.specs.Piece.{IsPiece};
 ghost use Rattle.audit.specs.At as spec;
 ghost use Rattle.audit.specs.At.{at};
 ghost use Rattle.audit.specs.Evidence.{IsLawfulEvidence, evidence_data};
+ghost use Rattle.audit.specs.Question.{no_finding};
 
 use crate::evidence::Evidence;
-use crate::finished::{Making, made_whole};
 use crate::question::Question;
 use crate::sample_list::samples_of;
+use crate::whole_text::publish_text;
 use audit_text::parts_text;
+use byte_stream::Sink;
 use checker::laws::hulls_hold_the_error;
 use claim_file::Claim;
 use era_unfold::TICKS_PER_SECOND;
 use finder::best_parts;
 use line_writer::Style;
-use report::Outcome;
+use report::{Outcome, RunFault};
 use span_cover::{Part, piece_hull};
 use std::alloc::{AllocError, Global};
 
@@ -71,13 +73,35 @@ fn at_text(
 impl Question for At {
     type Second = ();
 
+    type Finding = ();
+
     ghost asks = { λ asked. at asked.unix_second };
 
-    fn make(self, alloc: Global, style: Style, _second: &(), evidence: Evidence) -> Making {
+    ghost finding = { λ _. no_finding };
+
+    ghost IsFound = { λ _ _ _ _. Unit {0} };
+
+    fn find(
+        self,
+        _alloc: Global,
+        _style: Style,
+        _second: &(),
+        _evidence: &Evidence,
+    ) -> Result<(), RunFault> {
+        Ok(())
+    }
+
+    fn tell<S: Sink>(
+        self,
+        alloc: Global,
+        style: Style,
+        _second: &(),
+        evidence: &Evidence,
+        _found: &(),
+        out: &mut S,
+    ) -> Result<Outcome, RunFault> {
         hulls_hold_the_error();
-        made_whole(
-            at_text(alloc, style, self.unix_second, &evidence),
-            Outcome::Yes,
-        )
+        let text = at_text(alloc, style, self.unix_second, evidence);
+        publish_text(out, text, Outcome::Yes)
     }
 }

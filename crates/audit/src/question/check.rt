@@ -7,18 +7,20 @@ ghost use Rattle.checker.specs.Traceability.{IsVerdictOn};
 ghost use Rattle.audit.specs.Check as spec;
 ghost use Rattle.audit.specs.Check.{check};
 ghost use Rattle.audit.specs.Evidence.{IsLawfulEvidence, evidence_data, samples_in};
+ghost use Rattle.audit.specs.Question.{no_finding};
 
 use crate::evidence::Evidence;
-use crate::finished::{Making, made_whole};
 use crate::laws::{bounds_of_bytes_hold_in_nanoseconds, yes_shows_the_headline};
 use crate::question::Question;
+use crate::whole_text::publish_text;
 use audit_text::{Findings, check_text};
+use byte_stream::Sink;
 use certificate::Certificate;
 use checker::{Verdict, check_exchanges};
 use claim_file::group_count;
 use line_writer::Style;
 use pairing::{common_reference, source_count};
-use report::Outcome;
+use report::{Outcome, RunFault};
 use std::alloc::Global;
 
 /// Does a certificate, the second input, show the claim?
@@ -59,13 +61,37 @@ fn findings_on(certificate: &Certificate, evidence: &Evidence) -> Findings
 impl Question for Check {
     type Second = Certificate;
 
+    type Finding = ();
+
     ghost asks = { λ _. check };
 
-    fn make(self, alloc: Global, style: Style, second: &Certificate, evidence: Evidence) -> Making {
+    ghost finding = { λ _. no_finding };
+
+    ghost IsFound = { λ _ _ _ _. Unit {0} };
+
+    fn find(
+        self,
+        _alloc: Global,
+        _style: Style,
+        _second: &Certificate,
+        _evidence: &Evidence,
+    ) -> Result<(), RunFault> {
+        Ok(())
+    }
+
+    fn tell<S: Sink>(
+        self,
+        alloc: Global,
+        style: Style,
+        second: &Certificate,
+        evidence: &Evidence,
+        _found: &(),
+        out: &mut S,
+    ) -> Result<Outcome, RunFault> {
         bounds_of_bytes_hold_in_nanoseconds();
         yes_shows_the_headline();
-        let findings = findings_on(second, &evidence);
+        let findings = findings_on(second, evidence);
         let text = check_text(alloc, style, &evidence.claim, &evidence.held, &findings);
-        made_whole(text, outcome_of(&findings.verdict))
+        publish_text(out, text, outcome_of(&findings.verdict))
     }
 }

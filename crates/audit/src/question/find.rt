@@ -6,13 +6,15 @@ ghost use Rattle.certificate.specs.Writing.{certificate_text};
 ghost use Rattle.claim_file.specs.Claim.{data_of};
 ghost use Rattle.finder.specs.Found.{data_of as found_data};
 ghost use Rattle.audit.specs.Find as spec;
-ghost use Rattle.audit.specs.Find.{find, find_run_fault_of, found_outcome};
+ghost use Rattle.audit.specs.Find.{IsFoundBy, find, find_run_fault_of, found_outcome};
+ghost use Rattle.audit.specs.Question.{no_finding};
 
 use crate::evidence::Evidence;
-use crate::finished::{Making, made_whole};
 use crate::question::Question;
 use crate::sample_list::samples_of;
+use crate::whole_text::publish_text;
 use audit_text::{Step, found_answer, nothing_text};
+use byte_stream::Sink;
 use certificate::{Certificate, write_certificate};
 use claim_file::Claim;
 use finder::{FindFault, Found, find_over};
@@ -84,16 +86,38 @@ fn found_text(
 impl Question for Find {
     type Second = ();
 
+    type Finding = Found;
+
     ghost asks = { λ asked. find asked.step.seconds };
 
-    fn make(self, alloc: Global, style: Style, _second: &(), evidence: Evidence) -> Making {
+    ghost finding = { λ _. no_finding };
+
+    ghost IsFound = { λ asked style e found. IsFoundBy asked.step.seconds e (found_data found) };
+
+    fn find(
+        self,
+        alloc: Global,
+        _style: Style,
+        _second: &(),
+        evidence: &Evidence,
+    ) -> Result<Found, RunFault> {
         let claim = &evidence.claim;
-        match find_over(alloc, samples_of(&evidence), claim, self.step.seconds) {
-            Ok(found) => {
-                let text = found_text(alloc, style, self.step, claim, &found);
-                made_whole(text, outcome_of(&found))
-            }
+        match find_over(alloc, samples_of(evidence), claim, self.step.seconds) {
+            Ok(found) => Ok(found),
             Err(fault) => Err(run_fault_of(fault)),
         }
+    }
+
+    fn tell<S: Sink>(
+        self,
+        alloc: Global,
+        style: Style,
+        _second: &(),
+        evidence: &Evidence,
+        found: &Found,
+        out: &mut S,
+    ) -> Result<Outcome, RunFault> {
+        let text = found_text(alloc, style, self.step, &evidence.claim, found);
+        publish_text(out, text, outcome_of(found))
     }
 }

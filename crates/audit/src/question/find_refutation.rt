@@ -6,18 +6,20 @@ ghost use Rattle.certificate.specs.RefutationWriting.{refutation_text};
 ghost use Rattle.claim_file.specs.Claim.{data_of};
 ghost use Rattle.audit.specs.FindRefutation as spec;
 ghost use Rattle.audit.specs.FindRefutation.{find_refutation, found_refutation_outcome};
+ghost use Rattle.audit.specs.Question.{no_finding};
 
 use crate::evidence::Evidence;
-use crate::finished::{Making, made_whole};
 use crate::laws::course_beyond_the_bound_contests_the_claim;
 use crate::question::Question;
+use crate::whole_text::publish_text;
 use audit_text::{no_refutation_text, refutation_answer};
+use byte_stream::Sink;
 use certificate::{Refutation, write_refutation};
 use checker::laws::{accepted_refutations_have_a_course, yes_and_refutation_never_meet};
 use claim_file::Claim;
 use finder::find_refutation;
 use line_writer::Style;
-use report::Outcome;
+use report::{Outcome, RunFault};
 use std::alloc::{AllocError, Global};
 
 /// Is there a refutation of the claim?
@@ -68,14 +70,38 @@ fn found_refutation_text(
 impl Question for FindRefutation {
     type Second = ();
 
+    type Finding = ();
+
     ghost asks = { λ _. find_refutation };
 
-    fn make(self, alloc: Global, style: Style, _second: &(), evidence: Evidence) -> Making {
+    ghost finding = { λ _. no_finding };
+
+    ghost IsFound = { λ _ _ _ _. Unit {0} };
+
+    fn find(
+        self,
+        _alloc: Global,
+        _style: Style,
+        _second: &(),
+        _evidence: &Evidence,
+    ) -> Result<(), RunFault> {
+        Ok(())
+    }
+
+    fn tell<S: Sink>(
+        self,
+        alloc: Global,
+        style: Style,
+        _second: &(),
+        evidence: &Evidence,
+        _found: &(),
+        out: &mut S,
+    ) -> Result<Outcome, RunFault> {
         course_beyond_the_bound_contests_the_claim();
         accepted_refutations_have_a_course();
         yes_and_refutation_never_meet();
         let found = find_refutation(&evidence.held.exchanges, &evidence.claim);
         let text = found_refutation_text(alloc, style, &evidence.claim, &found);
-        made_whole(text, outcome_of(&found))
+        publish_text(out, text, outcome_of(&found))
     }
 }

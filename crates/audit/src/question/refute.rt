@@ -5,20 +5,22 @@ ghost use Rattle.certificate.specs.Refutation.{data_of as refutation_data};
 ghost use Rattle.claim_file.specs.Claim.{data_of};
 ghost use Rattle.checker.specs.Settlement.{Settles};
 ghost use Rattle.audit.specs.Evidence.{IsLawfulEvidence, evidence_data};
+ghost use Rattle.audit.specs.Question.{no_finding};
 ghost use Rattle.audit.specs.Refute as spec;
 ghost use Rattle.audit.specs.Refute.{IsSettledFor, refute, stands_on};
 
 use crate::evidence::Evidence;
-use crate::finished::{Making, made_whole};
 use crate::laws::course_beyond_the_bound_contests_the_claim;
 use crate::question::Question;
+use crate::whole_text::publish_text;
 use audit_text::{refutation_answer, refuted_text};
+use byte_stream::Sink;
 use certificate::Refutation;
 use checker::check_refutation;
 use claim_file::Claim;
 use courses::check_refutation_with_drift;
 use line_writer::Style;
-use report::{Outcome, RunFault};
+use report::{Outcome, RunFault, publish};
 use std::alloc::{AllocError, Global};
 
 /// Does a refutation, the second input, stand against the claim?
@@ -83,16 +85,40 @@ fn judged_text(
 impl Question for Refute {
     type Second = Refutation;
 
+    type Finding = ();
+
     ghost asks = { λ asked. refute asked.drift };
 
-    fn make(self, alloc: Global, style: Style, second: &Refutation, evidence: Evidence) -> Making {
+    ghost finding = { λ _. no_finding };
+
+    ghost IsFound = { λ _ _ _ _. Unit {0} };
+
+    fn find(
+        self,
+        _alloc: Global,
+        _style: Style,
+        _second: &Refutation,
+        _evidence: &Evidence,
+    ) -> Result<(), RunFault> {
+        Ok(())
+    }
+
+    fn tell<S: Sink>(
+        self,
+        alloc: Global,
+        style: Style,
+        second: &Refutation,
+        evidence: &Evidence,
+        _found: &(),
+        out: &mut S,
+    ) -> Result<Outcome, RunFault> {
         course_beyond_the_bound_contests_the_claim();
-        match does_stand(alloc, self.drift, second, &evidence) {
+        match does_stand(alloc, self.drift, second, evidence) {
             Ok(stands) => {
                 let text = judged_text(alloc, style, &evidence.claim, second, stands);
-                made_whole(text, refuted_outcome(stands))
+                publish_text(out, text, refuted_outcome(stands))
             }
-            Err(AllocError) => Err(RunFault::Memory),
+            Err(AllocError) => publish(out, &Err(RunFault::Memory)),
         }
     }
 }

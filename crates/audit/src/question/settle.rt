@@ -1,35 +1,46 @@
 //! What is made for `settle`.
 
-ghost use Rattle.std.specs.Prelude.{◌≡◌, IfOk};
-ghost use Rattle.finder.specs.Settlement.{IsSettledAs, settled_data};
+ghost use Rattle.std.specs.Prelude.{◌≡◌, Some, IfOk, IfSome, IsSome};
+ghost use Rattle.finder.specs.Settlement.{settled_data};
 ghost use Rattle.audit.specs.Evidence.{IsLawfulEvidence, evidence_data};
+ghost use Rattle.audit.specs.Least.{IsLeastBoundOf};
 ghost use Rattle.audit.specs.Settle as spec;
-ghost use Rattle.audit.specs.Settle.{IsAnswerOf, IsTextFor, settled_outcome};
+ghost use Rattle.audit.specs.Settle.{IsEnoughFor, IsSettledOf, finding_of, settled_outcome};
 
 use crate::evidence::Evidence;
-use crate::finished::{Making, made_whole};
 use crate::laws::{
     bounds_of_bytes_hold_in_nanoseconds, course_beyond_the_bound_contests_the_claim,
     yes_shows_the_headline,
 };
-use crate::least_line::{least_carried, nanoseconds_of};
+use crate::least_line::{least_if, nanoseconds_of};
 use crate::question::Question;
 use crate::question::find::{certificate_line, run_fault_of};
 use crate::question::find_refutation::refutation_line;
+use crate::whole_text::publish_text;
 use audit_text::{
     conflicts_text, evidence_answer, evidence_text, open_answer, open_text, refutation_answer,
     shown_answer,
 };
+use byte_stream::Sink;
 use checker::laws::verdicts_are_traceable;
-use finder::Settled;
 use finder::laws::samples_of_exchanges_keep_limits;
+use finder::{LeastCarried, Settled};
 use line_writer::Style;
-use report::Outcome;
+use report::{Outcome, RunFault};
 use std::alloc::{AllocError, Global};
 
 /// Is the claim shown, refuted, fitted by no course of events, or does it stay open?
 #[derive(Clone, Copy, Debug)]
 pub(crate) struct Settle;
+
+/// What settles a claim, and the least bound that a certificate carries, if it was looked for.
+#[derive(Drop)]
+pub struct Settlement {
+    /// What settles the claim.
+    pub(crate) settled: Settled,
+    /// The least bound, none if it wasn't looked for; in it none if no bound is carried.
+    pub(crate) least: Option<Option<LeastCarried>>,
+}
 
 /// The outcome of a settled claim.
 fn outcome_of(settled: &Settled) -> Outcome
@@ -52,8 +63,7 @@ fn settled_text(
     settled: &Settled,
 ) -> Result<Vec<u8>, AllocError>
     requires evidence { IsLawfulEvidence evidence.now }
-    requires settled { IsSettledAs (evidence_data evidence.now).claim
-        (evidence_data evidence.now).collection.exchanges (settled_data settled.now) }
+    requires settled { IsSettledOf (evidence_data evidence.now) (settled_data settled.now) }
     ensures { IfOk result (λ text. text.items
         ≡ spec.settled_text (evidence_data evidence.now) (settled_data settled.now)) }
 {
@@ -85,8 +95,7 @@ fn settled_answer(
     settled: &Settled,
 ) -> Result<Vec<u8>, AllocError>
     requires evidence { IsLawfulEvidence evidence.now }
-    requires settled { IsSettledAs (evidence_data evidence.now).claim
-        (evidence_data evidence.now).collection.exchanges (settled_data settled.now) }
+    requires settled { IsSettledOf (evidence_data evidence.now) (settled_data settled.now) }
     ensures { IfOk result (λ text. text.items
         ≡ spec.settled_answer (evidence_data evidence.now) least (settled_data settled.now)) }
 {
@@ -120,19 +129,52 @@ fn names_least(settled: &Settled) -> bool
     }
 }
 
-/// The text for a person, on the least bound if that is part of it. Only then is it looked for.
-fn answer_for(alloc: Global, evidence: &Evidence, settled: &Settled) -> Result<Vec<u8>, AllocError>
-    requires evidence { IsLawfulEvidence evidence.now }
-    requires settled { IsSettledAs (evidence_data evidence.now).claim
-        (evidence_data evidence.now).collection.exchanges (settled_data settled.now) }
-    ensures { IfOk result (λ text. IsAnswerOf (evidence_data evidence.now)
-        (settled_data settled.now) text.items) }
+/// Whether a text in this style is on the least bound.
+fn is_on_least(style: Style, settled: &Settled) -> bool
+    ensures { result ≡ spec.is_on_least style (settled_data settled.now) }
 {
-    if names_least(settled) {
-        let found = least_carried(alloc, evidence)?;
-        return settled_answer(alloc, evidence, nanoseconds_of(found), settled);
+    match style {
+        Style::Plain => false,
+        _ => names_least(settled),
     }
-    settled_answer(alloc, evidence, None, settled)
+}
+
+/// What settles a claim, with the least bound if a text in this style is on it.
+fn with_least(
+    alloc: Global,
+    style: Style,
+    evidence: &Evidence,
+    settled: Settled,
+) -> Result<Settlement, AllocError>
+    requires { IsLawfulEvidence evidence.now }
+    ensures settled { IfOk result (λ found. found.settled ≡ settled) }
+    ensures least { IfOk result (λ found.
+        IfSome found.least (IsLeastBoundOf (evidence_data evidence.now))) }
+    ensures enough { IfOk result (IsEnoughFor style (evidence_data evidence.now)) }
+{
+    let least = least_if(alloc, is_on_least(style, &settled), evidence)?;
+    Ok(Settlement { settled, least })
+}
+
+/// The least bound in nanoseconds, if there is one and it was looked for.
+fn nanoseconds_in(least: Option<Option<LeastCarried>>) -> Option<u64>
+    ensures { result ≡ spec.nanoseconds_in least }
+{
+    match least {
+        Some(found) => nanoseconds_of(found),
+        None => None,
+    }
+}
+
+/// The text for a person.
+fn answer_for(alloc: Global, evidence: &Evidence, found: &Settlement) -> Result<Vec<u8>, AllocError>
+    requires evidence { IsLawfulEvidence evidence.now }
+    requires settled { IsSettledOf (evidence_data evidence.now) (settled_data found.now.settled) }
+    requires enough { IsSome (spec.answer_in (evidence_data evidence.now) found.now) }
+    ensures { IfOk result (λ text.
+        spec.answer_in (evidence_data evidence.now) found.now ≡ Some text.items) }
+{
+    settled_answer(alloc, evidence, nanoseconds_in(found.least), &found.settled)
 }
 
 /// The whole text.
@@ -140,39 +182,62 @@ fn text_for(
     alloc: Global,
     style: Style,
     evidence: &Evidence,
-    settled: &Settled,
+    found: &Settlement,
 ) -> Result<Vec<u8>, AllocError>
     requires evidence { IsLawfulEvidence evidence.now }
-    requires settled { IsSettledAs (evidence_data evidence.now).claim
-        (evidence_data evidence.now).collection.exchanges (settled_data settled.now) }
-    ensures { IfOk result (λ text. IsTextFor style (evidence_data evidence.now)
-        (settled_data settled.now) text.items) }
+    requires settled { IsSettledOf (evidence_data evidence.now) (settled_data found.now.settled) }
+    requires enough { IsEnoughFor style (evidence_data evidence.now) found.now }
+    ensures { IfOk result (λ text. spec.text_for style (evidence_data evidence.now)
+        found.now.least (settled_data found.now.settled) ≡ Some text.items) }
 {
     match style {
-        Style::Plain => settled_text(alloc, evidence, settled),
-        _ => answer_for(alloc, evidence, settled),
+        Style::Plain => settled_text(alloc, evidence, &found.settled),
+        _ => answer_for(alloc, evidence, found),
     }
 }
 
 impl Question for Settle {
     type Second = ();
 
+    type Finding = Settlement;
+
     ghost asks = { λ _. spec.settle };
 
-    fn make(self, alloc: Global, style: Style, _second: &(), evidence: Evidence) -> Making {
-        bounds_of_bytes_hold_in_nanoseconds();
-        yes_shows_the_headline();
-        course_beyond_the_bound_contests_the_claim();
+    ghost finding = { finding_of };
+
+    ghost IsFound = { λ _ style e found. IsEnoughFor style e found };
+
+    fn find(
+        self,
+        alloc: Global,
+        style: Style,
+        _second: &(),
+        evidence: &Evidence,
+    ) -> Result<Settlement, RunFault> {
         verdicts_are_traceable();
         samples_of_exchanges_keep_limits();
         match finder::settle(alloc, &evidence.held.exchanges, &evidence.claim) {
-            Ok(settled) => {
-                made_whole(
-                    text_for(alloc, style, &evidence, &settled),
-                    outcome_of(&settled),
-                )
-            }
+            Ok(settled) => match with_least(alloc, style, evidence, settled) {
+                Ok(found) => Ok(found),
+                Err(AllocError) => Err(RunFault::Memory),
+            },
             Err(fault) => Err(run_fault_of(fault)),
         }
+    }
+
+    fn tell<S: Sink>(
+        self,
+        alloc: Global,
+        style: Style,
+        _second: &(),
+        evidence: &Evidence,
+        found: &Settlement,
+        out: &mut S,
+    ) -> Result<Outcome, RunFault> {
+        bounds_of_bytes_hold_in_nanoseconds();
+        yes_shows_the_headline();
+        course_beyond_the_bound_contests_the_claim();
+        let text = text_for(alloc, style, evidence, found);
+        publish_text(out, text, outcome_of(&found.settled))
     }
 }

@@ -1,0 +1,16 @@
+use Rattle.std.proofs.Common.{refl}
+use Rattle.certificate.specs.Certificate.{data_of as certificate_data}
+use Rattle.audit.specs.Evidence.{evidence_data}
+use Rattle.audit.proofs.Showing.{told_whole}
+use Rattle.audit.proofs.VerdictShowing.{verdict_shows, verdict_shown}
+use Rattle.audit.proofs.question.check.CheckQuestion.tell.Goals as goal
+
+pub returns : goal.returns
+returns g c =
+    let findings = c.findings_on-findings in
+    let certificate = certificate_data c.args.second.now in
+    let e = evidence_data c.args.evidence.now in
+    told_whole (rw (c.outcome_of.ensures, findings.ensures.exact) refl)
+    (verdict_shown certificate e c.bounds_of_bytes_hold_in_nanoseconds.ensures c.yes_shows_the_headline.ensures
+    c.outcome_of.result (verdict_shows certificate e findings.result.verdict c.outcome_of.result c.outcome_of.ensures
+    findings.ensures.verdict)) (c.publish_text.ensures _ c.check_text-text.ensures)

@@ -1,0 +1,35 @@
+use Rattle.audit.specs.Evidence.{evidence_data}
+use Rattle.audit.specs.Question.{no_finding}
+use Rattle.audit.proofs.EnvelopeShowing.{envelope_refused}
+use Rattle.audit.proofs.Showing.{making_fault, memory_unfound, nothing_found}
+use Rattle.audit.proofs.question.envelope.EnvelopeQuestion.find.Goals as goal
+
+pub returns-in-Ok-least_if-clause-found : goal.returns-in-Ok-least_if-clause-found
+returns-in-Ok-least_if-clause-found c = record { settled = tt; least = c.in-Ok-least_if.ensures.least }
+
+pub returns-in-Ok-least_if-clause-in_style : goal.returns-in-Ok-least_if-clause-in_style
+returns-in-Ok-least_if-clause-in_style c = record {
+  finds = rw c.samples_of.ensures.samples at c.in-Ok.ensures;
+  asked_is = c.in-Ok-least_if.ensures.asked;
+}
+
+pub returns-in-Ok-least_if-clause-for_a_program : goal.returns-in-Ok-least_if-clause-for_a_program
+returns-in-Ok-least_if-clause-for_a_program c = record {
+  finds = rw c.samples_of.ensures.samples at c.in-Ok.ensures;
+  asked_is = c.in-Ok-least_if.ensures.asked;
+}
+
+pub returns-in-Err-least_if-clause-fault : goal.returns-in-Err-least_if-clause-fault
+returns-in-Err-least_if-clause-fault c = memory_unfound _ _
+
+pub returns-in-Err-clause-fault : goal.returns-in-Err-clause-fault
+returns-in-Err-clause-fault c =
+    let e = evidence_data c.args.evidence.now in
+    let fault = c.in-Err.fault in
+    record {
+      finding = no_finding;
+      found = nothing_found e;
+      of_making = making_fault fault c.run_fault_of.result c.run_fault_of.ensures;
+      is_made = λ style. envelope_refused style c.args.self e fault c.run_fault_of.result c.run_fault_of.ensures
+          (rw c.samples_of.ensures.samples at c.in-Err.ensures.exact);
+    }

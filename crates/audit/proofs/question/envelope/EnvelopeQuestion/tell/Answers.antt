@@ -1,0 +1,32 @@
+use Rattle.std.proofs.Common.{◌∙◌, Bool, sym, ap, refl}
+use Rattle.finder.specs.Envelope.{data_of as envelope_data}
+use Rattle.audit.specs.Envelope.{IsEnvelopeOf}
+use Rattle.audit.specs.Evidence.{evidence_data}
+use Rattle.audit.specs.Least.{least_line_of}
+use Rattle.audit.proofs.EnvelopeShowing.{count_is_few, envelope_shows, few_pieces}
+use Rattle.audit.proofs.Showing.{of_evidence, told_whole}
+use Rattle.audit.proofs.question.envelope.EnvelopeQuestion.tell.Goals as goal
+
+pub line_on-line-requires-clause-few : goal.line_on-line-requires-clause-few
+line_on-line-requires-clause-few g c =
+    count_is_few _ (evidence_data c.args.evidence.now).claim c.args.self.step.seconds c.args.found.now.envelope
+    c.requires.found.finds.exact
+
+pub envelope_text-text-requires-clause-few : goal.envelope_text-text-requires-clause-few
+envelope_text-text-requires-clause-few g c =
+    few_pieces _ (evidence_data c.args.evidence.now).claim c.args.self.step.seconds c.args.found.now.envelope
+    c.requires.found.finds.exact
+
+pub returns : goal.returns
+returns g c =
+    let e = evidence_data c.args.evidence.now in
+    let asked = c.args.self in
+    let found = c.args.found.now in
+    let line_is = ap (λ (b : Bool). least_line_of e.claim asked.step.seconds b found.least)
+    (sym c.requires.found.asked_is) ∙ c.line_on-line.ensures in
+    told_whole (rw (c.requires.found.finds.exact, line_is, c.outcome_of.ensures) refl)
+    (of_evidence (IsEnvelopeOf asked.step.seconds c.outcome_of.result) e
+    (envelope_shows c.best_hulls_hold_the_error.ensures asked.step.seconds e c.requires.evidence.claim
+    c.samples_of-samples.ensures.of_claim _ refl found.envelope c.outcome_of.result c.outcome_of.ensures
+    c.requires.found.finds))
+    (c.publish_text.ensures _ (rw c.samples_of-samples.ensures.samples at c.envelope_text-text.ensures))

@@ -1,0 +1,24 @@
+use Rattle.finder.specs.Settlement.{settled_data}
+use Rattle.audit.specs.Evidence.{evidence_data}
+use Rattle.audit.specs.Settle.{IsSettledBy, text_for}
+use Rattle.audit.proofs.Showing.{BytesLaws, of_inputs, settled_from, told_whole}
+use Rattle.audit.proofs.SettlementText.{items_known, report_is}
+use Rattle.audit.proofs.question.settle.SettleQuestion.tell.Goals as goal
+
+pub returns : goal.returns
+returns g c =
+    let e = evidence_data c.args.evidence.now in
+    let found = c.args.found.now in
+    let settled = settled_data found.settled in
+    let known = text_for c.args.style e found.least settled in
+    let laws : BytesLaws = record {
+      nanoseconds = c.bounds_of_bytes_hold_in_nanoseconds.ensures;
+      headline = c.yes_shows_the_headline.ensures;
+      contested = c.course_beyond_the_bound_contests_the_claim.ensures;
+    } in
+    told_whole (rw c.outcome_of.ensures (report_is settled known c.requires.found))
+    (of_inputs e (IsSettledBy c.outcome_of.result) (λ b f is. record {
+      settled = settled;
+      outcome_is = c.outcome_of.ensures;
+      holds = settled_from laws b f e is settled c.requires.finding.settled;
+    })) (c.publish_text.ensures _ (items_known c.text_for-text.result (λ t. t.items) known c.text_for-text.ensures))

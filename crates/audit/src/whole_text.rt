@@ -1,0 +1,45 @@
+//! A text that is made whole, on its way out.
+
+ghost use Rattle.std.specs.Prelude.{◌≡◌, MatchResult, IfOk, IfErr, List, ℕ, Ok, Err};
+ghost use Rattle.byte_stream.specs.State.{IsWritable};
+ghost use Rattle.report.specs.Publication.{IsUnwritten};
+ghost use Rattle.report.specs.Reports.{whole_text};
+ghost use Rattle.audit.specs.Report.{IsOfMaking, PublishesWhole};
+
+use byte_stream::Sink;
+use report::{Made, Outcome, RunFault, publish};
+use std::alloc::AllocError;
+
+/// A text that was made whole, with its outcome; or it wasn't, for want of memory.
+fn made_whole(text: Result<Vec<u8>, AllocError>, outcome: Outcome) -> Result<Made, RunFault>
+    ensures made { MatchResult text
+        (λ t. result ≡ Ok (record { text = t.items; outcome = outcome }))
+        (λ e. result ≡ Err RunFault.Memory) }
+    ensures fault { IfErr result IsOfMaking }
+    ensures outcome { IfOk result (λ made. made.outcome ≡ outcome) }
+    ensures unwritten { IsUnwritten result }
+{
+    match text {
+        Ok(text) => Ok(Made { text, outcome }),
+        Err(AllocError) => Err(RunFault::Memory),
+    }
+}
+
+/// Writes a text that was made whole, or nothing if it wasn't for want of memory, and finishes the
+/// sink. No more memory is taken.
+///
+/// `Write(n)` comes if the sink failed after exactly n bytes of the text; n is the whole length if
+/// only `finish` failed.
+pub(crate) fn publish_text<S: Sink>(
+    out: &mut S,
+    text: Result<Vec<u8>, AllocError>,
+    outcome: Outcome,
+) -> Result<Outcome, RunFault>
+    requires { IsWritable (S.state out.old) }
+    ensures { (expected : List ℕ) → IfOk text (λ t. t.items ≡ expected) →
+        PublishesWhole (whole_text expected outcome) outcome
+        (S.state out.old) (S.state out.new) result }
+{
+    let made = made_whole(text, outcome);
+    publish(out, &made)
+}
