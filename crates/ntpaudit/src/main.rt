@@ -19,7 +19,7 @@ use crate::files::Host;
 use crate::second_look::say;
 use audit::Outputs;
 use byte_stream::WriteSink;
-use program::{Asked, respond};
+use program::{Asked, Response, respond};
 use report::{RunFault, conclude};
 use std::alloc::AllocError;
 use std::hash::{BuildHasherDefault, FoldHasher, RandomState};
@@ -31,7 +31,7 @@ fn main(rt: HostRuntime) -> ExitCode {
         out: WriteSink::new(rt.stdout()),
         err: WriteSink::new(rt.stderr()),
     };
-    let (conclusion, asked, hindrance, _) = match read_command_line(&rt) {
+    let response = match read_command_line(&rt) {
         // A random key, so that nobody can write a capture whose packets collide. If the system has
         // no random bytes a fixed key has to do: it slows such a capture down, no more.
         Ok(invocation) => match RandomState::new(&rt) {
@@ -41,11 +41,13 @@ fn main(rt: HostRuntime) -> ExitCode {
                 respond(rt.alloc(), &mut files, invocation, &mut outputs, hasher)
             }
         },
-        Err(AllocError) => {
-            let conclusion = conclude(&Err(RunFault::Memory), &mut outputs.err);
-            (conclusion, Asked::Nothing, None, None)
-        }
+        Err(AllocError) => Response {
+            conclusion: conclude(&Err(RunFault::Memory), &mut outputs.err),
+            asked: Asked::Nothing,
+            hindrance: None,
+            summed: None,
+        },
     };
-    say(&rt, &asked, &hindrance, &conclusion);
-    ExitCode::from(conclusion.code)
+    say(&rt, &response);
+    ExitCode::from(response.conclusion.code)
 }
