@@ -1,1 +1,4 @@
+pub mod CommandLine
 pub mod Invocation
+pub mod Run
+pub mod Words

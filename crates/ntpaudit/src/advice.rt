@@ -1,28 +1,29 @@
 //! The words of the command line before clap reads them, and what it says of them made better.
 
-ghost use Rattle.std.specs.Prelude.{◌≤◌, length};
+ghost use Rattle.std.specs.Prelude.{◌≡◌, slice_get};
+ghost use Rattle.ntpaudit.specs.Words as spec;
 
 use fault_words::shown;
 use std::alloc::{AllocError, Global};
 
-/// How many of the words count: `help --help` is `help`.
-pub(crate) fn counted(words: &[String]) -> usize
-    ensures { result ≤ length words.now }
+/// Whether the word in this place is the one that is wanted.
+fn is_word(words: &[String], place: usize, wanted: &str) -> bool
+    ensures { result ≡ spec.is_word wanted.now (slice_get words.now place) }
 {
-    if words.len() < 3 || words[1].as_str() != "help" {
-        return words.len();
-    }
-    match words[2].as_str() {
-        "--help" | "-h" => 2,
-        _ => words.len(),
+    match words.get(place) {
+        Some(word) => word.as_str() == wanted,
+        None => false,
     }
 }
 
-/// Whether the option `--human` stands before the command.
-fn begins_with_human(words: &[String]) -> bool {
-    match words.get(1) {
-        Some(word) => word.as_str() == "--human" || word.as_str() == "-H",
-        None => false,
+/// The words that count: `help --help` is `help`.
+pub(crate) fn counted(words: &[String]) -> &[String]
+    ensures { result.now ≡ spec.counted words.now }
+{
+    if is_word(words, 1, "help") && (is_word(words, 2, "--help") || is_word(words, 2, "-h")) {
+        &words[..2]
+    } else {
+        words
     }
 }
 
@@ -41,7 +42,7 @@ pub(crate) fn advised(alloc: Global, words: &[String], text: &str) -> Result<Str
             said.push_str("\n")?;
         }
     }
-    if begins_with_human(words) {
+    if is_word(words, 1, "--human") || is_word(words, 1, "-H") {
         said.push_str(
             "\n  tip: '--human' comes behind the command: ntpaudit list --human f.pcap\n",
         )?;

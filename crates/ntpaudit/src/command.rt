@@ -1,8 +1,10 @@
 //! The commands, each in a file of its own: its help, its operands and options, and what its words
 //! call for.
 
-ghost use Rattle.std.specs.Prelude.{IfOk};
+ghost use Rattle.std.specs.Prelude.{IfOk, []};
 ghost use Rattle.clap.specs.Words.{found_of, rows_of, subcommand_rows_of};
+ghost use Rattle.ntpaudit.specs.CommandLine as table;
+ghost use Rattle.ntpaudit.specs.CommandLine.{IsProgram};
 ghost use Rattle.ntpaudit.specs.Invocation.{IsCalled, IsCalledBy};
 
 mod argument;
@@ -29,32 +31,37 @@ Status:   0 done, or yes; 1 no; 2 an input is refused; 3 out of memory; 4 a file
 Example:  ntpaudit list recording.pcap
 More:     man ntpaudit";
 
-/// Adds the commands that show what a capture says.
-fn with_readings<'a>(alloc: Global, program: Command<'a>) -> Result<Command<'a>, AllocError> {
-    program
+/// The program without its commands.
+fn bare<'a>(alloc: Global) -> Command<'a>
+    ensures { IsProgram (table.program_of []) result }
+{
+    Command::new(alloc, "ntpaudit")
+        .version("0.9.0 (logic dac8208d650f15bf)")
+        .about("What a packet capture of NTP shows about a clock")
+        .after_help(HELP)
+        .subcommand_required(true)
+}
+
+/// The program with the commands that show what a capture says.
+fn with_readings<'a>(alloc: Global) -> Result<Command<'a>, AllocError>
+    ensures { IfOk result (IsProgram (table.program_of table.readings)) }
+{
+    bare(alloc)
         .subcommand(list::declaration(alloc)?)?
         .subcommand(samples::declaration(alloc)?)?
         .subcommand(at::declaration(alloc)?)
 }
 
-/// Adds the commands that judge a claim.
-fn with_judgements<'a>(alloc: Global, program: Command<'a>) -> Result<Command<'a>, AllocError> {
-    program
+/// The program with its commands, those that judge a claim behind the others.
+pub(crate) fn program<'a>(alloc: Global) -> Result<Command<'a>, AllocError>
+    ensures { IfOk result (IsProgram table.ntpaudit) }
+{
+    with_readings(alloc)?
         .subcommand(settle::declaration(alloc)?)?
         .subcommand(check::declaration(alloc)?)?
         .subcommand(find::declaration(alloc)?)?
         .subcommand(refute::declaration(alloc)?)?
         .subcommand(envelope::declaration(alloc)?)
-}
-
-/// The program with its commands.
-pub(crate) fn program<'a>(alloc: Global) -> Result<Command<'a>, AllocError> {
-    let program = Command::new(alloc, "ntpaudit")
-        .version("0.9.0 (logic dac8208d650f15bf)")
-        .about("What a packet capture of NTP shows about a clock")
-        .after_help(HELP)
-        .subcommand_required(true);
-    with_judgements(alloc, with_readings(alloc, program)?)
 }
 
 /// What the words of this command call for.

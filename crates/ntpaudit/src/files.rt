@@ -10,24 +10,28 @@ use std::fs::File;
 use std::io::{Read, Stdin};
 use std::{fs, io};
 
-/// The host, how many files were opened, and how many drafts have taken their place.
+/// The host, how many files were opened, how many drafts have taken their place, and how often one
+/// couldn't be made or take it.
 #[derive(Drop)]
 pub(crate) struct Host<'a> {
     rt: &'a HostRuntime,
     opened: u64,
     placed: u64,
+    hindered: u64,
 }
 
 impl<'a> Host<'a> {
     /// The host's files, of which none was opened.
     pub(crate) fn new(rt: &'a HostRuntime) -> Host<'a>
         ensures opened { (⟦<Host<'a> as Files>⟧.state result).opened ≡ 0 }
-        ensures placed { (⟦<Host<'a> as Files>⟧.state result).placed ≡ 0 }
+        ensures drafts { (⟦<Host<'a> as Files>⟧.state result).drafts
+            ≡ record { placed = 0; hindered = 0; put = λ path. unknown } }
     {
         Host {
             rt,
             opened: 0,
             placed: 0,
+            hindered: 0,
         }
     }
 }
@@ -58,7 +62,11 @@ impl<'a> Files for Host<'a> {
     ghost state = { λ host. record {
       standing = λ path. unknown;
       opened = host.opened;
-      placed = host.placed;
+      drafts = record {
+        placed = host.placed;
+        hindered = host.hindered;
+        put = λ path. unknown;
+      };
     } };
 
     fn open(&mut self, path: &str) -> Result<ReadFeed<Opened>, OpenFault> {
@@ -80,14 +88,29 @@ impl<'a> Files for Host<'a> {
     ) -> Result<WriteSink<SyncedFile>, Hindrance> {
         match create(self.rt, path, part, paths) {
             Ok(file) => Ok(WriteSink::new(file)),
-            Err(hindrance) => Err(hindrance),
+            Err(hindrance) => {
+                self.hindered += 1;
+                Err(hindrance)
+            }
         }
     }
 
-    fn place(&mut self, part: &str, path: &str) -> Result<(), Hindrance> {
-        place(self.rt, part, path)?;
-        self.placed += 1;
-        Ok(())
+    fn place(
+        &mut self,
+        _draft: WriteSink<SyncedFile>,
+        part: &str,
+        path: &str,
+    ) -> Result<(), Hindrance> {
+        match place(self.rt, part, path) {
+            Ok(()) => {
+                self.placed += 1;
+                Ok(())
+            }
+            Err(hindrance) => {
+                self.hindered += 1;
+                Err(hindrance)
+            }
+        }
     }
 
     fn remove(&mut self, part: &str) {

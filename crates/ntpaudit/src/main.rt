@@ -1,7 +1,7 @@
 //! ntpaudit: what a packet capture of NTP shows of a clock.
 //!
 //! The words of the command line, the host's files and outputs, and a random key. What they come to
-//! is said by the contract of `program::respond`, over any files and outputs.
+//! is said by the contract of `run`, over any files and outputs.
 
 #![tactic(auto)]
 
@@ -10,42 +10,49 @@ mod command;
 mod command_line;
 mod draft;
 mod files;
+mod misuse;
+mod run;
 mod second_look;
-mod standard_input;
 mod warning;
 
-use crate::command_line::read_command_line;
+use crate::command_line::{WordsFault, words_of};
 use crate::files::Host;
+use crate::run::{out_of_memory, run};
 use crate::second_look::say;
 use audit::Outputs;
 use byte_stream::WriteSink;
-use program::{Asked, respond};
-use report::{RunFault, conclude};
+use program::{Invocation, respond};
 use std::alloc::AllocError;
-use std::hash::{BuildHasherDefault, FoldHasher, RandomState};
+use std::hash::{BuildHasher, BuildHasherDefault, FoldHasher, RandomState};
 use std::process::ExitCode;
 
-fn main(rt: HostRuntime) -> ExitCode {
-    let mut files = Host::new(&rt);
-    let mut outputs = Outputs {
+/// Runs the program with this hasher.
+fn run_on<H: BuildHasher + Copy + Drop>(rt: &HostRuntime, hasher: H) -> ExitCode {
+    let alloc = rt.alloc();
+    let mut files = Host::new(rt);
+    let mut to = Outputs {
         out: WriteSink::new(rt.stdout()),
         err: WriteSink::new(rt.stderr()),
     };
-    let (conclusion, asked, hindrance, _) = match read_command_line(&rt) {
-        // A random key, so that nobody can write a capture whose packets collide. If the system has
-        // no random bytes a fixed key has to do: it slows such a capture down, no more.
-        Ok(invocation) => match RandomState::new(&rt) {
-            Ok(hasher) => respond(rt.alloc(), &mut files, invocation, &mut outputs, hasher),
-            Err(_) => {
-                let hasher = BuildHasherDefault::<FoldHasher>::new();
-                respond(rt.alloc(), &mut files, invocation, &mut outputs, hasher)
+    let response = match words_of(rt) {
+        Ok(words) => run(alloc, words.as_slice(), &mut files, &mut to, hasher),
+        Err(WordsFault::NotText) => {
+            match Invocation::refusal(alloc, "error: an operand isn't UTF-8\n") {
+                Ok(refusal) => respond(alloc, &mut files, refusal, &mut to, hasher),
+                Err(AllocError) => out_of_memory(&mut to.err),
             }
-        },
-        Err(AllocError) => {
-            let conclusion = conclude(&Err(RunFault::Memory), &mut outputs.err);
-            (conclusion, Asked::Nothing, None, None)
         }
+        Err(WordsFault::Memory) => out_of_memory(&mut to.err),
     };
-    say(&rt, &asked, &hindrance, &conclusion);
-    ExitCode::from(conclusion.code)
+    say(rt, &response);
+    ExitCode::from(response.conclusion.code)
+}
+
+fn main(rt: HostRuntime) -> ExitCode {
+    // A random key, so that nobody can write a capture whose packets collide. If the system has no
+    // random bytes a fixed key has to do: it slows such a capture down, no more.
+    match RandomState::new(&rt) {
+        Ok(hasher) => run_on(&rt, hasher),
+        Err(_) => run_on(&rt, BuildHasherDefault::<FoldHasher>::new()),
+    }
 }

@@ -10,8 +10,8 @@ use fault_words::{
     look_at_records, shown,
 };
 use pcap_reader::CaptureFault;
-use program::{Asked, Hindrance, STDIN};
-use report::{Conclusion, Input, RunFault, deliver, read_input};
+use program::{Asked, Hindrance, Response, STDIN};
+use report::{Input, RunFault, deliver, read_input};
 use std::alloc::{AllocError, Global};
 use std::fs;
 use std::fs::{File, Files};
@@ -30,17 +30,16 @@ const HINT: &[u8] = b"  (--human says more)\n";
 /// Says in words which fault was reported, or, if there was none, what looks like a slip of the pen
 /// in what was answered. Where memory is refused nothing is said: the run is over, and its answer
 /// or its line is out.
-pub(crate) fn say(
-    rt: &HostRuntime,
-    asked: &Asked,
-    hindrance: &Option<Hindrance>,
-    conclusion: &Conclusion,
-) {
+pub(crate) fn say(rt: &HostRuntime, response: &Response) {
+    let asked = &response.asked;
     if asked.is_for_a_person() {
-        if let Ok(words) = words_of(rt, asked, hindrance, conclusion) {
+        if let Ok(words) = words_of(rt, response) {
             write(rt, words.as_slice());
         }
-    } else if 1 < conclusion.code && asked.has_a_fault_line() && rt.stderr().is_terminal() {
+    } else if 1 < response.conclusion.code
+        && asked.has_a_fault_line()
+        && rt.stderr().is_terminal()
+    {
         write(rt, HINT);
     }
 }
@@ -51,14 +50,10 @@ fn write(rt: &HostRuntime, words: &[u8]) {
 }
 
 /// The words about a run that was asked to say more.
-fn words_of(
-    rt: &HostRuntime,
-    asked: &Asked,
-    hindrance: &Option<Hindrance>,
-    conclusion: &Conclusion,
-) -> Result<Vec<u8>, AllocError> {
+fn words_of(rt: &HostRuntime, response: &Response) -> Result<Vec<u8>, AllocError> {
     let alloc = rt.alloc();
-    let words = match (asked, hindrance, &conclusion.fault) {
+    let asked = &response.asked;
+    let words = match (asked, &response.hindrance, &response.conclusion.fault) {
         (Asked::Time(Some(time)), _, _) => explain_time(alloc, time.as_str())?,
         (_, Some(hindrance), _) => words_of_hindrance(alloc, asked.output(), hindrance)?,
         (_, None, Some(fault)) => words_of_fault(rt, &asked.names(), fault)?,

@@ -1,6 +1,6 @@
 -- What may be opened: which bytes stand at which path, as far as that is known.
-use Rattle.std.specs.Prelude.{◌≡◌, ◌+◌, ◌^◌, ◌<◌, ℕ, List, Option, Some}
-use Rattle.byte_stream.specs.State.{FeedState}
+use Rattle.std.specs.Prelude.{◌≡◌, ◌+◌, ◌^◌, ◌<◌, ℕ, List, [], Option, Some, IfSome, IsTrue}
+use Rattle.byte_stream.specs.State.{FeedState, SinkState}
 
 -- what is known of a path: nothing, that it can't be opened, or which bytes stand there
 pub data Standing : Type 0 where
@@ -8,17 +8,28 @@ pub data Standing : Type 0 where
   missing : Standing
   holds : List ℕ → Standing
 
--- files at one moment: what stands at each path, how many were opened, and how many drafts have
--- taken their place
+-- drafts at one moment: how many have taken their place, how often one couldn't be made or take it,
+-- and what was put at each path
+pub record DraftsState : Type 0 where
+  pub placed : ℕ
+  pub hindered : ℕ
+  pub put : List ℕ → Standing
+
+-- files at one moment: what stands at each path, how many were opened, and their drafts
 pub record FilesState : Type 0 where
   pub standing : List ℕ → Standing
   pub opened : ℕ
-  pub placed : ℕ
+  pub drafts : DraftsState
+
+-- A draft may be made, and take its place.
+pub record MayDraft (drafts : DraftsState) : Type 0 where
+  pub placed : drafts.placed + 1 < 2 ^ 64
+  pub hindered : drafts.hindered + 1 < 2 ^ 64
 
 -- A run may open its files, and put one into its place.
 pub record MayOpen (files : FilesState) : Type 0 where
   pub opened : files.opened + 4 < 2 ^ 64
-  pub placed : files.placed + 1 < 2 ^ 64
+  pub drafts : MayDraft files.drafts
 
 -- These bytes are to come of a feed: those that are known to stand there. Of a path that can't be
 -- opened there is no feed.
@@ -41,3 +52,22 @@ MayBeMissing standing = Unit {0}
 abbrev pub MayBeThere : Standing → Type 0
 MayBeThere missing = ⊥
 MayBeThere standing = Unit {0}
+
+-- a draft's sink that has got nothing, and has never failed
+pub record IsEmpty (draft : SinkState) : Type 0 where
+  pub usable : IsTrue draft.is_open
+  pub unfailed : draft.faults ≡ 0
+  pub nothing : IfSome draft.contents (λ bytes. bytes ≡ [])
+
+-- A draft has taken the place of this path, with all that its sink holds.
+pub record IsPlaced (path : List ℕ) (draft : SinkState) (before after : DraftsState)
+    : Type 0 where
+  pub bytes : HasBytesOf (after.put path) draft.contents
+  pub counted : after.placed ≡ before.placed + 1
+  pub unhindered : after.hindered ≡ before.hindered
+
+-- Something hinders a draft from being made, or from taking its place.
+pub record IsHindered (before after : DraftsState) : Type 0 where
+  pub counted : after.hindered ≡ before.hindered + 1
+  pub unplaced : after.placed ≡ before.placed
+  pub unput : after.put ≡ before.put

@@ -77,5 +77,6 @@ pub record Responds (asked : AskedData) (names : SumNames) (feeds : Feeds)
     (sums : Option FeedState) (sink sink' err err' : SinkState) (summed : Option Summed)
     (conclusion : Conclusion) : Type 0 where
   pub alone : sums ≡ None → IsAnswered asked feeds sink sink' err err' conclusion
+  pub unsummed : sums ≡ None → summed ≡ None
   pub by_sums : IfSome sums (λ file.
       AnswersBySums asked names feeds file sink sink' err err' summed conclusion)

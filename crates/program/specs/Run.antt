@@ -24,7 +24,9 @@ use Rattle.program.specs.Response.{Responds, names_of}
 use Rattle.program.specs.World.{IsUnopened, World}
 use Rattle.program.specs.declared.invocation.Invocation.{Invocation}
 use Rattle.program.specs.declared.invocation.Invocation.TheVariants as calls
+use Rattle.program.specs.declared.hindrance.Hindrance.{Hindrance}
 use Rattle.program.specs.declared.response.Summed.{Summed}
+use Rattle.program.specs.declared.run.Response.{Response}
 
 -- The capture was opened, and listed.
 pub record IsListed (path : List ℕ) (before after : World) (conclusion : Conclusion)
@@ -33,7 +35,7 @@ pub record IsListed (path : List ℕ) (before after : World) (conclusion : Concl
   pub capture_after : FeedState
   pub capture_is : IsFeedOf (before.files.standing path) capture
   pub once : after.files.opened ≡ before.files.opened + 1
-  pub unplaced : after.files.placed ≡ before.files.placed
+  pub undrafted : after.files.drafts ≡ before.files.drafts
   pub answers : Answers (option_map list_report capture.remaining)
       (capture_state capture before.out) (capture_state capture_after after.out)
       before.err after.err conclusion
@@ -51,50 +53,60 @@ pub record IsAnsweredOver (asked : AskedData) (places : Places) (before after : 
   pub feeds : Feeds
   pub sums : Option FeedState
   pub are_opened : AreOpened before.files places after.files.opened feeds sums
-  pub unplaced : after.files.placed ≡ before.files.placed
+  pub undrafted : after.files.drafts ≡ before.files.drafts
   pub responds : Responds asked (names_of places) feeds sums before.out after.out
       before.err after.err summed conclusion
 
 -- what a question comes to
 abbrev pub AnswersOver : AskedData → Places → World → World → Option Summed → Conclusion → Type 0
 AnswersOver asked places before after summed conclusion =
-    IsUnopened (order_of places) before after conclusion
+    (IsUnopened (order_of places) before after conclusion × (summed ≡ None))
     ⊎ IsAnsweredOver asked places before after summed conclusion
 
--- the same of a question whose text for a program goes into a file
-abbrev pub DraftsOver : AskedData → Places → World → World → Conclusion → Type 0
-DraftsOver asked places before after conclusion =
-    IsUnopened (order_of places) before after conclusion
-    ⊎ IsDraftedOver asked places before after conclusion
+-- the same of a question whose text for a program goes into the file of this path
+abbrev pub DraftsOver : AskedData → Places → List ℕ → World → World → Option Hindrance
+    → Conclusion → Type 0
+DraftsOver asked places path before after hindrance conclusion =
+    (IsUnopened (order_of places) before after conclusion × (hindrance ≡ None))
+    ⊎ IsDraftedOver asked places path before after hindrance conclusion
 
 -- the one or the other
 abbrev pub AnswersTo : Option (String Global) → AskedData → Places → World → World
-    → Option Summed → Conclusion → Type 0
-AnswersTo None asked places before after summed conclusion =
-    AnswersOver asked places before after summed conclusion
-AnswersTo (Some file) asked places before after summed conclusion =
-    DraftsOver asked places before after conclusion
+    → Option Hindrance → Option Summed → Conclusion → Type 0
+AnswersTo None asked places before after hindrance summed conclusion =
+    AnswersOver asked places before after summed conclusion × (hindrance ≡ None)
+AnswersTo (Some file) asked places before after hindrance summed conclusion =
+    DraftsOver asked places (string_bytes file) before after hindrance conclusion
+    × (summed ≡ None)
 
 -- No file was opened or put into its place, and nothing written on the output.
 pub record IsUntouched (before after : World) : Type 0 where
   pub unopened : after.files ≡ before.files
   pub unwritten : after.out ≡ before.out
 
+-- Nothing was read by sums, and no file was to be written.
+pub record IsBare (response : Response) : Type 0 where
+  pub unsummed : response.summed ≡ None
+  pub unhindered : response.hindrance ≡ None
+
 -- what a command line comes to
-abbrev pub Says : Invocation → World → World → Option Summed → Conclusion → Type 0
-Says (calls.List listed) before after summed conclusion =
-    Lists (listed_name listed) before after conclusion
-Says (calls.Ask request paths) before after summed conclusion = AnswersTo paths.output
-    (requested request paths.style) (places_of paths) before after summed conclusion
-Says (calls.Judge judgement paths) before after summed conclusion =
+abbrev pub Says : Invocation → World → World → Response → Type 0
+Says (calls.List listed) before after response =
+    Lists (listed_name listed) before after response.conclusion × IsBare response
+Says (calls.Ask request paths) before after response = AnswersTo paths.output
+    (requested request paths.style) (places_of paths) before after
+    response.hindrance response.summed response.conclusion
+Says (calls.Judge judgement paths) before after response =
     AnswersOver (judged_of judgement paths.evidence.style)
-    (judged_places (second_of judgement) paths) before after summed conclusion
-Says (calls.Show text) before after summed conclusion =
-    (after.files ≡ before.files)
+    (judged_places (second_of judgement) paths) before after response.summed response.conclusion
+    × (response.hindrance ≡ None)
+Says (calls.Show text) before after response = (after.files ≡ before.files)
     × Answers (Some (whole_text (string_bytes text) Yes))
-    (bare_state before.out) (bare_state after.out) before.err after.err conclusion
-Says (calls.Refuse text) before after summed conclusion = IsUntouched before after
-    × IsDelivered (string_bytes text) before.err after.err × (conclusion ≡ refused_conclusion)
-Says (calls.RefuseTime shown) before after summed conclusion = IsUntouched before after
+    (bare_state before.out) (bare_state after.out) before.err after.err response.conclusion
+    × IsBare response
+Says (calls.Refuse text) before after response = IsUntouched before after
+    × IsDelivered (string_bytes text) before.err after.err
+    × (response.conclusion ≡ refused_conclusion) × IsBare response
+Says (calls.RefuseTime shown) before after response = IsUntouched before after
     × IsDelivered (codes "ntpaudit: time\n") before.err after.err
-    × (conclusion ≡ refused_conclusion)
+    × (response.conclusion ≡ refused_conclusion) × IsBare response

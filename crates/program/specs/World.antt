@@ -23,6 +23,6 @@ pub record IsUnopened (order : List Place) (before after : World) (conclusion : 
   pub fault_is : IsFirstUnopened before.files.standing order before.files.opened
       after.files.opened fault
   pub untouched : after.out ≡ before.out
-  pub unplaced : after.files.placed ≡ before.files.placed
+  pub undrafted : after.files.drafts ≡ before.files.drafts
   pub concludes : Concludes (Err fault) before.err after.err
   pub conclusion_is : conclusion ≡ conclusion_of (Err fault)

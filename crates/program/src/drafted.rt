@@ -1,12 +1,14 @@
 //! The answer to a question whose text for a program goes into a draft.
 
-ghost use Rattle.std.specs.Prelude.{◌≡◌, ◌+◌, ◌<◌, ◌^◌, IfOk, IfErr};
+ghost use Rattle.std.specs.Prelude.{◌≡◌};
 ghost use Rattle.byte_stream.specs.State.{IsReadable, IsWritable};
 ghost use Rattle.report.specs.Run.{no_feed};
 ghost use Rattle.audit.specs.Question.{asked_of};
 ghost use Rattle.audit.specs.Run.{MayRun};
 ghost use Rattle.audit.specs.Second.{no_second};
+ghost use Rattle.program.specs.Drafted as spec;
 ghost use Rattle.program.specs.Drafted.{DraftsOn, IsDrafted};
+ghost use Rattle.program.specs.Files.{MayDraft};
 ghost use Rattle.program.specs.Inputs.{feeds_of, run_over};
 ghost use Rattle.program.specs.Invocation.{requested};
 
@@ -66,17 +68,37 @@ fn draft<
     }
 }
 
+/// What an answer comes to that goes into a file.
+#[derive(Drop)]
+pub(crate) struct Written {
+    /// The answer.
+    pub(crate) answer: Result<Outcome, RunFault>,
+    /// What hinders the file from being written, if that's why the answer is a fault.
+    pub(crate) hindrance: Option<Hindrance>,
+}
+
+/// An answer that something hinders from being written.
+fn hindered(hindrance: Hindrance) -> Written
+    ensures { spec.TellsHindrance result }
+{
+    Written {
+        answer: Err(RunFault::Write(0)),
+        hindrance: Some(hindrance),
+    }
+}
+
 /// What hindered a draft from being written whose sink has failed so often, if that is the fault.
-fn hindrance_of(fault: &RunFault, faults: u64) -> Option<Hindrance> {
+fn hindrance_of(fault: &RunFault, faults: u64) -> Option<Hindrance>
+    ensures { result ≡ spec.hindrance_of fault.now faults }
+{
     match fault {
         RunFault::Write(_) if 0 < faults => Some(Hindrance::of(Obstacle::Full)),
         _ => None,
     }
 }
 
-/// Answers a question in a file of this path, and on `out` too if it's a person who asks. Beside
-/// the answer stands what hinders the file from being written, if that's why. Where the answer is a
-/// fault the file is left as it was.
+/// Answers a question in a file of this path, and on `out` too if it's a person who asks. Where the
+/// answer is a fault the file is left as it was.
 pub(crate) fn write_file<Fs: Files, N: NamedFeed + Drop, S: Sink, H: BuildHasher + Copy + Drop>(
     alloc: Global,
     files: &mut Fs,
@@ -86,37 +108,43 @@ pub(crate) fn write_file<Fs: Files, N: NamedFeed + Drop, S: Sink, H: BuildHasher
     inputs: Inputs<N, ()>,
     out: &mut S,
     hasher: H,
-) -> (Result<Outcome, RunFault>, Option<Hindrance>)
-    requires files { (Fs.state files.old).placed + 1 < 2 ^ 64 }
+) -> Written
+    requires files { MayDraft (Fs.state files.old).drafts }
     requires claim { IsReadable (N.state inputs.claim) }
     requires capture { IsReadable (N.state inputs.capture) }
     requires out { IsWritable (S.state out.old) }
     ensures drafts { DraftsOn (requested request paths.now.style)
-        (feeds_of N.state (λ none. no_feed) inputs) (S.state out.old) (S.state out.new) result.0 }
+        (feeds_of N.state (λ none. no_feed) inputs) path.now (S.state out.old) (S.state out.new)
+        (Fs.state files.old).drafts (Fs.state files.new).drafts result }
     ensures kept { (Fs.state files.new).opened ≡ (Fs.state files.old).opened }
-    ensures placed { IfOk result.0 (λ outcome.
-        (Fs.state files.new).placed ≡ (Fs.state files.old).placed + 1) }
-    ensures unplaced { IfErr result.0 (λ fault.
-        (Fs.state files.new).placed ≡ (Fs.state files.old).placed) }
 {
     let part = match format!(in alloc; "{path}.part") {
         Ok(part) => part,
-        Err(AllocError) => return (Err(RunFault::Memory), None),
+        Err(AllocError) => {
+            return Written {
+                answer: Err(RunFault::Memory),
+                hindrance: None,
+            };
+        }
     };
     let mut sink = match files.create(path, part.as_str(), paths) {
         Ok(sink) => sink,
-        Err(hindrance) => return (Err(RunFault::Write(0)), Some(hindrance)),
+        Err(hindrance) => return hindered(hindrance),
     };
     let style = paths.style;
     let answer = draft(alloc, request, style, inputs, &mut sink, out, hasher);
     match answer {
-        Ok(outcome) => match files.place(part.as_str(), path) {
-            Ok(()) => (Ok(outcome), None),
-            Err(hindrance) => (Err(RunFault::Write(0)), Some(hindrance)),
+        Ok(_) => match files.place(sink, part.as_str(), path) {
+            Ok(()) => Written {
+                answer,
+                hindrance: None,
+            },
+            Err(hindrance) => hindered(hindrance),
         },
         Err(fault) => {
             files.remove(part.as_str());
-            (Err(fault), hindrance_of(&fault, sink.faults()))
+            let hindrance = hindrance_of(&fault, sink.faults());
+            Written { answer, hindrance }
         }
     }
 }

@@ -1,8 +1,8 @@
 //! What is opened by a path, and what is put at one.
 
 ghost use Rattle.std.specs.Prelude.{◌≡◌, ◌+◌, ◌-◌, ◌^◌, ◌<◌, IfOk, IfErr};
-ghost use Rattle.byte_stream.specs.State.{IsWritable};
-ghost use Rattle.program.specs.Files.{FilesState, IsFeedOf, MayBeMissing};
+ghost use Rattle.program.specs.Files.{FilesState, IsEmpty, IsFeedOf, IsHindered, IsPlaced};
+ghost use Rattle.program.specs.Files.{MayBeMissing, MayDraft};
 
 use crate::hindrance::Hindrance;
 use crate::invocation::Paths;
@@ -25,8 +25,8 @@ pub trait Files {
     /// A draft's sink.
     type Draft: Sink + Drop;
 
-    /// What stands at each path, if it is known, how often it was tried to open one, and how many
-    /// drafts have taken their place.
+    /// What stands at each path, if it is known, how often it was tried to open one, and what has
+    /// become of drafts.
     ghost state: { Self → FilesState };
 
     /// Opens what stands at a path: no byte was pulled of it, and no pull has failed.
@@ -38,22 +38,27 @@ pub trait Files {
             MayBeMissing ((state self.old).standing path.now)) }
         ensures same { (state self.new).standing ≡ (state self.old).standing }
         ensures counted { (state self.new).opened ≡ (state self.old).opened + 1 }
-        ensures kept { (state self.new).placed ≡ (state self.old).placed };
+        ensures kept { (state self.new).drafts ≡ (state self.old).drafts };
 
     /// Makes the draft `part` of a file, if this may take the place of `path` in a run with these
     /// inputs.
     fn create(&mut self, path: &str, part: &str, paths: &Paths) -> Result<Self::Draft, Hindrance>
-        ensures writable { IfOk result (λ draft. IsWritable (Self.Draft.state draft)) }
-        ensures same { state self.new ≡ state self.old };
+        requires { MayDraft (state self.old).drafts }
+        ensures empty { IfOk result (λ draft. IsEmpty (Self.Draft.state draft)) }
+        ensures made { IfOk result (λ draft.
+            (state self.new).drafts ≡ (state self.old).drafts) }
+        ensures hindered { IfErr result (λ hindrance.
+            IsHindered (state self.old).drafts (state self.new).drafts) }
+        ensures kept { (state self.new).opened ≡ (state self.old).opened };
 
-    /// Puts a draft into its place, or removes it if that can't be done.
-    fn place(&mut self, part: &str, path: &str) -> Result<(), Hindrance>
-        requires { (state self.old).placed < 2 ^ 64 - 1 }
-        ensures kept { (state self.new).opened ≡ (state self.old).opened }
-        ensures placed { IfOk result (λ done.
-            (state self.new).placed ≡ (state self.old).placed + 1) }
-        ensures unplaced { IfErr result (λ hindrance.
-            (state self.new).placed ≡ (state self.old).placed) };
+    /// Puts the draft `part` into its place, or removes it if that can't be done.
+    fn place(&mut self, draft: Self::Draft, part: &str, path: &str) -> Result<(), Hindrance>
+        requires { MayDraft (state self.old).drafts }
+        ensures placed { IfOk result (λ done. IsPlaced path.now (Self.Draft.state draft)
+            (state self.old).drafts (state self.new).drafts) }
+        ensures hindered { IfErr result (λ hindrance.
+            IsHindered (state self.old).drafts (state self.new).drafts) }
+        ensures kept { (state self.new).opened ≡ (state self.old).opened };
 
     /// Removes a draft.
     fn remove(&mut self, part: &str)

@@ -1,5 +1,7 @@
 //! Why the file that `-o` names can't be written.
 
+ghost use Rattle.std.specs.Prelude.{◌≡◌, None};
+
 use fault_words::Obstacle;
 use std::io::Error;
 
@@ -14,7 +16,9 @@ pub struct Hindrance {
 
 impl Hindrance {
     /// What is seen without an error.
-    pub fn of(obstacle: Obstacle) -> Hindrance {
+    pub fn of(obstacle: Obstacle) -> Hindrance
+        ensures { result ≡ record { obstacle = obstacle; error = None } }
+    {
         Hindrance {
             obstacle,
             error: None,

@@ -51,7 +51,7 @@ pub(crate) fn open<'a, Fs: Files>(
         (place which path.now ∷ []) (Fs.state files.old).opened (Fs.state files.new).opened) }
     ensures same { (Fs.state files.new).standing ≡ (Fs.state files.old).standing }
     ensures counted { (Fs.state files.new).opened ≡ (Fs.state files.old).opened + 1 }
-    ensures kept { (Fs.state files.new).placed ≡ (Fs.state files.old).placed }
+    ensures kept { (Fs.state files.new).drafts ≡ (Fs.state files.old).drafts }
 {
     match files.open(path) {
         Ok(feed) => Ok(Named { name: path, feed }),
@@ -75,7 +75,7 @@ fn open_sums<'a, Fs: Files>(
     ensures counted { IfOk result (λ sums. (Fs.state files.new).opened
         ≡ (Fs.state files.old).opened + length
         (option_to_list (option_map (place Sums) (option_map string_bytes path.now)))) }
-    ensures kept { (Fs.state files.new).placed ≡ (Fs.state files.old).placed }
+    ensures kept { (Fs.state files.new).drafts ≡ (Fs.state files.old).drafts }
 {
     match path {
         Some(path) => Ok(Some(open(files, path.as_str(), Input::Sums)?)),
@@ -103,7 +103,7 @@ pub(crate) fn open_evidence<'a, Fs: Files>(
     ensures fault { IfErr result (IsFirstUnopened (Fs.state files.old).standing
         (order_of (places_of paths.now))
         (Fs.state files.old).opened (Fs.state files.new).opened) }
-    ensures kept { (Fs.state files.new).placed ≡ (Fs.state files.old).placed }
+    ensures kept { (Fs.state files.new).drafts ≡ (Fs.state files.old).drafts }
 {
     let claim = open(files, paths.claim.as_str(), Input::Claim)?;
     let capture = open(files, paths.capture.as_str(), Input::Capture)?;
@@ -140,7 +140,7 @@ pub(crate) fn open_judged<'a, Fs: Files>(
     ensures fault { IfErr result (IsFirstUnopened (Fs.state files.old).standing
         (order_of (judged_places which paths.now))
         (Fs.state files.old).opened (Fs.state files.new).opened) }
-    ensures kept { (Fs.state files.new).placed ≡ (Fs.state files.old).placed }
+    ensures kept { (Fs.state files.new).drafts ≡ (Fs.state files.old).drafts }
 {
     let claim = open(files, paths.evidence.claim.as_str(), Input::Claim)?;
     let second = open(files, paths.second.as_str(), which)?;

@@ -33,5 +33,5 @@ pub use files::{Files, OpenFault};
 pub use hindrance::Hindrance;
 pub use invocation::{Invocation, JudgedPaths, Judgement, Listed, Paths, STDIN, path_or_none};
 pub use response::Summed;
-pub use run::respond;
-pub use table::{Place, Table};
+pub use run::{Response, respond};
+pub use table::{Place, Put, Table};

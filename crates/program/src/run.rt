@@ -1,6 +1,6 @@
 //! What an invocation comes to, over files that it opens.
 
-ghost use Rattle.std.specs.Prelude.{◌≡◌};
+ghost use Rattle.std.specs.Prelude.{◌≡◌, None};
 ghost use Rattle.byte_stream.specs.State.{IsWritable};
 ghost use Rattle.program.specs.Asked.{asked_by};
 ghost use Rattle.program.specs.Files.{MayOpen};
@@ -82,18 +82,17 @@ fn ask_for_file<Fs: Files, S: Sink, E: Sink, H: BuildHasher + Copy + Drop>(
     requires files { MayOpen (Fs.state files.old) }
     requires out { IsWritable (S.state to.old.out) }
     requires err { IsWritable (E.state to.old.err) }
-    ensures drafts { DraftsOver (requested request paths.now.style) (places_of paths.now)
+    ensures drafts { DraftsOver (requested request paths.now.style) (places_of paths.now) path.now
         (world (Fs.state files.old) (S.state to.old.out) (E.state to.old.err))
-        (world (Fs.state files.new) (S.state to.new.out) (E.state to.new.err)) result.0 }
+        (world (Fs.state files.new) (S.state to.new.out) (E.state to.new.err))
+        result.1 result.0 }
 {
     match open_evidence(files, paths) {
         Ok(opened) => {
             let inputs = opened.inputs;
             let out = &mut to.out;
-            let (answer, hindrance) = write_file(
-                alloc, files, request, paths, path, inputs, out, hasher,
-            );
-            (conclude(&answer, &mut to.err), hindrance)
+            let written = write_file(alloc, files, request, paths, path, inputs, out, hasher);
+            (conclude(&written.answer, &mut to.err), written.hindrance)
         }
         Err(fault) => (conclude(&Err(fault), &mut to.err), None),
     }
@@ -141,7 +140,7 @@ fn ask_paths<Fs: Files, S: Sink, E: Sink, H: BuildHasher + Copy + Drop>(
         (places_of paths.now)
         (world (Fs.state files.old) (S.state to.old.out) (E.state to.old.err))
         (world (Fs.state files.new) (S.state to.new.out) (E.state to.new.err))
-        result.2 result.0 }
+        result.1 result.2 result.0 }
 {
     match &paths.output {
         Some(path) => {
@@ -158,46 +157,81 @@ fn ask_paths<Fs: Files, S: Sink, E: Sink, H: BuildHasher + Copy + Drop>(
     }
 }
 
-/// Does what a command line calls for: all files are opened before anything is read. The result is
-/// what that comes to, and what may be said of the run behind its fault line. If the run is held to
-/// sums, what was read of its files is handed back, and that is what the clauses are about. What is
-/// read of a capture is hashed by `hasher`, on which no answer depends.
+/// What a command line comes to, and what may be said of it behind its fault line.
+#[derive(Drop)]
+pub struct Response {
+    /// The exit status, and the fault that is reported.
+    pub conclusion: Conclusion,
+    /// The run.
+    pub asked: Asked,
+    /// What hinders the file that `-o` names from being written, if that's the fault.
+    pub hindrance: Option<Hindrance>,
+    /// What was read of the files, if they are held to sums and that of the sums could be read.
+    pub summed: Option<Summed>,
+}
+
+/// A response with nothing that was read by sums, and no file to be written.
+fn bare(conclusion: Conclusion, asked: Asked) -> Response
+    ensures { result ≡ record {
+      conclusion = conclusion;
+      asked = asked;
+      hindrance = None;
+      summed = None;
+    } }
+{
+    Response {
+        conclusion,
+        asked,
+        hindrance: None,
+        summed: None,
+    }
+}
+
+/// Does what a command line calls for: all files are opened before anything is read. If the run is
+/// held to sums, what was read of its files is handed back, and that is what the clauses are about.
+/// What is read of a capture is hashed by `hasher`, on which no answer depends.
 pub fn respond<Fs: Files, S: Sink, E: Sink, H: BuildHasher + Copy + Drop>(
     alloc: Global,
     files: &mut Fs,
     invocation: Invocation,
     to: &mut Outputs<S, E>,
     hasher: H,
-) -> (Conclusion, Asked, Option<Hindrance>, Option<Summed>)
+) -> Response
     requires files { MayOpen (Fs.state files.old) }
     requires out { IsWritable (S.state to.old.out) }
     requires err { IsWritable (E.state to.old.err) }
     ensures says { Says invocation
         (world (Fs.state files.old) (S.state to.old.out) (E.state to.old.err))
-        (world (Fs.state files.new) (S.state to.new.out) (E.state to.new.err))
-        result.3 result.0 }
-    ensures asked { result.1 ≡ asked_by invocation }
+        (world (Fs.state files.new) (S.state to.new.out) (E.state to.new.err)) result }
+    ensures asked { result.asked ≡ asked_by invocation }
 {
     match invocation {
         Invocation::List(listed) => {
             let conclusion = list(alloc, files, &listed, to);
-            (conclusion, Asked::Listing(listed), None, None)
+            bare(conclusion, Asked::Listing(listed))
         }
         Invocation::Ask(request, paths) => {
             let (conclusion, hindrance, summed) = ask_paths(
                 alloc, files, request, &paths, to, hasher,
             );
-            (conclusion, Asked::Question(paths), hindrance, summed)
+            Response {
+                conclusion,
+                asked: Asked::Question(paths),
+                hindrance,
+                summed,
+            }
         }
         Invocation::Judge(judgement, paths) => {
             let (summed, conclusion) = judge_files(alloc, files, judgement, &paths, to, hasher);
-            (conclusion, Asked::Judgement(paths), None, summed)
+            Response {
+                conclusion,
+                asked: Asked::Judgement(paths),
+                hindrance: None,
+                summed,
+            }
         }
-        Invocation::Show(text) => {
-            let conclusion = show(text, &mut to.out, &mut to.err);
-            (conclusion, Asked::Nothing, None, None)
-        }
-        Invocation::Refuse(text) => (refuse(text, &mut to.err), Asked::Nothing, None, None),
-        Invocation::RefuseTime(time) => (refuse_time(&mut to.err), Asked::Time(time), None, None),
+        Invocation::Show(text) => bare(show(text, &mut to.out, &mut to.err), Asked::Nothing),
+        Invocation::Refuse(text) => bare(refuse(text, &mut to.err), Asked::Nothing),
+        Invocation::RefuseTime(time) => bare(refuse_time(&mut to.err), Asked::Time(time)),
     }
 }

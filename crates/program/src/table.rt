@@ -1,13 +1,18 @@
 //! Files in memory, for tests: all is known of them.
 
 ghost use Rattle.std.specs.Prelude.{◌≡◌};
-ghost use Rattle.program.specs.Table.{standing_in};
+ghost use Rattle.program.specs.Files.{missing};
+ghost use Rattle.program.specs.Table.{put_in, standing_in};
 
 use crate::files::{Files, OpenFault};
 use crate::hindrance::Hindrance;
 use crate::invocation::Paths;
 use byte_stream::{Cut, TestFeed, TestSink};
 use fault_words::Obstacle;
+use std::alloc::Global;
+
+/// How many bytes go into a file that is written.
+const ROOM: usize = 2000;
 
 /// What stands at a path.
 #[derive(Clone, Copy, Debug)]
@@ -18,26 +23,54 @@ pub struct Place<'a> {
     pub bytes: &'a [u8],
 }
 
-/// Files that can be read: the first with a path stands there, and nothing else can be opened. None
-/// can be written.
-#[derive(Debug, Drop)]
+/// A file that was written.
+#[derive(Drop)]
+pub struct Put {
+    /// Its path.
+    pub path: String,
+    /// What it holds.
+    pub held: TestSink,
+}
+
+/// Files that can be read: the first with a path stands there, and nothing else can be opened. The
+/// last that was written is kept apart from them.
+#[derive(Drop)]
 pub struct Table<'a> {
+    alloc: Global,
     places: &'a [Place<'a>],
     cut: Cut,
     opened: u64,
+    placed: u64,
+    hindered: u64,
+    last: Option<Put>,
 }
 
 impl<'a> Table<'a> {
-    /// These files, of which none was opened. Each pull gives as many bytes as `cut` says.
-    pub fn new(places: &'a [Place<'a>], cut: Cut) -> Table<'a>
-        ensures { ⟦<Table<'a> as Files>⟧.state result
-            ≡ record { standing = λ path. standing_in path places.now; opened = 0; placed = 0 } }
+    /// These files, of which none was opened, and none written. Each pull gives as many bytes as
+    /// `cut` says.
+    pub fn new(alloc: Global, places: &'a [Place<'a>], cut: Cut) -> Table<'a>
+        ensures { ⟦<Table<'a> as Files>⟧.state result ≡ record {
+          standing = λ path. standing_in path places.now;
+          opened = 0;
+          drafts = record { placed = 0; hindered = 0; put = λ path. missing };
+        } }
     {
         Table {
+            alloc,
             places,
             cut,
             opened: 0,
+            placed: 0,
+            hindered: 0,
+            last: None,
         }
+    }
+
+    /// The last file that was written, if there is one.
+    pub fn last(&self) -> &Option<Put>
+        ensures { result.now ≡ self.now.last }
+    {
+        &self.last
     }
 }
 
@@ -49,7 +82,11 @@ impl<'a> Files for Table<'a> {
     ghost state = { λ table. record {
       standing = λ path. standing_in path table.places.now;
       opened = table.opened;
-      placed = 0;
+      drafts = record {
+        placed = table.placed;
+        hindered = table.hindered;
+        put = λ path. put_in path table.last;
+      };
     } };
 
     fn open(&mut self, path: &str) -> Result<TestFeed<'a>, OpenFault> {
@@ -64,11 +101,27 @@ impl<'a> Files for Table<'a> {
     }
 
     fn create(&mut self, _path: &str, _part: &str, _paths: &Paths) -> Result<TestSink, Hindrance> {
-        Err(Hindrance::of(Obstacle::Refused))
+        match TestSink::new(self.alloc, ROOM, ROOM, None, false) {
+            Ok(sink) => Ok(sink),
+            Err(_) => {
+                self.hindered += 1;
+                Err(Hindrance::of(Obstacle::Refused))
+            }
+        }
     }
 
-    fn place(&mut self, _part: &str, _path: &str) -> Result<(), Hindrance> {
-        Err(Hindrance::of(Obstacle::Refused))
+    fn place(&mut self, draft: TestSink, _part: &str, path: &str) -> Result<(), Hindrance> {
+        match String::from_str(self.alloc, path) {
+            Ok(path) => {
+                self.placed += 1;
+                self.last = Some(Put { path, held: draft });
+                Ok(())
+            }
+            Err(_) => {
+                self.hindered += 1;
+                Err(Hindrance::of(Obstacle::Refused))
+            }
+        }
     }
 
     fn remove(&mut self, _part: &str) {}

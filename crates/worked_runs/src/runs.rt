@@ -99,16 +99,16 @@ fn comes_to(rt: &impl Abort, alloc: Global, invocation: Invocation, wanted: (u8,
         place("SUMS", SUMS.as_bytes()),
         place("OTHER_SUMS", OTHER_SUMS.as_bytes()),
     ];
-    let mut files = Table::new(&places, Cut::Growing);
+    let mut files = Table::new(alloc, &places, Cut::Growing);
     let mut to = Outputs {
         out: assert_ok(rt, TestSink::new(alloc, 2000, 2000, None, false)),
         err: assert_ok(rt, TestSink::new(alloc, 2000, 2000, None, false)),
     };
     let hasher = BuildHasherDefault::<FoldHasher>::new();
-    let (conclusion, _, _, _) = respond(alloc, &mut files, invocation, &mut to, hasher);
+    let response = respond(alloc, &mut files, invocation, &mut to, hasher);
     let out = assert_ok(rt, str::from_utf8(to.out.bytes()));
     let err = assert_ok(rt, str::from_utf8(to.err.bytes()));
-    assert_eq!(rt; (conclusion.code, out, err), wanted);
+    assert_eq!(rt; (response.conclusion.code, out, err), wanted);
 }
 
 /// What stands at a path.

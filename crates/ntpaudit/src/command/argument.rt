@@ -1,7 +1,9 @@
 //! One operand or option of a command: how it's declared, and what is read of it.
 
-ghost use Rattle.std.specs.Prelude.{◌≡◌, IfOk, IfSome, Some, codes, option_map, string_bytes};
-ghost use Rattle.clap.specs.Words.{first_of, found_of, rows_of};
+ghost use Rattle.std.specs.Prelude.{◌≡◌, IfOk, IfSome, Some, codes, false, option_map};
+ghost use Rattle.std.specs.Prelude.{string_bytes};
+ghost use Rattle.clap.specs.Words.{first_of, found_of, rows_of, rule_of};
+ghost use Rattle.ntpaudit.specs.CommandLine as table;
 ghost use Rattle.ntpaudit.specs.Invocation as spec;
 ghost use Rattle.ntpaudit.specs.Invocation.{IsFlag, step_given};
 ghost use Rattle.program.specs.Invocation.{is_human};
@@ -10,8 +12,30 @@ use audit::{Step, Style};
 use clap::{Arg, ArgAction, ArgMatches};
 use std::alloc::{AllocError, Global};
 
+/// An operand that has to be given, with these words about it.
+pub(crate) fn required<'a>(alloc: Global, name: &'a str, help: &'a str) -> Arg<'a>
+    ensures rule { rule_of result ≡ table.required name.now }
+    ensures local { result.global ≡ false }
+{
+    Arg::new(alloc, name).help(help).required(true)
+}
+
+/// An option with a value, which help calls so, with these words about it.
+pub(crate) fn valued<'a>(alloc: Global, name: &'a str, value: &'a str, help: &'a str) -> Arg<'a>
+    ensures rule { rule_of result ≡ table.valued name.now }
+    ensures local { result.global ≡ false }
+{
+    Arg::new(alloc, name)
+        .long(name)
+        .value_name(value)
+        .help(help)
+}
+
 /// An option without a value, with these words about it.
-pub(crate) fn flag<'a>(alloc: Global, name: &'a str, help: &'a str) -> Arg<'a> {
+pub(crate) fn flag<'a>(alloc: Global, name: &'a str, help: &'a str) -> Arg<'a>
+    ensures rule { rule_of result ≡ table.flag name.now }
+    ensures local { result.global ≡ false }
+{
     Arg::new(alloc, name)
         .long(name)
         .help(help)
@@ -60,7 +84,10 @@ pub(crate) fn text_of(
 }
 
 /// The option `--human`, with these words about it.
-pub(crate) fn human_option<'a>(alloc: Global, help: &'a str) -> Arg<'a> {
+pub(crate) fn human_option<'a>(alloc: Global, help: &'a str) -> Arg<'a>
+    ensures rule { rule_of result ≡ table.human }
+    ensures local { result.global ≡ false }
+{
     flag(alloc, "human", help).short('H')
 }
 
@@ -77,11 +104,11 @@ pub(crate) fn style(words: &ArgMatches) -> Style
 }
 
 /// The option `--step`, with these words about it.
-pub(crate) fn step_option<'a>(alloc: Global, help: &'a str) -> Arg<'a> {
-    Arg::new(alloc, "step")
-        .long("step")
-        .value_name("N")
-        .help(help)
+pub(crate) fn step_option<'a>(alloc: Global, help: &'a str) -> Arg<'a>
+    ensures rule { rule_of result ≡ table.step }
+    ensures local { result.global ≡ false }
+{
+    valued(alloc, "step", "N", help)
         .value_parser(clap::value_parser!(u32).range(1..=86_400))
         .default_value("64")
 }

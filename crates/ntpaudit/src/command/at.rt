@@ -2,13 +2,15 @@
 
 ghost use Rattle.std.specs.Prelude.{◌≡◌, IfOk, codes};
 ghost use Rattle.clap.specs.Words.{found_of, rows_of};
+ghost use Rattle.ntpaudit.specs.CommandLine as table;
+ghost use Rattle.ntpaudit.specs.CommandLine.{IsDeclared};
 ghost use Rattle.ntpaudit.specs.Invocation.{IsCalled, IsShownTime, time_given};
 
-use crate::command::argument::{is_given, operand, value};
+use crate::command::argument::{is_given, operand, required, value};
 use crate::command::evidence::{ask, evidence_command};
 use audit::{At, Request};
 use claim_file::read_time;
-use clap::{Arg, ArgMatches, Command};
+use clap::{ArgMatches, Command};
 use program::Invocation;
 use std::alloc::{AllocError, Global};
 
@@ -23,12 +25,12 @@ Example:  ntpaudit at claim.json recording.pcap 2026-11-22T06:46:09Z
 More:     man ntpaudit";
 
 /// The command, its operands and options.
-pub(crate) fn declaration<'a>(alloc: Global) -> Result<Command<'a>, AllocError> {
-    let time = Arg::new(alloc, "TIME").help(
-        "The moment, as 2026-11-22T06:46:09Z; it may lie outside the claim's span",
-    );
+pub(crate) fn declaration<'a>(alloc: Global) -> Result<Command<'a>, AllocError>
+    ensures { IfOk result (IsDeclared table.at) }
+{
+    let time = "The moment, as 2026-11-22T06:46:09Z; it may lie outside the claim's span";
     let about = "Print what a capture says about the clock at one moment";
-    evidence_command(alloc, "at", about, HELP)?.arg(time.required(true))
+    evidence_command(alloc, "at", about, HELP)?.arg(required(alloc, "TIME", time))
 }
 
 /// The moment that it is asked about, if its TIME is written as a claim's times are.

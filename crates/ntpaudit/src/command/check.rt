@@ -2,10 +2,13 @@
 
 ghost use Rattle.std.specs.Prelude.{IfOk, codes};
 ghost use Rattle.clap.specs.Words.{found_of, rows_of};
+ghost use Rattle.ntpaudit.specs.CommandLine as table;
+ghost use Rattle.ntpaudit.specs.CommandLine.{IsDeclared};
 ghost use Rattle.ntpaudit.specs.Invocation.{IsCalled};
 
+use crate::command::argument::required;
 use crate::command::evidence::{evidence_command, judged_paths, sums_option};
-use clap::{Arg, ArgMatches, Command};
+use clap::{ArgMatches, Command};
 use program::{Invocation, Judgement};
 use std::alloc::{AllocError, Global};
 
@@ -18,11 +21,13 @@ Example:  ntpaudit check claim.json recording.pcap certificate.json
 More:     man ntpaudit, which says what a yes means";
 
 /// The command, its operands and options.
-pub(crate) fn declaration<'a>(alloc: Global) -> Result<Command<'a>, AllocError> {
-    let certificate = Arg::new(alloc, "CERTIFICATE").help("The certificate, a JSON file");
+pub(crate) fn declaration<'a>(alloc: Global) -> Result<Command<'a>, AllocError>
+    ensures { IfOk result (IsDeclared table.check) }
+{
+    let certificate = required(alloc, "CERTIFICATE", "The certificate, a JSON file");
     let about = "Check a certificate for a claim against a capture";
     evidence_command(alloc, "check", about, HELP)?
-        .arg(certificate.required(true))?
+        .arg(certificate)?
         .arg(sums_option(alloc))
 }
 

@@ -2,6 +2,8 @@
 
 ghost use Rattle.std.specs.Prelude.{IfOk, codes};
 ghost use Rattle.clap.specs.Words.{found_of, rows_of};
+ghost use Rattle.ntpaudit.specs.CommandLine as table;
+ghost use Rattle.ntpaudit.specs.CommandLine.{IsDeclared};
 ghost use Rattle.ntpaudit.specs.Invocation.{IsCalled};
 
 use crate::command::argument::{flag, is_given, step_of, step_option};
@@ -22,7 +24,9 @@ Example:  ntpaudit envelope claim.json recording.pcap --step 8
 More:     man ntpaudit";
 
 /// The command, its operands and options.
-pub(crate) fn declaration<'a>(alloc: Global) -> Result<Command<'a>, AllocError> {
+pub(crate) fn declaration<'a>(alloc: Global) -> Result<Command<'a>, AllocError>
+    ensures { IfOk result (IsDeclared table.envelope) }
+{
     let step = "Seconds of each piece, 1 to 86400";
     let servers = "Print before each piece what each server says about it, `K SERVER LOW HIGH`";
     let least = "Print last the least bound that a certificate carries, `least_ns N piece K`";

@@ -1,28 +1,16 @@
 //! What commands on a claim and a capture share.
 
-ghost use Rattle.std.specs.Prelude.{IfOk};
-ghost use Rattle.clap.specs.Words.{found_of, rows_of};
+ghost use Rattle.std.specs.Prelude.{◌≡◌, IfOk, [], false};
+ghost use Rattle.clap.specs.Words.{found_of, rows_of, rule_of};
+ghost use Rattle.ntpaudit.specs.CommandLine as table;
+ghost use Rattle.ntpaudit.specs.CommandLine.{IsDeclared};
 ghost use Rattle.ntpaudit.specs.Invocation.{AreJudgedNamed, AreNamed, IsAsking};
 
-use crate::command::argument::{human_option, operand, style, text_of};
+use crate::command::argument::{human_option, operand, required, style, text_of, valued};
 use audit::Request;
 use clap::{Arg, ArgMatches, Command};
 use program::{Invocation, JudgedPaths, Paths};
 use std::alloc::{AllocError, Global};
-
-/// The operand CLAIM.
-fn claim_operand<'a>(alloc: Global) -> Arg<'a> {
-    Arg::new(alloc, "CLAIM")
-        .help("The claim, a JSON file")
-        .required(true)
-}
-
-/// The operand CAPTURE.
-fn capture_operand<'a>(alloc: Global) -> Arg<'a> {
-    Arg::new(alloc, "CAPTURE")
-        .help("The capture, a classic pcap file")
-        .required(true)
-}
 
 /// A command that reads a claim and a capture, with these words about it.
 pub(crate) fn evidence_command<'a>(
@@ -30,31 +18,36 @@ pub(crate) fn evidence_command<'a>(
     name: &'a str,
     about: &'a str,
     help: &'a str,
-) -> Result<Command<'a>, AllocError> {
+) -> Result<Command<'a>, AllocError>
+    ensures { IfOk result (IsDeclared (table.on_claim name.now [])) }
+{
+    let claim = required(alloc, "CLAIM", "The claim, a JSON file");
+    let capture = required(alloc, "CAPTURE", "The capture, a classic pcap file");
     let human = "Milliseconds, times of the day, and faults in words";
     Command::new(alloc, name)
         .about(about)
         .after_help(help)
-        .arg(claim_operand(alloc))?
-        .arg(capture_operand(alloc))?
+        .arg(claim)?
+        .arg(capture)?
         .arg(human_option(alloc, human))
 }
 
 /// The option `--sums`.
-pub(crate) fn sums_option<'a>(alloc: Global) -> Arg<'a> {
-    Arg::new(alloc, "sums").long("sums").value_name("SUMS").help(
-        "Hold each file to its line in SUMS, a file as sha256sum writes it",
-    )
+pub(crate) fn sums_option<'a>(alloc: Global) -> Arg<'a>
+    ensures rule { rule_of result ≡ table.sums }
+    ensures local { result.global ≡ false }
+{
+    let help = "Hold each file to its line in SUMS, a file as sha256sum writes it";
+    valued(alloc, "sums", "SUMS", help)
 }
 
 /// The option `--output`.
-pub(crate) fn output_option<'a>(alloc: Global) -> Arg<'a> {
+pub(crate) fn output_option<'a>(alloc: Global) -> Arg<'a>
+    ensures rule { rule_of result ≡ table.output }
+    ensures local { result.global ≡ false }
+{
     let help = "Write what a program reads to FILE, whole or not at all";
-    Arg::new(alloc, "output")
-        .short('o')
-        .long("output")
-        .value_name("FILE")
-        .help(help)
+    valued(alloc, "output", "FILE", help).short('o')
 }
 
 /// The claim, the capture, the file of sums and the output that are named, and for whom the answer

@@ -2,6 +2,8 @@
 
 ghost use Rattle.std.specs.Prelude.{IfOk, codes};
 ghost use Rattle.clap.specs.Words.{found_of, rows_of};
+ghost use Rattle.ntpaudit.specs.CommandLine as table;
+ghost use Rattle.ntpaudit.specs.CommandLine.{IsDeclared};
 ghost use Rattle.ntpaudit.specs.Invocation.{IsCalled};
 
 use crate::command::argument::{flag, is_given, step_of, step_option};
@@ -22,7 +24,9 @@ Example:  ntpaudit find claim.json recording.pcap --step 8 -o certificate.json
 More:     man ntpaudit";
 
 /// The command, its operands and options.
-pub(crate) fn declaration<'a>(alloc: Global) -> Result<Command<'a>, AllocError> {
+pub(crate) fn declaration<'a>(alloc: Global) -> Result<Command<'a>, AllocError>
+    ensures { IfOk result (IsDeclared table.find) }
+{
     let step = "Seconds of each piece, 1 to 86400; ignored beside --refutation";
     let refutation = "Find a refutation of the claim instead of a certificate";
     let about = "Find a certificate for a claim in a capture, or a refutation";

@@ -2,6 +2,8 @@
 
 ghost use Rattle.std.specs.Prelude.{IfOk, codes};
 ghost use Rattle.clap.specs.Words.{found_of, rows_of};
+ghost use Rattle.ntpaudit.specs.CommandLine as table;
+ghost use Rattle.ntpaudit.specs.CommandLine.{IsDeclared};
 ghost use Rattle.ntpaudit.specs.Invocation.{IsCalled};
 
 use crate::command::argument::{human_option, style, text_of};
@@ -17,7 +19,9 @@ Example:  ntpaudit list recording.pcap
 More:     man ntpaudit, which has the fields";
 
 /// The command, its operands and options.
-pub(crate) fn declaration<'a>(alloc: Global) -> Result<Command<'a>, AllocError> {
+pub(crate) fn declaration<'a>(alloc: Global) -> Result<Command<'a>, AllocError>
+    ensures { IfOk result (IsDeclared table.list) }
+{
     let capture = Arg::new(alloc, "CAPTURE").help(
         "The capture, a classic pcap file; standard input if it's left out",
     );

@@ -2,12 +2,14 @@
 
 ghost use Rattle.std.specs.Prelude.{IfOk, codes};
 ghost use Rattle.clap.specs.Words.{found_of, rows_of};
+ghost use Rattle.ntpaudit.specs.CommandLine as table;
+ghost use Rattle.ntpaudit.specs.CommandLine.{IsDeclared};
 ghost use Rattle.ntpaudit.specs.Invocation.{IsCalled};
 
-use crate::command::argument::{flag, is_given};
+use crate::command::argument::{flag, is_given, required};
 use crate::command::evidence::{evidence_command, judged_paths, sums_option};
 use audit::Refute;
-use clap::{Arg, ArgMatches, Command};
+use clap::{ArgMatches, Command};
 use program::{Invocation, Judgement};
 use std::alloc::{AllocError, Global};
 
@@ -20,12 +22,14 @@ Example:  ntpaudit refute claim.json recording.pcap refutation.json
 More:     man ntpaudit, which says when a refutation stands";
 
 /// The command, its operands and options.
-pub(crate) fn declaration<'a>(alloc: Global) -> Result<Command<'a>, AllocError> {
-    let refutation = Arg::new(alloc, "REFUTATION").help("The refutation, a JSON file");
+pub(crate) fn declaration<'a>(alloc: Global) -> Result<Command<'a>, AllocError>
+    ensures { IfOk result (IsDeclared table.refute) }
+{
+    let refutation = required(alloc, "REFUTATION", "The refutation, a JSON file");
     let drift = "Let the clock's error drift as the claim grants, not stay the same";
     let about = "Check a refutation of a claim against a capture";
     evidence_command(alloc, "refute", about, HELP)?
-        .arg(refutation.required(true))?
+        .arg(refutation)?
         .arg(flag(alloc, "drift", drift))?
         .arg(sums_option(alloc))
 }

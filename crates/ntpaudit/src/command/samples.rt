@@ -2,6 +2,8 @@
 
 ghost use Rattle.std.specs.Prelude.{IfOk, codes};
 ghost use Rattle.clap.specs.Words.{found_of, rows_of};
+ghost use Rattle.ntpaudit.specs.CommandLine as table;
+ghost use Rattle.ntpaudit.specs.CommandLine.{IsDeclared};
 ghost use Rattle.ntpaudit.specs.Invocation.{IsCalled};
 
 use crate::command::evidence::{ask, evidence_command};
@@ -20,7 +22,9 @@ Example:  ntpaudit samples claim.json recording.pcap
 More:     man ntpaudit, which has the fields and the counts";
 
 /// The command, its operands and options.
-pub(crate) fn declaration<'a>(alloc: Global) -> Result<Command<'a>, AllocError> {
+pub(crate) fn declaration<'a>(alloc: Global) -> Result<Command<'a>, AllocError>
+    ensures { IfOk result (IsDeclared table.samples) }
+{
     let about = "Print what each exchange of a capture says about the clock";
     evidence_command(alloc, "samples", about, HELP)
 }

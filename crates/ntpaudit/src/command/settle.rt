@@ -2,6 +2,8 @@
 
 ghost use Rattle.std.specs.Prelude.{IfOk, codes};
 ghost use Rattle.clap.specs.Words.{found_of, rows_of};
+ghost use Rattle.ntpaudit.specs.CommandLine as table;
+ghost use Rattle.ntpaudit.specs.CommandLine.{IsDeclared};
 ghost use Rattle.ntpaudit.specs.Invocation.{IsCalled};
 
 use crate::command::evidence::{ask, evidence_command, output_option, sums_option};
@@ -25,10 +27,12 @@ Example:  ntpaudit settle claim.json recording.pcap --human -o certificate.json
 More:     man ntpaudit, which says what each answer means";
 
 /// The command, its operands and options.
-pub(crate) fn declaration<'a>(alloc: Global) -> Result<Command<'a>, AllocError> {
+pub(crate) fn declaration<'a>(alloc: Global) -> Result<Command<'a>, AllocError>
+    ensures { IfOk result (IsDeclared table.settle) }
+{
     let about = "Settle a claim by a capture: show it, or refute it";
     evidence_command(alloc, "settle", about, HELP)?
-        .arg(output_option(alloc).conflicts_with("sums")?)?
+        .arg(output_option(alloc))?
         .arg(sums_option(alloc))
 }
 
