@@ -1,5 +1,5 @@
 -- The words about a fault are two lines.
-use Rattle.std.proofs.Common.{◌≡◌, ◌∙◌, inl, inr, ℕ, ◌++◌, Bool, true, false, T, List, [], ◌∷◌, codes, refl, sym, subst, append_assoc, nat_eq, if◌then◌else◌, take}
+use Rattle.std.proofs.Common.{◌∙◌, inl, inr, ℕ, ◌++◌, Bool, true, false, T, List, [], ◌∷◌, codes, refl, sym, subst, append_assoc, nat_eq, if◌then◌else◌, take}
 use Rattle.std.specs.Prelude.{Option, Some, None, chars}
 use Rattle.std.specs.List.{flat_map}
 use Rattle.std.proofs.lemmas.Str.{NoCharPasses-nil}
