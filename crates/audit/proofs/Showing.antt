@@ -1,6 +1,6 @@
 -- What an outcome shows, from the bytes of the inputs.
 use Rattle.std.proofs.Common.{◌≡◌, ℕ, true, List, Option, Some, None, Result, Ok, Err, refl, sym, subst, inl, inr}
-use Rattle.std.specs.Prelude.{IfSome, IfOk, IfErr, MatchResult}
+use Rattle.std.specs.Prelude.{IfSome, IfOk, MatchResult}
 use Rattle.byte_stream.specs.State.{FeedState, SinkState}
 use Rattle.certificate.specs.Certificate.{CertificateData}
 use Rattle.certificate.specs.Refutation.{RefutationData}

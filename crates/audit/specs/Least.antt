@@ -3,7 +3,7 @@
 -- Where the samples of a capture contradict each other, more than one bound may be the first with a
 -- certificate. So the report is one on a bound that was found, and what that shows is said of the
 -- evidence and of the bytes that give it.
-use Rattle.std.specs.Prelude.{◌≡◌, ℕ, pos, ◌<◌, ◌≤◌, Bool, true, false, Option, Some, None, Ok, IfSome}
+use Rattle.std.specs.Prelude.{ℕ, pos, ◌<◌, ◌≤◌, Bool, true, false, Option, Some, None, Ok, IfSome}
 use Rattle.claim_file.specs.Claim.{ClaimData, max_bound_ns}
 use Rattle.courses.specs.Cover.{SomeCourse}
 use Rattle.finder.specs.Carried.{FindsLeastBound, IsCarried, piece_holding}

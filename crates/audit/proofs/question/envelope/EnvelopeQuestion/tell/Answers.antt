@@ -1,5 +1,4 @@
 use Rattle.std.proofs.Common.{◌∙◌, Bool, sym, ap, refl}
-use Rattle.finder.specs.Envelope.{data_of as envelope_data}
 use Rattle.audit.specs.Envelope.{IsEnvelopeOf}
 use Rattle.audit.specs.Evidence.{evidence_data}
 use Rattle.audit.specs.Least.{least_line_of}

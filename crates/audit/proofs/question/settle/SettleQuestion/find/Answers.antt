@@ -1,4 +1,4 @@
-use Rattle.std.proofs.Common.{Err, None, refl, rules}
+use Rattle.std.proofs.Common.{Err, None, refl}
 use Rattle.finder.specs.Settlement.{settled_data}
 use Rattle.audit.specs.Evidence.{evidence_data, samples_in}
 use Rattle.audit.specs.Settle.{IsSettledOf}
