@@ -22,6 +22,9 @@ EXCEPTIONS = {
          "clap says it in words of its own"),
         ("Err(_) => return Err(AllocError),", "nothing else is left of how std's `args` fails"),
     ],
+    "ntpaudit/src/run.rt": [
+        ("conclusion: conclude(&Err(RunFault::Memory), err),", "it is called where memory was refused"),
+    ],
 }
 # These make faults, to hold what is said of them to its words.
 TESTS = ("worked_examples",)

@@ -1,5 +1,5 @@
 -- What is called for by words that were taken apart, or told of words that were refused.
-use Rattle.std.proofs.Common.{◌≡◌, ◌⊎◌, ◌≢◌, Option, List, [], ◌∷◌, ap, inl, inr, map, refl, subst, sym, true}
+use Rattle.std.proofs.Common.{◌≡◌, ◌⊎◌, ◌≢◌, Option, List, [], ◌∷◌, ap, inl, inr, map, subst, true}
 use Rattle.std.specs.Prelude.{String, string_bytes}
 use Rattle.std.specs.declared.alloc.Global.{Global}
 use Rattle.clap.specs.Faults.{fault_of, is_simple_and_free}

@@ -1,5 +1,5 @@
 -- What the words of a command line call for.
-use Rattle.std.specs.Prelude.{◌≡◌, ◌&&◌, ◌||◌, ℕ, Bool, true, false, List, [], ◌∷◌, Option}
+use Rattle.std.specs.Prelude.{◌≡◌, ◌&&◌, ◌||◌, Bool, true, false, List, [], ◌∷◌, Option}
 use Rattle.std.specs.Prelude.{String, if◌then◌else◌, is_some, nat_lt, codes, count_by, map, option_map}
 use Rattle.std.specs.Prelude.{slice_get, string_bytes, take, unwrap_or}
 use Rattle.std.specs.Option.{option_map_or}

@@ -9,17 +9,20 @@ ghost use Rattle.ntpaudit.specs.Words.{IsTold, Means};
 use crate::advice::{advised, counted};
 use crate::command::{invocation_of, program};
 use crate::misuse::read_once;
-use clap::Error;
-use clap::error::ErrorKind;
+use clap::{Error, error};
 use program::Invocation;
 use std::alloc::{AllocError, Global};
-use std::{env, io};
+use std::env;
+use std::io::ErrorKind;
 
 /// Whether a text is shown, and not told as a fault.
-fn is_shown(kind: ErrorKind) -> bool
+fn is_shown(kind: error::ErrorKind) -> bool
     ensures { result ≡ spec.is_shown kind }
 {
-    matches!(kind, ErrorKind::DisplayHelp | ErrorKind::DisplayVersion)
+    matches!(
+        kind,
+        error::ErrorKind::DisplayHelp | error::ErrorKind::DisplayVersion
+    )
 }
 
 /// What a refusal of the command line, or a call for help, asks for.
@@ -27,12 +30,11 @@ fn explained(alloc: Global, words: &[String], error: &Error) -> Result<Invocatio
     ensures { IfOk result (λ told.
         (kind_of error.now ≢ OutOfMemory) × IsTold (kind_of error.now) told) }
 {
-    let kind = error.kind();
-    if kind == ErrorKind::OutOfMemory {
+    if error.kind() == error::ErrorKind::OutOfMemory {
         return Err(AllocError);
     }
     let text = error.to_string(alloc)?;
-    if is_shown(kind) {
+    if is_shown(error.kind()) {
         Ok(Invocation::Show(text))
     } else {
         Ok(Invocation::Refuse(advised(alloc, words, text.as_str())?))
@@ -50,29 +52,17 @@ pub(crate) fn read_words(alloc: Global, words: &[String]) -> Result<Invocation, 
     }
 }
 
-/// Why there are no words.
-#[derive(Clone, Copy, Debug)]
-pub(crate) enum WordsFault {
-    /// One isn't UTF-8.
-    NotText,
-    /// Out of memory.
-    Memory,
-}
-
-/// The words of the process's command line.
-pub(crate) fn words_of(rt: &HostRuntime) -> Result<Vec<String>, WordsFault> {
+/// The words of the process's command line, and none if one isn't UTF-8. The only error is that it
+/// is out of memory.
+pub(crate) fn words_of(rt: &HostRuntime) -> Result<Option<Vec<String>>, AllocError> {
     let arguments = match env::args(rt) {
         Ok(arguments) => arguments,
-        Err(error) if error.kind() == io::ErrorKind::InvalidData => {
-            return Err(WordsFault::NotText);
-        }
-        Err(_) => return Err(WordsFault::Memory),
+        Err(error) if error.kind() == ErrorKind::InvalidData => return Ok(None),
+        Err(_) => return Err(AllocError),
     };
     let mut words = Vec::new(rt.alloc());
     for word in arguments {
-        if words.push(word).is_err() {
-            return Err(WordsFault::Memory);
-        }
+        words.push(word)?;
     }
-    Ok(words)
+    Ok(Some(words))
 }

@@ -15,7 +15,7 @@ mod run;
 mod second_look;
 mod warning;
 
-use crate::command_line::{WordsFault, words_of};
+use crate::command_line::words_of;
 use crate::files::Host;
 use crate::run::{out_of_memory, run};
 use crate::second_look::say;
@@ -35,14 +35,14 @@ fn run_on<H: BuildHasher + Copy + Drop>(rt: &HostRuntime, hasher: H) -> ExitCode
         err: WriteSink::new(rt.stderr()),
     };
     let response = match words_of(rt) {
-        Ok(words) => run(alloc, words.as_slice(), &mut files, &mut to, hasher),
-        Err(WordsFault::NotText) => {
+        Ok(Some(words)) => run(alloc, words.as_slice(), &mut files, &mut to, hasher),
+        Ok(None) => {
             match Invocation::refusal(alloc, "error: an operand isn't UTF-8\n") {
                 Ok(refusal) => respond(alloc, &mut files, refusal, &mut to, hasher),
                 Err(AllocError) => out_of_memory(&mut to.err),
             }
         }
-        Err(WordsFault::Memory) => out_of_memory(&mut to.err),
+        Err(AllocError) => out_of_memory(&mut to.err),
     };
     say(rt, &response);
     ExitCode::from(response.conclusion.code)

@@ -1,4 +1,3 @@
-use Rattle.std.proofs.Common.{[], ◌∷◌, ◌++◌}
 use Rattle.std.proofs.lemmas.Result.{IfOk-weaker}
 use Rattle.ntpaudit.proofs.Subcommands.{added}
 use Rattle.ntpaudit.proofs.command.program.Goals as goal

@@ -1,7 +1,6 @@
 use Rattle.std.proofs.Common.{ap, map}
 use Rattle.std.specs.Prelude.{string_bytes}
 use Rattle.std.proofs.lemmas.Result.{IfOk-weaker}
-use Rattle.clap.specs.Simple.{app_of}
 use Rattle.ntpaudit.proofs.Meaning.{means_called, means_told}
 use Rattle.ntpaudit.proofs.command_line.read_words.Goals as goal
 
