@@ -6,8 +6,8 @@ refused allocation has led to. No clause can say that an allocation was refused,
 - `Memory` is a value only where a want of memory was just matched (in an arm whose pattern is `Err(AllocError)`,
   `FAULT::Memory` or `Err(FAULT::Memory)`), or is converted (in `impl From<AllocError> for FAULT`).
 - Neither gets another name, and std's `AllocFailed`, which anybody could make, isn't named at all.
-- What `with_capacity`, `reserve` and `vec!` are asked for is a length, a count or a name, or a sum of these: no number
-  that is written there, and no constant that is made of the greatest number that there is.
+- What `with_capacity`, `reserve` and `vec!` are asked for is a length, a count or a name, a part or a sum of these, or
+  one more: no other number that is written there, and no constant that is made of the greatest number that there is.
 
 So a want of memory that is answered came out of a call of the toolchain's library, but for the EXCEPTIONS.
 """
@@ -38,10 +38,10 @@ IN_PLACE = re.compile(rf"{IMPORT}|[,<] AllocError >|\( \w+ : AllocError \)|(?<=[
 # The begin of an arm to which a want of memory leads, and nothing else.
 MATCHED = re.compile(r"(?<=[{},] )(?:Err \( AllocError \)|\w+ :: Memory|Err \( \w+ :: Memory \)) => ")
 DECLARED = re.compile(r"(?:impl From < AllocError > for|enum) \w+ (?={)")
-LENGTH = r"(?:(?:\w+ \. )*(?:[a-z_]+|len \( \)|count \( \)) (?:as usize )?|[A-Z_]+ )"
+LENGTH = r"(?:(?:\w+ \. )*(?:[a-z_]+|len \( \)|count \( \)) (?:as usize )?(?:/ [a-z]+ (?:as usize )?)?|[A-Z_]+ )"
 ASKED = (("with_capacity\\w* ", re.compile(rf"\( \w+ , {LENGTH}(?:, \w+ )?\)")),
          ("(?:try_)?reserve\\w* ", re.compile(rf"\( {LENGTH}(?:\+ {LENGTH})*\)")),
-         ("vec ! ", re.compile(rf"\[ (?:in \w+ ; [^;]*; {LENGTH}(?:\+ {LENGTH})*|in \w+ (?:; [^;]*)?)\]")))
+         ("vec ! ", re.compile(rf"\[ (?:in \w+ ; [^;]*; {LENGTH}(?:\+ (?:{LENGTH}|1 ))*|in \w+ (?:; [^;]*)?)\]")))
 """What asks for memory, and how much it may ask for."""
 GREATEST = re.compile(r"const (\w+) : \w+ = [^;]*\bMAX\b[^;]*;")
 
