@@ -19,6 +19,7 @@ from .folder import BLOCK, JOINED, MOST_OF_A_CAPTURE, mapped, own, size_of, too_
 from .placing import Copy, cut_off, move
 from .program import Program
 from .running import find_tool, stream
+from .units import SECOND
 
 GZIP, ZSTD = bytes.fromhex("1f8b"), bytes.fromhex("28b52ffd")
 MARGIN = 3600
@@ -157,11 +158,16 @@ def unzstd(name: str, copy: str, take: Callable[[bytes], None]) -> bool:
     return True
 
 
-def cut(path: str, parts: list[Part], margin: int = MARGIN) -> Iterator[Callable[[str], bool]]:
+def cut(path: str, parts: list[Part], extent: Extent | None, margin: int = MARGIN) -> Iterator[Callable[[str], bool]]:
     """Of each part a way to write what was recorded in its span, and in so many seconds beside it, to a file; False if
     that is all there is, and nothing is written."""
-    whole = Classic(path)
+    whole = Classic(path, extent)
     spans = [(part.claim.first - margin, part.claim.last + margin) for part in parts]
+    if extent and extent.stamps and len(spans) == 1:
+        first, last = whole.nanoseconds([min(extent.stamps), max(extent.stamps)])
+        if spans[0][0] * SECOND <= first and last <= spans[0][1] * SECOND:
+            yield lambda _: False
+            return
     for runs in runs_of(whole, spans):
         yield partial(put, whole, runs)
 

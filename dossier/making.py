@@ -107,7 +107,7 @@ def make(taken: Inputs, options: Options, leaps: LeapList, backed: Backing, prog
     sums = {CLAIM: taken.sums[CLAIM], whole.path: made.get(JOINED) or taken.sums[name]}
     beside = Beside(leaps, backed, whole.alerts, taken.capture)
     entries = []
-    for part, cut_to in zip(parts, cut(whole.path, parts)):
+    for part, cut_to in zip(parts, cut(whole.path, parts, whole.extent)):
         settling = Settling(part, whole, program, options.step, sums, earlier(part.name))
         settling.left |= made
         entries.append(settling.settle(beside, cut_to))

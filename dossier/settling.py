@@ -79,7 +79,7 @@ class Settling:
 
     def settled_within(self) -> Texts | None:
         """What comes of what was recorded in the span alone; None if that is all there is, or it fits as little."""
-        cut_to, = cut(self.capture, [self.part], 0)
+        cut_to, = cut(self.capture, [self.part], self.extent, 0)
         if not cut_to(WITHIN):
             return None
         whole, self.capture, self.sums[WITHIN] = self.capture, WITHIN, sum_of_file(WITHIN)

@@ -17,7 +17,7 @@ from .claim import Claim, Part
 from .classic import HEADER, Classic, Extent, runs_of, write
 from .entry import FEW, NOTHING_FITS, Step, Stretch
 from .folder import CLAIM
-from .placing import keep
+from .placing import ROOM, keep
 from .program import Program
 from .ranges import apart_of, outermost
 from .recording import closing_of
@@ -25,8 +25,8 @@ from .units import SECOND, ceil_div, civil
 
 ALONE, SOME = "alone.claim.json", "some.pcap"
 """Private files: a claim of one server, or of a stretch, and a part of the capture."""
-MOST_CALLS = 1000
-"""Of the program, to find all steps."""
+MOST_CALLS, MOST_BYTES = 1000, 1 << 31
+"""Of the program, to find all steps; and bytes that it is given for that."""
 SAMPLE = re.compile(rb"(?m)^[0-9]+ ([^ ]+ [^ ]+ [^ ]+) .*")
 
 Exchange = tuple[int, int]
@@ -50,7 +50,7 @@ class Search:
     """Looks for the steps of a capture."""
 
     def __init__(self, program: Program, part: Part, capture: str, extent: Extent | None):
-        self.program, self.claim, self.calls = program, part.claim, MOST_CALLS
+        self.program, self.claim, self.calls, self.bytes = program, part.claim, MOST_CALLS, MOST_BYTES
         self.whole = Classic(capture, extent)
         self.begins = array("Q", (begin for _, begin, _ in self.whole.rows()))
         self.begins.append(self.whole.extent.end)
@@ -63,7 +63,11 @@ class Search:
             seen += (Step(*ends, [server]) for ends in self.times_of(own))
         steps = in_common(seen)
         of_clock = [step for step in steps if 2 * len(step.servers) > len(self.own)]
-        return Found(steps, of_clock if len(steps) <= FEW and self.calls else [])
+        return Found(steps, of_clock if len(steps) <= FEW and self.may_call else [])
+
+    @property
+    def may_call(self) -> bool:
+        return self.calls > 0 and self.bytes > 0
 
     def times_of(self, own: list[Exchange]) -> Iterator[tuple[int, int]]:
         """Each time in which a server's exchanges contradict each other, as narrow as it can be."""
@@ -95,12 +99,13 @@ class Search:
 
     def conflict(self, own: list[Exchange], low: int, high: int) -> Exchange | None:
         """The records of a request and a reply of these exchanges that contradict each other, if any do."""
-        if low >= high or self.calls <= 0:
+        if low >= high or not self.may_call:
             return None
-        self.calls -= 1
         first, last = min(request for request, _ in own[low:high]), max(reply for _, reply in own[low:high])
-        data = self.whole.data
-        write(SOME, [data[:HEADER], data[self.begins[first] : self.begins[last + 1]]])
+        begin, end = self.begins[first], self.begins[last + 1]
+        self.calls, self.bytes = self.calls - 1, self.bytes - (end - begin)
+        write(SOME, [self.whole.data[:HEADER], self.whole.data[begin:end]])
+        ROOM.take(begin - end)  # (the next part takes the same room)
         settled = read_settled(self.program.run("settle", ALONE, SOME).text)
         if settled.answer != NOTHING_FITS:
             return None

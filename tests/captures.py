@@ -307,9 +307,12 @@ def test_many_exchanges(place):
                 request[-8:] = reply[-24:-16] = struct.pack(">Q", (day << 40) + (copy << 24) + number + 1)
                 blocks += [bytes(request), bytes(reply)]
     (folder / "f.pcap").write_bytes(head + b"".join(blocks))
+    claim = (folder / "claim.json").read_text()
+    (folder / "claim.json").write_text(claim.replace("2001-09-10T12", "2001-09-11T12"))
     check("so many exchanges at once",
           run=(dossier("audit", folder)[:2],
                (2, f"refused       {folder}: ntpaudit: exchanges over 1000000\n".encode())))
+    (folder / "claim.json").write_text(claim)
     status, out, err = dossier("audit", "--days", folder, timeout=600)
     check("so many exchanges by days", status=(status, lambda status: status in (0, 1)), error=(err, b""),
           lines=(len(out.splitlines()), 2), refused=(b"refused" in out, False))
