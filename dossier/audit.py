@@ -81,7 +81,8 @@ def audit(wanted: Wanted, path: str, _: int) -> Result:
         with wanted.known.alone(folder):
             place(folder, {**made, files.AUDIT: [text]}, stale - record.outputs.keys())
     wanted.known.add(sum_of(text), record)
-    return result_of(path, record, wanted.known, "", [f"{'':14}{plain(path)}: its signature was removed"] if is_signed else [])
+    removed = [f"{'':14}{plain(path)}: its signature was removed"] if is_signed else []
+    return result_of(path, record, wanted.known, "", removed)
 
 
 def result_of(path: str, record: Record, known: Known, more: str, others: Iterable[str] = ()) -> Result:

@@ -86,8 +86,8 @@ class Known:
     def judgement(self, record: Record) -> Judgement | None:
         """What the second program said last of these answers. A dispute is about whatever is said of the question, so
         that another audit doesn't end it."""
-        row = self.judgements.get(question_of(record))
-        found = Judgement(*row) if row else None
+        line = self.judgements.get(question_of(record))
+        found = Judgement(*line.split(" ", 4)) if line else None
         return found if found and (found.dispute or found.answers == answers_of(record)) else None
 
     def dispute(self, record: Record) -> str:

@@ -28,7 +28,7 @@ class Second(NamedTuple):
         for claim, answer, wanted in answers_of(entry):
             status, said = self.says(claim, capture, answer)
             if said != wanted or status != (0 if wanted.endswith(" yes") else 1):
-                yield f"of {answer} the program says `{wanted}`, and the second program `{said}` (status {status})"
+                yield f'of {answer} the program says "{wanted}", and the second program "{said}" (status {status})'
 
     def says(self, claim: str, capture: str, answer: str) -> tuple[int, str]:
         """The status and the line that it gives."""

@@ -97,7 +97,7 @@ def test_disputing(place: Path) -> None:
     bug = planted(place / "planted", "whole(bound, 0, 10**15) * SECOND // BILLION",
                   "whole(bound, 0, 10**15) * SECOND // BILLION // 100")
     status, out, _ = dossier("verify", *state, "--second", refuted, yes, env=bug)
-    words = ("of certificate.json the program says `verdict yes`, and the second program `verdict no piece 0 exceeds` "
+    words = ('of certificate.json the program says "verdict yes", and the second program "verdict no piece 0 exceeds" '
              "(status 1)")
     line = f"{yes}: disputed: {words}\n"
     check("a second program with a bug", run=((status, out.decode().splitlines()[-1] + "\n"), (1, line)),
@@ -148,14 +148,14 @@ def test_no_second(place: Path) -> None:
                       ("printf 'a\\033[2Jb\\n' >&2; exit 70", "a\\x1b[2Jb")):
         holds(f"a second program that judges nothing: {text}", verified(text), 2,
               f"{folder}: ntpaudit-dossier: the second program doesn't judge certificate.json ({why})\n")
-    for text, why in (("echo verdict maybe", "verdict maybe` (status 0)"), ("true", "` (status 0)"),
-                      ("echo verdict yes; exit 1", "verdict yes` (status 1)"), ("printf '\\377'", "\ufffd` (status 0)"),
-                      ("printf 'verdict yes\\nverdict yes\\n'", "verdict yes\\x0averdict yes` (status 0)")):
+    for text, why in (("echo verdict maybe", 'verdict maybe" (status 0)'), ("true", '" (status 0)'),
+                      ("echo verdict yes; exit 1", 'verdict yes" (status 1)'), ("printf '\\377'", '\ufffd" (status 0)'),
+                      ("printf 'verdict yes\\nverdict yes\\n'", 'verdict yes\\x0averdict yes" (status 0)')):
         holds(f"a second program that says something else: {text}", verified(text), 1,
-              f"{folder}: disputed: of certificate.json the program says `verdict yes`, and the second program `",
+              f'{folder}: disputed: of certificate.json the program says "verdict yes", and the second program "',
               "disputed")
-        check(f"what else it says: {text}", said=(why in dossier("verify", "--state", place / "state", folder)[1].decode(
-            "utf-8", "backslashreplace"), True))
+        told = dossier("verify", "--state", place / "state", folder)[1].decode("utf-8", "backslashreplace")
+        check(f"what else it says: {text}", said=(why in told, True))
 
 
 def test_second_on_the_path(place: Path) -> None:

@@ -57,7 +57,8 @@ def test_now(place: Path) -> None:
     """The line, by hand: the span, the verdict, the hull, the bound and the groups."""
     last = int(time.time()) - 5
     begin = last - 1500
-    span = f"{civil(last - 600)} .. {civil(last)[11:]}"
+    first, end = civil(last - 600), civil(last)
+    span = f"{first} .. {end[11:] if first[:10] == end[:10] else end}"
     cases = {
         "right": ([(begin, last + 1, RIGHT)], 0, "yes  -0.001 .. +0.001 ms of 5.000 ms  least 0.001 ms  4 of 4 groups"),
         "off": ([(begin, last + 1, AHEAD)], 1, "refuted  +20.000 .. +20.001 ms of 5.000 ms  least 20.001 ms  4 of 4 "
