@@ -30,7 +30,7 @@ a.d:hover,a.d:focus{outline:2px solid var(--ink)}
 .d.s2{background:color-mix(in srgb,var(--good) 34%,var(--paper))}
 .d.s3{background:color-mix(in srgb,var(--good) 48%,var(--paper))}
 .d.s4{background:color-mix(in srgb,var(--good) 64%,var(--paper))}
-.d.nothing-fits,.d.open,.d.no-evidence{border-color:var(--bad)}
+.d.nothing-fits,.d.open,.d.no-evidence,.d.disputed{border-color:var(--bad)}
 .d.missing{color:var(--soft);border:1px dashed var(--rule)}
 .small{display:block;width:100%;min-width:180px;height:16px}
 svg .y{fill:var(--good);opacity:.55}

@@ -12,7 +12,7 @@ from dataclasses import replace
 from typing import NamedTuple
 
 from .claim import Claim
-from .entry import NOT_VERIFIED, REFUSED, WORST_FIRST, Entry, LeapList, Made, Record, read_record
+from .entry import DISPUTED, NOT_VERIFIED, REFUSED, WORST_FIRST, Entry, LeapList, Made, Record, read_record
 from .fault import Fault
 from .folder import AUDIT, Folder, sum_of
 from .known import Known
@@ -114,12 +114,15 @@ def found_in(wanted: Wanted, folder: Folder, name: str) -> Iterator[Found]:
     elif record.refusal:
         yield Found(Told(name, REFUSED, plain(name), plain(record.refusal.line), sha256=sum_), made=written.program)
     else:
-        yield from (told_of(name, entry, record, sum_) for entry in record_by(wanted.leaps, record).entries)
+        dispute = plain(wanted.known.dispute(record))
+        yield from (told_of(name, entry, record, sum_, dispute) for entry in record_by(wanted.leaps, record).entries)
 
 
-def told_of(name: str, entry: Entry, record: Record, sum_: str) -> Found:
-    """An entry, if it is of a whole day."""
+def told_of(name: str, entry: Entry, record: Record, sum_: str, dispute: str) -> Found:
+    """An entry, if it is of a whole day. What the second program disputes has no verdict."""
     claim, date = entry.claim, entry.claim.from_[:10]
     if claim.first % DAY or claim.last != claim.first + DAY:
         return Found(Told(name, WITHOUT, plain(name), f"{claim.from_} to {claim.to} is no day"), claim)
-    return Found(Told(date, entry.verdict, plain(name), reason(entry), entry.least_ns, sum_), claim, record.program)
+    told = Told(date, DISPUTED, plain(name), dispute, sha256=sum_) if dispute else \
+        Told(date, entry.verdict, plain(name), reason(entry), entry.least_ns, sum_)
+    return Found(told, claim, record.program)

@@ -1,7 +1,7 @@
 """Captures in which each packet is there twice: a copy beside its original, packed or cut, or two interfaces.
 
-A reply to a request that was recorded twice is of no use, since it may be the answer to either. So a file whose
-requests most of the others have too is left out, and named.
+A reply to a request that was recorded twice is of no use, since it may be the answer to either. So a file is left out,
+and named, if larger ones have most of its requests too.
 """
 from __future__ import annotations
 

@@ -97,6 +97,7 @@ def premises_of(claim: Claim) -> str:
     servers = f"{count(len(claim.servers), 'server')} in {count(groups, 'group')}"
     return (f"It rests on these premises: of {servers} ({', '.join(claim.servers)}) no more than "
             f"{count(wrong, 'group')} {'was' if wrong == 1 else 'were'} wrong; the clock drifted by no more than "
-            f"{claim.drift_ppb:,} parts in 10^9; a packet left or came within {ns_ms(claim.reading_ns)} ms of its "
-            "record; what servers say of their own distance from UTC is true; "
-            "the packets are those that were sent; and no leap second fell into these days, by the list.")
+            f"{claim.drift_ppb:,} parts in 10^9, what its client did included, and wasn't stepped; no request left "
+            f"more than {ns_ms(claim.reading_ns)} ms before its record's time, and no reply arrived more than that "
+            "after its own; what the other servers say of their own distance from UTC is true; the recordings are of "
+            "this machine, and nobody changed them; and no leap second fell into these days, by the list.")

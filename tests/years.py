@@ -77,7 +77,9 @@ def test_year(place: Path) -> None:
     words = text.partition('class="statement">')[2].partition("</p>")[0]
     for said in ("The clock of 192.0.2.10", "within 1 ms of UTC", "From 2001-01-01 to 2001-12-31 this is shown on 2 of "
                  "365 days", "Not shown: 1 refuted, 1 no evidence, 1 not verified, 360 missing", "no more than 1 group "
-                 "was wrong", "The longest time without a day that is shown is 251 days from 2001-01-01 on"):
+                 "was wrong", "no request left more than 0 ms before its record",
+                 "no reply arrived more than that after its own",
+                 "The longest time without a day that is shown is 251 days from 2001-01-01 on"):
         check(f"the statement: {said[:40]}", there=(said in words, True))
     check_page("the page of a machine's year", text, re.findall(r'href="([^"#]+)"', text))
     index = (place / "pages" / "index.html").read_text()
@@ -85,6 +87,19 @@ def test_year(place: Path) -> None:
     check("the sums of a year", line=(["2 of 365" in index, "251 from 2001-01-01" in index], [True, True]))
     sums = run(["sha256sum", "-c", "00001.sums"], cwd=place / "pages")
     check("the sums of its days", run=(sums[0], 0), lines=(len(sums[1].splitlines()), 5))
+    maybe = place / "second"
+    maybe.write_text("#!/bin/sh\necho verdict maybe\n")
+    maybe.chmod(0o755)
+    state = {**ENVIRONMENT, "XDG_STATE_HOME": str(place / "disputed"), "NTPAUDIT_SECOND": str(maybe)}
+    other = place / "other"
+    once = day(other, 1, RIGHT)
+    dossier("audit", once, env=state)
+    before = dossier("year", "--year", "2001", other, env=state)[1].decode()
+    disputed = dossier("verify", "--second", once, env=state)[0]
+    text = dossier("year", "--year", "2001", other, env=state)[1].decode()
+    check("a day that the second program disputes", status=(disputed, 1), before=("1 of 365" in before, True),
+          after=("0 of 365" in text, True), named=("1 disputed" in text, True),
+          cell=('title="2001-09-10: disputed"' in text, True))
     status, out, _ = dossier("year", "--year", "2001", *sorted(own.iterdir()))
     check("a year by its days", status=(status, 0), same=("2 of 365" in out.decode(), True))
     check("another year", none=("0 of 365" in dossier("year", "--year", "2002", own)[1].decode(), True))
