@@ -11,18 +11,18 @@ from collections.abc import Callable
 from typing import TYPE_CHECKING, NoReturn
 
 from . import VERSION
-from .claim import GREATEST_BOUND, GREATEST_DRIFT, OSCILLATOR, UNKNOWN_READING
 from .fault import DEVICE, MEMORY, MISSING, USAGE, Fault, Stopped, fault
-from .known import Known, state_of
-from .program import Program, find_program
-from .result import Result
-from .running import SECONDS, answer
+from .folder.claim import GREATEST_BOUND, GREATEST_DRIFT, OSCILLATOR, UNKNOWN_READING
+from .folder.jobs import SECONDS, answer
+from .folder.program import Program, find_program
+from .folder.registry import Known, state_of
+from .folder.result import Result
 from .text import plain
 from .units import now
 
 if TYPE_CHECKING:
-    from .allowance import Proposal
-    from .correction import Correction
+    from .premise.allowance import Proposal
+    from .premise.correction import Correction
 
 INTERRUPTED = 130
 
@@ -298,11 +298,10 @@ def run(given: argparse.Namespace) -> int:
     if given.command == "year":
         return run_year(given, [tidy(folder) for folder in given.folders])
     if given.command == "day":
-        from .day import make_days
+        from .fleet.day import make_days
         return make_days(given.source, given.target, given.date, SECONDS)
     if given.command in ("filter", "record"):
-        from .recorder import Wanted as Recording
-        from .recorder import filter_of, record
+        from .capture.recorder import Wanted as Recording, filter_of, record
         if given.command == "record":
             record(Recording(given.interface, given.folder, given.hourly, given.claim))
         print(filter_of(given.claim))
@@ -314,18 +313,18 @@ def run(given: argparse.Namespace) -> int:
         print(f"ntpaudit-dossier, form {VERSION} of audit.json\n{program.made.version}, SHA-256 {program.made.sha256}")
         return 0
     if given.command == "measure":
-        from .measuring import Wanted, measure
+        from .premise.measuring import Wanted, measure
         return measure(program, Wanted(given.count, given.load), given.output)
     if given.command == "draft":
         return run_draft(given, program)
-    from .figure import picture_of
+    from .page.figure import picture_of
     sys.stdout.write(answer(lambda *_: Result(text=picture_of(program, given.claim, given.capture, given.step))).text)
     return 0
 
 
 def run_now(given: argparse.Namespace, program: Program) -> int:
-    from .leap import read_list
-    from .now import Wanted, follow, show_now
+    from .fleet.now import Wanted, follow, show_now
+    from .premise.leap import read_list
     wanted = Wanted(given.source, given.claim, given.minutes, read_list(given.leap_seconds), program)
     if given.follow:
         return follow(wanted, given.metrics, given.follow, not given.no_color)
@@ -333,9 +332,9 @@ def run_now(given: argparse.Namespace, program: Program) -> int:
 
 
 def run_year(given: argparse.Namespace, folders: list[str]) -> int:
-    from .days import Wanted
-    from .leap import read_list
-    from .years import Pages, write_year
+    from .fleet.days import Wanted
+    from .page.years import Pages, write_year
+    from .premise.leap import read_list
     number = given.year or int(now()[:4])
     wanted = Wanted(number, Known(state_of(given.state), writes=False), read_list(given.leap_seconds),
                     int(time.time()))
@@ -348,29 +347,29 @@ def run_on_folders(given: argparse.Namespace, folders: list[str]) -> int:
         raise fault("--split takes no --output: it writes into a folder", USAGE)
     known = Known(state_of(given.state), writes=given.command != "page" or given.verify)
     if given.command == "sign":
-        from .signing import sign_all
-        from .leap import read_list
+        from .fleet.signing import sign_all
+        from .premise.leap import read_list
         return sign_all(folders, given.key, known, given.limit, read_list(None))
     if given.command == "keep":
-        from .keeping import keep_all
+        from .fleet.keeping import keep_all
         return keep_all(folders, given.years, given.force, known, given.limit)
-    from .leap import read_list
+    from .premise.leap import read_list
     leaps = read_list(given.leap_seconds)
     if given.command == "page" and not given.verify:
-        from .page import write_page
+        from .page.page import write_page
         return write_page(folders, given, known, leaps)
     program = find_program()
     if given.command == "audit":
-        from .audit import Wanted as Audit, audit_all
-        from .entry import Options
+        from .fleet.audit import Wanted as Audit, audit_all
+        from .folder.entry import Options
         wanted = Audit(Options(given.step, given.days), given.again, leaps, known, program)
         return audit_all(folders, wanted, given.jobs or len(os.sched_getaffinity(0)), given.limit, given.metrics)
-    from .verify import Verifier, verify_all
+    from .fleet.verify import Verifier, verify_all
     if given.command == "page":
-        from .page import write_page
+        from .page.page import write_page
         return write_page(folders, given, known, leaps, Verifier(program, known, leaps))
-    from .second import find_second
-    from .signature import Signers
+    from .fleet.signature import Signers
+    from .verdict.second import find_second
     verifier = Verifier(program, known, leaps, find_second() if given.second else None)
     return verify_all(folders, verifier, Signers(given.signers), given.limit)
 
@@ -384,9 +383,9 @@ def tidy(folder: str) -> str:
 
 def correction_of(given: argparse.Namespace) -> Correction | None:
     """What the client's configuration and log say, if they are given."""
-    from .client import configuration
-    from .correction import correction
-    from .tracking import read_tracking
+    from .premise.client import configuration
+    from .premise.correction import correction
+    from .premise.tracking import read_tracking
     if (given.tracking and not given.chrony) or (given.evidence and not (given.chrony or given.ntpd)):
         raise fault("--tracking takes --chrony, and --evidence takes --chrony or --ntpd", USAGE)
     found = configuration(given.chrony, given.ntpd)
@@ -397,19 +396,19 @@ def correction_of(given: argparse.Namespace) -> Correction | None:
 
 
 def reading_of(given: argparse.Namespace) -> Proposal:
-    from .allowance import measured, named, proposed
-    from .measurement import read_measurement
-    from .recorder import recorders_of
+    from .capture.recorder import recorders_of
+    from .premise.allowance import measured, named, proposed
+    from .premise.measurement import read_measurement
     if given.measured:
         return measured(read_measurement(given.measured))
     return named(given.reading_ns) if given.reading_ns is not None else proposed(recorders_of(given.captures))
 
 
 def run_draft(given: argparse.Namespace, program: Program) -> int:
-    from .correction import correction_text
-    from .draft import Wanted, claim_text, draft, of_leaps
-    from .leap import read_list
-    from .placing import write_named
+    from .folder.placing import write_named
+    from .premise.correction import correction_text
+    from .premise.leap import read_list
+    from .verdict.draft import Wanted, claim_text, draft, of_leaps
     found = correction_of(given)
     proposed, leaps = found.drift_ppb if found else given.oscillator_ppb, read_list(None)
     drift_ppb = proposed if given.drift_ppb is None else given.drift_ppb

@@ -1,6 +1,9 @@
 """Names and texts of strangers, made fit to be shown: nothing in them is interpreted by a terminal."""
 from __future__ import annotations
 
+import shlex
+import sys
+
 
 def plain(words: str) -> str:
     """The text with whatever isn't printable spelled out, as in `a\\x0ab`: line feeds, escape codes, marks that turn
@@ -40,3 +43,12 @@ def count(number: int, one: str, many: str | None = None) -> str:
 def listed(names: list[str]) -> str:
     """`a`, `a and b`, `a, b and c`."""
     return " and ".join([", ".join(names[:-1]), names[-1]] if names[1:] else names)
+
+
+def note(words: str) -> None:
+    print(plain(words), file=sys.stderr, flush=True)
+
+
+def operand(name: str) -> str:
+    """A file's name as the operand of a command, as a shell takes it."""
+    return shlex.quote(f"./{name}" if name.startswith("-") else name)

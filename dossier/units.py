@@ -22,6 +22,12 @@ def ceil_div(a: int, b: int) -> int:
     return -(-a // b)
 
 
+def round_up(number: int) -> int:
+    """The least number of two digits, with zeros behind them, that isn't below this one."""
+    unit: int = 10 ** max(0, len(str(number)) - 2)
+    return -(-number // unit) * unit
+
+
 def thousandths(number: int) -> str:
     """A number of thousandths with its three decimals: -2314 is `-2.314`."""
     whole, rest = divmod(abs(number), 1000)

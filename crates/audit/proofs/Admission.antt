@@ -1,38 +1,22 @@
 -- The errors that the entries of an accepted piece admit: there are some, and none is beyond the bound.
-use Rattle.std.proofs.Common.{◌≡◌, ℕ, zero, suc, ◌-◌, ◌*◌, ◌<◌, ◌≤◌, ℤ, pos, negsuc, neg_ℤ, ◌+ℤ◌, ◌-ℤ◌, ◌*ℤ◌, ◌≤ℤ◌, ◌<ℤ◌, unsigned_abs, Bool, true, false, cond, ◌&&◌, ⊎_elim, List, length, Option, Some, None, count_by, refl, sym, ap, ◌∙◌, subst, arith}
-use Rattle.std.specs.Prelude.{IsSomeAnd, slice_get, slice_index, ◌==◌}
-use Rattle.std.specs.List.{list_any}
-use Rattle.std.specs.Option.{option_map}
-use Rattle.std.proofs.Math.Nat.{mul-le-mul_right}
-use Rattle.std.proofs.lemmas.Bool.{cases_lt, cond-true, cond-false, and_parts, and_from}
-use Rattle.std.proofs.lemmas.Bool.Decides.{nat_tests}
-use Rattle.std.proofs.lemmas.Int.{ints}
+use Rattle.audit.proofs.Common.{◌≡◌, ℕ, zero, suc, ◌-◌, ◌*◌, ◌<◌, ◌≤◌, ℤ, pos, negsuc, neg_ℤ, ◌+ℤ◌, ◌-ℤ◌, ◌*ℤ◌, ◌≤ℤ◌, ◌<ℤ◌, unsigned_abs, Bool, true, false, cond, ◌&&◌, ⊎_elim, List, length, Option, Some, None, count_by, refl, sym, ap, ◌∙◌, subst, arith, IsSomeAnd, slice_get, slice_index, list_any, option_map, mul-le-mul_right, cases_lt, cond-true, cond-false, and_parts, and_from, nat_tests, ints, slice_get-map, slice_get_read, IsCeiling, ClaimData, Exchange, request_start, request_end, reply_start, reply_end, Sample, Stretch, samples_of, by_test, MayChangeBy, Admit}
+use Rattle.std.specs.Prelude.{◌==◌}
 use Rattle.std.proofs.lemmas.List.Folds.{Any-from_list_any}
 use Rattle.std.proofs.lemmas.List.Sums.{sum_by-le-sum_by}
 use Rattle.std.proofs.lemmas.Map.Keys.{any_passes_from_place}
-use Rattle.std.proofs.lemmas.Option.{slice_get-map, slice_get_read}
 use Rattle.std.proofs.lemmas.Slice.Zip.{AllZip-left, AllZip-right}
-use Rattle.era_unfold.specs.Ratio.{IsCeiling}
-use Rattle.claim_file.specs.Claim.{ClaimData}
 use Rattle.intersection.specs.Interval.{leaves_out}
 use Rattle.intersection.specs.Hull.{IsAdmissible}
-use Rattle.pairing.specs.declared.exchange.Exchange.{Exchange}
 use Rattle.sample_interval.specs.Sample.{sample_of}
 use Rattle.sample_interval.specs.Widening.{IsWidening, widening, billion}
-use Rattle.sample_interval.specs.Window.{request_start, request_end, reply_start, reply_end}
-use Rattle.sample_interval.specs.declared.kinds.Sample.{Sample}
 use Rattle.span_cover.specs.Group.{numbers_below, group_interval, group_intervals}
 use Rattle.span_cover.specs.Part.{part_of}
 use Rattle.span_cover.specs.Piece.{farthest, moved_low, moved_high}
 use Rattle.span_cover.specs.declared.part.Part.{Part}
-use Rattle.span_cover.specs.declared.stretch.Stretch.{Stretch}
 use Rattle.checker.specs.Acceptance.{IsSaidBy, ShowBound}
-use Rattle.checker.specs.Traceability.{samples_of}
 use Rattle.checker.proofs.Separation.{passes, group_passes, counted, meet_leaves_it_out}
 use Rattle.checker.proofs.EntryStep.{held_ends, held_test}
-use Rattle.checker.proofs.Part.{by_test}
 use Rattle.checker.proofs.PieceFit.{all_numbers}
-use Rattle.audit.specs.Headline.{MayChangeBy, Admit}
 use Rattle.audit.proofs.RecordFrames.{mapped}
 
 -- ---- lists

@@ -1,22 +1,11 @@
 -- What is read of a capture is what its bytes give.
-use Rattle.std.proofs.Common.{◌≡◌, ◌∙◌, ℕ, List, Option, Some, None, Result, Ok, Err, refl, sym, ap, inl, inr}
-use Rattle.std.specs.Prelude.{IfSome, IsOk}
-use Rattle.pcap_reader.specs.declared.fault.CaptureFault.{CaptureFault}
+use Rattle.audit.proofs.Common.{◌≡◌, ◌∙◌, ℕ, List, Option, Some, None, Result, Ok, Err, refl, sym, ap, inl, inr, IfSome, IsOk, CaptureFault, Coming, capture_of, AllRemains, ClaimData, PairFault, IsAnswerTo, compact_data, Collection, IsFromOutside, Reads, HasLawfulHeader, capture_read, collection_read, pair_run_fault_of}
 use Rattle.pcap_reader.specs.declared.fault.CaptureFault.TheVariants as captures
-use Rattle.pcap_reader.specs.Remaining.{Coming, capture_of}
 use Rattle.pcap_reader.specs.Refusal.{IsRefusal}
-use Rattle.pcap_reader.specs.Source.{AllRemains}
-use Rattle.claim_file.specs.Claim.{ClaimData}
 use Rattle.pairing.specs.declared.compact.CompactCollection.{CompactCollection}
-use Rattle.pairing.specs.declared.fault.PairFault.{PairFault}
 use Rattle.pairing.specs.declared.fault.PairFault.TheVariants as pairs
-use Rattle.pairing.specs.Answer.{IsAnswerTo, IsFromOutside as is_pair_from_outside}
-use Rattle.pairing.specs.Compact.{compact_data}
-use Rattle.pairing.specs.Pairing.{Collection}
+use Rattle.pairing.specs.Answer.{IsFromOutside as is_pair_from_outside}
 use Rattle.report.specs.Fault.{run_fault_of}
-use Rattle.report.specs.Reading.{IsFromOutside, Reads}
-use Rattle.report.specs.Runs.{HasLawfulHeader}
-use Rattle.audit.specs.CaptureInput.{capture_read, collection_read, pair_run_fault_of}
 
 module _ (claim : ClaimData) where
   of_capture : (bytes : List ℕ) (c : Result Coming CaptureFault) → capture_of bytes ≡ c →

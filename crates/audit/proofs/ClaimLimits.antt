@@ -1,8 +1,6 @@
 -- A lawful claim keeps the limits of a claim's text.
-use Rattle.std.proofs.Common.{◌≢◌, sym}
+use Rattle.audit.proofs.Common.{◌≢◌, sym, ClaimData, IsLawful, IsWithinLimits}
 use Rattle.std.proofs.lemmas.List.Kept.{AllPairs-cons}
-use Rattle.claim_file.specs.Claim.{ClaimData, IsLawful}
-use Rattle.audit.specs.Claimed.{IsWithinLimits}
 
 pub within_limits : (claim : ClaimData) → IsLawful claim → IsWithinLimits claim
 within_limits claim lawful = record {

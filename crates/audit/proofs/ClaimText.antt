@@ -1,27 +1,11 @@
 -- What a claim that was read says about its text.
-use Rattle.std.proofs.Common.{◌≡◌, ℕ, ◌*◌, ◌<◌, ◌≤◌, Bool, true, ◌↔◌, List, [], ◌∷◌, length, map, codes, Option, Some, None, Result, Ok, Err, refl, ap, subst, arith}
-use Rattle.std.specs.Prelude.{slice_get}
-use Rattle.std.proofs.lemmas.Bool.Decides.{nat_tests}
-use Rattle.std.specs.List.{AllZip}
-use Rattle.std.specs.Option.{option_and_then, option_map}
-use Rattle.std.specs.Net.Grammar.{IsDotted}
-use Rattle.era_unfold.specs.Nanoseconds.{nanoseconds_per_second, ticks_down, ticks_up}
-use Rattle.era_unfold.specs.Ratio.{IsFloor, IsCeiling, floor_of, ceiling_of}
-use Rattle.era_unfold.specs.Window.{ticks_per_second}
-use Rattle.serde_json.specs.Data.{Data, number, string, array, Items, no_items, item, Num, unsigned}
-use Rattle.serde_json.specs.Find.{get, as_array, as_str, as_u64}
-use Rattle.serde_json.specs.View.{items_of}
+use Rattle.audit.proofs.Common.{◌≡◌, ℕ, ◌*◌, ◌<◌, ◌≤◌, Bool, true, ◌↔◌, List, [], ◌∷◌, length, map, codes, Option, Some, None, Result, Ok, Err, refl, ap, subst, arith, slice_get, nat_tests, AllZip, option_and_then, option_map, IsDotted, nanoseconds_per_second, ticks_down, ticks_up, IsFloor, IsCeiling, floor_of, ceiling_of, ticks_per_second, Data, number, string, array, Items, no_items, item, Num, unsigned, get, as_array, as_str, as_u64, items_of, address_of, addresses_of, are_different, ClaimData, NamedData, named_of, is_in_range, claim_with, within_limits, claim_from, claim_of, IsTime, time_of, IsClaimText, numbers_value}
 use Rattle.json_text.specs.Member.{unsigned_at, unsigned_of}
 use Rattle.json_text.specs.Step.{given, asked, after}
 use Rattle.json_text.specs.Text.{parsed}
 use Rattle.claim_file.specs.declared.fault.ClaimFault.TheVariants.{Field}
-use Rattle.claim_file.specs.Address.{address_of, addresses_of, are_different}
-use Rattle.claim_file.specs.Claim.{ClaimData}
 use Rattle.claim_file.specs.Fields.{FieldsData, absent_or, all_of, fields_of, number_lists_of, numbers_of, texts_of}
 use Rattle.claim_file.specs.Group.{IsInGroup, groups_of}
-use Rattle.claim_file.specs.Reading.{NamedData, named_of, is_in_range, claim_with, within_limits, claim_from, claim_of}
-use Rattle.claim_file.specs.Time.{IsTime, time_of}
-use Rattle.audit.specs.Claimed.{IsClaimText, numbers_value}
 
 -- the laws of the layers below
 pub record Laws : Type 0 where
@@ -39,10 +23,6 @@ pub record Laws : Type 0 where
 string_is : (d : Data) (text : List ℕ) → as_str d ≡ Some text → d ≡ string text
 string_is (string s) text e = cc
 string_is d text e = cc
-
-array_is : (d : Data) (items : Items) → as_array d ≡ Some items → d ≡ array items
-array_is (array list) items e = cc
-array_is d items e = cc
 
 whole_is : (num : Num) (n : ℕ) → as_u64 num ≡ Some n → num ≡ unsigned n
 whole_is (unsigned m) n e = cc

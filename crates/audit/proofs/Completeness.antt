@@ -1,26 +1,5 @@
 -- Each exchange in the frames of a capture is collected.
-use Rattle.std.proofs.Common.{◌≡◌, ◌≢◌, ℕ, zero, suc, ◌&&◌, ◌==◌, ℤ, pos, Bool, true, inl, List, [], ◌∷◌, map, Option, Some, None, refl, sym, ap, ◌∙◌, subst, arith}
-use Rattle.std.specs.Prelude.{AllPairs, Contains, slice_get, filter, filter_map}
-use Rattle.std.specs.List.{cons_option}
-use Rattle.std.specs.Option.{option_and_then, option_map}
-use Rattle.std.proofs.lemmas.Bool.{cond-true, cond-false}
-use Rattle.std.proofs.lemmas.Bool.Decides.{nat_tests}
-use Rattle.std.proofs.lemmas.Option.{slice_get-get_or}
-use Rattle.byte_stream.specs.Bytes.{IsBytes}
-use Rattle.era_unfold.specs.declared.unit.Unit.{Unit as TimeUnit}
-use Rattle.era_unfold.specs.Stamp.{IsUnfolded}
-use Rattle.pcap_reader.specs.Capture.{Record}
-use Rattle.ntp_packet.specs.Header.{mode_of, origin_of, receive_of, transmit_of}
-use Rattle.ntp_packet.specs.Packet.{ntp_port}
-use Rattle.claim_file.specs.Claim.{ClaimData}
-use Rattle.pairing.specs.declared.exchange.Exchange.{Exchange}
-use Rattle.pairing.specs.Message.{Request, Reply, request_of, reply_of, reply_in, reply_from}
-use Rattle.pairing.specs.Pair.{IsPair}
-use Rattle.pairing.specs.Pairing.{requests_of, replies_of, answers, exchange_of, exchanges_of, low_of, high_of}
-use Rattle.checker.proofs.Part.{by_test}
-use Rattle.audit.specs.Captured.{CapturedFrame, frame_of}
-use Rattle.audit.specs.FramedPacket.{HoldsPacket, packet_with}
-use Rattle.audit.specs.Exchanged.{HoldsRequest, IsWindowOf, IsExchangeIn, SameExchange, IsAmong}
+use Rattle.audit.proofs.Common.{◌≡◌, ◌≢◌, ℕ, zero, suc, ◌&&◌, ◌==◌, ℤ, pos, Bool, true, inl, List, [], ◌∷◌, map, Option, Some, None, refl, sym, ap, ◌∙◌, subst, arith, AllPairs, Contains, slice_get, filter, filter_map, cons_option, option_and_then, option_map, cond-true, cond-false, nat_tests, slice_get-get_or, IsBytes, Unit as TimeUnit, IsUnfolded, Record, mode_of, origin_of, receive_of, transmit_of, ntp_port, ClaimData, Exchange, Request, Reply, request_of, reply_of, reply_in, reply_from, IsPair, requests_of, replies_of, answers, exchange_of, exchanges_of, low_of, high_of, by_test, CapturedFrame, frame_of, HoldsPacket, packet_with, HoldsRequest, IsWindowOf, IsExchangeIn, SameExchange, IsAmong}
 use Rattle.audit.proofs.RecordFrames.{SaidBy, frame_at, said_by}
 use Rattle.audit.proofs.ExchangeRecords.{Laws, AreInPlace, request_at, gives_request, three_pass, distance_is, moved, window_at}
 use Rattle.audit.proofs.Uniqueness.{floor_same, ceiling_same}

@@ -1,38 +1,17 @@
 -- What an envelope shows.
-use Rattle.std.proofs.Common.{◌≡◌, ◌∙◌, ◌≤◌, ℕ, List, length, Bool, true, false, Option, Some, None, Result, Ok, Err, ◌⊎◌, inl, inr, refl, sym, ap, subst, arith}
-use Rattle.std.proofs.lemmas.Bool.Decides.{nat_tests}
-use Rattle.std.proofs.lemmas.List.{length-map}
-use Rattle.std.proofs.lemmas.List.Elements.{All-map}
+use Rattle.audit.proofs.Common.{◌≡◌, ◌∙◌, ◌≤◌, ℕ, List, length, Bool, true, false, None, Result, Ok, Err, ◌⊎◌, inl, inr, refl, sym, ap, subst, arith, nat_tests, length-map, All-map, All, nat_lt, if◌then◌else◌, range_with_len, max_pieces, ClaimData, IsLawful, Sample, HoldsError, IsContradicted, Stretch, FindFault, TooManyPieces, Memory, FindsEnvelope, Outcome, RunFault, IsMadeFor, Style, IsEnvelopeOf, bound_outcome, envelope_in, envelope_report, find_run_fault_of, EvidenceData, samples_in}
 use Rattle.std.proofs.lemmas.List.FromFn.{length-map-range_with_len}
-use Rattle.std.specs.Prelude.{All, nat_lt, if◌then◌else◌, map}
-use Rattle.std.specs.List.{range_with_len}
-use Rattle.certificate.specs.Certificate.{max_pieces}
-use Rattle.claim_file.specs.Claim.{ClaimData, IsLawful}
+use Rattle.std.specs.Prelude.{map}
 use Rattle.intersection.specs.declared.kinds.Hull.{Hull}
 use Rattle.intersection.specs.declared.kinds.Hull.TheVariants.{Empty}
-use Rattle.sample_interval.specs.declared.kinds.Sample.{Sample}
-use Rattle.checker.specs.Traceability.{HoldsError, IsContradicted}
-use Rattle.span_cover.specs.declared.stretch.Stretch.{Stretch}
 use Rattle.finder.specs.declared.envelope.Envelope.{Envelope as FoundEnvelope}
-use Rattle.finder.specs.declared.fault.FindFault.{FindFault}
-use Rattle.finder.specs.declared.fault.FindFault.TheVariants.{TooManyPieces, Memory}
-use Rattle.finder.specs.Answer.{FindsEnvelope}
 use Rattle.finder.specs.Entry.{best_hull}
 use Rattle.finder.specs.Envelope.{EnvelopeData, PieceHullData, data_of, envelope_of, envelope_to, piece_data, piece_hull_at}
 use Rattle.finder.specs.Piece.{count_of}
 use Rattle.checker.specs.Samples.{AreSamplesOf}
-use Rattle.report.specs.declared.fault.Outcome.{Outcome}
-use Rattle.report.specs.declared.fault.RunFault.{RunFault}
-use Rattle.report.specs.Publication.{IsMadeFor, Ready}
-use Rattle.line_writer.specs.declared.field.Style.{Style}
-use Rattle.finder.specs.declared.carried.LeastCarried.{LeastCarried}
 use Rattle.audit_text.specs.declared.envelope.Envelope.{Envelope}
-use Rattle.audit_text.specs.declared.least_line.LeastLine.{LeastLine}
-use Rattle.audit.specs.Envelope.{IsEnvelopeOf, bound_outcome, envelope_in, envelope_report, report_of, text_of}
-use Rattle.audit.specs.Find.{find_run_fault_of}
-use Rattle.audit.specs.Least.{least_line_of}
+use Rattle.audit.specs.Envelope.{report_of}
 use Rattle.audit.proofs.SettlementShowing.{refused_made}
-use Rattle.audit.specs.Evidence.{EvidenceData, samples_in}
 
 -- ---- the pieces
 
@@ -84,14 +63,6 @@ module _ (P : PieceHullData → Type 0) (at : ℕ → PieceHullData) (each : (k 
   all_pieces n = All-map P at (range_with_len 0 n) (all_numbers (range_with_len 0 n))
 
 -- ---- what is made of an envelope, or of why there is none
-
-module _ (style : Style) (asked : Envelope) (found : Option (Option LeastCarried)) (e : EvidenceData)
-    (made : Result Ready RunFault) where
-  pub envelope_made : (envelope : EnvelopeData) (line : LeastLine) → envelope_in asked.step.seconds e ≡ Ok envelope
-      → least_line_of e.claim asked.step.seconds asked.least found ≡ Some line
-      → IsMadeFor (text_of style asked e envelope (Some line)) made
-      → IsMadeFor (envelope_report style asked found e) made
-  envelope_made envelope line is line_is h = rw (is, line_is) h
 
 pub envelope_refused : (style : Style) (asked : Envelope) (e : EvidenceData) (fault : FindFault) (told : RunFault)
     → told ≡ find_run_fault_of fault → (fault ≡ Memory) ⊎ (envelope_in asked.step.seconds e ≡ Err fault)

@@ -1,30 +1,6 @@
 -- An error beyond the bound: in parts of a tick, in nanoseconds, and of an accepted refutation.
-use Rattle.std.proofs.Common.{◌≡◌, ℕ, suc, ◌*◌, ◌<◌, ◌≤◌, ℤ, pos, negsuc, ◌*ℤ◌, unsigned_abs, Bool, true, false, inl, ⊎_elim, List, length, get_or, Some, refl, ap, ◌∙◌, arith}
-use Rattle.std.specs.Prelude.{slice_get}
-use Rattle.std.proofs.Math.Nat.{mul-le-mul_right}
-use Rattle.std.proofs.lemmas.Bool.{cases_lt}
-use Rattle.std.proofs.lemmas.Int.{ints}
-use Rattle.std.proofs.lemmas.List.{length-map}
-use Rattle.std.proofs.lemmas.Option.{slice_get-get_or}
-use Rattle.byte_stream.specs.Bytes.{IsBytes}
-use Rattle.era_unfold.specs.Nanoseconds.{nanoseconds_per_second}
-use Rattle.era_unfold.specs.Ratio.{IsFloor}
-use Rattle.era_unfold.specs.Window.{ticks_per_second}
+use Rattle.audit.proofs.Common.{◌≡◌, ℕ, suc, ◌*◌, ◌<◌, ◌≤◌, ℤ, pos, negsuc, ◌*ℤ◌, unsigned_abs, Bool, true, false, inl, ⊎_elim, List, length, get_or, Some, refl, ap, ◌∙◌, arith, slice_get, mul-le-mul_right, cases_lt, ints, length-map, slice_get-get_or, IsBytes, nanoseconds_per_second, IsFloor, ticks_per_second, Format, Record, IsCapture, RefutationData, ClaimData, AreGiven, Exchange, error_of, Course, FitsInWindows, IsAgainst, HasCourse, SharesRequests, frame_of, IsClaimText, HasCourseBeyond, IsBeyond, IsBeyondNanoseconds, EvidenceData, IsContestedOf}
 use Rattle.intersection.specs.Fineness.{times_le}
-use Rattle.pcap_reader.specs.declared.format.Format.{Format}
-use Rattle.pcap_reader.specs.Capture.{Record, IsCapture}
-use Rattle.certificate.specs.Refutation.{RefutationData}
-use Rattle.claim_file.specs.Claim.{ClaimData}
-use Rattle.pairing.specs.Answer.{AreGiven}
-use Rattle.pairing.specs.declared.exchange.Exchange.{Exchange}
-use Rattle.sample_interval.specs.Moment.{error_of}
-use Rattle.checker.specs.Course.{Course, FitsInWindows}
-use Rattle.checker.specs.Refutation.{IsAgainst, HasCourse, SharesRequests}
-use Rattle.audit.specs.Captured.{frame_of}
-use Rattle.audit.specs.Claimed.{IsClaimText}
-use Rattle.audit.specs.Contested.{HasCourseBeyond, IsBeyond, IsBeyondNanoseconds}
-use Rattle.audit.specs.Evidence.{EvidenceData}
-use Rattle.audit.specs.Refute.{IsContestedOf}
 use Rattle.audit.proofs.RecordFrames.{captured, each_record}
 use Rattle.audit.proofs.ExchangeRecords.{in_place}
 

@@ -1,36 +1,7 @@
 -- The exchanges of records are exchanges in them.
-use Rattle.std.proofs.Common.{◌≡◌, ◌≢◌, ℕ, zero, suc, ◌+◌, ◌*◌, ◌<◌, ℤ, pos, int_lt, Bool, true, false, cond, ◌&&◌, ◌==◌, ◌⊎◌, inr, ◌↔◌, List, [], ◌∷◌, ◌++◌, length, map, Option, Some, None, refl, sym, ap, ◌∙◌, subst, arith}
-use Rattle.std.specs.Prelude.{All, AllPairs, Contains, slice_get, filter, filter_map, unwrap_or}
-use Rattle.std.specs.List.{cons_option}
-use Rattle.std.specs.Option.{option_and_then, option_map}
-use Rattle.std.proofs.lemmas.Bool.{cond-true, cond-false}
-use Rattle.std.proofs.lemmas.Bool.Decides.{nat_tests}
-use Rattle.std.proofs.lemmas.Int.{ints}
-use Rattle.std.proofs.Math.Seq.{take-append_seam, drop-append_seam}
-use Rattle.std.proofs.lemmas.List.Elements.{All-nil, All-cons, All-contains, All-filter, All-take, All-drop}
-use Rattle.std.proofs.lemmas.Option.{get_or_from_slice_get, slice_get_within}
-use Rattle.byte_stream.specs.Bytes.{IsBytes}
-use Rattle.era_unfold.specs.declared.unit.Unit.{Unit as TimeUnit}
+use Rattle.audit.proofs.Common.{◌≡◌, ◌≢◌, ℕ, zero, suc, ◌+◌, ◌*◌, ◌<◌, ℤ, pos, int_lt, Bool, true, false, cond, ◌&&◌, ◌==◌, ◌⊎◌, inr, ◌↔◌, List, [], ◌∷◌, ◌++◌, length, map, Option, Some, None, refl, sym, ap, ◌∙◌, subst, arith, All, AllPairs, Contains, slice_get, filter, filter_map, unwrap_or, cons_option, option_and_then, option_map, cond-true, cond-false, nat_tests, ints, take-append_seam, drop-append_seam, All-nil, All-cons, All-contains, All-filter, All-take, All-drop, get_or_from_slice_get, slice_get_within, IsBytes, Unit as TimeUnit, IsFloor, IsCeiling, floor_of, ceiling_of, IsUnfolded, unfolded, per_second, ticks_per_second, window_low, window_high, Endian, Format, Record, IsCapture, spelling, record_spelling, spelled, mode_of, precision_of, precision_ticks_of, root_delay_of, root_dispersion_of, origin_of, receive_of, transmit_of, root_distance_of, Packet, ntp_port, packet_of, ClaimData, Exchange, Request, Reply, IsRequestTo, IsReplyOf, request_of, reply_of, requested_server, replying_server, request_in, reply_in, request_to, reply_from, IsExchangeOf, requests_of, replies_of, requests_for, answers, exchange_of, exchanges_of, low_of, high_of, distance_of, refusal_of, CapturedFrame, frame_of, HoldsPacket, HoldsShown, packet_with, HoldsRequest, IsUsable, IsWindowOf, IsExchangeIn}
 use Rattle.era_unfold.specs.declared.unit.Unit.TheVariants.{Micro, Nano}
-use Rattle.era_unfold.specs.Ratio.{IsFloor, IsCeiling, floor_of, ceiling_of}
-use Rattle.era_unfold.specs.Stamp.{IsUnfolded, unfolded}
-use Rattle.era_unfold.specs.Window.{per_second, ticks_per_second, window_low, window_high}
 use Rattle.pcap_reader.specs.declared.format.RecordHead.{RecordHead}
-use Rattle.pcap_reader.specs.declared.format.Endian.{Endian}
-use Rattle.pcap_reader.specs.declared.format.Format.{Format}
-use Rattle.pcap_reader.specs.Capture.{Record, IsCapture, spelling, record_spelling}
-use Rattle.pcap_reader.specs.Field.{spelled}
-use Rattle.ntp_packet.specs.Header.{mode_of, precision_of, precision_ticks_of, root_delay_of, root_dispersion_of, origin_of, receive_of, transmit_of, root_distance_of}
-use Rattle.ntp_packet.specs.Packet.{Packet, ntp_port, packet_of}
-use Rattle.claim_file.specs.Claim.{ClaimData}
-use Rattle.pairing.specs.declared.exchange.Exchange.{Exchange}
-use Rattle.pairing.specs.Message.{Request, Reply, IsRequestTo, IsReplyOf, request_of, reply_of, requested_server, replying_server, request_in, reply_in, request_to, reply_from}
-use Rattle.pairing.specs.Pair.{IsExchangeOf}
-use Rattle.pairing.specs.Pairing.{requests_of, replies_of, requests_for, answers, exchange_of, exchanges_of, low_of, high_of, distance_of}
-use Rattle.pairing.specs.Refusal.{refusal_of}
-use Rattle.audit.specs.Captured.{CapturedFrame, frame_of}
-use Rattle.audit.specs.FramedPacket.{HoldsPacket, HoldsShown, packet_with}
-use Rattle.audit.specs.Exchanged.{HoldsRequest, IsUsable, IsWindowOf, IsExchangeIn}
 use Rattle.audit.proofs.RecordFrames.{each_record, frame_at, mapped, said_by}
 
 -- the laws of the layers below

@@ -1,24 +1,10 @@
 -- What the outcome of a search for a refutation shows.
-use Rattle.std.proofs.Common.{◌≡◌, List, length, Option, Some, None, refl, sym, subst, false}
-use Rattle.std.specs.Prelude.{All, AllPairs, IfSome, IsNone, option_map}
-use Rattle.certificate.specs.Certificate.{CertificateData}
-use Rattle.certificate.specs.Refutation.{RefutationData, data_of as refutation_data}
+use Rattle.audit.proofs.Common.{◌≡◌, List, length, Option, Some, None, refl, sym, subst, false, All, AllPairs, IfSome, IsNone, CertificateData, RefutationData, data_of as refutation_data, ClaimData, IsLawful, SameRequest, Exchange, HasCourse, IsRefuted, samples_of, verdict_of, Outcome, Yes, No, CourseContests, ShowsContested, EvidenceData, ShowsOf, IsContestedOf, no_second, nothing_said}
+use Rattle.std.specs.Prelude.{option_map}
 use Rattle.certificate.specs.declared.refutation.Refutation.{Refutation}
-use Rattle.claim_file.specs.Claim.{ClaimData, IsLawful}
-use Rattle.pairing.specs.Exchange.{IsLawful as IsLawfulExchange, SameRequest}
-use Rattle.pairing.specs.declared.exchange.Exchange.{Exchange}
-use Rattle.checker.specs.Refutation.{HasCourse, IsRefuted}
-use Rattle.checker.specs.Traceability.{samples_of}
-use Rattle.checker.specs.Verdict.{verdict_of}
+use Rattle.pairing.specs.Exchange.{IsLawful as IsLawfulExchange}
 use Rattle.checker.specs.declared.verdict.Verdict.TheVariants as verdicts
 use Rattle.finder.specs.NearestRefutation.{IsNearestRefutation, NoneIsRefuted}
-use Rattle.report.specs.declared.fault.Outcome.{Outcome}
-use Rattle.report.specs.declared.fault.Outcome.TheVariants.{Yes, No}
-use Rattle.audit.specs.Contested.{CourseContests, ShowsContested}
-use Rattle.audit.specs.Evidence.{EvidenceData}
-use Rattle.audit.specs.Question.{ShowsOf}
-use Rattle.audit.specs.Refute.{IsContestedOf}
-use Rattle.audit.specs.Second.{no_second, nothing_said}
 use Rattle.audit.specs.FindRefutation.{IsIrrefutableOf, IsRefutableOf, IsFindRefutationOf, find_refutation, refutation_found_in, found_refutation_outcome}
 use Rattle.audit.proofs.Excess.{standing_beyond}
 use Rattle.audit.proofs.Showing.{of_evidence, of_inputs}

@@ -1,13 +1,5 @@
 -- What a capture's frames are, one by one, and the records that say them.
-use Rattle.std.proofs.Common.{◌≡◌, ℕ, suc, ◌+◌, ◌≤◌, List, [], ◌∷◌, ◌++◌, length, map, take, drop, refl, sym, ap, ◌∙◌, append_assoc, arith}
-use Rattle.std.specs.Prelude.{All}
-use Rattle.std.specs.List.{flat_map}
-use Rattle.std.proofs.lemmas.List.{length-drop, length-take-le, take-append-drop}
-use Rattle.era_unfold.specs.declared.unit.Unit.{Unit as TimeUnit}
-use Rattle.pcap_reader.specs.declared.format.Endian.{Endian}
-use Rattle.pcap_reader.specs.Capture.{Record, AreRecordsFrom, IsCapture, magic_of}
-use Rattle.pcap_reader.specs.Field.{spelled}
-use Rattle.audit.specs.Captured.{CapturedFrame, IsCaptureOf, IsLawfulFrame, frame_of, record_bytes}
+use Rattle.audit.proofs.Common.{◌≡◌, ℕ, suc, ◌+◌, ◌≤◌, List, [], ◌∷◌, ◌++◌, length, map, take, drop, refl, sym, ap, ◌∙◌, append_assoc, arith, All, flat_map, length-drop, length-take-le, take-append-drop, Unit as TimeUnit, Endian, Record, AreRecordsFrom, IsCapture, magic_of, spelled, CapturedFrame, IsCaptureOf, IsLawfulFrame, frame_of, record_bytes}
 use Rattle.audit.proofs.RecordFrames.{respelled}
 
 -- ---- the records of frames

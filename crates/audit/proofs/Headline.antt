@@ -1,20 +1,6 @@
 -- What was read of a capture, and the pieces of a span.
-use Rattle.std.proofs.Common.{◌≡◌, ◌∙◌, ℕ, zero, suc, ◌≤◌, ℤ, pos, List, [], ◌∷◌, Bool, true, false, length, Option, Some, None, Result, Ok, Err, refl, sym, ap}
-use Rattle.std.specs.Prelude.{IsSomeAnd, slice_get, nat_lt, if◌then◌else◌}
-use Rattle.std.proofs.lemmas.Bool.{ltb-false}
-use Rattle.certificate.specs.Certificate.{PieceData}
-use Rattle.claim_file.specs.Claim.{ClaimData}
-use Rattle.pairing.specs.declared.fault.PairFault.{PairFault}
+use Rattle.audit.proofs.Common.{◌≡◌, ◌∙◌, ℕ, zero, suc, ◌≤◌, ℤ, pos, List, [], ◌∷◌, Bool, true, false, length, Option, Some, None, Result, Ok, Err, refl, sym, ap, IsSomeAnd, slice_get, nat_lt, if◌then◌else◌, ltb-false, PieceData, ClaimData, PairFault, answer_of, unless_broken, most_exchanges, Collection, collection_of, counts_of, exchanges_of, CaptureFault, Record, Coming, capture_of, begin_of, stretches_from, Stretch, capture_read, collection_or_fault, collection_read}
 use Rattle.pairing.specs.declared.fault.PairFault.TheVariants.{TooManyExchanges}
-use Rattle.pairing.specs.Answer.{answer_of, unless_broken}
-use Rattle.pairing.specs.Exchange.{most_exchanges}
-use Rattle.pairing.specs.Pairing.{Collection, collection_of, counts_of, exchanges_of}
-use Rattle.pcap_reader.specs.declared.fault.CaptureFault.{CaptureFault}
-use Rattle.pcap_reader.specs.Capture.{Record}
-use Rattle.pcap_reader.specs.Remaining.{Coming, capture_of}
-use Rattle.checker.specs.Stretch.{begin_of, stretches_from}
-use Rattle.span_cover.specs.declared.stretch.Stretch.{Stretch}
-use Rattle.audit.specs.CaptureInput.{capture_read, collection_or_fault, collection_read}
 
 -- ---- what was read of a capture
 

@@ -1,13 +1,8 @@
 -- What the least bound that a certificate carries shows.
-use Rattle.std.proofs.Common.{◌≡◌, List, Option, Some, None, Result, Ok, Err, subst}
-use Rattle.std.specs.Prelude.{IfOk}
+use Rattle.audit.proofs.Common.{◌≡◌, List, Option, Some, None, Result, Ok, Err, subst, IfOk, Sample, LeastCarried, EvidenceData, samples_in, IsLeastBoundOf}
 use Rattle.std.specs.declared.alloc.AllocError.{AllocError}
 use Rattle.courses.specs.Cover.{SomeCourse}
-use Rattle.sample_interval.specs.declared.kinds.Sample.{Sample}
 use Rattle.finder.specs.Carried.{FindsLeastBound, IsNeverEmpty}
-use Rattle.finder.specs.declared.carried.LeastCarried.{LeastCarried}
-use Rattle.audit.specs.Evidence.{EvidenceData, samples_in}
-use Rattle.audit.specs.Least.{IsLeastBoundOf}
 
 module _ (e : EvidenceData) (never : SomeCourse e.claim e.collection.exchanges → IsNeverEmpty (samples_in e) e.claim)
   where

@@ -1,3 +1,4 @@
+mod Common
 pub mod Nanosecond
 pub mod SampleLines
 pub mod Capture

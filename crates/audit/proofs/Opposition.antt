@@ -1,16 +1,6 @@
 -- What is shown and what is contested never meet.
-use Rattle.std.proofs.Common.{◌≡◌, ℕ, ℤ, pos, ◌*ℤ◌, ◌≤ℤ◌, inl, inr, ⊎_elim, List, length, Option, Some, None, refl, sym, ap, ◌∙◌, subst, arith}
-use Rattle.std.specs.Prelude.{slice_get}
-use Rattle.std.proofs.lemmas.Option.{slice_get_cases, slice_get_within}
-use Rattle.claim_file.specs.Claim.{ClaimData}
-use Rattle.pairing.specs.declared.exchange.Exchange.{Exchange}
-use Rattle.sample_interval.specs.Moment.{Moment, IsWithinDistance}
-use Rattle.sample_interval.specs.Window.{request_start, reply_end}
-use Rattle.checker.specs.Course.{Course, Fits, IsClientMoment}
+use Rattle.audit.proofs.Common.{◌≡◌, ℕ, ℤ, pos, ◌*ℤ◌, ◌≤ℤ◌, inl, inr, ⊎_elim, List, length, Option, Some, None, refl, sym, ap, ◌∙◌, subst, arith, slice_get, slice_get_cases, slice_get_within, ClaimData, Exchange, Moment, IsWithinDistance, request_start, reply_end, Course, Fits, IsClientMoment, IsContestedShown, IsAmong, SameExchange, IsShown}
 use Rattle.checker.specs.PieceFit.{FitsPiece}
-use Rattle.audit.specs.Contested.{IsContestedShown}
-use Rattle.audit.specs.Exchanged.{IsAmong, SameExchange}
-use Rattle.audit.specs.Headline.{IsShown}
 
 -- ---- exchanges that agree
 

@@ -1,20 +1,8 @@
 -- packets and headers
-use Rattle.std.proofs.Common.{◌≡◌, ◌≢◌, ℕ, ◌+◌, ◌*◌, ◌≤◌, pos, int_lt, Bool, true, false, cond, ◌||◌, ◌==◌, not, ◌⊎◌, inl, inr, ⊎_elim, ◌↔◌, List, [], ◌∷◌, ◌++◌, length, append_assoc, take, drop, Option, Some, None, Result, Ok, Err, refl, sym, ap, ◌∙◌, subst, arith}
-use Rattle.std.proofs.lemmas.Bool.Decides.{nat_tests}
-use Rattle.std.proofs.lemmas.Int.{ints}
-use Rattle.std.proofs.lemmas.List.{take-append-drop, length-take-le, length-append}
-use Rattle.std.proofs.Math.Seq.{take-append_seam}
-use Rattle.byte_stream.specs.Bytes.{IsBytes}
+use Rattle.audit.proofs.Common.{◌≡◌, ◌≢◌, ℕ, ◌+◌, ◌*◌, ◌≤◌, pos, int_lt, Bool, true, false, cond, ◌||◌, ◌==◌, not, ◌⊎◌, inl, inr, ⊎_elim, ◌↔◌, List, [], ◌∷◌, ◌++◌, length, append_assoc, take, drop, Option, Some, None, Result, Ok, Err, refl, sym, ap, ◌∙◌, subst, arith, nat_tests, ints, take-append-drop, length-take-le, length-append, take-append_seam, IsBytes, header_of, version_of, leap_of, stratum_of, precision_of, origin_of, receive_of, transmit_of, Packet, packet_of, is_ntp, ntp_port, refusal_of, has_zero_stamp, is_synchronized_stratum, cond-false, by_test, HoldsPacket, HoldsShown, packet_with, IsUsable}
 use Rattle.frame_reader.specs.declared.skip.Skip.{Skip}
 use Rattle.byteorder.specs.Endian.{big_bytes}
 use Rattle.frame_reader.specs.Frame.{Fields, Parts, datagram_of, HoldsDatagram, ipv4_bytes, tag_bytes, total_length_of, udp_bytes}
-use Rattle.ntp_packet.specs.Header.{header_of, version_of, leap_of, stratum_of, precision_of, origin_of, receive_of, transmit_of}
-use Rattle.ntp_packet.specs.Packet.{Packet, packet_of, is_ntp, ntp_port}
-use Rattle.pairing.specs.Refusal.{refusal_of, has_zero_stamp, is_synchronized_stratum}
-use Rattle.std.proofs.lemmas.Bool.{cond-false}
-use Rattle.checker.proofs.Part.{by_test}
-use Rattle.audit.specs.FramedPacket.{HoldsPacket, HoldsShown, packet_with}
-use Rattle.audit.specs.Exchanged.{IsUsable}
 
 -- ---- packets
 

@@ -1,19 +1,5 @@
 -- What a capture's records are, one by one, and the frames that they say.
-use Rattle.std.proofs.Common.{◌≡◌, ℕ, zero, suc, ◌+◌, ◌<◌, ◌≤◌, ⊎_elim, List, [], ◌∷◌, ◌++◌, length, map, get_or, Option, Some, None, refl, sym, ap, ◌∙◌, subst, append_assoc, arith}
-use Rattle.std.specs.Prelude.{All, slice_get}
-use Rattle.std.specs.List.{flat_map}
-use Rattle.std.specs.Option.{option_map}
-use Rattle.std.proofs.lemmas.Bool.{cases_lt}
-use Rattle.std.proofs.lemmas.List.{length-append, length-map}
-use Rattle.std.proofs.lemmas.List.Elements.{All-map}
-use Rattle.std.proofs.lemmas.Option.{slice_get-get_or, slice_get-map, slice_get_cases}
-use Rattle.era_unfold.specs.declared.unit.Unit.{Unit as TimeUnit}
-use Rattle.era_unfold.specs.Window.{per_second}
-use Rattle.pcap_reader.specs.declared.format.Endian.{Endian}
-use Rattle.pcap_reader.specs.declared.format.Format.{Format}
-use Rattle.pcap_reader.specs.Capture.{Record, AreRecordsFrom, IsCapture, IsRecordAt, magic_of, spelling}
-use Rattle.pcap_reader.specs.Field.{spelled}
-use Rattle.audit.specs.Captured.{CapturedFrame, IsCaptureOf, IsLawfulFrame, frame_of, record_bytes}
+use Rattle.audit.proofs.Common.{◌≡◌, ℕ, zero, suc, ◌+◌, ◌<◌, ◌≤◌, ⊎_elim, List, [], ◌∷◌, ◌++◌, length, map, get_or, Option, Some, None, refl, sym, ap, ◌∙◌, subst, append_assoc, arith, All, slice_get, flat_map, option_map, cases_lt, length-append, length-map, All-map, slice_get-get_or, slice_get-map, slice_get_cases, Unit as TimeUnit, per_second, Endian, Format, Record, AreRecordsFrom, IsCapture, IsRecordAt, magic_of, spelling, spelled, CapturedFrame, IsCaptureOf, IsLawfulFrame, frame_of, record_bytes}
 
 -- ---- records, one by one
 

@@ -1,17 +1,6 @@
 -- What it shows whether a refutation stands.
-use Rattle.std.proofs.Common.{Bool, true, false, refl, sym, true≢false}
-use Rattle.std.specs.Prelude.{AllPairs}
-use Rattle.certificate.specs.Refutation.{RefutationData}
-use Rattle.pairing.specs.Exchange.{SameRequest}
+use Rattle.audit.proofs.Common.{Bool, true, false, refl, sym, true≢false, AllPairs, RefutationData, SameRequest, SettlesWithDrift, Outcome, Yes, No, CourseContests, ShowsContested, EvidenceData, ShowsOf, GiveRefutation, IsContestedOf, IsSettledFor, IsUncontestedOf, refute, refuted_outcome, refutation_said, refutation_second}
 use Rattle.checker.specs.Settlement.{Settles}
-use Rattle.courses.specs.DriftSettlement.{SettlesWithDrift}
-use Rattle.report.specs.declared.fault.Outcome.{Outcome}
-use Rattle.report.specs.declared.fault.Outcome.TheVariants.{Yes, No}
-use Rattle.audit.specs.Contested.{CourseContests, ShowsContested}
-use Rattle.audit.specs.Evidence.{EvidenceData}
-use Rattle.audit.specs.Question.{ShowsOf}
-use Rattle.audit.specs.Refute.{GiveRefutation, IsContestedOf, IsSettledFor, IsUncontestedOf, refute, refuted_outcome}
-use Rattle.audit.specs.Second.{refutation_said, refutation_second}
 use Rattle.audit.proofs.Excess.{standing_beyond}
 use Rattle.audit.proofs.Showing.{of_inputs, refutation_is}
 

@@ -1,37 +1,18 @@
 -- A run, once its text is made.
-use Rattle.std.proofs.Common.{◌≡◌, ◌∙◌, ◌⊎◌, ◌++◌, ℕ, List, [], ◌∷◌, Option, Some, None, Result, Ok, Err, refl, sym, ap, subst, inl, inr, append-nil, false}
-use Rattle.std.specs.List.{concat}
-use Rattle.std.specs.Prelude.{Bool, IfSome, IfErr, IfOk, IsOk, MatchResult, option_map}
+use Rattle.audit.proofs.Common.{◌≡◌, ◌∙◌, ◌⊎◌, ◌++◌, ℕ, List, [], ◌∷◌, Option, Some, None, Result, Ok, Err, refl, sym, ap, subst, inl, inr, append-nil, false, concat, IfSome, IfErr, IfOk, IsOk, MatchResult, FeedState, SinkState, Outcome, RunFault, ClaimData, compact_data, Collection, max_certificate, claim_read, max_claim, max_refutation, IsAnswerFor, IsMadeFor, IsUnwritten, Publishes, Ready, Report, Reports, GetsText, is_claim, is_second, is_capture, is_sums, is_device, refused, IsFromOutside, HasClaim, HasLawfulHeader, IsBeforeCapture, IsBeforeSecond, IsUnwrittenAt, Runs, capture_read, evidence_data, evidence_of, AreInputsOf, AskedData, Finding, ShowsOf, for_a_program, no_finding, HasSecond, SecondData, SecondKind, most_second, second_read, no_second, certificate_second, refutation_second, InputsData, IsOfMaking, Tells, TellsFinding, TellsTwice, inputs_data, inputs_read, report_on, run_report, with_second}
+use Rattle.std.specs.Prelude.{Bool, option_map}
 use Rattle.std.specs.Io.KnownBytes.{Appends, Keeps}
 use Rattle.byte_stream.specs.Fault.{CountsFault}
 use Rattle.byte_stream.specs.Intake.{TakesAtMost}
-use Rattle.byte_stream.specs.State.{FeedState, SinkState}
 use Rattle.pcap_reader.specs.Limit.{most_taken}
 use Rattle.report.specs.declared.fault.Input.{Input}
 use Rattle.report.specs.declared.fault.Input.TheVariants as inputs
-use Rattle.report.specs.declared.fault.Outcome.{Outcome}
-use Rattle.report.specs.declared.fault.RunFault.{RunFault}
 use Rattle.report.specs.declared.fault.RunFault.TheVariants as faults
-use Rattle.claim_file.specs.Claim.{ClaimData, data_of as claim_data}
-use Rattle.pairing.specs.Compact.{compact_data}
-use Rattle.pairing.specs.Pairing.{Collection}
-use Rattle.report.specs.CertificateInput.{max_certificate}
-use Rattle.report.specs.ClaimInput.{claim_read, max_claim}
+use Rattle.claim_file.specs.Claim.{data_of as claim_data}
 use Rattle.report.specs.Input.{most_read}
-use Rattle.report.specs.RefutationInput.{max_refutation}
-use Rattle.report.specs.Publication.{IsAnswerFor, IsMadeFor, IsUnwritten, Publishes, Ready}
-use Rattle.report.specs.Reports.{Report, Reports, GetsText, is_claim, is_second, is_capture, is_sums, is_device, refused}
-use Rattle.report.specs.Reading.{IsFromOutside}
 use Rattle.report.specs.Run.{RunState}
-use Rattle.report.specs.Runs.{HasClaim, HasLawfulHeader, IsBeforeCapture, IsBeforeSecond, IsUnwrittenAt, Runs}
 use Rattle.report.proofs.InputIntake.{takes_within}
-use Rattle.audit.specs.CaptureInput.{capture_read}
-use Rattle.audit.specs.Evidence.{evidence_data, evidence_of}
-use Rattle.audit.specs.Question.{AreInputsOf, AskedData, Finding, ShowsOf, for_a_program, no_finding}
-use Rattle.audit.specs.Second.{HasSecond, SecondData, SecondKind, most_second, second_read}
-use Rattle.audit.specs.Second.{no_second, certificate_second, refutation_second}
-use Rattle.audit.specs.Report.{InputsData, IsOfMaking, Tells, TellsFinding, TellsTwice, inputs_data, inputs_read, report_on, run_report, with_second}
-use Rattle.audit.specs.Run.{IsToldToo, RunsFor, RunsTwice}
+use Rattle.audit.specs.Run.{HasRead, IsToldToo, RunsFor, RunsTwice}
 use Rattle.audit.specs.declared.engine.Inputs.{Inputs}
 use Rattle.audit.proofs.Capture.{header_was_read}
 use Rattle.audit.proofs.Showing.{BytesLaws, finding_shown, nothing_shown, refused_twice}
@@ -205,28 +186,6 @@ same_fault : (A B : Type 0) (fault other : RunFault) → (let x : Result A RunFa
     (let y : Result B RunFault = Err fault in y) ≡ Err other
 same_fault A B fault other is = let same : fault ≡ other = cc in ap Err same
 
--- what is known of a run once its inputs are read, or aren't
-pub record HasRead {T F V : Type 0} (kind : SecondKind) (said : V → SecondData) (before after : RunState)
-    (second second' : T) (capture capture' : F) (read : Result (Inputs V) RunFault) : Type 0 where
-  pub of_bytes : IfOk read (λ i. AreInputsOf kind (said i.second) (evidence_data i.evidence)
-      before.claim before.second before.capture)
-  pub refused : IfErr read (λ fault. IfSome
-      (inputs_read kind before.claim.remaining before.second.remaining before.capture.remaining)
-      (λ known. IsFromOutside fault ⊎ (known ≡ Err fault)))
-  pub unwritten : IfErr read (λ fault. IsUnwritten (Err fault))
-  pub claim_faults : CountsFault (is_device is_claim read) before.claim.faults after.claim.faults
-  pub second_faults : CountsFault (is_device is_second read) before.second.faults after.second.faults
-  pub capture_faults : CountsFault (is_device is_capture read) before.capture.faults after.capture.faults
-  pub second_untouched : IfErr read (λ fault. IsBeforeSecond fault → second' ≡ second)
-  pub capture_untouched : IfErr read (λ fault. IsBeforeCapture fault → capture' ≡ capture)
-  pub claim_at_most : TakesAtMost (most_read inputs.Claim max_claim read) before.claim after.claim
-  pub second_at_most : TakesAtMost (most_second kind read) before.second after.second
-  pub capture_at_most : TakesAtMost most_taken before.capture after.capture
-  pub claim_memory : read ≡ Err faults.Memory →
-      ((second' ≡ second) × (capture' ≡ capture)) ⊎ HasClaim before.claim.remaining
-  pub second_memory : read ≡ Err faults.Memory → (capture' ≡ capture) ⊎ HasSecond kind before.second.remaining
-  pub capture_memory : read ≡ Err faults.Memory → (capture' ≡ capture) ⊎ HasLawfulHeader before.capture.remaining
-
 made_outside : (report : Report) (fault : RunFault) → IsFromOutside fault → IsMadeFor report (Err fault)
 made_outside report faults.Memory h = tt
 made_outside report (faults.Device input) h = tt
@@ -380,15 +339,6 @@ module _ {V : Type 0} (asked : AskedData) (said : V → SecondData) (claim secon
       shown_answer (ShowsOf asked.question asked.second (said i.second) (evidence_data i.evidence))
       (asked.question.Shows claim second capture) (λ outcome shows. shows claim second capture are)
       tells.made answer tells.publishes.stays tells.shows
-
-  pub told_shows : (read : Result (Inputs V) RunFault) → IfOk read (λ i. AreInputsOf asked.second (said i.second)
-      (evidence_data i.evidence) claim second capture) →
-      MatchResult read (λ i. TellsFinding asked (inputs_data (said i.second) (evidence_data i.evidence))
-      sink sink' answer) (λ fault. Publishes sink sink' (Err fault) answer) →
-      IfOk answer (asked.question.Shows claim second capture)
-  told_shows (Ok i) are told =
-      shown_of i are (report_on asked told.finding (Ok (inputs_data (said i.second) (evidence_data i.evidence)))) told.tells
-  told_shows (Err fault) are published = rw published.stays tt
 
 module _ {T F V : Type 0} (laws : BytesLaws) (asked : AskedData) (said : V → SecondData) (before after : RunState)
     (second second' : T) (capture capture' : F) (answer : Result Outcome RunFault) where

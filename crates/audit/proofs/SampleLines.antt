@@ -1,12 +1,6 @@
 -- The lines of samples that are left to go out, and the line of counts.
-use Rattle.std.proofs.Common.{◌≡◌, ◌∙◌, ◌+◌, ◌<◌, ◌≤◌, ◌++◌, ℕ, List, [], length, drop, get_or, refl, sym, ap, append_assoc}
-use Rattle.line_writer.specs.declared.field.Style.TheVariants.{Plain}
-use Rattle.claim_file.specs.Claim.{ClaimData}
-use Rattle.pairing.specs.declared.exchange.Exchange.{Exchange}
-use Rattle.pairing.specs.Pairing.{Collection}
+use Rattle.audit.proofs.Common.{◌≡◌, ◌∙◌, ◌+◌, ◌<◌, ◌≤◌, ◌++◌, ℕ, List, [], length, drop, get_or, refl, sym, ap, append_assoc, Plain, ClaimData, Exchange, Collection, sample_line, samples_text}
 use Rattle.audit_text.specs.CountsLine.{counts_line}
-use Rattle.audit_text.specs.SampleLine.{sample_line}
-use Rattle.audit_text.specs.Samples.{samples_text}
 use Rattle.audit_text.specs.Table.{heading, rows_from}
 use Rattle.audit_text.proofs.Rows.{row_added, rows_done}
 

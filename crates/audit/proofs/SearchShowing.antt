@@ -1,22 +1,9 @@
 -- What the outcome of a search shows.
-use Rattle.std.proofs.Common.{◌≡◌, ◌⊎◌, ℕ, List, Result, Ok, Err, inl, inr, sym, subst}
-use Rattle.sample_interval.specs.declared.kinds.Sample.{Sample}
-use Rattle.finder.specs.declared.fault.FindFault.{FindFault}
-use Rattle.finder.specs.declared.fault.FindFault.TheVariants.{TooManyPieces, Memory}
+use Rattle.audit.proofs.Common.{◌≡◌, ◌⊎◌, ℕ, List, Result, Ok, Err, inl, inr, sym, subst, Sample, FindFault, TooManyPieces, Memory, Finds, FoundData, Style, IsMadeFor, RunFault, Outcome, Yes, No, EvidenceData, samples_in, IsFoundOf, IsNotFoundOf, IsSearchOf, find, find_report, find_run_fault_of, found_report, found_in, found_outcome, ShowsOf, no_second, nothing_said}
 use Rattle.finder.specs.declared.found.Found.{Found}
 use Rattle.finder.specs.declared.found.Found.TheVariants as founds
-use Rattle.finder.specs.Answer.{Finds}
-use Rattle.finder.specs.Found.{FoundData, data_of}
+use Rattle.finder.specs.Found.{data_of}
 use Rattle.certificate.specs.Certificate.{data_of as certificate_data}
-use Rattle.line_writer.specs.declared.field.Style.{Style}
-use Rattle.report.specs.Publication.{IsMadeFor}
-use Rattle.report.specs.declared.fault.RunFault.{RunFault}
-use Rattle.report.specs.declared.fault.Outcome.{Outcome}
-use Rattle.report.specs.declared.fault.Outcome.TheVariants.{Yes, No}
-use Rattle.audit.specs.Evidence.{EvidenceData, samples_in}
-use Rattle.audit.specs.Find.{IsFoundOf, IsNotFoundOf, IsSearchOf, find, find_report, find_run_fault_of, found_report, found_in, found_outcome}
-use Rattle.audit.specs.Question.{ShowsOf}
-use Rattle.audit.specs.Second.{no_second, nothing_said}
 use Rattle.audit.proofs.SettlementShowing.{refused_made}
 use Rattle.audit.proofs.Showing.{of_evidence}
 

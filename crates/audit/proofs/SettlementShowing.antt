@@ -1,28 +1,10 @@
 -- What a settled claim shows.
-use Rattle.std.proofs.Common.{◌≡◌, ℕ, ◌<◌, ◌⊎◌, ⊎_elim, List, length, map, get_or, Err, refl, sym, subst}
-use Rattle.std.specs.Prelude.{AllPairs}
-use Rattle.std.proofs.lemmas.List.{get_or-map, length-map}
-use Rattle.std.proofs.lemmas.Option.{slice_get_within}
-use Rattle.certificate.specs.Certificate.{CertificateData}
-use Rattle.pairing.specs.Exchange.{SameRequest}
-use Rattle.pairing.specs.declared.exchange.Exchange.{Exchange}
-use Rattle.checker.specs.Traceability.{IsVerdictOn}
-use Rattle.claim_file.specs.Claim.{ClaimData}
+use Rattle.audit.proofs.Common.{◌≡◌, ℕ, ◌<◌, ◌⊎◌, ⊎_elim, List, length, map, get_or, Err, refl, sym, subst, AllPairs, get_or-map, length-map, slice_get_within, CertificateData, SameRequest, Exchange, IsVerdictOn, ClaimData, FindFault, SettledData, HasTooManyPieces, IsSettledAs, RunFault, IsMadeFor, refused, verdict_on, EvidenceData, samples_in, find_run_fault_of, IsSettlementOf, IsSettledOf}
 use Rattle.courses.specs.Contradiction.{AreAllConflicts, IsFirstContradiction, ShownConflict}
 use Rattle.courses.specs.PairMarks.{conflict_data}
 use Rattle.courses.specs.declared.shown_conflicts.Conflict.{Conflict}
-use Rattle.finder.specs.declared.fault.FindFault.{FindFault}
 use Rattle.finder.specs.declared.fault.FindFault.TheVariants as finds
 use Rattle.finder.specs.Settlement as settles
-use Rattle.finder.specs.Settlement.{SettledData, HasTooManyPieces, IsSettledAs}
-use Rattle.report.specs.declared.fault.RunFault.{RunFault}
-use Rattle.report.specs.Publication.{IsMadeFor}
-use Rattle.report.specs.Reports.{refused}
-use Rattle.audit.specs.Check.{verdict_on}
-use Rattle.audit.specs.Evidence.{EvidenceData, samples_in}
-use Rattle.audit.specs.Find.{find_run_fault_of}
-use Rattle.audit.specs.Finding.{IsSettlementOf}
-use Rattle.audit.specs.Settle.{IsSettledOf}
 
 module _ (e : EvidenceData) (agree : AllPairs SameRequest e.collection.exchanges)
     (traced : (certificate : CertificateData) →

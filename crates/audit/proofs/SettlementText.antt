@@ -1,14 +1,7 @@
 -- The text of a settled claim, on the least bound where it names that.
-use Rattle.std.proofs.Common.{◌≡◌, Bool, true, false, List, ℕ, [], Option, Some, None, Result, Ok, Err, refl}
-use Rattle.std.specs.Prelude.{IfOk, IsSome, is_some, unwrap_or}
+use Rattle.audit.proofs.Common.{◌≡◌, Bool, true, false, List, ℕ, [], Option, Some, None, Result, Ok, Err, refl, IfOk, IsSome, is_some, unwrap_or, SettledData, LeastCarried, Style, whole_text, EvidenceData, answer_on, is_on_least, names_least, nanoseconds_in, report_of, settled_answer, settled_outcome, text_for}
 use Rattle.finder.specs.Settlement as settles
-use Rattle.finder.specs.Settlement.{SettledData}
-use Rattle.finder.specs.declared.carried.LeastCarried.{LeastCarried}
-use Rattle.line_writer.specs.declared.field.Style.{Style}
 use Rattle.line_writer.specs.declared.field.Style.TheVariants as styles
-use Rattle.report.specs.Reports.{whole_text}
-use Rattle.audit.specs.Evidence.{EvidenceData}
-use Rattle.audit.specs.Settle.{answer_on, is_on_least, names_least, nanoseconds_in, report_of, settled_answer, settled_outcome, text_for}
 
 -- the report on a text that is known
 pub report_is : (settled : SettledData) (known : Option (List ℕ)) → IsSome known →

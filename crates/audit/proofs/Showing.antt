@@ -1,36 +1,8 @@
 -- What an outcome shows, from the bytes of the inputs.
-use Rattle.std.proofs.Common.{◌≡◌, ℕ, true, List, Option, Some, None, Result, Ok, Err, refl, sym, subst, inl, inr}
-use Rattle.std.specs.Prelude.{IfSome, IfOk, MatchResult}
-use Rattle.byte_stream.specs.State.{FeedState, SinkState}
-use Rattle.certificate.specs.Certificate.{CertificateData}
-use Rattle.certificate.specs.Refutation.{RefutationData}
+use Rattle.audit.proofs.Common.{◌≡◌, ℕ, true, List, Option, Some, None, Result, Ok, Err, refl, sym, subst, inl, inr, IfSome, IfOk, MatchResult, FeedState, SinkState, CertificateData, RefutationData, SettledData, LeastCarried, FindFault, find_run_fault_of, Outcome, RunFault, certificate_read, claim_read, IsMadeFor, Publishes, Ready, Report, whole_text, refutation_read, capture_read, ArePiecesTraced, HasVerdictYes, IsTracedTo, EvidenceData, GiveEvidence, IsEvidenceOf, OfClaimAndCapture, CourseContests, ShowsHeadline, GivesNanoseconds, AreInputsOf, AskedData, Finding, QuestionData, ShowsOf, no_finding, SecondData, SecondKind, certificate_said, certificate_second, of_certificate, of_refutation, refutation_said, refutation_second, second_read, IsContestedOf, InputsData, IsOfMaking, IsUnfound, PublishesWhole, Tells, IsFindingFrom, IsFindingOf, IsSettlementFrom, IsSettlementOf, ShowsFinding, IsLeastBoundOf, IsSettledFrom, IsSettledOf, IsShownOf}
 use Rattle.finder.specs.Settlement as settles
-use Rattle.finder.specs.Settlement.{SettledData}
-use Rattle.finder.specs.declared.carried.LeastCarried.{LeastCarried}
-use Rattle.finder.specs.declared.fault.FindFault.{FindFault}
 use Rattle.finder.specs.declared.fault.FindFault.TheVariants as finds
-use Rattle.audit.specs.Find.{find_run_fault_of}
-use Rattle.report.specs.declared.fault.Outcome.{Outcome}
-use Rattle.report.specs.declared.fault.RunFault.{RunFault}
-use Rattle.report.specs.CertificateInput.{certificate_read}
-use Rattle.report.specs.ClaimInput.{claim_read}
 use Rattle.report.specs.declared.fault.RunFault.TheVariants as faults
-use Rattle.report.specs.Publication.{IsMadeFor, Publishes, Ready}
-use Rattle.report.specs.Reports.{Report, whole_text}
-use Rattle.report.specs.RefutationInput.{refutation_read}
-use Rattle.audit.specs.CaptureInput.{capture_read}
-use Rattle.audit.specs.Check.{ArePiecesTraced, HasVerdictYes, IsTracedTo}
-use Rattle.audit.specs.Evidence.{EvidenceData, GiveEvidence, IsEvidenceOf, OfClaimAndCapture}
-use Rattle.audit.specs.Contested.{CourseContests}
-use Rattle.audit.specs.Headline.{ShowsHeadline}
-use Rattle.audit.specs.Nanoseconds.{GivesNanoseconds}
-use Rattle.audit.specs.Question.{AreInputsOf, AskedData, Finding, QuestionData, ShowsOf, no_finding}
-use Rattle.audit.specs.Second.{SecondData, SecondKind, certificate_said, certificate_second, of_certificate, of_refutation, refutation_said, refutation_second, second_read}
-use Rattle.audit.specs.Refute.{IsContestedOf}
-use Rattle.audit.specs.Report.{InputsData, IsOfMaking, IsUnfound, PublishesWhole, Tells}
-use Rattle.audit.specs.Finding.{IsFindingFrom, IsFindingOf, IsSettlementFrom, IsSettlementOf, ShowsFinding}
-use Rattle.audit.specs.Least.{IsLeastBoundOf}
-use Rattle.audit.specs.Settle.{IsSettledFrom, IsSettledOf, IsShownOf}
 use Rattle.audit.proofs.Excess.{standing_beyond}
 
 -- the laws on bytes that a yes needs

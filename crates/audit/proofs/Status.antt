@@ -1,9 +1,5 @@
 -- The status of an outcome.
-use Rattle.std.proofs.Common.{◌≡◌, ◌≤◌, ◌∙◌, ℕ, Result, Ok, Err, refl, sym, ap, subst, arith}
-use Rattle.std.specs.Prelude.{IfOk}
-use Rattle.report.specs.declared.fault.Outcome.{Outcome}
-use Rattle.report.specs.declared.fault.Outcome.TheVariants.{Yes, No}
-use Rattle.report.specs.declared.fault.RunFault.{RunFault}
+use Rattle.audit.proofs.Common.{◌≡◌, ◌≤◌, ◌∙◌, ℕ, Result, Ok, Err, refl, sym, ap, subst, arith, IfOk, Outcome, Yes, No, RunFault}
 use Rattle.report.specs.declared.fault.RunFault.TheVariants.{Memory}
 use Rattle.report.specs.ExitStatus.{status_of}
 

@@ -1,19 +1,5 @@
 -- A text says one claim at most.
-use Rattle.std.proofs.Common.{◌≡◌, ℕ, suc, ◌*◌, ℤ, pos, ◌↔◌, List, [], ◌∷◌, length, map, codes, Option, Some, None, refl, sym, ap, ◌∙◌, subst, arith}
-use Rattle.std.specs.Prelude.{slice_get}
-use Rattle.std.specs.List.{AllZip}
-use Rattle.std.specs.Option.{option_map}
-use Rattle.std.specs.Net.Grammar.{IsDotted}
-use Rattle.era_unfold.specs.Nanoseconds.{nanoseconds_per_second}
-use Rattle.era_unfold.specs.Ratio.{IsFloor, IsCeiling}
-use Rattle.era_unfold.specs.Window.{ticks_per_second}
-use Rattle.serde_json.specs.Data.{Data, number, string, unsigned, array}
-use Rattle.serde_json.specs.Find.{get}
-use Rattle.serde_json.specs.View.{items_of}
-use Rattle.claim_file.specs.Address.{address_of}
-use Rattle.claim_file.specs.Claim.{ClaimData}
-use Rattle.claim_file.specs.Time.{IsTime, time_of}
-use Rattle.audit.specs.Claimed.{IsClaimText, IsTimeAt, numbers_value}
+use Rattle.audit.proofs.Common.{◌≡◌, ℕ, suc, ◌*◌, ℤ, pos, ◌↔◌, List, [], ◌∷◌, length, map, codes, Option, Some, None, refl, sym, ap, ◌∙◌, subst, arith, slice_get, AllZip, option_map, IsDotted, nanoseconds_per_second, IsFloor, IsCeiling, ticks_per_second, Data, number, string, unsigned, array, get, items_of, address_of, ClaimData, IsTime, time_of, IsClaimText, IsTimeAt, numbers_value}
 
 -- the laws of the layers below
 pub record Laws : Type 0 where

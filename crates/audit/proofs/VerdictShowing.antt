@@ -1,19 +1,7 @@
 -- What a verdict shows.
-use Rattle.std.proofs.Common.{◌≡◌, refl, sym, ap, subst}
-use Rattle.certificate.specs.Certificate.{CertificateData}
-use Rattle.checker.specs.Traceability.{IsVerdictOn}
+use Rattle.audit.proofs.Common.{◌≡◌, refl, sym, ap, subst, CertificateData, IsVerdictOn, IsBytes, Outcome, Yes, No, HasVerdict, IsDenied, IsTracedByPieces, IsTracedTo, check, outcome_of, EvidenceData, samples_in, ShowsOf, OfClaimAndCapture, IsShown, ShowsHeadline, GivesNanoseconds, certificate_said, certificate_second}
 use Rattle.checker.specs.declared.verdict.Verdict.{Verdict}
 use Rattle.checker.specs.declared.verdict.Verdict.TheVariants as verdicts
-use Rattle.byte_stream.specs.Bytes.{IsBytes}
-use Rattle.report.specs.declared.fault.Outcome.{Outcome}
-use Rattle.report.specs.declared.fault.Outcome.TheVariants.{Yes, No}
-use Rattle.audit.specs.Check.{HasVerdict, IsDenied, IsTracedByPieces, IsTracedTo, check, outcome_of}
-use Rattle.audit.specs.Evidence.{EvidenceData, samples_in}
-use Rattle.audit.specs.Question.{ShowsOf}
-use Rattle.audit.specs.Evidence.{OfClaimAndCapture}
-use Rattle.audit.specs.Headline.{IsShown, ShowsHeadline}
-use Rattle.audit.specs.Nanoseconds.{GivesNanoseconds}
-use Rattle.audit.specs.Second.{certificate_said, certificate_second}
 use Rattle.audit.proofs.Showing.{of_certificate_bytes, of_inputs, pieces_traced, traced_to}
 
 module _ (certificate : CertificateData) (e : EvidenceData) where

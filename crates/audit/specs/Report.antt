@@ -15,8 +15,8 @@ use Rattle.line_writer.specs.declared.field.Style.{Style}
 use Rattle.audit.specs.CaptureInput.{capture_read}
 use Rattle.audit.specs.Evidence.{EvidenceData, evidence_of}
 use Rattle.audit.specs.Finding.{IsFindingOf}
-use Rattle.audit.specs.Question.{AskedData, Finding, QuestionData, ShowsOf, for_a_program}
-use Rattle.audit.specs.Second.{SecondData, SecondKind, second_read}
+use Rattle.audit.specs.Question.{AskedData, Finding, QuestionData, ShowsOf, asked_of, for_a_program, no_finding}
+use Rattle.audit.specs.Second.{SecondData, SecondKind, no_second, nothing_said, second_read}
 
 -- ---- what the inputs say
 
@@ -112,6 +112,13 @@ pub record Tells (asked : AskedData) (report : Report) (inputs : InputsData)
   pub shows : IfOk made (λ m.
       ShowsOf asked.question asked.second inputs.said inputs.evidence m.outcome)
   pub publishes : Publishes before after made answer
+
+-- the same of a question of claim and capture alone, before whose text nothing is found
+abbrev pub TellsAlone : QuestionData → Style → EvidenceData → SinkState → SinkState
+    → Result Outcome RunFault → Type 0
+TellsAlone question style e before after answer =
+    Tells (asked_of question no_second style) (question.report style no_finding nothing_said e)
+    (inputs_data nothing_said e) before after answer
 
 -- The report on a finding, which shows what it says, is told.
 pub record TellsFinding (asked : AskedData) (inputs : InputsData) (before after : SinkState)

@@ -1,19 +1,30 @@
 -- What a run needs and what it promises.
-use Rattle.std.specs.Prelude.{◌≡◌, ℕ, Bool, false, Result, Ok, Err, IfOk, IfSome, MatchResult}
+use Rattle.std.specs.Prelude.{◌≡◌, ◌⊎◌, ℕ, Bool, false, Result, Ok, Err, IfErr, IfOk, IfSome, MatchResult}
+use Rattle.byte_stream.specs.Fault.{CountsFault}
+use Rattle.byte_stream.specs.Intake.{TakesAtMost}
 use Rattle.byte_stream.specs.State.{FeedState, IsReadable, IsWritable, SinkState}
+use Rattle.pcap_reader.specs.Limit.{most_taken}
+use Rattle.report.specs.ClaimInput.{max_claim}
 use Rattle.report.specs.ExitStatus.{status_of}
 use Rattle.report.specs.declared.conclusion.Conclusion.{Conclusion}
+use Rattle.report.specs.Input.{most_read}
+use Rattle.report.specs.Publication.{IsUnwritten}
+use Rattle.report.specs.Reading.{IsFromOutside}
 use Rattle.report.specs.declared.fault.Input.{Input}
+use Rattle.report.specs.declared.fault.Input.TheVariants.{Claim}
 use Rattle.report.specs.declared.fault.Outcome.{Outcome}
 use Rattle.report.specs.declared.fault.RunFault.{RunFault}
-use Rattle.report.specs.Reports.{CountsSink, GetsText, is_device}
+use Rattle.report.specs.declared.fault.RunFault.TheVariants.{Memory}
+use Rattle.report.specs.Reports.{CountsSink, GetsText, is_capture, is_claim, is_device, is_second}
 use Rattle.report.specs.Run.{RunState}
-use Rattle.report.specs.Runs.{Runs}
+use Rattle.report.specs.Runs.{HasClaim, HasLawfulHeader, IsBeforeCapture, IsBeforeSecond, Runs}
 use Rattle.report.specs.Conclusion.{IsConcluded}
+use Rattle.audit.specs.Evidence.{evidence_data}
 use Rattle.audit.specs.Question.{AreInputsOf, AskedData, Finding, QuestionData, for_a_program, plainly}
-use Rattle.audit.specs.Second.{HasSecond, most_second, no_second}
-use Rattle.audit.specs.Report.{InputsData, report_on, run_report}
+use Rattle.audit.specs.Second.{HasSecond, SecondData, SecondKind, most_second, no_second}
+use Rattle.audit.specs.Report.{InputsData, inputs_read, report_on, run_report}
 use Rattle.audit.specs.Finding.{IsFindingOf, ShowsFinding}
+use Rattle.audit.specs.declared.engine.Inputs.{Inputs}
 
 -- A run may begin: each input may be pulled from, and its sink may be written to.
 pub record MayRun (before : RunState) : Type 0 where
@@ -21,6 +32,33 @@ pub record MayRun (before : RunState) : Type 0 where
   pub second : IsReadable before.second
   pub capture : IsReadable before.capture
   pub sink : IsWritable before.sink
+
+-- What is known of a run once its inputs are read, or one is refused.
+pub record HasRead {T F V : Type 0} (kind : SecondKind) (said : V → SecondData)
+    (before after : RunState) (second second' : T) (capture capture' : F)
+    (read : Result (Inputs V) RunFault) : Type 0 where
+  pub of_bytes : IfOk read (λ i. AreInputsOf kind (said i.second) (evidence_data i.evidence)
+      before.claim before.second before.capture)
+  pub refused : IfErr read (λ fault. IfSome
+      (inputs_read kind before.claim.remaining before.second.remaining before.capture.remaining)
+      (λ known. IsFromOutside fault ⊎ (known ≡ Err fault)))
+  pub unwritten : IfErr read (λ fault. IsUnwritten (Err fault))
+  pub claim_faults : CountsFault (is_device is_claim read) before.claim.faults after.claim.faults
+  pub second_faults : CountsFault (is_device is_second read)
+      before.second.faults after.second.faults
+  pub capture_faults : CountsFault (is_device is_capture read)
+      before.capture.faults after.capture.faults
+  pub second_untouched : IfErr read (λ fault. IsBeforeSecond fault → second' ≡ second)
+  pub capture_untouched : IfErr read (λ fault. IsBeforeCapture fault → capture' ≡ capture)
+  pub claim_at_most : TakesAtMost (most_read Claim max_claim read) before.claim after.claim
+  pub second_at_most : TakesAtMost (most_second kind read) before.second after.second
+  pub capture_at_most : TakesAtMost most_taken before.capture after.capture
+  pub claim_memory : read ≡ Err Memory →
+      ((second' ≡ second) × (capture' ≡ capture)) ⊎ HasClaim before.claim.remaining
+  pub second_memory : read ≡ Err Memory →
+      (capture' ≡ capture) ⊎ HasSecond kind before.second.remaining
+  pub capture_memory : read ≡ Err Memory →
+      (capture' ≡ capture) ⊎ HasLawfulHeader before.capture.remaining
 
 -- What a run promises that a question is asked of: the text and the answer are those that the
 -- bytes of its inputs call for. Of `settle` and `envelope` they are those of a finding, which shows

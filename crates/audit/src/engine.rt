@@ -5,24 +5,13 @@
 //! each function here is one promise, `RunsFor`: the text and the answer are those that the bytes
 //! of the inputs call for; with it stands what an outcome shows.
 
-ghost use Rattle.std.specs.Prelude.{◌≡◌, ◌⊎◌, Err, IfOk, IfErr, IfSome, MatchResult};
-ghost use Rattle.byte_stream.specs.Fault.{CountsFault};
-ghost use Rattle.byte_stream.specs.Intake.{TakesAtMost};
-ghost use Rattle.byte_stream.specs.State.{IsReadable, IsWritable};
-ghost use Rattle.pcap_reader.specs.Limit.{most_taken};
-ghost use Rattle.report.specs.ClaimInput.{max_claim};
-ghost use Rattle.report.specs.Input.{most_read};
-ghost use Rattle.report.specs.Publication.{IsUnwritten, Publishes};
-ghost use Rattle.report.specs.Reading.{IsFromOutside};
-ghost use Rattle.report.specs.Reports.{is_claim, is_second, is_capture, is_device};
+ghost use Rattle.std.specs.Prelude.{IfOk};
+ghost use Rattle.byte_stream.specs.State.{IsReadable, IsWritable, SinkState};
 ghost use Rattle.report.specs.Run.{run_state};
-ghost use Rattle.report.specs.Runs.{HasClaim, HasLawfulHeader, IsBeforeCapture, IsBeforeSecond};
-ghost use Rattle.report.specs.declared.fault.Input.TheVariants.{Claim};
 ghost use Rattle.audit.specs.Evidence.{IsLawfulEvidence, evidence_data};
-ghost use Rattle.audit.specs.Question.{AreInputsOf, asked_of};
-ghost use Rattle.audit.specs.Report.{TellsFinding, TellsTwice, inputs_data, inputs_read};
-ghost use Rattle.audit.specs.Run.{AnswersFor, MayRun, RunsFor, RunsTwice, ShowsAt};
-ghost use Rattle.audit.specs.Second.{HasSecond, most_second};
+ghost use Rattle.audit.specs.Question.{asked_of};
+ghost use Rattle.audit.specs.Report.{TellsFinding, TellsTwice, inputs_data};
+ghost use Rattle.audit.specs.Run.{AnswersFor, HasRead, MayRun, RunsFor, RunsTwice, ShowsAt};
 
 use crate::capture_input::read_capture_from;
 use crate::evidence::Evidence;
@@ -68,38 +57,12 @@ fn read_inputs<V: SecondInput, C: Feed, T: SecondSource<V>, F: Feed, H: BuildHas
     requires claim { IsReadable (C.state claim.old) }
     requires second { IsReadable (T.state second.old) }
     requires capture { IsReadable (F.state capture) }
-    ensures of_bytes { IfOk result.1 (λ inputs. AreInputsOf V.kind (V.said inputs.second)
-        (evidence_data inputs.evidence)
-        (C.state claim.old) (T.state second.old) (F.state capture)) }
+    ensures has_read { (sink sink' : SinkState) → HasRead V.kind V.said
+        (run_state (C.state claim.old) (T.state second.old) (F.state capture) sink)
+        (run_state (C.state claim.new) (T.state second.new) (F.state result.0) sink')
+        second.old second.new capture result.0 result.1 }
     ensures lawful { IfOk result.1 (λ inputs. V.IsLawful inputs.second
         × IsLawfulEvidence inputs.evidence) }
-    ensures refused { IfErr result.1 (λ fault. IfSome (inputs_read V.kind
-        (C.state claim.old).remaining (T.state second.old).remaining (F.state capture).remaining)
-        (λ known. IsFromOutside fault ⊎ (known ≡ Err fault))) }
-    ensures unwritten { IfErr result.1 (λ fault. IsUnwritten (Err fault)) }
-    ensures claim_faults { CountsFault (is_device is_claim result.1)
-        (C.state claim.old).faults (C.state claim.new).faults }
-    ensures second_faults { CountsFault (is_device is_second result.1)
-        (T.state second.old).faults (T.state second.new).faults }
-    ensures capture_faults { CountsFault (is_device is_capture result.1)
-        (F.state capture).faults (F.state result.0).faults }
-    ensures second_untouched { IfErr result.1 (λ fault.
-        IsBeforeSecond fault → second.new ≡ second.old) }
-    ensures capture_untouched { IfErr result.1 (λ fault.
-        IsBeforeCapture fault → result.0 ≡ capture) }
-    ensures claim_at_most { TakesAtMost (most_read Claim max_claim result.1)
-        (C.state claim.old) (C.state claim.new) }
-    ensures second_at_most { TakesAtMost (most_second V.kind result.1)
-        (T.state second.old) (T.state second.new) }
-    ensures capture_at_most { TakesAtMost most_taken
-        (F.state capture) (F.state result.0) }
-    ensures claim_memory { result.1 ≡ Err RunFault.Memory →
-        ((second.new ≡ second.old) × (result.0 ≡ capture))
-        ⊎ HasClaim (C.state claim.old).remaining }
-    ensures second_memory { result.1 ≡ Err RunFault.Memory →
-        (result.0 ≡ capture) ⊎ HasSecond V.kind (T.state second.old).remaining }
-    ensures capture_memory { result.1 ≡ Err RunFault.Memory →
-        (result.0 ≡ capture) ⊎ HasLawfulHeader (F.state capture).remaining }
 {
     let claim = match read_claim_from(alloc, claim) {
         Ok(claim) => claim,
@@ -170,55 +133,6 @@ fn tell_finding_twice<Q: Question, D: Sink, S: Sink>(
     }
 }
 
-/// Tells what a question finds of inputs that were read, or finishes the sink.
-fn tell_inputs<Q: Question, S: Sink>(
-    alloc: Global,
-    question: Q,
-    style: Style,
-    inputs: Result<Inputs<Q::Second>, RunFault>,
-    out: &mut S,
-) -> Result<Outcome, RunFault>
-    requires lawful { IfOk inputs (λ i. Q.Second.IsLawful i.second × IsLawfulEvidence i.evidence) }
-    requires unwritten { IfErr inputs (λ fault. IsUnwritten (Err fault)) }
-    requires out { IsWritable (S.state out.old) }
-    ensures { MatchResult inputs
-        (λ i. TellsFinding (asked_of (Q.asks question) Q.Second.kind style)
-        (inputs_data (Q.Second.said i.second) (evidence_data i.evidence))
-        (S.state out.old) (S.state out.new) result)
-        (λ fault. Publishes (S.state out.old) (S.state out.new) (Err fault) result) }
-{
-    match inputs {
-        Ok(inputs) => tell_finding(alloc, question, style, &inputs, out),
-        Err(fault) => publish(out, &Err(fault)),
-    }
-}
-
-/// Tells it twice, or finishes the draft.
-fn tell_inputs_twice<Q: Question, D: Sink, S: Sink>(
-    alloc: Global,
-    question: Q,
-    style: Style,
-    inputs: Result<Inputs<Q::Second>, RunFault>,
-    draft: &mut D,
-    out: &mut S,
-) -> Result<Outcome, RunFault>
-    requires lawful { IfOk inputs (λ i. Q.Second.IsLawful i.second × IsLawfulEvidence i.evidence) }
-    requires unwritten { IfErr inputs (λ fault. IsUnwritten (Err fault)) }
-    requires draft { IsWritable (D.state draft.old) }
-    requires out { IsWritable (S.state out.old) }
-    ensures { MatchResult inputs
-        (λ i. TellsTwice (asked_of (Q.asks question) Q.Second.kind style)
-        (inputs_data (Q.Second.said i.second) (evidence_data i.evidence))
-        (D.state draft.old) (D.state draft.new) (S.state out.old) (S.state out.new) result)
-        (λ fault. Publishes (D.state draft.old) (D.state draft.new) (Err fault) result
-        × (S.state out.new ≡ S.state out.old)) }
-{
-    match inputs {
-        Ok(inputs) => tell_finding_twice(alloc, question, style, &inputs, draft, out),
-        Err(fault) => publish(draft, &Err(fault)),
-    }
-}
-
 /// Answers a question by a claim, the question's second input and a capture: the text goes to
 /// `out`, in this style, and the capture's feed is handed back. A question without a second input
 /// has `()` for `second`.
@@ -258,8 +172,10 @@ pub fn run<
     bounds_of_bytes_hold_in_nanoseconds();
     yes_shows_the_headline();
     course_beyond_the_bound_contests_the_claim();
-    let answer = tell_inputs(alloc, question, style, inputs, out);
-    (capture, answer)
+    match inputs {
+        Ok(inputs) => (capture, tell_finding(alloc, question, style, &inputs, out)),
+        Err(fault) => (capture, publish(out, &Err(fault))),
+    }
 }
 
 /// Answers a question as `run` does, and tells what it finds twice: for a program on `draft`, and if
@@ -298,8 +214,13 @@ pub fn run_twice<
     bounds_of_bytes_hold_in_nanoseconds();
     yes_shows_the_headline();
     course_beyond_the_bound_contests_the_claim();
-    let answer = tell_inputs_twice(alloc, question, style, inputs, draft, out);
-    (capture, answer)
+    match inputs {
+        Ok(inputs) => {
+            let answer = tell_finding_twice(alloc, question, style, &inputs, draft, out);
+            (capture, answer)
+        }
+        Err(fault) => (capture, publish(draft, &Err(fault))),
+    }
 }
 
 /// Answers a question as `run` does, with the text on `to.out`, and reports a fault on `to.err`.

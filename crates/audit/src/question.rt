@@ -28,9 +28,7 @@ pub use crate::question::at::At;
 pub use crate::question::check::Check;
 use crate::question::envelope::EnvelopeFinding;
 pub use crate::question::find::Find;
-use crate::question::find_refutation::FindRefutation;
 pub use crate::question::refute::Refute;
-use crate::question::samples::Samples;
 use crate::question::settle::{Settle, Settlement};
 use crate::second::SecondInput;
 use audit_text::Envelope;
@@ -193,8 +191,8 @@ impl Question for Request {
         out: &mut S,
     ) -> Result<Outcome, RunFault> {
         match self {
-            Request::Samples => Samples.tell(alloc, style, second, evidence, &(), out),
-            Request::At(at) => at.tell(alloc, style, second, evidence, &(), out),
+            Request::Samples => samples::tell(alloc, style, evidence, out),
+            Request::At(asked) => at::tell(alloc, asked, style, evidence, out),
             Request::Settle => match &found.settlement {
                 Some(found) => Settle.tell(alloc, style, second, evidence, found, out),
                 None => unreachable!(),
@@ -203,9 +201,7 @@ impl Question for Request {
                 Some(found) => find.tell(alloc, style, second, evidence, found, out),
                 None => unreachable!(),
             },
-            Request::FindRefutation => {
-                FindRefutation.tell(alloc, style, second, evidence, &(), out)
-            }
+            Request::FindRefutation => find_refutation::tell(alloc, style, evidence, out),
             Request::Envelope(envelope) => match &found.envelope {
                 Some(found) => envelope.tell(alloc, style, second, evidence, found, out),
                 None => unreachable!(),

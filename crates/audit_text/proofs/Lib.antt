@@ -1,3 +1,4 @@
+mod Common
 pub mod PlainLines
 pub mod Rows
 pub mod Shown

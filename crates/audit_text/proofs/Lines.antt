@@ -1,8 +1,5 @@
 -- Lines that are written for each element of a list.
-use Rattle.std.proofs.Common.{◌≡◌, ◌∙◌, ◌+◌, ◌<◌, ◌≤◌, ◌++◌, ℕ, List, [], ◌∷◌, length, take, get_or, ap, append_assoc, append-nil}
-use Rattle.std.specs.Prelude.{flat_map}
-use Rattle.std.proofs.lemmas.Grind.{flat_map-append}
-use Rattle.std.proofs.lemmas.List.{take_all, take_more}
+use Rattle.audit_text.proofs.Common.{◌≡◌, ◌∙◌, ◌+◌, ◌<◌, ◌≤◌, ◌++◌, ℕ, List, [], ◌∷◌, length, take, get_or, ap, append_assoc, append-nil, flat_map, flat_map-append, take_all, take_more}
 
 module _ {X : Type 0} (line : X → List ℕ) (xs : List X) (i : ℕ) where
   lines_more : (d : X) → i < length xs →

@@ -1,8 +1,5 @@
 -- The lines for a program, written field by field from right to left.
-use Rattle.std.proofs.Common.{◌≡◌, ◌∙◌, ◌++◌, List, [], ◌∷◌, ℕ, ap, refl, sym, codes, append_assoc}
-use Rattle.std.proofs.lemmas.Grind.{flat_map-append}
-use Rattle.line_writer.specs.Field.{FieldData, line_of, next_text, rest_text, text_of}
-use Rattle.line_writer.specs.declared.field.Style.TheVariants.{Plain}
+use Rattle.audit_text.proofs.Common.{◌≡◌, ◌∙◌, ◌++◌, List, [], ◌∷◌, ℕ, ap, refl, sym, codes, append_assoc, flat_map-append, FieldData, line_of, next_text, rest_text, text_of, Plain}
 use Rattle.audit_text.specs.Line.{written}
 
 -- they are joined by blanks

@@ -1,8 +1,6 @@
 -- Rows of numbered things, one after another.
-use Rattle.std.proofs.Common.{◌≡◌, ◌∙◌, ◌+◌, ◌<◌, ◌≤◌, ◌++◌, ℕ, List, length, drop, get_or, refl, sym, ap, add-one, append_assoc, append-nil}
-use Rattle.std.proofs.lemmas.List.{drop_all}
+use Rattle.audit_text.proofs.Common.{◌≡◌, ◌∙◌, ◌+◌, ◌<◌, ◌≤◌, ◌++◌, ℕ, List, length, drop, get_or, refl, sym, ap, add-one, append_assoc, append-nil, drop_all, rows_from}
 use Rattle.std.proofs.Math.Seq.{drop-cons}
-use Rattle.audit_text.specs.Table.{rows_from}
 
 module _ {X : Type 0} (row : ℕ → X → List ℕ) (xs : List X) (i : ℕ) where
   -- the row of the one at a place, and then those of the others

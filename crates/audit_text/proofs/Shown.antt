@@ -1,10 +1,6 @@
 -- What is shown of a thing at its place in a list, as the exchange of a held one.
-use Rattle.std.proofs.Common.{◌≡◌, ◌∙◌, ◌<◌, ℕ, List, length, map, get_or, All, Some, ap, sym, subst}
-use Rattle.std.specs.Prelude.{option_map, slice_get}
-use Rattle.std.proofs.lemmas.List.{get_or-map, length-map}
+use Rattle.audit_text.proofs.Common.{◌≡◌, ◌∙◌, ◌<◌, ℕ, List, length, map, get_or, All, Some, ap, sym, subst, option_map, slice_get, get_or-map, length-map, Exchange, IsLawful}
 use Rattle.std.proofs.lemmas.Option.{slice_get-get_or, slice_get-map}
-use Rattle.pairing.specs.declared.exchange.Exchange.{Exchange}
-use Rattle.pairing.specs.Exchange.{IsLawful}
 
 module _ {X Y : Type 0} (shown : X → Y) (held : List X) (i : ℕ) (d : X) (within : i < length held)
     (x : Y) (is : x ≡ shown (get_or held i d)) where

@@ -1,9 +1,7 @@
 -- The servers of exchanges, however these are held.
-use Rattle.std.proofs.Common.{◌≡◌, ℕ, Bool, List, [], ◌∷◌, map, refl, ap}
-use Rattle.std.specs.Prelude.{◌==◌, ◌||◌}
+use Rattle.audit_text.proofs.Common.{◌≡◌, ℕ, Bool, List, [], ◌∷◌, map, refl, ap, ◌==◌, ◌||◌, Exchange}
 use Rattle.std.specs.List.{list_any}
 use Rattle.pairing.specs.Sources.{is_source}
-use Rattle.pairing.specs.declared.exchange.Exchange.{Exchange}
 
 pub source_shown : {X : Type 0} (shown : X → Exchange) (server : ℕ) (held : List X) →
     list_any (λ x. (shown x).server == server) held ≡ is_source (map shown held) server

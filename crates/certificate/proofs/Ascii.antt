@@ -1,15 +1,7 @@
 -- The text of a certificate is ASCII.
-use Rattle.std.proofs.Common.{◌≡◌, ℕ, zero, suc, ◌<◌, List, [], ◌∷◌, ◌++◌, map, Bool, true, nat_lt, ◌&&◌, decimal, refl, arith}
-use Rattle.std.proofs.lemmas.Bool.{and_parts, ltb-true}
-use Rattle.std.proofs.lemmas.Fmt.{IsAscii-decimal}
-use Rattle.std.proofs.lemmas.Str.{IsAscii-append}
+use Rattle.certificate.proofs.Common.{◌≡◌, ℕ, zero, suc, ◌<◌, List, [], ◌∷◌, ◌++◌, map, Bool, true, nat_lt, ◌&&◌, decimal, refl, arith, and_parts, ltb-true, IsAscii-decimal, IsAscii-append, join_with_byte, All, codes, IsAscii, PieceData, CertificateData, IsHeld, NamesSamples, comma, entry_text, piece_text, certificate_text}
 use Rattle.std.proofs.lemmas.Str.Ascii.{IsAscii-nil}
-use Rattle.std.specs.List.{join_with_byte}
-use Rattle.std.specs.Prelude.{All, codes}
-use Rattle.std.specs.Str.{IsAscii}
-use Rattle.certificate.specs.Certificate.{PieceData, CertificateData, IsHeld, NamesSamples}
 use Rattle.certificate.proofs.LineFeed.{line_feed}
-use Rattle.certificate.specs.Writing.{comma, entry_text, piece_text, certificate_text}
 
 ascii_first : (byte : ℕ) (bytes : List ℕ) → byte < 128 → IsAscii bytes → IsAscii (byte ∷ bytes)
 ascii_first byte bytes small rest zero = small

@@ -1,8 +1,5 @@
 -- Elements with commas between them, one more at a time.
-use Rattle.std.proofs.Common.{◌≡◌, ℕ, suc, ◌+◌, ◌<◌, List, [], ◌∷◌, ◌++◌, length, map, take, get_or, refl, sym, ap, ◌∙◌, arith, append_assoc, length-append, lt-ltb}
-use Rattle.std.proofs.lemmas.List.{take_more, map-append, length-map, length-take-le}
-use Rattle.std.specs.List.{join_with_byte}
-use Rattle.certificate.specs.Writing.{comma, comma_before}
+use Rattle.certificate.proofs.Common.{◌≡◌, ℕ, suc, ◌+◌, ◌<◌, List, [], ◌∷◌, ◌++◌, length, map, take, get_or, refl, sym, ap, ◌∙◌, arith, append_assoc, length-append, lt-ltb, take_more, map-append, length-map, length-take-le, join_with_byte, comma, comma_before}
 
 comma_later : (index : ℕ) → comma_before (suc index) ≡ comma ∷ []
 comma_later index = rw (lt-ltb 0 (suc index) (omega arith)) refl

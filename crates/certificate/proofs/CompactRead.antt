@@ -1,13 +1,5 @@
 -- What the text of a certificate says, with or without a line feed after it.
-use Rattle.std.proofs.Common.{◌≡◌, inl, inr, ℕ, ◌≤◌, List, ◌++◌, length, map, true, Ok, refl, ap, ◌∙◌, append_assoc}
-use Rattle.std.proofs.lemmas.Str.{IsUtf8-from_ascii, is_utf8-from_IsUtf8}
-use Rattle.std.specs.List.{join_with_byte}
-use Rattle.std.specs.Prelude.{All, codes}
-use Rattle.std.specs.Str.{IsAscii, is_utf8}
-use Rattle.certificate.specs.Certificate.{CertificateData, IsHeld, max_pieces}
-use Rattle.certificate.specs.Compact.{IsEnding}
-use Rattle.certificate.specs.Reading.{certificate_of}
-use Rattle.certificate.specs.Writing.{comma, piece_text, certificate_text}
+use Rattle.certificate.proofs.Common.{◌≡◌, inl, inr, ℕ, ◌≤◌, List, ◌++◌, length, map, true, Ok, refl, ap, ◌∙◌, append_assoc, IsUtf8-from_ascii, is_utf8-from_IsUtf8, join_with_byte, All, codes, IsAscii, is_utf8, CertificateData, IsHeld, max_pieces, IsEnding, certificate_of, comma, piece_text, certificate_text}
 use Rattle.certificate.proofs.Ascii.{ascii_certificate, ascii_line}
 use Rattle.certificate.proofs.LineFeed.{line_feed}
 use Rattle.certificate.proofs.ReadBack.{certificate_of-read}

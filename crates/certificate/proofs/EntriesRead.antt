@@ -1,17 +1,5 @@
 -- The entries of a piece, read one after another.
-use Rattle.std.proofs.Common.{◌≡◌, ℕ, suc, ◌+◌, ◌≤◌, List, [], ◌∷◌, ◌++◌, Bool, true, false, nat_le, Option, Some, None, option_map, option_and_then, Result, Ok, Err, if◌then◌else◌, refl, sym, ap, ap₂, ◌∙◌, arith, append-nil, append_assoc}
-use Rattle.std.proofs.lemmas.Bool.Decides.{nat_tests}
-use Rattle.serde_json.specs.Data.{Data, Items, no_items, item}
-use Rattle.serde_json.specs.Events.{items_len}
-use Rattle.json.specs.Json.{parse_map, after_end_array}
-use Rattle.json.specs.Token.{Token}
-use Rattle.json_text.proofs.NextToken.{mapped_same, array_ends, element_read, goes_on}
-use Rattle.json_text.specs.Next.{next_value, next_items, rest_after}
-use Rattle.json_text.specs.Step.{given, asked}
-use Rattle.certificate.specs.declared.fault.CertificateFault.{CertificateFault}
-use Rattle.certificate.specs.declared.fault.CertificateFault.TheVariants.{Shape, TooManyEntries}
-use Rattle.certificate.specs.Certificate.{max_entries}
-use Rattle.certificate.specs.Reading.{entry_of, entries_of}
+use Rattle.certificate.proofs.Common.{◌≡◌, ℕ, suc, ◌+◌, ◌≤◌, List, [], ◌∷◌, ◌++◌, Bool, true, false, nat_le, Option, Some, None, option_map, option_and_then, Result, Ok, Err, if◌then◌else◌, refl, sym, ap, ap₂, ◌∙◌, arith, append-nil, append_assoc, nat_tests, Data, Items, no_items, item, items_len, parse_map, after_end_array, Token, mapped_same, array_ends, element_read, goes_on, next_value, next_items, rest_after, given, asked, CertificateFault, Shape, TooManyEntries, max_entries, entry_of, entries_of}
 
 -- the entries that were read, unless an element was none
 abbrev pub so_far : Bool → List (ℕ × ℕ) → Option (List (ℕ × ℕ))

@@ -1,17 +1,6 @@
 -- What is read of a certificate keeps its limits.
-use Rattle.std.proofs.Common.{◌≡◌, ℕ, zero, suc, ◌+◌, ◌<◌, ◌≤◌, ◌^◌, List, [], ◌∷◌, length, Bool, true, false, nat_lt, nat_le, Option, Some, None, Result, Ok, Err, if◌then◌else◌, option_map, option_and_then, refl, ap, subst, arith}
-use Rattle.std.proofs.lemmas.Bool.{leb-true, ltb-true}
-use Rattle.std.specs.Prelude.{All, codes}
-use Rattle.serde_json.specs.Data.{Data, Items, no_items, item, Members}
-use Rattle.serde_json.specs.Events.{items_len}
-use Rattle.serde_json.specs.Find.{as_array}
-use Rattle.json_text.specs.Member.{members_among, items_at, unsigned_at, unsigned_of}
-use Rattle.json_text.specs.Step.{given, asked, after}
+use Rattle.certificate.proofs.Common.{◌≡◌, ℕ, zero, suc, ◌+◌, ◌<◌, ◌≤◌, ◌^◌, List, [], ◌∷◌, length, Bool, true, false, nat_lt, nat_le, Option, Some, None, Result, Ok, Err, if◌then◌else◌, option_map, option_and_then, refl, ap, subst, arith, leb-true, ltb-true, All, codes, Data, Items, no_items, item, Members, items_len, as_array, members_among, items_at, unsigned_at, unsigned_of, given, asked, after, CertificateFault, Json, Top, Shape, TooManyEntries, TooManyPieces, CertificateData, PieceData, NamesSamples, IsReadable, max_pieces, sample_of, pair_of, entry_of, entries_of, piece_of, pieces_from, top_of, certificate_from, certificate_of}
 use Rattle.json_text.specs.Text.{parsed}
-use Rattle.certificate.specs.declared.fault.CertificateFault.{CertificateFault}
-use Rattle.certificate.specs.declared.fault.CertificateFault.TheVariants.{Json, Top, Shape, TooManyEntries, TooManyPieces}
-use Rattle.certificate.specs.Certificate.{CertificateData, PieceData, NamesSamples, IsReadable, max_pieces}
-use Rattle.certificate.specs.Reading.{sample_of, pair_of, entry_of, entries_of, piece_of, pieces_from, top_of, certificate_from, certificate_of}
 
 sample_of-small : (value : Data) (n : ℕ) → sample_of value ≡ Some n → n < 2 ^ 32
 sample_of-small value n is = at (unsigned_of value) is

@@ -1,11 +1,5 @@
 -- A pair of sample numbers, read an element at a time.
-use Rattle.std.proofs.Common.{◌≡◌, ℕ, List, Option, Some, None, option_map, option_and_then, ap, ap₂, ◌∙◌}
-use Rattle.json.specs.Json.{parse_map, after_end_array}
-use Rattle.json.specs.Token.{Token}
-use Rattle.json_text.proofs.NextToken.{array_ends, element_refused, element_read, goes_on}
-use Rattle.json_text.specs.Next.{next_value, next_items, rest_after}
-use Rattle.serde_json.specs.Data.{Data, item}
-use Rattle.certificate.specs.Reading.{sample_of, pair_of}
+use Rattle.certificate.proofs.Common.{◌≡◌, ℕ, List, Option, Some, None, option_map, option_and_then, ap, ap₂, ◌∙◌, parse_map, after_end_array, Token, array_ends, element_refused, element_read, goes_on, next_value, next_items, rest_after, Data, item, sample_of, pair_of}
 
 -- The array goes on after what was read, and its reader stands where it stood.
 abbrev pub GoesOn : List Token → List Token → Type 0

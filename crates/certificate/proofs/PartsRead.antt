@@ -1,22 +1,8 @@
 -- The members of an object, read one after another: what the last member of each name says.
-use Rattle.std.proofs.Common.{◌≡◌, ◌≢◌, ℕ, List, [], ◌∷◌, Bool, true, false, ◌&&◌, Option, Some, None, if◌then◌else◌, option_map, option_and_then, Result, Ok, nat_le, Ordering, Less, Equal, Greater, nat_cmp, is_eq, bytes_eq, refl, sym, ap, ◌∙◌}
+use Rattle.certificate.proofs.Common.{◌≡◌, ◌≢◌, ℕ, List, [], ◌∷◌, Bool, true, false, ◌&&◌, Option, Some, None, if◌then◌else◌, option_map, option_and_then, Result, Ok, nat_le, Ordering, Less, Equal, Greater, nat_cmp, is_eq, bytes_eq, refl, sym, ap, ◌∙◌, bytes_eq-Decides, list_any, codes, get_member-put, get_member-put_other, Data, Items, Members, no_members, member, put, object, as_array, get_member, items_len, given, asked, after, has_only, unsigned_of, CertificateFault, Shape, TooManyEntries, max_entries, entries_of, piece_of, PieceParts, entries_in, parts_of, piece_from}
 use Rattle.std.proofs.lemmas.Map.Text.{is_eq-slice_cmp}
-use Rattle.std.proofs.lemmas.Slice.Eq.{bytes_eq-Decides}
 use Rattle.std.specs.Cmp.Lexicographic.{slice_cmp}
-use Rattle.std.specs.List.{list_any}
 use Rattle.std.specs.Ordering.{match_ordering}
-use Rattle.std.specs.Prelude.{codes}
-use Rattle.serde_json.proofs.Views.{get_member-put, get_member-put_other}
-use Rattle.serde_json.specs.Data.{Data, Items, Members, no_members, member, put, object}
-use Rattle.serde_json.specs.Find.{as_array, get_member}
-use Rattle.serde_json.specs.Events.{items_len}
-use Rattle.json_text.specs.Step.{given, asked, after}
-use Rattle.json_text.specs.Member.{has_only, unsigned_of}
-use Rattle.certificate.specs.declared.fault.CertificateFault.{CertificateFault}
-use Rattle.certificate.specs.declared.fault.CertificateFault.TheVariants.{Shape, TooManyEntries}
-use Rattle.certificate.specs.Certificate.{max_entries}
-use Rattle.certificate.specs.Reading.{entries_of, piece_of}
-use Rattle.certificate.specs.Parts.{PieceParts, entries_in, parts_of, piece_from}
 
 -- ---- names
 

@@ -1,18 +1,5 @@
 -- The pieces of a certificate, read one after another.
-use Rattle.std.proofs.Common.{◌≡◌, ℕ, suc, ◌+◌, ◌≤◌, List, [], ◌∷◌, ◌++◌, true, false, nat_le, Some, None, Result, Ok, Err, refl, sym, ap, ap₂, ◌∙◌, arith, append-nil, append_assoc}
-use Rattle.std.proofs.lemmas.Bool.Decides.{nat_tests}
-use Rattle.serde_json.specs.Data.{Data, Items, no_items, item}
-use Rattle.serde_json.specs.Events.{items_len}
-use Rattle.json.specs.Json.{parse_map, after_end_array}
-use Rattle.json.specs.Token.{Token}
-use Rattle.json_text.proofs.NextToken.{mapped_same, element_read, goes_on}
-use Rattle.json_text.specs.Next.{next_value, next_items, rest_after}
-use Rattle.json_text.specs.Step.{asked, after}
-use Rattle.certificate.specs.declared.fault.CertificateFault.{CertificateFault}
-use Rattle.certificate.specs.declared.fault.CertificateFault.TheVariants.{TooManyPieces}
-use Rattle.certificate.specs.Certificate.{PieceData, max_pieces}
-use Rattle.certificate.specs.Parts.{pieces_and}
-use Rattle.certificate.specs.Reading.{piece_of, pieces_from}
+use Rattle.certificate.proofs.Common.{◌≡◌, ℕ, suc, ◌+◌, ◌≤◌, List, [], ◌∷◌, ◌++◌, true, false, nat_le, Some, None, Result, Ok, Err, refl, sym, ap, ap₂, ◌∙◌, arith, append-nil, append_assoc, nat_tests, Data, Items, no_items, item, items_len, parse_map, after_end_array, Token, mapped_same, element_read, goes_on, next_value, next_items, rest_after, asked, after, CertificateFault, TooManyPieces, PieceData, max_pieces, pieces_and, piece_of, pieces_from}
 
 abbrev Pieces : Type 0
 Pieces = Result (List PieceData) CertificateFault

@@ -1,19 +1,5 @@
 -- What was written is read again.
-use Rattle.std.proofs.Common.{◌≡◌, ℕ, zero, suc, ◌+◌, ◌<◌, ◌≤◌, ◌^◌, List, [], ◌∷◌, length, map, true, nat_le, Some, None, Ok, refl, ap, ◌∙◌, arith, get_or, if◌then◌else◌}
-use Rattle.std.proofs.lemmas.Bool.Decides.{Decides-ltb, nat_tests}
-use Rattle.std.specs.Prelude.{All}
-use Rattle.serde_json.specs.Data.{Data, depth}
-use Rattle.serde_json.specs.Events.{items_len}
-use Rattle.serde_json.specs.View.{items_of}
-use Rattle.std.specs.Str.{is_utf8}
-use Rattle.json_text.specs.Step.{given}
-use Rattle.certificate.specs.declared.fault.CertificateFault.TheVariants.{Json}
-use Rattle.serde_json.specs.Read.{read}
-use Rattle.certificate.specs.declared.certificate.Piece.{Piece}
-use Rattle.json_text.proofs.Outline.{items_depth-map}
-use Rattle.certificate.specs.Certificate.{PieceData, CertificateData, NamesSamples, IsReadable, IsHeld, piece_data, max_pieces}
-use Rattle.certificate.specs.Reading.{sample_of, entry_of, entries_of, piece_of, pieces_from, certificate_from, certificate_of}
-use Rattle.certificate.specs.Writing.{number_value, entry_value, piece_value, certificate_value}
+use Rattle.certificate.proofs.Common.{◌≡◌, ℕ, zero, suc, ◌+◌, ◌<◌, ◌≤◌, ◌^◌, List, [], ◌∷◌, length, map, true, nat_le, Some, None, Ok, refl, ap, ◌∙◌, arith, get_or, if◌then◌else◌, Decides-ltb, nat_tests, All, Data, depth, items_len, items_of, is_utf8, given, Json, read, Piece, items_depth-map, PieceData, CertificateData, NamesSamples, IsReadable, IsHeld, piece_data, max_pieces, sample_of, entry_of, entries_of, piece_of, pieces_from, certificate_from, certificate_of, number_value, entry_value, piece_value, certificate_value}
 
 pub at_most : (m n : ℕ) → m ≤ n → nat_le m n ≡ true
 at_most m n le = grind (arith, nat_tests)

@@ -1,36 +1,13 @@
 -- The text of a refutation, read as JSON, is the refutation's value, which says the refutation.
-use Rattle.std.proofs.Common.{◌≡◌, ℕ, suc, ◌-◌, ◌*◌, ◌<◌, ◌≤◌, ◌^◌, ℤ, pos, negsuc, ◌≤ℤ◌, ◌<ℤ◌, List, [], ◌∷◌, ◌++◌, length, map, Some, None, Ok, refl, sym, ap, ◌∙◌, arith, append_assoc, decimal, length-append}
+use Rattle.certificate.proofs.Common.{◌≡◌, ℕ, suc, ◌-◌, ◌*◌, ◌<◌, ◌≤◌, ◌^◌, ℤ, pos, negsuc, ◌≤ℤ◌, ◌<ℤ◌, List, [], ◌∷◌, ◌++◌, length, map, Some, None, Ok, refl, sym, ap, ◌∙◌, arith, append_assoc, decimal, length-append, Decides-ltb, IsAscii-decimal, IsAscii-signed, length-decimal-le, length_signed_le, IsAscii-append, IsUtf8-from_ascii, is_utf8-from_IsUtf8, signed_decimal, join_with_byte, All, codes, IsAscii, tokens, print, tokens-print, ArePrintable-json_tokens, given, serde_json_on_literals, print-outline, unless_float-number_of, number, negative, depth, of_integer, as_i64, is_float, read, items_of, outline, compact_text, number_text, has_float, items_have_float, RefutationData, IsHeldRefutation, max_liars, server_of, servers_of, refutation_from, refutation_of, refutation_text, refutation_value, comma, number_value, IsOutlined, items_depth-map, outlined_number, outlined_items, outlined_array, read_tokens}
 use Rattle.std.proofs.lemmas.Int.{ints}
-use Rattle.std.proofs.lemmas.Bool.Decides.{Decides-ltb}
-use Rattle.std.proofs.lemmas.Fmt.{IsAscii-decimal, IsAscii-signed, length-decimal-le, length_signed_le}
-use Rattle.std.proofs.lemmas.Str.{IsAscii-append, IsUtf8-from_ascii, is_utf8-from_IsUtf8}
 use lib.Signed.{mag}
-use Rattle.std.specs.Fmt.{signed_decimal}
-use Rattle.std.specs.List.{join_with_byte}
-use Rattle.std.specs.Prelude.{All, codes, false, if◌then◌else◌}
-use Rattle.std.specs.Str.{IsAscii}
-use Rattle.json.specs.Lex.{tokens}
-use Rattle.json.specs.Print.{print}
+use Rattle.std.specs.Prelude.{false, if◌then◌else◌}
 use Rattle.json.specs.Tree as tree
 use Rattle.json.proofs.Printed.Decimals.{IsNumber-signed_decimal}
-use Rattle.json.proofs.Printed.Tokens.{tokens-print}
-use Rattle.json.proofs.Printed.Trees.{ArePrintable-json_tokens}
-use Rattle.json_text.specs.Step.{given}
 use Rattle.serde_json.proofs.Numbers.{number_of-negative}
-use Rattle.serde_json.proofs.OnLiterals.{serde_json_on_literals}
-use Rattle.serde_json.proofs.Texts.{print-outline, unless_float-number_of}
-use Rattle.serde_json.specs.Data.{number, negative, depth}
-use Rattle.serde_json.specs.Find.{of_integer, as_i64, is_float}
-use Rattle.serde_json.specs.Read.{read}
-use Rattle.serde_json.specs.View.{items_of}
-use Rattle.serde_json.specs.Written.{outline, compact_text, number_text, has_float, items_have_float}
 use Rattle.certificate.specs.declared.refutation_fault.RefutationFault.TheVariants.{Json}
-use Rattle.certificate.specs.Refutation.{RefutationData, IsHeldRefutation, max_liars}
-use Rattle.certificate.specs.RefutationReading.{server_of, servers_of, refutation_from, refutation_of}
-use Rattle.certificate.specs.RefutationWriting.{refutation_text, refutation_value}
-use Rattle.certificate.specs.Writing.{comma, number_value}
 use Rattle.certificate.proofs.Ascii.{ascii_joined, ascii_literal}
-use Rattle.json_text.proofs.Outline.{IsOutlined, items_depth-map, outlined_number, outlined_items, outlined_array, read_tokens}
 use Rattle.certificate.proofs.ReadBack.{at_most, items_len-map}
 use Rattle.certificate.proofs.Texts.{items_text-map}
 

@@ -1,20 +1,6 @@
 -- The text of a certificate, read as JSON, is the certificate's value.
-use Rattle.std.proofs.Common.{◌≡◌, ℕ, List, ◌++◌, map, Some, sym, ap, ◌∙◌, arith}
-use Rattle.std.specs.Prelude.{All}
-use Rattle.json.specs.Lex.{tokens}
-use Rattle.json.specs.Print.{print, ArePrintable}
-use Rattle.json.specs.Token.{Token}
+use Rattle.certificate.proofs.Common.{◌≡◌, ℕ, List, ◌++◌, map, Some, sym, ap, ◌∙◌, arith, All, tokens, print, ArePrintable, Token, tokens-print, ArePrintable-json_tokens, serde_json_on_literals, print-outline, read, items_of, outline, PieceData, CertificateData, IsHeld, NamesSamples, entry_value, piece_value, certificate_value, certificate_text, IsOutlined, outlined_number, outlined_items, outlined_array, read_tokens}
 use Rattle.json.specs.Tree as tree
-use Rattle.json.proofs.Printed.Tokens.{tokens-print}
-use Rattle.json.proofs.Printed.Trees.{ArePrintable-json_tokens}
-use Rattle.serde_json.proofs.OnLiterals.{serde_json_on_literals}
-use Rattle.serde_json.proofs.Texts.{print-outline}
-use Rattle.serde_json.specs.Read.{read}
-use Rattle.serde_json.specs.View.{items_of}
-use Rattle.serde_json.specs.Written.{outline}
-use Rattle.certificate.specs.Certificate.{PieceData, CertificateData, IsHeld, NamesSamples}
-use Rattle.certificate.specs.Writing.{entry_value, piece_value, certificate_value, certificate_text}
-use Rattle.json_text.proofs.Outline.{IsOutlined, outlined_number, outlined_items, outlined_array, read_tokens}
 use Rattle.certificate.proofs.LineFeed.{line_feed, tokens-line_feed}
 use Rattle.certificate.proofs.ReadBack.{certificate-depth}
 use Rattle.certificate.proofs.Texts.{certificate_text-value}

@@ -1,12 +1,5 @@
 -- The text of a certificate is that of its JSON value.
-use Rattle.std.proofs.Common.{◌≡◌, ℕ, List, [], ◌∷◌, ◌++◌, false, map, refl, sym, ap, ◌∙◌, append_assoc}
-use Rattle.std.specs.List.{join_with_byte}
-use Rattle.serde_json.proofs.OnLiterals.{serde_json_on_literals}
-use Rattle.serde_json.specs.Data.{Data}
-use Rattle.serde_json.specs.View.{items_of}
-use Rattle.serde_json.specs.Written.{compact_text, items_text}
-use Rattle.certificate.specs.Certificate.{PieceData, CertificateData}
-use Rattle.certificate.specs.Writing.{comma, entry_text, piece_text, certificate_text, entry_value, piece_value, certificate_value}
+use Rattle.certificate.proofs.Common.{◌≡◌, ℕ, List, [], ◌∷◌, ◌++◌, false, map, refl, sym, ap, ◌∙◌, append_assoc, join_with_byte, serde_json_on_literals, Data, items_of, compact_text, items_text, PieceData, CertificateData, comma, entry_text, piece_text, certificate_text, entry_value, piece_value, certificate_value}
 
 -- the elements of an array, with commas between them
 pub items_text-map : {X : Type 0} (value : X → Data) (text : X → List ℕ) → ((x : X) → compact_text (value x) ≡ text x) →

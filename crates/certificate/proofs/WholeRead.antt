@@ -1,12 +1,5 @@
 -- The members of the whole, read one after another.
-use Rattle.std.proofs.Common.{◌≡◌, ℕ, List, [], ◌∷◌, Bool, false, Option, option_map, option_and_then, Result, refl, sym, ap, ◌∙◌}
-use Rattle.std.specs.Prelude.{codes}
-use Rattle.serde_json.proofs.Views.{get_member-put, get_member-put_other}
-use Rattle.serde_json.specs.Data.{Data, Members, put}
-use Rattle.serde_json.specs.Find.{as_array}
-use Rattle.certificate.specs.declared.fault.CertificateFault.{CertificateFault}
-use Rattle.certificate.specs.Certificate.{PieceData}
-use Rattle.certificate.specs.Parts.{TopParts, pieces_in, top_parts_of}
+use Rattle.certificate.proofs.Common.{◌≡◌, ℕ, List, [], ◌∷◌, Bool, false, Option, option_map, option_and_then, Result, refl, sym, ap, ◌∙◌, codes, get_member-put, get_member-put_other, Data, Members, put, as_array, CertificateFault, PieceData, TopParts, pieces_in, top_parts_of}
 use Rattle.certificate.proofs.PartsRead.{has_only-put, not_same}
 
 abbrev pub whole : Bool → Option (Result (List PieceData) CertificateFault) → TopParts

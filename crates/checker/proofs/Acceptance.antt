@@ -1,22 +1,5 @@
 -- A verdict is yes exactly if the certificate is accepted.
-use Rattle.std.proofs.Common.{◌≡◌, ℕ, ◌<◌, ℤ, pos, ◌≤ℤ◌, int_lt, ◌||◌, ◌↔◌, List, [], length, Some, None, refl, ap, ◌∙◌, subst, arith}
-use Rattle.std.proofs.lemmas.Bool.{cond-false}
-use Rattle.std.proofs.lemmas.Int.{ints}
-use Rattle.std.proofs.lemmas.Option.{slice_get_within}
-use Rattle.certificate.specs.Certificate.{PieceData, CertificateData}
-use Rattle.claim_file.specs.Claim.{ClaimData}
-use Rattle.intersection.specs.Hull.{IsHull, hull_of}
-use Rattle.intersection.specs.declared.kinds.Interval.{Interval}
-use Rattle.intersection.specs.declared.kinds.Hull.{Hull}
-use Rattle.intersection.specs.declared.kinds.Hull.TheVariants.{Unbounded, Empty, Bounded}
-use Rattle.sample_interval.specs.declared.kinds.Sample.{Sample}
-use Rattle.checker.specs.Acceptance.{ShowBound, IsAccepted}
-use Rattle.span_cover.specs.Group.{group_intervals, piece_hull}
-use Rattle.checker.specs.Stretch.{begin_of, last_end}
-use Rattle.checker.specs.Verdict.{parts_after, hull_fault, parts_fault, piece_fault, verdict_of, PassBelow}
-use Rattle.span_cover.specs.declared.stretch.Stretch.{Stretch}
-use Rattle.checker.specs.declared.verdict.Verdict.TheVariants.{Yes}
-use Rattle.checker.specs.declared.verdict.Why.TheVariants.{Cut}
+use Rattle.checker.proofs.Common.{◌≡◌, ℕ, ◌<◌, ℤ, pos, ◌≤ℤ◌, int_lt, ◌||◌, ◌↔◌, List, [], length, Some, None, refl, ap, ◌∙◌, subst, arith, cond-false, ints, slice_get_within, PieceData, CertificateData, ClaimData, IsHull, hull_of, Interval, Hull, Unbounded, Empty, Bounded, Sample, ShowBound, IsAccepted, group_intervals, piece_hull, begin_of, last_end, parts_after, hull_fault, parts_fault, piece_fault, verdict_of, PassBelow, Stretch, Yes, Cut}
 use Rattle.checker.proofs.EntryStatement.{said_from, taken_from}
 use Rattle.checker.proofs.VerdictPieces.{HullGives, tested, inside_from, none_from_inside}
 

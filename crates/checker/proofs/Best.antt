@@ -1,21 +1,7 @@
 -- What a server's best samples say is said by samples of that server.
-use Rattle.std.proofs.Common.{◌≡◌, ℕ, suc, ◌+◌, ℤ, int_lt, nat_eq, true, false, cond, neg_ℤ, List, [], ◌∷◌, length, Option, Some, None, refl, sym, ◌∙◌, subst, arith}
-use Rattle.std.specs.Prelude.{All, slice_get, filter_map}
-use Rattle.std.specs.List.{cons_option}
-use Rattle.std.specs.Option.{option_map, option_and_then}
-use Rattle.std.proofs.lemmas.Bool.Decides.{nat_tests}
-use Rattle.std.proofs.lemmas.List.Elements.{All-nil, All-cons}
-use Rattle.claim_file.specs.Claim.{ClaimData}
-use Rattle.intersection.specs.declared.kinds.Interval.{Interval}
-use Rattle.sample_interval.specs.declared.kinds.Sample.{Sample}
+use Rattle.checker.proofs.Common.{◌≡◌, ℕ, suc, ◌+◌, ℤ, int_lt, nat_eq, true, false, cond, neg_ℤ, List, [], ◌∷◌, length, Option, Some, None, refl, sym, ◌∙◌, subst, arith, All, slice_get, filter_map, cons_option, option_map, option_and_then, nat_tests, All-nil, All-cons, ClaimData, Interval, Sample, moved_low, moved_high, piece_interval_of, said_by, best_part, best_parts, IsOfSamples, numbers_below, Part, Stretch}
 use Rattle.span_cover.specs.Best.{better, best_from, first_best_of, best_of, pair_of}
 use Rattle.span_cover.specs.Gathering.{best_interval, interval_between}
-use Rattle.span_cover.specs.Piece.{moved_low, moved_high, piece_interval_of}
-use Rattle.checker.specs.BestParts.{said_by, best_part, best_parts}
-use Rattle.checker.specs.Comparison.{IsOfSamples}
-use Rattle.span_cover.specs.Group.{numbers_below}
-use Rattle.span_cover.specs.declared.part.Part.{Part}
-use Rattle.span_cover.specs.declared.stretch.Stretch.{Stretch}
 
 same_number : (a b : ℕ) → nat_eq a b ≡ true → a ≡ b
 same_number a b h = grind (arith, nat_tests)

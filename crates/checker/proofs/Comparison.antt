@@ -1,25 +1,5 @@
 -- How verdicts compare if fewer points are admissible.
-use Rattle.std.proofs.Common.{◌≡◌, ℕ, ◌+◌, ◌<◌, ◌≤◌, ℤ, pos, neg_ℤ, ◌≤ℤ◌, Bool, true, false, cond, ◌&&◌, ◌||◌, int_lt, int_le, nat_lt, ◌⊎◌, inl, inr, ⊎_elim, List, [], ◌∷◌, length, Option, Some, None, Result, Ok, Err, refl, sym, ap, ◌∙◌, subst, arith}
-use Rattle.std.specs.List.{AllZip}
-use Rattle.std.specs.Ordering.{int_eq}
-use Rattle.std.proofs.lemmas.Int.{ints}
-use Rattle.std.proofs.lemmas.Bool.{cond-true, cond-false}
-use Rattle.certificate.specs.Certificate.{PieceData, CertificateData}
-use Rattle.claim_file.specs.Claim.{ClaimData}
-use Rattle.intersection.specs.Hull.{IsAdmissible, IsHull, hull_of}
-use Rattle.intersection.specs.declared.kinds.Interval.{Interval}
-use Rattle.intersection.specs.declared.kinds.Hull.{Hull}
-use Rattle.intersection.specs.declared.kinds.Hull.TheVariants.{Unbounded, Empty, Bounded}
-use Rattle.sample_interval.specs.declared.kinds.Sample.{Sample}
-use Rattle.checker.specs.Comparison.{IsYesOr, IsContradiction}
-use Rattle.span_cover.specs.Group.{group_intervals, piece_hull}
-use Rattle.checker.specs.Verdict.{parts_after, hull_fault, parts_fault, piece_fault, verdict_after, verdict_from, verdict_of}
-use Rattle.span_cover.specs.declared.part.Part.{Part}
-use Rattle.span_cover.specs.declared.stretch.Stretch.{Stretch}
-use Rattle.checker.specs.declared.verdict.Verdict.{Verdict}
-use Rattle.checker.specs.declared.verdict.Verdict.TheVariants.{Yes, No}
-use Rattle.checker.specs.declared.verdict.Why.{Why}
-use Rattle.checker.specs.declared.verdict.Why.TheVariants.{Cut, Contradiction, Exceeds, Uncovered}
+use Rattle.checker.proofs.Common.{◌≡◌, ℕ, ◌+◌, ◌<◌, ◌≤◌, ℤ, pos, neg_ℤ, ◌≤ℤ◌, Bool, true, false, cond, ◌&&◌, ◌||◌, int_lt, int_le, nat_lt, ◌⊎◌, inl, inr, ⊎_elim, List, [], ◌∷◌, length, Option, Some, None, Result, Ok, Err, refl, sym, ap, ◌∙◌, subst, arith, AllZip, int_eq, ints, cond-true, cond-false, PieceData, CertificateData, ClaimData, IsAdmissible, IsHull, hull_of, Interval, Hull, Unbounded, Empty, Bounded, Sample, IsYesOr, IsContradiction, group_intervals, piece_hull, parts_after, hull_fault, parts_fault, piece_fault, verdict_after, verdict_from, verdict_of, Part, Stretch, Verdict, Yes, No, Why, Cut, Contradiction, Exceeds, Uncovered}
 use Rattle.checker.proofs.Part.{by_test}
 use Rattle.checker.proofs.VerdictPieces.{yes_step}
 

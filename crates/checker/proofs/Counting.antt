@@ -1,18 +1,5 @@
 -- Of the groups that have an entry, only those that hold a false server can leave the error out.
-use Rattle.std.proofs.Common.{◌≡◌, ℕ, zero, suc, ◌+◌, ◌<◌, ◌≤◌, ℤ, pos, ◌*ℤ◌, ◌≤ℤ◌, Bool, true, false, cond, ◌&&◌, ◌||◌, int_lt, List, [], ◌∷◌, ◌++◌, length, Option, Some, None, IfSome, count_by, refl, subst, arith}
-use Rattle.std.specs.Prelude.{All, slice_index, ◌==◌, fold, filter, filter_map}
-use Rattle.std.specs.List.{list_any, cons_option, AllByRecursion}
-use Rattle.std.proofs.lemmas.Int.{ints}
-use Rattle.std.proofs.lemmas.Bool.{cond-true, cond-false}
-use Rattle.std.proofs.lemmas.Bool.Decides.{nat_tests}
-use Rattle.std.proofs.lemmas.List.Sums.{sum_by-cons}
-use Rattle.std.proofs.lemmas.List.Elements.{recursion_from_All}
-use Rattle.intersection.specs.Fraction.{HoldsFraction, leaves_fraction_out, IsAdmissibleFraction}
-use Rattle.intersection.specs.declared.kinds.Interval.{Interval}
-use Rattle.checker.specs.Groups.{holds_false, false_group_count}
-use Rattle.span_cover.specs.Group.{numbers_below}
-use Rattle.span_cover.specs.Group.{meet_of, narrowed, group_interval, group_intervals}
-use Rattle.span_cover.specs.declared.part.Part.{Part}
+use Rattle.checker.proofs.Common.{◌≡◌, ℕ, zero, suc, ◌+◌, ◌<◌, ◌≤◌, ℤ, pos, ◌*ℤ◌, ◌≤ℤ◌, Bool, true, false, cond, ◌&&◌, ◌||◌, int_lt, List, [], ◌∷◌, ◌++◌, length, Option, Some, None, IfSome, count_by, refl, subst, arith, All, slice_index, ◌==◌, fold, filter, filter_map, list_any, cons_option, AllByRecursion, ints, cond-true, cond-false, nat_tests, sum_by-cons, recursion_from_All, HoldsFraction, leaves_fraction_out, IsAdmissibleFraction, Interval, holds_false, false_group_count, numbers_below, meet_of, narrowed, group_interval, group_intervals, Part}
 use Rattle.checker.proofs.Part.{by_test}
 
 -- ---- tests that fail

@@ -1,21 +1,6 @@
 -- Courses that fit.
-use Rattle.std.proofs.Common.{◌≡◌, ℕ, zero, suc, ◌+◌, ◌-◌, ◌<◌, ℤ, pos, ◌-ℤ◌, ◌+ℤ◌, ◌*ℤ◌, ◌≤ℤ◌, unsigned_abs, Bool, true, false, ◌&&◌, ◌⊎◌, inl, inr, ⊎_elim, List, [], ◌∷◌, length, Some, count_by, refl, sym, ap, ◌∙◌, subst, arith}
-use Rattle.std.specs.Prelude.{slice_get, slice_index, ◌==◌}
-use Rattle.std.specs.List.{list_any}
-use Rattle.std.proofs.lemmas.Int.{ints}
-use Rattle.std.proofs.lemmas.List.Sums.{sum_by-cons}
-use Rattle.claim_file.specs.Claim.{ClaimData, IsLawful}
-use Rattle.pairing.specs.declared.exchange.Exchange.{Exchange}
-use Rattle.sample_interval.specs.Moment.{Moment, error_of, error_change, DriftsWithin, IsInWindow, IsWithinDistance}
-use Rattle.checker.specs.Course.{Fits, FitsInWindows, IsClientMoment, OfEach, ReadsInWindows, KeepsRootDistance}
-use Rattle.checker.specs.Course.{LeavesAfterStamp, ArrivesBeforeStamp}
-use Rattle.checker.specs.Groups.{holds_false, false_group_count}
-use Rattle.span_cover.specs.Group.{numbers_below}
-use Rattle.checker.specs.PieceFit.{OfEachEntry, FitsPiece}
-use Rattle.checker.specs.Traceability.{IsTraceable}
+use Rattle.checker.proofs.Common.{◌≡◌, ℕ, zero, suc, ◌+◌, ◌-◌, ◌<◌, ℤ, pos, ◌-ℤ◌, ◌+ℤ◌, ◌*ℤ◌, ◌≤ℤ◌, unsigned_abs, Bool, true, false, ◌&&◌, ◌⊎◌, inl, inr, ⊎_elim, List, [], ◌∷◌, length, Some, count_by, refl, sym, ap, ◌∙◌, subst, arith, slice_get, slice_index, ◌==◌, list_any, ints, sum_by-cons, ClaimData, IsLawful, Exchange, Moment, error_of, error_change, DriftsWithin, IsInWindow, IsWithinDistance, Fits, FitsInWindows, IsClientMoment, OfEach, ReadsInWindows, KeepsRootDistance, LeavesAfterStamp, ArrivesBeforeStamp, holds_false, false_group_count, numbers_below, OfEachEntry, FitsPiece, IsTraceable, worked_second, worked_claim, worked_exchange, moment_with, served_course, slow_reply, slow_course, slow_claim, stamped_course, earlier_exchange, stepped_course, lone_course}
 use Rattle.checker.proofs.PieceFit.{few_from_count}
-use Rattle.claim_file.specs.Worked.{worked_second, worked_claim}
-use Rattle.checker.specs.WorkedCourse.{worked_exchange, moment_with, served_course, slow_reply, slow_course, slow_claim, stamped_course, earlier_exchange, stepped_course, lone_course}
 
 -- ---- no false server
 

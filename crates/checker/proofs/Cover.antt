@@ -1,11 +1,5 @@
 -- Pieces that share their ends hold every reading of the span, fractions of a tick too.
-use Rattle.std.proofs.Common.{◌≡◌, ℕ, zero, suc, ◌<◌, ℤ, pos, ◌*ℤ◌, ◌<ℤ◌, ◌≤ℤ◌, List, [], ◌∷◌, length, Some, refl, ap, arith}
-use Rattle.std.specs.Prelude.{slice_get, IsSomeAnd}
-use Rattle.std.proofs.lemmas.Int.{ints, by_lt_z}
-use Rattle.certificate.specs.Certificate.{PieceData}
-use Rattle.sample_interval.specs.Moment.{IsInWindow}
-use Rattle.checker.specs.Stretch.{stretches_from, begin_of, last_end, SomeHoldsReading}
-use Rattle.span_cover.specs.declared.stretch.Stretch.{Stretch}
+use Rattle.checker.proofs.Common.{◌≡◌, ℕ, zero, suc, ◌<◌, ℤ, pos, ◌*ℤ◌, ◌<ℤ◌, ◌≤ℤ◌, List, [], ◌∷◌, length, Some, refl, ap, arith, slice_get, IsSomeAnd, ints, by_lt_z, PieceData, IsInWindow, stretches_from, begin_of, last_end, SomeHoldsReading, Stretch}
 
 later : (n : ℕ) (reading : ℤ) (first : Stretch) (stretches : List Stretch) → SomeHoldsReading stretches n reading
     → SomeHoldsReading (first ∷ stretches) n reading

@@ -1,21 +1,7 @@
 -- What the entries of a piece say, all in their order, and that no server says it twice.
-use Rattle.std.proofs.Common.{◌≡◌, ◌≢◌, ℕ, suc, ◌<◌, Bool, true, false, cond, not, List, [], ◌∷◌, ◌++◌, Option, Some, None, Result, Ok, Err, length, get_or, refl, sym, ap, ◌∙◌, subst, arith}
-use Rattle.std.specs.Prelude.{All, AllPairs, slice_get, ◌==◌}
-use Rattle.std.specs.List.{AllZip, list_any}
-use Rattle.std.proofs.lemmas.Bool.Decides.{nat_tests}
+use Rattle.checker.proofs.Common.{◌≡◌, ◌≢◌, ℕ, suc, ◌<◌, Bool, true, false, cond, not, List, [], ◌∷◌, ◌++◌, Option, Some, None, Result, Ok, Err, length, get_or, refl, sym, ap, ◌∙◌, subst, arith, All, AllPairs, slice_get, ◌==◌, AllZip, list_any, nat_tests, append-nil, append_assoc, All-cons, All-nil, list_any_at, list_any_none, Sample, IsSaidBy, AreSaidBy, part_of, part_from, parts_after, unless_refused, Part, Stretch, Why, MixedServers, RepeatedServer}
 use Rattle.std.proofs.lemmas.Grind.{common_steps}
-use Rattle.std.proofs.lemmas.List.{append-nil, append_assoc}
-use Rattle.std.proofs.lemmas.List.Elements.{All-cons, All-nil}
-use Rattle.std.proofs.lemmas.List.Folds.{list_any_at, list_any_none}
 use Rattle.std.proofs.lemmas.List.Quantifiers.{all_pairs_push}
-use Rattle.sample_interval.specs.declared.kinds.Sample.{Sample}
-use Rattle.checker.specs.Acceptance.{IsSaidBy, AreSaidBy}
-use Rattle.span_cover.specs.Part.{part_of}
-use Rattle.checker.specs.Verdict.{part_from, parts_after, unless_refused}
-use Rattle.span_cover.specs.declared.part.Part.{Part}
-use Rattle.span_cover.specs.declared.stretch.Stretch.{Stretch}
-use Rattle.checker.specs.declared.verdict.Why.{Why}
-use Rattle.checker.specs.declared.verdict.Why.TheVariants.{MixedServers, RepeatedServer}
 use Rattle.checker.proofs.Part.{by_test, same_server, accepted}
 
 -- what follows of each pair of two lists holds of all of the second

@@ -1,26 +1,5 @@
 -- One more entry in a piece leaves no more points admissible.
-use Rattle.std.proofs.Common.{◌≡◌, ℕ, ◌≤◌, ℤ, pos, ◌≤ℤ◌, Bool, true, false, cond, ◌⊎◌, inl, inr, ⊎_elim, List, [], ◌∷◌, ◌++◌, length, Option, Some, None, Result, Ok, Err, refl, sym, ap, ◌∙◌, subst, arith}
-use Rattle.std.specs.Prelude.{⊤, slice_get, slice_index, ◌==◌, fold, filter, filter_map}
-use Rattle.std.specs.List.{AllZip, cons_option}
-use Rattle.std.proofs.lemmas.Int.{ints, clamps}
-use Rattle.std.proofs.lemmas.Bool.{cond-true, cond-false}
-use Rattle.std.proofs.lemmas.List.Sums.{sum_by-cons, fold-append}
-use Rattle.std.proofs.lemmas.List.Elements.{filter-append}
-use Rattle.certificate.specs.Certificate.{PieceData, CertificateData}
-use Rattle.claim_file.specs.Claim.{ClaimData}
-use Rattle.intersection.specs.Interval.{leaves_out}
-use Rattle.intersection.specs.Hull.{count_leaving_out}
-use Rattle.intersection.specs.declared.kinds.Interval.{Interval}
-use Rattle.sample_interval.specs.declared.kinds.Sample.{Sample}
-use Rattle.checker.specs.Comparison.{IsYesOr, IsContradiction, IsRefusedEntry, HasOneMoreEntry}
-use Rattle.span_cover.specs.Group.{numbers_below}
-use Rattle.span_cover.specs.Group.{meet_of, narrowed, group_interval}
-use Rattle.checker.specs.Verdict.{part_from, parts_after, unless_refused, parts_fault, verdict_from, verdict_of}
-use Rattle.span_cover.specs.declared.part.Part.{Part}
-use Rattle.span_cover.specs.declared.stretch.Stretch.{Stretch}
-use Rattle.checker.specs.declared.verdict.Verdict.TheVariants.{Yes}
-use Rattle.checker.specs.declared.verdict.Why.{Why}
-use Rattle.checker.specs.declared.verdict.Why.TheVariants.{BadSample, MixedServers, RepeatedServer}
+use Rattle.checker.proofs.Common.{◌≡◌, ℕ, ◌≤◌, ℤ, pos, ◌≤ℤ◌, Bool, true, false, cond, ◌⊎◌, inl, inr, ⊎_elim, List, [], ◌∷◌, ◌++◌, length, Option, Some, None, Result, Ok, Err, refl, sym, ap, ◌∙◌, subst, arith, ⊤, slice_get, slice_index, ◌==◌, fold, filter, filter_map, AllZip, cons_option, ints, clamps, cond-true, cond-false, sum_by-cons, fold-append, filter-append, PieceData, CertificateData, ClaimData, leaves_out, count_leaving_out, Interval, Sample, IsYesOr, IsContradiction, IsRefusedEntry, HasOneMoreEntry, numbers_below, meet_of, narrowed, group_interval, part_from, parts_after, unless_refused, parts_fault, verdict_from, verdict_of, Part, Stretch, Yes, Why, BadSample, MixedServers, RepeatedServer}
 use Rattle.checker.proofs.Part.{by_test}
 use Rattle.checker.proofs.Comparison.{FaultIs, Follows, verdict_follows, all_follow, piece_follows, EveryHull, hull_follows}
 

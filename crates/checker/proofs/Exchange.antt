@@ -1,16 +1,7 @@
 -- The limits of exchanges, one by one and of their samples.
-use Rattle.std.proofs.Common.{◌≡◌, ℕ, ◌<◌, ℤ, List, length, map, Some, sym, ◌∙◌, ap, subst}
-use Rattle.std.specs.Prelude.{All, slice_get}
-use Rattle.std.proofs.lemmas.Option.{get_or_from_slice_get, slice_get_within}
-use Rattle.std.proofs.lemmas.List.{get_or-map, length-map}
-use Rattle.std.proofs.lemmas.List.Elements.{All-map}
-use Rattle.claim_file.specs.Claim.{ClaimData, IsLawful}
+use Rattle.checker.proofs.Common.{◌≡◌, ℕ, ◌<◌, ℤ, List, length, map, Some, sym, ◌∙◌, ap, subst, All, slice_get, get_or_from_slice_get, slice_get_within, get_or-map, length-map, All-map, ClaimData, IsLawful, Exchange, sample_of, IsLawfulSample, AreSamplesOf, samples_of}
 use Rattle.pairing.specs.Exchange.{IsLawful as IsLawfulExchange}
-use Rattle.pairing.specs.declared.exchange.Exchange.{Exchange}
-use Rattle.sample_interval.specs.Sample.{sample_of, IsLawfulSample}
 use Rattle.sample_interval.proofs.ExchangeSample as sample
-use Rattle.checker.specs.Samples.{AreSamplesOf}
-use Rattle.checker.specs.Traceability.{samples_of}
 
 -- what the element at a place shows is lawful, if all that is shown is
 pub lawful_at : {X : Type 0} (shown : X → Exchange) (xs : List X) (servers k : ℕ) (x : X) → slice_get xs k ≡ Some x →

@@ -1,24 +1,8 @@
 -- The first fault of a piece and of a certificate, step by step.
-use Rattle.std.proofs.Common.{◌≡◌, ◌≢◌, ℕ, suc, ◌+◌, ◌<◌, ◌≤◌, ◌^◌, ℤ, pos, ◌≤ℤ◌, ◌<ℤ◌, Bool, true, false, ◌&&◌, ◌||◌}
-use Rattle.std.proofs.Common.{int_lt, nat_lt, if◌then◌else◌, List, [], ◌∷◌, length, map, drop, get_or, Option, Some}
-use Rattle.std.proofs.Common.{None, Result, refl, sym, ap, ap₂, ◌∙◌, subst, add-one, arith}
-use Rattle.std.specs.Ordering.{int_eq}
+use Rattle.checker.proofs.Common.{◌≡◌, ◌≢◌, ℕ, suc, ◌+◌, ◌<◌, ◌≤◌, ◌^◌, ℤ, pos, ◌≤ℤ◌, ◌<ℤ◌, Bool, true, false, ◌&&◌, ◌||◌, int_lt, nat_lt, if◌then◌else◌, List, [], ◌∷◌, length, map, drop, get_or, Option, Some, None, Result, refl, sym, ap, ap₂, ◌∙◌, subst, add-one, arith, int_eq, cond-true, cond-false, nat_tests, ints, PieceData, piece_data, ClaimData, Sample, parts_after, parts_fault, piece_fault, verdict_after, verdict_from, IsPiece, Part, Verdict, Yes, No, Why, Cut, Uncovered}
 use Rattle.std.proofs.Math.ListN.{drop_of_length-le}
 use Rattle.std.proofs.Math.Seq.{drop-cons}
-use Rattle.std.proofs.lemmas.Bool.{cond-true, cond-false}
-use Rattle.std.proofs.lemmas.Bool.Decides.{nat_tests}
-use Rattle.std.proofs.lemmas.Int.{ints}
-use Rattle.certificate.specs.Certificate.{PieceData, piece_data}
 use Rattle.certificate.specs.declared.certificate.Piece.{Piece}
-use Rattle.claim_file.specs.Claim.{ClaimData}
-use Rattle.sample_interval.specs.declared.kinds.Sample.{Sample}
-use Rattle.checker.specs.Verdict.{parts_after, parts_fault, piece_fault, verdict_after, verdict_from}
-use Rattle.span_cover.specs.Piece.{IsPiece}
-use Rattle.span_cover.specs.declared.part.Part.{Part}
-use Rattle.checker.specs.declared.verdict.Verdict.{Verdict}
-use Rattle.checker.specs.declared.verdict.Verdict.TheVariants.{Yes, No}
-use Rattle.checker.specs.declared.verdict.Why.{Why}
-use Rattle.checker.specs.declared.verdict.Why.TheVariants.{Cut, Uncovered}
 
 -- ---- a piece
 

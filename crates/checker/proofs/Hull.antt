@@ -1,31 +1,5 @@
 -- Why a hull holds the error: from what entries name of a course to the hull of what they say.
-use Rattle.std.proofs.Common.{◌≡◌, ℕ, ◌<◌, ◌≤◌, ℤ, pos, ◌*ℤ◌, ◌≤ℤ◌, Bool, false, List, [], ◌∷◌, length, Option, Some, None, refl, sym, ap, ◌∙◌, subst, arith}
-use Rattle.std.specs.Prelude.{All, slice_get}
-use Rattle.std.specs.Option.{option_map}
-use Rattle.std.proofs.lemmas.Option.{slice_get-map}
-use Rattle.claim_file.specs.Claim.{ClaimData, IsLawful}
-use Rattle.intersection.specs.Fraction.{HoldsFraction, IsAdmissibleFraction, HullHoldsFraction}
-use Rattle.intersection.specs.Hull.{IsHull, hull_of}
-use Rattle.intersection.specs.declared.kinds.Interval.{Interval}
-use Rattle.intersection.specs.declared.kinds.Hull.{Hull}
-use Rattle.pairing.specs.declared.exchange.Exchange.{Exchange}
-use Rattle.sample_interval.specs.Moment.{Moment, error_of, DriftsWithin, DriftsWithinByReading, IsInWindow, IsWithinDistance}
-use Rattle.sample_interval.specs.Moment.{IsOffAtLeast, IsOffAtMost}
-use Rattle.sample_interval.specs.Sample.{sample_of, least_error, greatest_error, IsLawfulSample}
-use Rattle.sample_interval.specs.Widening.{IsRate, billion}
-use Rattle.sample_interval.specs.Window.{request_start, reply_end}
-use Rattle.sample_interval.specs.declared.kinds.Sample.{Sample}
-use Rattle.span_cover.specs.Piece.{piece_interval_of}
-use Rattle.checker.specs.Acceptance.{IsSaidBy, AreSaidBy}
-use Rattle.checker.specs.Comparison.{IsOfSamples}
-use Rattle.checker.specs.Course.{Course, Fits}
-use Rattle.checker.specs.Groups.{false_group_count}
-use Rattle.span_cover.specs.Group.{group_intervals, piece_hull}
-use Rattle.checker.specs.PieceFit.{FitsPiece}
-use Rattle.checker.specs.Samples.{AreSamplesOf}
-use Rattle.checker.specs.Traceability.{samples_of, IsObservedIn, IsInHull, HoldsError, HoldsErrorOfPiece}
-use Rattle.span_cover.specs.declared.part.Part.{Part}
-use Rattle.span_cover.specs.declared.stretch.Stretch.{Stretch}
+use Rattle.checker.proofs.Common.{◌≡◌, ℕ, ◌<◌, ◌≤◌, ℤ, pos, ◌*ℤ◌, ◌≤ℤ◌, Bool, false, List, [], ◌∷◌, length, Option, Some, None, refl, sym, ap, ◌∙◌, subst, arith, All, slice_get, option_map, slice_get-map, ClaimData, IsLawful, HoldsFraction, IsAdmissibleFraction, HullHoldsFraction, IsHull, hull_of, Interval, Hull, Exchange, Moment, error_of, DriftsWithin, DriftsWithinByReading, IsInWindow, IsWithinDistance, IsOffAtLeast, IsOffAtMost, sample_of, least_error, greatest_error, IsLawfulSample, IsRate, billion, request_start, reply_end, Sample, piece_interval_of, IsSaidBy, AreSaidBy, IsOfSamples, Course, Fits, false_group_count, group_intervals, piece_hull, FitsPiece, AreSamplesOf, samples_of, IsObservedIn, IsInHull, HoldsError, HoldsErrorOfPiece, Part, Stretch}
 use Rattle.checker.proofs.Part.{All-slice_get}
 use Rattle.checker.proofs.Counting.{few_leave_it_out}
 use Rattle.checker.proofs.PieceFit.{counts_as_false, count_from_few, true_if_uncounted, fits_piece}

@@ -1,3 +1,4 @@
+mod Common
 pub mod Part
 pub mod EntryStatement
 pub mod Exchange

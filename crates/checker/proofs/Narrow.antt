@@ -1,24 +1,5 @@
 -- Narrower intervals of the same servers, and more of them, leave no more points admissible.
-use Rattle.std.proofs.Common.{◌≡◌, ℕ, ◌≤◌, ℤ, Bool, true, cond, ◌&&◌, ◌⊎◌, inl, inr, ⊎_elim, List, [], length, Some, None, Ok, count_by, refl, sym, ap, ◌∙◌, subst, arith}
-use Rattle.std.specs.Prelude.{All, slice_index, ◌==◌}
-use Rattle.std.specs.List.{Any}
-use Rattle.std.proofs.lemmas.Int.{ints}
-use Rattle.std.proofs.lemmas.Bool.{cond-true, cond-false, and_parts, and_from}
-use Rattle.std.proofs.lemmas.List.Folds.{Any-from_list_any}
-use Rattle.std.proofs.lemmas.List.Sums.{sum_by-le-sum_by}
-use Rattle.std.proofs.lemmas.List.Elements.{All-get_or}
-use Rattle.std.proofs.lemmas.Map.Keys.{any_passes_from_place}
-use Rattle.std.proofs.lemmas.Option.{slice_get_read}
-use Rattle.intersection.specs.Interval.{leaves_out}
-use Rattle.intersection.specs.declared.kinds.Interval.{Interval}
-use Rattle.intersection.specs.declared.kinds.Hull.TheVariants.{Empty}
-use Rattle.sample_interval.specs.declared.kinds.Sample.{Sample}
-use Rattle.checker.specs.Comparison.{IsContradiction, IsNarrower, AreNarrower, IsOfSamples}
-use Rattle.span_cover.specs.Group.{numbers_below}
-use Rattle.span_cover.specs.Group.{group_interval, group_intervals, piece_hull}
-use Rattle.checker.specs.Verdict.{parts_after, hull_fault}
-use Rattle.span_cover.specs.declared.part.Part.{Part}
-use Rattle.span_cover.specs.declared.stretch.Stretch.{Stretch}
+use Rattle.checker.proofs.Common.{◌≡◌, ℕ, ◌≤◌, ℤ, Bool, true, cond, ◌&&◌, ◌⊎◌, inl, inr, ⊎_elim, List, [], length, Some, None, Ok, count_by, refl, sym, ap, ◌∙◌, subst, arith, All, slice_index, ◌==◌, Any, ints, cond-true, cond-false, and_parts, and_from, Any-from_list_any, sum_by-le-sum_by, All-get_or, any_passes_from_place, slice_get_read, leaves_out, Interval, Empty, Sample, IsContradiction, IsNarrower, AreNarrower, IsOfSamples, numbers_below, group_interval, group_intervals, piece_hull, parts_after, hull_fault, Part, Stretch}
 use Rattle.checker.proofs.Part.{by_test, all_parts}
 use Rattle.checker.proofs.Comparison.{FaultIs, EveryHull, hull_follows}
 use Rattle.checker.proofs.VerdictPieces.{empty_hull}

@@ -1,8 +1,5 @@
 -- The numbers of a claim that keeps its limits, as 128 bits hold them.
-use Rattle.std.proofs.Common.{◌≡◌, ◌^◌, ◌<◌, ℤ, unsigned_abs, to_z, of_z, arith}
-use Rattle.std.proofs.lemmas.Int.{ints, to_z-of_z, fits_signed_from_abs}
-use mir.Syntax.{w128}
-use Rattle.claim_file.specs.Claim.{ClaimData, IsLawful}
+use Rattle.checker.proofs.Common.{◌≡◌, ◌^◌, ◌<◌, ℤ, unsigned_abs, to_z, of_z, arith, ints, to_z-of_z, fits_signed_from_abs, w128, ClaimData, IsLawful}
 
 pub kept : (a : ℤ) → unsigned_abs a < 2 ^ 127 → to_z w128 (of_z w128 a) ≡ a
 kept a h = to_z-of_z w128 a (fits_signed_from_abs w128 a h)

@@ -1,29 +1,5 @@
 -- The order in which the entries of a piece stand changes nothing of what they say together.
-use Rattle.std.proofs.Common.{◌≡◌, ℕ, ℤ, Bool, true, false, cond, not, ◌||◌, inl, ⊎_elim, List, [], ◌∷◌, ◌++◌, length, Option, Some, None, Result, Ok, Err, refl, sym, ap, ◌∙◌, subst, arith}
-use Rattle.std.specs.Prelude.{slice_get, slice_index, ◌==◌, fold, filter, filter_map}
-use Rattle.std.specs.List.{AllZip, cons_option, list_any}
-use Rattle.std.specs.Int.{int_max, int_min}
-use Rattle.std.proofs.lemmas.Int.{ints, clamps}
-use Rattle.std.proofs.lemmas.Bool.{cond-false}
-use Rattle.std.proofs.lemmas.Bool.Decides.{nat_tests}
-use Rattle.std.proofs.lemmas.List.Folds.{list_any-append}
-use Rattle.std.proofs.lemmas.List.Sums.{fold-append}
-use Rattle.std.proofs.lemmas.List.Elements.{filter-append}
-use Rattle.certificate.specs.Certificate.{PieceData, CertificateData}
-use Rattle.claim_file.specs.Claim.{ClaimData}
-use Rattle.intersection.specs.Hull.{hull_of}
-use Rattle.intersection.specs.declared.kinds.Interval.{Interval}
-use Rattle.sample_interval.specs.declared.kinds.Sample.{Sample}
-use Rattle.checker.specs.Comparison.{HasEntriesSwapped}
-use Rattle.span_cover.specs.Group.{numbers_below}
-use Rattle.span_cover.specs.Group.{meet_of, narrowed, group_interval}
-use Rattle.span_cover.specs.Part.{part_of}
-use Rattle.checker.specs.Verdict.{part_from, parts_after, unless_refused, hull_fault, parts_fault, verdict_from, verdict_of}
-use Rattle.span_cover.specs.declared.part.Part.{Part}
-use Rattle.span_cover.specs.declared.stretch.Stretch.{Stretch}
-use Rattle.checker.specs.declared.verdict.Verdict.TheVariants.{Yes}
-use Rattle.checker.specs.declared.verdict.Why.{Why}
-use Rattle.checker.specs.declared.verdict.Why.TheVariants.{MixedServers, RepeatedServer}
+use Rattle.checker.proofs.Common.{◌≡◌, ℕ, ℤ, Bool, true, false, cond, not, ◌||◌, inl, ⊎_elim, List, [], ◌∷◌, ◌++◌, length, Option, Some, None, Result, Ok, Err, refl, sym, ap, ◌∙◌, subst, arith, slice_get, slice_index, ◌==◌, fold, filter, filter_map, AllZip, cons_option, list_any, int_max, int_min, ints, clamps, cond-false, nat_tests, list_any-append, fold-append, filter-append, PieceData, CertificateData, ClaimData, hull_of, Interval, Sample, HasEntriesSwapped, numbers_below, meet_of, narrowed, group_interval, part_of, part_from, parts_after, unless_refused, hull_fault, parts_fault, verdict_from, verdict_of, Part, Stretch, Yes, Why, MixedServers, RepeatedServer}
 use Rattle.checker.proofs.Comparison.{Follows, verdict_follows, all_follow, piece_follows}
 
 -- one of the parts is of this server

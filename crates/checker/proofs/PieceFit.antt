@@ -1,19 +1,5 @@
 -- A course that fits a capture fits what any entries name of it.
-use Rattle.std.proofs.Common.{◌≡◌, ℕ, zero, suc, ◌+◌, ◌<◌, ◌≤◌, Bool, true, false, cond, ◌&&◌, List, [], ◌∷◌, ◌++◌, length, Some, count_by, refl, sym, ap, ◌∙◌, subst, inl, inr, arith}
-use Rattle.std.specs.Prelude.{slice_get, slice_index, ◌==◌}
-use Rattle.std.specs.List.{range_with_len}
-use Rattle.std.proofs.lemmas.Bool.{cond-true, cond-false, and_parts, and_from}
-use Rattle.std.proofs.lemmas.Bool.Decides.{nat_tests}
-use Rattle.std.proofs.lemmas.List.Folds.{Any-from_list_any}
-use Rattle.std.proofs.lemmas.List.Sums.{sum_by-le-sum_by}
-use Rattle.std.proofs.lemmas.Option.{get_or_from_slice_get, slice_get-get_or, slice_get_within}
-use Rattle.claim_file.specs.Claim.{ClaimData}
-use Rattle.pairing.specs.declared.exchange.Exchange.{Exchange}
-use Rattle.sample_interval.specs.Moment.{DriftsWithin}
-use Rattle.checker.specs.Course.{Course, Fits}
-use Rattle.checker.specs.Groups.{holds_false, false_group_count}
-use Rattle.span_cover.specs.Group.{numbers_below}
-use Rattle.checker.specs.PieceFit.{HasFewFalse, OfEachEntry, FitsPiece}
+use Rattle.checker.proofs.Common.{◌≡◌, ℕ, zero, suc, ◌+◌, ◌<◌, ◌≤◌, Bool, true, false, cond, ◌&&◌, List, [], ◌∷◌, ◌++◌, length, Some, count_by, refl, sym, ap, ◌∙◌, subst, inl, inr, arith, slice_get, slice_index, ◌==◌, range_with_len, cond-true, cond-false, and_parts, and_from, nat_tests, Any-from_list_any, sum_by-le-sum_by, get_or_from_slice_get, slice_get-get_or, slice_get_within, ClaimData, Exchange, DriftsWithin, Course, Fits, holds_false, false_group_count, numbers_below, HasFewFalse, OfEachEntry, FitsPiece}
 use Rattle.checker.proofs.Counting.{fails_below}
 use Rattle.checker.proofs.Part.{by_test}
 

@@ -1,19 +1,5 @@
 -- A verdict by its pieces: all pass, or there is a first that fails.
-use Rattle.std.proofs.Common.{◌≡◌, ℕ, zero, suc, ◌+◌, ◌<◌, ℤ, pos, ◌&&◌, nat_lt, List, [], ◌∷◌, length, Option, Some, None, refl, ap, ◌∙◌, subst, arith}
-use Rattle.std.specs.Prelude.{slice_get}
-use Rattle.std.specs.Ordering.{int_eq}
-use Rattle.std.proofs.lemmas.Int.{ints}
-use Rattle.std.proofs.lemmas.Bool.{cond-true}
-use Rattle.std.proofs.lemmas.Bool.Decides.{nat_tests}
-use Rattle.certificate.specs.Certificate.{PieceData}
-use Rattle.claim_file.specs.Claim.{ClaimData}
-use Rattle.sample_interval.specs.declared.kinds.Sample.{Sample}
-use Rattle.checker.specs.Stretch.{begin_of, last_end}
-use Rattle.checker.specs.Verdict.{piece_fault, verdict_after, verdict_from}
-use Rattle.checker.specs.declared.verdict.Verdict.{Verdict}
-use Rattle.checker.specs.declared.verdict.Verdict.TheVariants.{Yes, No}
-use Rattle.checker.specs.declared.verdict.Why.{Why}
-use Rattle.checker.specs.declared.verdict.Why.TheVariants.{Uncovered}
+use Rattle.checker.proofs.Common.{◌≡◌, ℕ, zero, suc, ◌+◌, ◌<◌, ℤ, pos, ◌&&◌, nat_lt, List, [], ◌∷◌, length, Option, Some, None, refl, ap, ◌∙◌, subst, arith, slice_get, int_eq, ints, cond-true, nat_tests, PieceData, ClaimData, Sample, begin_of, last_end, piece_fault, verdict_after, verdict_from, Verdict, Yes, No, Why, Uncovered}
 use Rattle.checker.proofs.VerdictPieces.{yes_step}
 
 module _ (samples : List Sample) (claim : ClaimData) where

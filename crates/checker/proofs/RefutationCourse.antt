@@ -1,21 +1,7 @@
 -- The course that an accepted refutation stands for.
-use Rattle.std.proofs.Common.{◌≡◌, ℕ, ◌<◌, ℤ, pos, ◌+ℤ◌, ◌-ℤ◌, ◌*ℤ◌, ◌≤ℤ◌, ◌<ℤ◌, unsigned_abs, false, ⊎_elim, List, length, Option, Some, None, refl, sym, ap, ◌∙◌, subst, arith}
-use Rattle.std.specs.Prelude.{All, AllPairs, slice_get, nat_lt}
-use Rattle.std.specs.Int.{int_max}
-use Rattle.std.specs.List.{slice_index_or}
-use Rattle.std.proofs.lemmas.Int.{ints, clamps}
-use Rattle.std.proofs.lemmas.Bool.Decides.{nat_tests}
-use Rattle.std.proofs.lemmas.Option.{get_or_from_slice_get, slice_get_within}
-use Rattle.certificate.specs.Refutation.{RefutationData}
-use Rattle.claim_file.specs.Claim.{ClaimData}
-use Rattle.pairing.specs.Exchange.{IsLawful as IsLawfulExchange, SameRequest}
-use Rattle.pairing.specs.declared.exchange.Exchange.{Exchange}
-use Rattle.sample_interval.specs.Moment.{Moment, error_of, error_change, DriftsWithin, IsInWindow, IsWithinDistance}
-use Rattle.sample_interval.specs.Window.{request_start, reply_end}
-use Rattle.checker.specs.Course.{Course, Fits, FitsInWindows, IsClientMoment, ReadsInWindows, ComesInOrder, KeepsRootDistance}
-use Rattle.checker.specs.Refutation.{is_liar, AdmitsError, Admits, IsRefuted, SharesRequests, HasCourse, SomeCourseFits}
-use Rattle.checker.specs.Traceability.{IsObservedIn, IsTraceable, samples_of}
-use Rattle.checker.specs.WorkedCourse.{moment_with}
+use Rattle.checker.proofs.Common.{◌≡◌, ℕ, ◌<◌, ℤ, pos, ◌+ℤ◌, ◌-ℤ◌, ◌*ℤ◌, ◌≤ℤ◌, ◌<ℤ◌, unsigned_abs, false, ⊎_elim, List, length, Option, Some, None, refl, sym, ap, ◌∙◌, subst, arith, All, AllPairs, slice_get, int_max, slice_index_or, ints, clamps, nat_tests, get_or_from_slice_get, slice_get_within, RefutationData, ClaimData, SameRequest, Exchange, Moment, error_of, error_change, DriftsWithin, IsInWindow, IsWithinDistance, request_start, reply_end, Course, Fits, FitsInWindows, IsClientMoment, ReadsInWindows, ComesInOrder, KeepsRootDistance, is_liar, AdmitsError, Admits, IsRefuted, SharesRequests, HasCourse, SomeCourseFits, IsObservedIn, IsTraceable, samples_of, moment_with}
+use Rattle.std.specs.Prelude.{nat_lt}
+use Rattle.pairing.specs.Exchange.{IsLawful as IsLawfulExchange}
 use Rattle.checker.proofs.Part.{by_test}
 
 -- ---- bounds

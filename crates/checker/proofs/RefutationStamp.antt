@@ -1,18 +1,6 @@
 -- What a course that a refutation stands for says about the stamps and the claim.
-use Rattle.std.proofs.Common.{◌≡◌, ℕ, ◌*◌, ◌<◌, ℤ, pos, negsuc, ◌+ℤ◌, ◌-ℤ◌, ◌*ℤ◌, ◌≤ℤ◌, ◌<ℤ◌, unsigned_abs, false, inl, inr, List, Some, refl, sym, arith}
-use Rattle.std.specs.Prelude.{slice_get, int_le}
-use Rattle.std.specs.List.{slice_index_or}
-use Rattle.std.proofs.lemmas.Int.{ints}
-use Rattle.std.proofs.lemmas.Option.{slice_get-get_or, slice_get_within}
-use Rattle.certificate.specs.Refutation.{RefutationData}
-use Rattle.claim_file.specs.Claim.{ClaimData}
-use Rattle.intersection.specs.Fineness.{times_le, times-add}
-use Rattle.pairing.specs.declared.exchange.Exchange.{Exchange}
-use Rattle.sample_interval.specs.Moment.{Moment, error_of}
-use Rattle.sample_interval.specs.Window.{request_start, reply_end}
-use Rattle.checker.specs.Course.{Course}
-use Rattle.checker.specs.Refutation.{is_liar, AdmitsError, Admits, IsAgainst, IsRefuted, IsCourseOf, ShowsThroughout}
-use Rattle.checker.specs.Traceability.{IsObservedIn, IsWithin}
+use Rattle.checker.proofs.Common.{◌≡◌, ℕ, ◌*◌, ◌<◌, ℤ, pos, negsuc, ◌+ℤ◌, ◌-ℤ◌, ◌*ℤ◌, ◌≤ℤ◌, ◌<ℤ◌, unsigned_abs, false, inl, inr, List, Some, refl, sym, arith, slice_get, slice_index_or, ints, slice_get-get_or, slice_get_within, RefutationData, ClaimData, times_le, times-add, Exchange, Moment, error_of, request_start, reply_end, Course, is_liar, AdmitsError, Admits, IsAgainst, IsRefuted, IsCourseOf, ShowsThroughout, IsObservedIn, IsWithin}
+use Rattle.std.specs.Prelude.{int_le}
 use Rattle.checker.proofs.Part.{by_test}
 
 -- ---- what a course says about the stamps

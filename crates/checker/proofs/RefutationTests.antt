@@ -1,18 +1,6 @@
 -- What a refutation says, and its tests.
-use Rattle.std.proofs.Common.{◌≡◌, ◌≢◌, ℕ, zero, suc, ◌<◌, ◌≤◌, ℤ, ◌-ℤ◌, ◌≤ℤ◌, ◌<ℤ◌, Bool, true, false, true≢false, ◌&&◌, ◌||◌, List, [], ◌∷◌, length, refl, sym, ◌∙◌, arith}
-use Rattle.std.specs.Prelude.{◌==◌, int_le, int_lt, nat_le, nat_lt, not, All, AllPairs}
-use Rattle.std.specs.List.{list_any, list_all, slice_index_or}
-use Rattle.std.proofs.lemmas.Int.{ints}
-use Rattle.std.proofs.lemmas.Bool.Decides.{nat_tests}
-use Rattle.std.proofs.lemmas.List.Folds.{list_any_none}
-use Rattle.std.proofs.lemmas.List.Sums.{AllPass-from_list_all, list_all-from_AllPass}
-use Rattle.certificate.specs.Refutation.{RefutationData}
-use Rattle.claim_file.specs.Claim.{ClaimData}
-use Rattle.pairing.specs.declared.exchange.Exchange.{Exchange}
-use Rattle.sample_interval.specs.Window.{request_start, reply_end}
-use Rattle.span_cover.specs.Group.{numbers_below}
-use Rattle.checker.specs.Refutation.{is_liar, Admits, IsAgainst, IsRefuted}
-use Rattle.checker.specs.RefutationTest.{admits, allows, are_different, is_against, is_refuted}
+use Rattle.checker.proofs.Common.{◌≡◌, ◌≢◌, ℕ, zero, suc, ◌<◌, ◌≤◌, ℤ, ◌-ℤ◌, ◌≤ℤ◌, ◌<ℤ◌, Bool, true, false, true≢false, ◌&&◌, ◌||◌, List, [], ◌∷◌, length, refl, sym, ◌∙◌, arith, ◌==◌, nat_le, All, AllPairs, list_any, list_all, slice_index_or, ints, nat_tests, list_any_none, AllPass-from_list_all, list_all-from_AllPass, RefutationData, ClaimData, Exchange, request_start, reply_end, numbers_below, is_liar, Admits, IsAgainst, IsRefuted, admits, allows, are_different, is_against, is_refuted}
+use Rattle.std.specs.Prelude.{int_le, int_lt, nat_lt, not}
 use Rattle.checker.proofs.Counting.{fails_below}
 use Rattle.checker.proofs.Part.{by_test}
 

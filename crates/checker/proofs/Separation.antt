@@ -2,30 +2,8 @@
 --
 -- A group leaves a point out if one of its parts does, and that part's finer group leaves it out too. Finer groups
 -- of different groups are different, so at least as many of them leave the point out.
-use Rattle.std.proofs.Common.{◌≡◌, ℕ, zero, suc, ◌+◌, ◌<◌, ◌≤◌, ℤ, Bool, true, false, cond, not, ◌&&◌, ◌||◌, List, [], ◌∷◌, length, Option, Some, None, Result, Ok, Err, count_by, refl, sym, ap, ◌∙◌, subst, arith}
-use Rattle.std.specs.Prelude.{All, slice_index, ◌==◌, nat_lt, fold, filter, filter_map}
-use Rattle.std.specs.List.{list_any, cons_option}
-use Rattle.std.proofs.lemmas.Int.{ints, clamps}
-use Rattle.std.proofs.lemmas.Bool.{cond-true, cond-false, and_parts, and_from, and_left, and_right, not-true, true_from_ne_false, or_left, or_right, or_from}
-use Rattle.std.proofs.lemmas.Bool.Decides.{nat_tests}
-use Rattle.std.proofs.lemmas.List.Folds.{Any-from_list_any}
-use Rattle.std.proofs.lemmas.List.Sums.{sum_by-cons, sum_by-append}
-use Rattle.std.proofs.lemmas.List.Elements.{All-get_or}
-use Rattle.std.proofs.lemmas.Map.Keys.{any_passes_from_place}
-use Rattle.std.proofs.lemmas.Option.{slice_get_read}
-use Rattle.certificate.specs.Certificate.{CertificateData}
-use Rattle.claim_file.specs.Claim.{ClaimData}
-use Rattle.intersection.specs.Interval.{leaves_out}
-use Rattle.intersection.specs.declared.kinds.Interval.{Interval}
-use Rattle.sample_interval.specs.declared.kinds.Sample.{Sample}
-use Rattle.checker.specs.Comparison.{IsYesOr, IsContradiction, IsTakenApart}
-use Rattle.span_cover.specs.Group.{numbers_below}
-use Rattle.span_cover.specs.Group.{meet_of, narrowed, group_interval}
-use Rattle.checker.specs.Verdict.{parts_after, parts_fault, verdict_of}
-use Rattle.span_cover.specs.declared.part.Part.{Part}
-use Rattle.span_cover.specs.declared.stretch.Stretch.{Stretch}
-use Rattle.checker.specs.declared.verdict.Verdict.TheVariants.{Yes}
-use Rattle.checker.specs.declared.verdict.Why.{Why}
+use Rattle.checker.proofs.Common.{◌≡◌, ℕ, zero, suc, ◌+◌, ◌<◌, ◌≤◌, ℤ, Bool, true, false, cond, not, ◌&&◌, ◌||◌, List, [], ◌∷◌, length, Option, Some, None, Result, Ok, Err, count_by, refl, sym, ap, ◌∙◌, subst, arith, All, slice_index, ◌==◌, fold, filter, filter_map, list_any, cons_option, ints, clamps, cond-true, cond-false, and_parts, and_from, and_left, and_right, not-true, true_from_ne_false, or_left, or_right, or_from, nat_tests, Any-from_list_any, sum_by-cons, sum_by-append, All-get_or, any_passes_from_place, slice_get_read, CertificateData, ClaimData, leaves_out, Interval, Sample, IsYesOr, IsContradiction, IsTakenApart, numbers_below, meet_of, narrowed, group_interval, parts_after, parts_fault, verdict_of, Part, Stretch, Yes, Why}
+use Rattle.std.specs.Prelude.{nat_lt}
 use Rattle.checker.proofs.Part.{by_test, listed_parts}
 use Rattle.checker.proofs.Counting.{fails_below}
 use Rattle.checker.proofs.Comparison.{FaultIs, verdict_follows, all_follow, piece_follows, EveryHull, hull_follows}

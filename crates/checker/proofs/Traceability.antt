@@ -1,31 +1,7 @@
 -- Why a yes can be relied on: from the hulls of the pieces to the bound on the error over the span.
-use Rattle.std.proofs.Common.{◌≡◌, ℕ, zero, suc, ◌*◌, ◌<◌, ◌≤◌, ℤ, pos, negsuc, neg_ℤ, ◌*ℤ◌, ◌≤ℤ◌, unsigned_abs, List, length, Option, Some, None, inl, refl, sym, subst, arith}
-use Rattle.std.specs.Prelude.{All, slice_get, IsSomeAnd}
-use Rattle.std.proofs.lemmas.Int.{ints}
+use Rattle.checker.proofs.Common.{◌≡◌, ℕ, zero, suc, ◌*◌, ◌<◌, ◌≤◌, ℤ, pos, negsuc, neg_ℤ, ◌*ℤ◌, ◌≤ℤ◌, unsigned_abs, List, length, Option, Some, None, inl, refl, sym, subst, arith, All, slice_get, IsSomeAnd, ints, ticks_per_second, CertificateData, ClaimData, IsLawful, times_le, Hull, Unbounded, Empty, Bounded, Exchange, error_of, Sample, AreSaidBy, Course, Fits, piece_hull, FitsPiece, AreSamplesOf, begin_of, last_end, stretch_of, stretches_of, IsObservedIn, IsWithin, IsWithinNanoseconds, IsInHull, IsTraceable, IsTraceableByPieces, IsContradicted, HoldsErrorOfPiece, HasHull, IsOfHull, IsRefusedByHull, hull_fault, verdict_of, Part, Stretch, Yes, No, Why, Contradiction}
 use Rattle.std.proofs.Math.Nat.{mul-le-mul_right}
 use Rattle.era_unfold.specs.Nanoseconds.{nanoseconds_per_second, ticks_down}
-use Rattle.era_unfold.specs.Window.{ticks_per_second}
-use Rattle.certificate.specs.Certificate.{CertificateData}
-use Rattle.claim_file.specs.Claim.{ClaimData, IsLawful}
-use Rattle.intersection.specs.Fineness.{times_le}
-use Rattle.intersection.specs.declared.kinds.Hull.{Hull}
-use Rattle.intersection.specs.declared.kinds.Hull.TheVariants.{Unbounded, Empty, Bounded}
-use Rattle.pairing.specs.declared.exchange.Exchange.{Exchange}
-use Rattle.sample_interval.specs.Moment.{error_of}
-use Rattle.sample_interval.specs.declared.kinds.Sample.{Sample}
-use Rattle.checker.specs.Acceptance.{AreSaidBy}
-use Rattle.checker.specs.Course.{Course, Fits}
-use Rattle.span_cover.specs.Group.{piece_hull}
-use Rattle.checker.specs.PieceFit.{FitsPiece}
-use Rattle.checker.specs.Samples.{AreSamplesOf}
-use Rattle.checker.specs.Stretch.{begin_of, last_end, stretch_of, stretches_of}
-use Rattle.checker.specs.Traceability.{IsObservedIn, IsWithin, IsWithinNanoseconds, IsInHull, IsTraceable, IsTraceableByPieces, IsContradicted, HoldsErrorOfPiece, HasHull, IsOfHull, IsRefusedByHull}
-use Rattle.checker.specs.Verdict.{hull_fault, verdict_of}
-use Rattle.span_cover.specs.declared.part.Part.{Part}
-use Rattle.span_cover.specs.declared.stretch.Stretch.{Stretch}
-use Rattle.checker.specs.declared.verdict.Verdict.TheVariants.{Yes, No}
-use Rattle.checker.specs.declared.verdict.Why.{Why}
-use Rattle.checker.specs.declared.verdict.Why.TheVariants.{Contradiction}
 use Rattle.checker.proofs.Cover.{all_covered, piece_at, stretch_of_piece}
 use Rattle.checker.proofs.PieceVerdict.{each_passes}
 use Rattle.checker.proofs.EntryStatement.{said_from}

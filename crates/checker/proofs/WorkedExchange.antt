@@ -1,10 +1,8 @@
 -- The worked exchange, computed from the bytes of its capture.
-use Rattle.std.proofs.Common.{◌≡◌, ℕ, ◌<◌, List, [], ◌∷◌, length, take, drop, refl, arith}
-use Rattle.std.specs.Prelude.{⊤}
+use Rattle.checker.proofs.Common.{◌≡◌, ℕ, ◌<◌, List, [], ◌∷◌, length, take, drop, refl, arith, ⊤, window_low, window_high, worked_claim, worked_exchange}
 use Rattle.era_unfold.specs.Ratio.{floor_of, ceiling_of}
 use Rattle.era_unfold.specs.declared.unit.Unit.TheVariants.{Micro}
 use Rattle.era_unfold.specs.Stamp.{unfolded}
-use Rattle.era_unfold.specs.Window.{window_low, window_high}
 use Rattle.frame_reader.specs.Frame.{word, link_skip, packet_of as ip_packet_of, packet_skip, segment_of, segment_skip, skip_of, fields_at, datagram_of}
 use Rattle.ntp_packet.specs.Header.{field, signed_field, leap_of, version_of, mode_of, reference_id_of, root_distance_of}
 use Rattle.ntp_packet.specs.Packet.{packet_of}
@@ -13,8 +11,6 @@ use Rattle.pairing.specs.Pairing.{requests_of, replies_of, exchanges_of}
 use Rattle.pairing.specs.Refusal.{refusal_of}
 use Rattle.pcap_reader.specs.Capture.{IsRecordAt, IsCapture}
 use Rattle.checker.specs.WorkedCapture.{request_frame, reply_frame, worked_capture, worked_format, worked_records}
-use Rattle.claim_file.specs.Worked.{worked_claim}
-use Rattle.checker.specs.WorkedCourse.{worked_exchange}
 
 -- what unfolds to compute the packets of frames, and their headers
 unfoldable packets_unfold : ⊤

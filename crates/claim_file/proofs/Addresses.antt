@@ -1,10 +1,7 @@
 -- What the text of an address says, beside the relation between texts and addresses.
-use Rattle.std.proofs.Common.{◌≡◌, ℕ, List, [], ◌∷◌, Option, Some, None, option_and_then, refl, sym, ap, ◌∙◌, subst, append-nil, lit≤}
+use Rattle.claim_file.proofs.Common.{◌≡◌, ℕ, List, [], ◌∷◌, Option, Some, None, option_and_then, refl, sym, ap, ◌∙◌, subst, append-nil, lit≤, IsDotted, IsIpv4Text, read_ipv4, whole, address_of}
 use Rattle.std.specs.declared.net.ipv4_addr.Ipv4Addr.{Ipv4Addr}
-use Rattle.std.specs.Net.Grammar.{IsDotted, IsIpv4Text}
-use Rattle.std.specs.Net.Reader.{read_ipv4}
 use Rattle.std.proofs.NetLemmas.Ipv4.{read_ipv4_sound, read_ipv4_complete}
-use Rattle.claim_file.specs.Address.{whole, address_of}
 
 -- a text that writes an address says it
 pub address_of-IsDotted : (text octets : List ℕ) → IsDotted text octets → address_of text ≡ Some octets

@@ -1,11 +1,7 @@
 -- A reading in steps, as the code takes them: each step is a call that finds a value or doesn't.
-use Rattle.std.proofs.Common.{◌≡◌, Option, Some, None, Result, Ok, Err, option_map, refl, sym, ap, ◌∙◌, inl, inr}
+use Rattle.claim_file.proofs.Common.{◌≡◌, Option, Some, None, Result, Ok, Err, option_map, refl, sym, ap, ◌∙◌, inl, inr, given, ClaimFault, Memory, Answers}
 use Rattle.std.specs.Option.{ok_or}
 use Rattle.std.specs.Result.{IsErr, IsErrAnd}
-use Rattle.json_text.specs.Step.{given}
-use Rattle.claim_file.specs.declared.fault.ClaimFault.{ClaimFault}
-use Rattle.claim_file.specs.declared.fault.ClaimFault.TheVariants.{Memory}
-use Rattle.claim_file.specs.Fault.{Answers}
 
 none_found : {A E : Type 0} (fault : E) (found : Option A) {e : E} → Err e ≡ ok_or found fault →
     (found ≡ None) × (fault ≡ e)

@@ -1,15 +1,7 @@
 -- The numbers of groups that a claim gives to its servers.
-use Rattle.std.proofs.Common.{◌≡◌, ℕ, zero, suc, ◌+◌, ◌<◌, ◌≤◌, ◌==◌, ◌||◌, nat_lt, Bool, true, false, not, cond, if◌then◌else◌, List, [], ◌∷◌, ◌++◌, length, map, get_or, Option, Some, None, unwrap_or, ◌↔◌, refl, sym, ap, ◌∙◌, subst, arith}
-use Rattle.std.proofs.lemmas.Bool.{ltb-true, ltb-false}
-use Rattle.std.proofs.lemmas.Bool.Decides.{Decides-eqb}
-use Rattle.std.proofs.lemmas.List.FromFn.{length-range_with_len, get_or-range_with_len, length-map-range_with_len, get_or-map-range_with_len}
-use Rattle.std.proofs.lemmas.List.Sums.{AllPass-from_list_all, sum_by-cons, sum_by-append}
+use Rattle.claim_file.proofs.Common.{◌≡◌, ℕ, zero, suc, ◌+◌, ◌<◌, ◌≤◌, ◌==◌, ◌||◌, nat_lt, Bool, true, false, not, cond, if◌then◌else◌, List, [], ◌∷◌, ◌++◌, length, map, get_or, Option, Some, None, unwrap_or, ◌↔◌, refl, sym, ap, ◌∙◌, subst, arith, ltb-true, ltb-false, Decides-eqb, length-range_with_len, get_or-range_with_len, length-map-range_with_len, get_or-map-range_with_len, AllPass-from_list_all, sum_by-cons, sum_by-append, All, Contains, IsSomeAnd, slice_get, concat, list_all, list_any, position_from, IsWithoutGap, group_count, servers_of, times_listed, groups_of, group_of, is_grouping, IsInGroup}
 use Rattle.std.proofs.lemmas.List.Folds.{list_all-append, Any-from_list_any, list_any-from_Any}
 use Rattle.std.proofs.lemmas.Option.{get_or_from_slice_get, slice_get-get_or, slice_get_within}
-use Rattle.std.specs.Prelude.{All, Contains, IsSomeAnd, slice_get}
-use Rattle.std.specs.List.{concat, list_all, list_any, position_from}
-use Rattle.claim_file.specs.Claim.{IsWithoutGap, group_count}
-use Rattle.claim_file.specs.Group.{servers_of, times_listed, groups_of, group_of, is_grouping, IsInGroup}
 use Rattle.claim_file.proofs.Groups.{both_true, length-groups, once_each}
 
 -- a place below n, or 0

@@ -1,27 +1,7 @@
 -- A claim that is read is lawful.
-use Rattle.std.proofs.Common.{◌≡◌, ◌≢◌, ℕ, zero, suc, ◌^◌, ◌<◌, ◌≤◌, ◌&&◌, ◌||◌, nat_lt, ℤ, pos, negsuc, Bool, true, false, not, if◌then◌else◌, List, [], ◌∷◌, length, Option, Some, None, Result, Ok, Err, refl, sym, ap, ◌∙◌, subst, arith, true≢false}
-use Rattle.std.proofs.lemmas.Bool.{leb-true, ltb-true}
-use Rattle.std.proofs.lemmas.Int.{ints}
-use Rattle.std.proofs.lemmas.Slice.Eq.{bytes_eq-Decides}
+use Rattle.claim_file.proofs.Common.{◌≡◌, ◌≢◌, ℕ, zero, suc, ◌^◌, ◌<◌, ◌≤◌, ◌&&◌, ◌||◌, nat_lt, ℤ, pos, negsuc, Bool, true, false, not, if◌then◌else◌, List, [], ◌∷◌, length, Option, Some, None, Result, Ok, Err, refl, sym, ap, ◌∙◌, subst, arith, true≢false, leb-true, ltb-true, ints, bytes_eq-Decides, All, AllPairs, IfOk, list_any, bytes_eq, floor_of, ceiling_of, ticks_down, ticks_up, ClaimFault, Json, Address, Time, Range, RepeatedServer, Groups, address_of, addresses_of, are_different, parsed, Data, ClaimData, IsLawful, IsWithoutGap, max_bound, given, asked, after, Answers, FieldsData, fields_of, groups_of, NamedData, named_of, is_in_range, claim_with, within_limits, claim_from, claim_of, exists, spelling, date_time_at, unix_second, time_of, in_u32}
 use Rattle.claim_file.proofs.Groups.{both_true}
 use Rattle.claim_file.proofs.Groupings.{groups_of-range, groups_of-without_gap}
-use Rattle.std.specs.Prelude.{All, AllPairs, IfOk}
-use Rattle.std.specs.List.{list_any}
-use Rattle.std.specs.Str.{bytes_eq}
-use Rattle.era_unfold.specs.Ratio.{floor_of, ceiling_of}
-use Rattle.era_unfold.specs.Nanoseconds.{ticks_down, ticks_up}
-use Rattle.claim_file.specs.declared.fault.ClaimFault.{ClaimFault}
-use Rattle.claim_file.specs.declared.fault.ClaimFault.TheVariants.{Json, Address, Time, Range, RepeatedServer, Groups}
-use Rattle.claim_file.specs.Address.{address_of, addresses_of, are_different}
-use Rattle.json_text.specs.Text.{parsed}
-use Rattle.serde_json.specs.Data.{Data}
-use Rattle.claim_file.specs.Claim.{ClaimData, IsLawful, IsWithoutGap, max_bound}
-use Rattle.json_text.specs.Step.{given, asked, after}
-use Rattle.claim_file.specs.Fault.{Answers}
-use Rattle.claim_file.specs.Fields.{FieldsData, fields_of}
-use Rattle.claim_file.specs.Group.{groups_of}
-use Rattle.claim_file.specs.Reading.{NamedData, named_of, is_in_range, claim_with, within_limits, claim_from, claim_of}
-use Rattle.claim_file.specs.Time.{exists, spelling, date_time_at, unix_second, time_of, in_u32}
 
 neither : (a b : Bool) → (a || b) ≡ false → (a ≡ false) × (b ≡ false)
 neither false b e = (refl, e)

@@ -1,16 +1,5 @@
 -- What a claim that was read is made of, and so how its bound and its allowance became ticks.
-use Rattle.std.proofs.Common.{◌≡◌, ℕ, pos, Bool, true, false, List, ◌∷◌, Option, Some, None, Result, Ok, Err, length, refl, subst}
-use Rattle.era_unfold.specs.Nanoseconds.{ticks_down, ticks_up}
-use Rattle.json_text.specs.Step.{given, asked, after}
-use Rattle.json_text.specs.Text.{parsed}
-use Rattle.serde_json.specs.Data.{Data}
-use Rattle.claim_file.specs.declared.fault.ClaimFault.{ClaimFault}
-use Rattle.claim_file.specs.declared.fault.ClaimFault.TheVariants.{Json, Range, RepeatedServer, Groups}
-use Rattle.claim_file.specs.Address.{are_different}
-use Rattle.claim_file.specs.Claim.{ClaimData}
-use Rattle.claim_file.specs.Fields.{FieldsData, fields_of}
-use Rattle.claim_file.specs.Group.{groups_of}
-use Rattle.claim_file.specs.Reading.{NamedData, named_of, is_in_range, claim_with, within_limits, claim_from, claim_of}
+use Rattle.claim_file.proofs.Common.{◌≡◌, ℕ, pos, Bool, true, false, List, ◌∷◌, Option, Some, None, Result, Ok, Err, length, refl, subst, ticks_down, ticks_up, given, asked, after, parsed, Data, ClaimFault, Json, Range, RepeatedServer, Groups, are_different, ClaimData, FieldsData, fields_of, groups_of, NamedData, named_of, is_in_range, claim_with, within_limits, claim_from, claim_of}
 
 -- the members, addresses, times and groups of a claim
 pub record IsMade (claim : ClaimData) : Type 0 where

@@ -1,34 +1,16 @@
 -- The plain spelling of a claim is read as that claim.
-use Rattle.std.proofs.Common.{◌≡◌, ◌≢◌, ◌∙◌, ℕ, zero, suc, pos, ◌+◌, ◌/◌, ◌%◌, ◌^◌, ◌<◌, ◌≤◌, ◌==◌, nat_lt, Bool, true, false, not, List, [], ◌∷◌, ◌++◌, length, map, Option, Some, None, Ok, IsUtf8, refl, sym, ap, subst, arith, length-append, if◌then◌else◌}
-use Rattle.std.specs.Prelude.{All, AllPairs, codes, decimal}
-use Rattle.std.specs.List.{concat, list_all, list_any, range_with_len}
-use Rattle.std.specs.Net.Grammar.{IsDotted}
-use Rattle.std.specs.Str.{bytes_eq}
-use Rattle.std.proofs.lemmas.Bool.Decides.{nat_tests}
+use Rattle.claim_file.proofs.Common.{◌≡◌, ◌≢◌, ◌∙◌, ℕ, zero, suc, pos, ◌+◌, ◌/◌, ◌%◌, ◌^◌, ◌<◌, ◌≤◌, ◌==◌, nat_lt, Bool, true, false, not, List, [], ◌∷◌, ◌++◌, length, map, Option, Some, None, Ok, IsUtf8, refl, sym, ap, subst, arith, length-append, if◌then◌else◌, All, AllPairs, codes, decimal, concat, list_all, list_any, range_with_len, IsDotted, bytes_eq, nat_tests, bytes_eq-Decides, ints, days_in_month_bounds, serde_json_on_literals, Members, array, depth, member, no_members, string, items_of, after, given, Json, addresses_of, are_different, FieldsData, fields_of, number_lists_of, numbers_of, texts_of, group_of, groups_of, is_grouping, servers_of, times_listed, NamedData, claim_from, claim_of, claim_with, is_in_range, named_of, within_limits, IsTime, two_digits}
 use Rattle.std.proofs.lemmas.Fmt.{IsAscii-decimal}
-use Rattle.std.proofs.lemmas.Slice.Eq.{bytes_eq-Decides}
 use Rattle.std.proofs.lemmas.Str.{IsUtf8-append, IsUtf8-from_ascii, is_utf8-from_IsUtf8}
-use Rattle.std.proofs.lemmas.Int.{ints}
-use Rattle.jiff_core.proofs.CalendarLemmas.{days_in_month_bounds}
 use Rattle.std.proofs.lemmas.List.{get_or-append-add}
 use Rattle.std.proofs.Math.ListN.{get_or-append}
-use Rattle.serde_json.proofs.OnLiterals.{serde_json_on_literals}
-use Rattle.serde_json.specs.Data.{Members, array, depth, member, no_members, string}
 use Rattle.serde_json.specs.Read.{read, max_depth}
-use Rattle.serde_json.specs.View.{items_of}
 use Rattle.serde_json.specs.Written.{compact_text, members_text}
 use Rattle.json_text.proofs.Outline.{IsOutlined, items_depth-map, outlined_array, outlined_items, outlined_number, outlined_string, read_compact}
 use Rattle.json_text.proofs.Utf8.{utf8_array, utf8_ascii, utf8_end, utf8_member, utf8_number, utf8_object, utf8_string}
 use Rattle.claim_file.proofs.Addresses.{address_of-IsDotted}
 use Rattle.claim_file.proofs.Times.{passes, time_of-IsTime}
-use Rattle.json_text.specs.Step.{after, given}
-use Rattle.claim_file.specs.declared.fault.ClaimFault.TheVariants.{Json}
-use Rattle.claim_file.specs.Address.{addresses_of, are_different}
-use Rattle.claim_file.specs.Fields.{FieldsData, fields_of, number_lists_of, numbers_of, texts_of}
-use Rattle.claim_file.specs.Group.{group_of, groups_of, is_grouping, servers_of, times_listed}
-use Rattle.claim_file.specs.Reading.{NamedData, claim_from, claim_of, claim_with, is_in_range, named_of, within_limits}
 use Rattle.claim_file.specs.Spelling.{AreDotted, AreGrouped, groups_then, IsWithinLimits, Names, claim_text, claim_value, number_value, numbers_value}
-use Rattle.claim_file.specs.Time.{IsTime, two_digits}
 
 -- ---- what the JSON value says
 

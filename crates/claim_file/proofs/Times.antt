@@ -1,15 +1,7 @@
 -- The answers of the reader of times.
-use Rattle.std.proofs.Common.{◌+◌, nat_lt, nat_le, negsuc, ◌*◌, ◌/◌, ◌%◌, ◌≤◌, ◌<◌, arith, ◌≡◌, ◌<◌, ◌^◌, ℕ, ℤ, pos, List, Bool, true, false, ◌&&◌, Option, Some, None, if◌then◌else◌, option_and_then, refl, sym, ap, ◌∙◌}
-use Rattle.std.proofs.lemmas.Bool.{leb-true, ltb-true}
-use Rattle.std.proofs.lemmas.Bool.Decides.{Decides-ltb, nat_tests}
-use Rattle.std.proofs.lemmas.Int.{ints}
-use Rattle.jiff_core.proofs.CalendarLemmas.{days_in_month_bounds}
-use Rattle.std.proofs.lemmas.Slice.Eq.{bytes_eq-Decides}
-use Rattle.std.specs.Str.{bytes_eq}
-use Rattle.jiff_core.specs.Calendar.{IsCivilDate, days_in_month}
+use Rattle.claim_file.proofs.Common.{◌+◌, nat_lt, nat_le, negsuc, ◌*◌, ◌/◌, ◌%◌, ◌≤◌, ◌<◌, arith, ◌≡◌, ◌^◌, ℕ, ℤ, pos, List, Bool, true, false, ◌&&◌, Option, Some, None, if◌then◌else◌, option_and_then, refl, sym, ap, ◌∙◌, leb-true, ltb-true, Decides-ltb, nat_tests, ints, days_in_month_bounds, bytes_eq-Decides, bytes_eq, IsCivilDate, days_in_month, IsTime, exists, spelling, unix_second, pair_value, date_time_at, in_u32, time_of}
 use Rattle.claim_file.proofs.Groups.{both_true}
 use Rattle.claim_file.specs.declared.time.DateTime.{DateTime}
-use Rattle.claim_file.specs.Time.{IsTime, exists, spelling, unix_second, pair_value, date_time_at, in_u32, time_of}
 
 -- a date and time that exist: the text is compared with their spelling
 time_of-there : (text : List ℕ) (second : ℤ) (same : Bool) →

@@ -1,10 +1,7 @@
 -- A low mark and a high mark that two moments of one clock keep: over numbers of one fineness.
 --
 -- The marks stand as moments too: their place as a reading, and the true time that they speak of.
-use Rattle.std.proofs.Common.{◌≡◌, ℕ, ◌+◌, ◌-◌, ◌*◌, ◌<◌, ◌≤◌, pos, ◌+ℤ◌, ◌-ℤ◌, ◌≤ℤ◌, ◌<ℤ◌, unsigned_abs, refl, arith}
-use Rattle.std.proofs.lemmas.Int.{ints, by_lt_z}
-use Rattle.std.proofs.Math.Nat.{mul-le-mul_left}
-use Rattle.sample_interval.specs.Moment.{Moment, error_of}
+use Rattle.courses.proofs.Common.{◌≡◌, ℕ, ◌+◌, ◌-◌, ◌*◌, ◌<◌, ◌≤◌, pos, ◌+ℤ◌, ◌-ℤ◌, ◌≤ℤ◌, ◌<ℤ◌, unsigned_abs, refl, arith, ints, by_lt_z, mul-le-mul_left, Moment, error_of}
 use Rattle.courses.proofs.Steps.{Drifts, Drifts-turned, rises_by, falls_by}
 
 -- ---- over natural numbers: the marks ask for x, and the errors differ by y over an advance of r

@@ -2,9 +2,7 @@
 --
 -- With b = g + p and a fineness of g * (b + p), it rises by at most p * g parts of a tick for each
 -- tick of the clock, and falls by at most p * (b + p).
-use Rattle.std.proofs.Common.{◌≡◌, ℕ, ◌+◌, ◌*◌, ◌≤◌, ℤ, pos, ◌+ℤ◌, ◌-ℤ◌, ◌≤ℤ◌, unsigned_abs, ap, arith}
-use Rattle.std.proofs.lemmas.Int.{ints, by_lt_z}
-use Rattle.std.proofs.Math.Nat.{mul-le-mul_left}
+use Rattle.courses.proofs.Common.{◌≡◌, ℕ, ◌+◌, ◌*◌, ◌≤◌, ℤ, pos, ◌+ℤ◌, ◌-ℤ◌, ◌≤ℤ◌, unsigned_abs, ap, arith, ints, by_lt_z, mul-le-mul_left}
 use Rattle.courses.proofs.Slope.{Changes}
 
 allowed_rise : (g p x d t : ℕ) → x ≤ p * g * d → t + x ≡ d * (g * (g + p + p)) → (g + p) * x ≤ p * t

@@ -1,9 +1,5 @@
 -- Pairs of exchanges that contradict each other, and the groups that they are of.
-use Rattle.std.proofs.Common.{◌≡◌, ◌≢◌, ℕ, ◌<◌, ◌≤◌, ◌⊎◌, inl, inr, ⊎_elim, List, Some, slice_get, refl, sym, ap, ◌∙◌, arith}
-use Rattle.claim_file.specs.Claim.{ClaimData}
-use Rattle.pairing.specs.declared.exchange.Exchange.{Exchange}
-use Rattle.courses.specs.Cover.{group_of, HasImpossible, Contradicts, IsBroken, DoConflict}
-use Rattle.courses.specs.Contradiction.{Pair, AreOfGroups, IsContradiction, IsFirstContradiction, HasContradiction}
+use Rattle.courses.proofs.Common.{◌≡◌, ◌≢◌, ℕ, ◌<◌, ◌≤◌, ◌⊎◌, inl, inr, ⊎_elim, List, Some, slice_get, refl, sym, ap, ◌∙◌, arith, ClaimData, Exchange, group_of, HasImpossible, Contradicts, IsBroken, DoConflict, Pair, AreOfGroups, IsContradiction, IsFirstContradiction, HasContradiction}
 
 -- ---- the first is one
 

@@ -1,21 +1,7 @@
 -- What a course that fits keeps: the marks of each exchange with a server that isn't false, and
 -- those of its observation. So they agree.
-use Rattle.std.proofs.Common.{◌≡◌, ℕ, ◌≤◌, ℤ, pos, ◌-ℤ◌, ◌*ℤ◌, ◌≤ℤ◌, Bool, false, inl, inr, List, Some, length, refl, sym, arith}
-use Rattle.std.specs.Prelude.{All, slice_get}
-use Rattle.std.proofs.lemmas.Int.{ints}
-use Rattle.std.proofs.lemmas.Option.{slice_get_within}
-use Rattle.claim_file.specs.Claim.{ClaimData}
-use Rattle.certificate.specs.Refutation.{RefutationData}
-use Rattle.pairing.specs.declared.exchange.Exchange.{Exchange}
-use Rattle.marks.specs.declared.mark.Mark.{Mark}
-use Rattle.marks.specs.Mark.{low_mark, high_mark, IsPossible, AreCompatible}
-use Rattle.sample_interval.specs.Moment.{Moment, error_of}
-use Rattle.sample_interval.specs.Window.{request_start, reply_end}
-use Rattle.checker.specs.Course.{Course, Fits, IsClientMoment}
-use Rattle.checker.specs.Refutation.{is_liar, IsAgainst}
-use Rattle.courses.specs.Keeping.{KeepsLow, KeepsHigh}
-use Rattle.courses.specs.TrueMarks.{low_marks, high_marks, DoAgree}
-use Rattle.courses.specs.DriftRefutation.{mark_of, IsRefutedWithDrift, Shows}
+use Rattle.courses.proofs.Common.{◌≡◌, ℕ, ◌≤◌, ℤ, pos, ◌-ℤ◌, ◌*ℤ◌, ◌≤ℤ◌, Bool, false, inl, inr, List, Some, length, refl, sym, arith, All, ints, slice_get_within, ClaimData, RefutationData, Exchange, Mark, low_mark, high_mark, IsPossible, AreCompatible, Moment, error_of, request_start, reply_end, Course, Fits, IsClientMoment, is_liar, IsAgainst, KeepsLow, KeepsHigh, low_marks, high_marks, DoAgree, mark_of, IsRefutedWithDrift, Shows}
+use Rattle.std.specs.Prelude.{slice_get}
 use Rattle.courses.proofs.Scaling.{times-sub, cancel}
 use Rattle.courses.proofs.KeptMarks.{moments_in_order, kept_are_compatible}
 use Rattle.courses.proofs.ServedExchange.{Times, AreServed, leaves_in_time, arrives_in_time, stamps_in_order, goes_on}

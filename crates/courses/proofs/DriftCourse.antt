@@ -1,19 +1,6 @@
 -- The course that an accepted refutation stands for, and what it does to the claim.
-use Rattle.std.proofs.Common.{◌≡◌, ℕ, ◌<◌, ◌*◌, ℤ, pos, ◌*ℤ◌, ◌≤ℤ◌, ◌<ℤ◌, unsigned_abs, List, length, refl, arith}
-use Rattle.std.specs.Prelude.{All, AllPairs}
-use Rattle.std.proofs.lemmas.Int.{ints, unsigned_abs-mul}
-use Rattle.certificate.specs.Refutation.{RefutationData}
-use Rattle.claim_file.specs.Claim.{ClaimData, IsLawful}
-use Rattle.intersection.specs.Fineness.{times_le}
-use Rattle.pairing.specs.Exchange.{IsLawful as IsLawfulExchange, SameRequest}
-use Rattle.pairing.specs.declared.exchange.Exchange.{Exchange}
-use Rattle.sample_interval.specs.Moment.{error_of}
-use Rattle.checker.specs.Course.{Course, Fits, FitsInWindows}
-use Rattle.checker.specs.Refutation.{is_liar, IsAgainst}
-use Rattle.checker.specs.Traceability.{IsObservedIn, IsWithin, IsTraceable, samples_of}
-use Rattle.courses.specs.TrueMarks.{low_marks}
-use Rattle.courses.specs.LowestCourse.{lowest_course}
-use Rattle.courses.specs.DriftRefutation.{mark_of, IsRefutedWithDrift, IsObservedOff, Shows, HasDriftCourse}
+use Rattle.courses.proofs.Common.{◌≡◌, ℕ, ◌<◌, ◌*◌, ℤ, pos, ◌*ℤ◌, ◌≤ℤ◌, ◌<ℤ◌, unsigned_abs, List, length, refl, arith, All, AllPairs, ints, unsigned_abs-mul, RefutationData, ClaimData, times_le, IsLawful as IsLawfulExchange, SameRequest, Exchange, error_of, Course, Fits, FitsInWindows, is_liar, IsAgainst, IsObservedIn, IsWithin, IsTraceable, samples_of, low_marks, lowest_course, mark_of, IsRefutedWithDrift, IsObservedOff, Shows, HasDriftCourse}
+use Rattle.claim_file.specs.Claim.{IsLawful}
 use Rattle.courses.proofs.Scaling.{cancel}
 use Rattle.courses.proofs.LowestMarks.{first_is_met}
 use Rattle.courses.proofs.LowestCourse.{Needs, lowest_fits, lowest_shares}

@@ -1,21 +1,6 @@
 -- The test of a refutation with drift is true exactly if it is accepted.
-use Rattle.std.proofs.Common.{◌≡◌, ℕ, zero, suc, ◌-◌, ℤ, pos, ◌-ℤ◌, ◌*ℤ◌, ◌≤ℤ◌, ◌<ℤ◌, Bool, true, false, true≢false, List, ◌∷◌, refl, sym, ◌∙◌, arith}
-use Rattle.std.specs.Prelude.{int_le, All, if◌then◌else◌, IsTrue, ◌↔◌}
-use Rattle.std.specs.List.{list_all, slice_index_or}
-use Rattle.std.proofs.lemmas.Int.{ints}
-use Rattle.std.proofs.lemmas.List.Sums.{AllPass-from_list_all, list_all-from_AllPass}
-use Rattle.certificate.specs.Refutation.{RefutationData}
-use Rattle.checker.specs.Refutation.{is_liar, IsAgainst}
+use Rattle.courses.proofs.Common.{◌≡◌, ℕ, zero, suc, ◌-◌, ℤ, pos, ◌-ℤ◌, ◌*ℤ◌, ◌≤ℤ◌, ◌<ℤ◌, Bool, true, false, true≢false, List, ◌∷◌, refl, sym, ◌∙◌, arith, int_le, All, if◌then◌else◌, IsTrue, ◌↔◌, list_all, slice_index_or, ints, AllPass-from_list_all, list_all-from_AllPass, RefutationData, is_liar, IsAgainst, ClaimData, IsRefutedWithDrift, mark_of, is_possible, are_compatible, all_compatible, do_agree, is_refuted_with_drift, true_exchanges, low_marks, high_marks, AreAllCompatible, IsPossible, AreCompatible, Mark, Exchange, billion, both_true, le_from, le_to}
 use Rattle.checker.specs.RefutationTest.{is_against}
-use Rattle.claim_file.specs.Claim.{ClaimData}
-use Rattle.courses.specs.DriftRefutation.{IsRefutedWithDrift, mark_of}
-use Rattle.courses.specs.DriftTest.{is_possible, are_compatible, all_compatible, do_agree, is_refuted_with_drift}
-use Rattle.courses.specs.TrueMarks.{true_exchanges, low_marks, high_marks, AreAllCompatible}
-use Rattle.marks.specs.Mark.{IsPossible, AreCompatible}
-use Rattle.marks.specs.declared.mark.Mark.{Mark}
-use Rattle.pairing.specs.declared.exchange.Exchange.{Exchange}
-use Rattle.sample_interval.specs.Widening.{billion}
-use Rattle.checker.proofs.RefutationTests.{both_true, le_from, le_to}
 
 -- ---- tests
 

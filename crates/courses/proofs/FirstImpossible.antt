@@ -1,13 +1,5 @@
 -- The first exchange of a group that is impossible by itself, as it is looked for.
-use Rattle.std.proofs.Common.{◌≡◌, ℕ, ◌+◌, ◌<◌, ◌≤◌, ◌⊎◌, inl, inr, ⊎_elim, Bool, true, false, true≢false, List, Some, length, slice_get, sym, ap, ◌∙◌, subst, arith}
-use Rattle.std.specs.Prelude.{◌==◌}
-use Rattle.std.proofs.lemmas.Bool.{cases_lt}
-use Rattle.std.proofs.lemmas.Option.{slice_get_within}
-use Rattle.claim_file.specs.Claim.{ClaimData}
-use Rattle.marks.specs.Mark.{IsPossible}
-use Rattle.pairing.specs.declared.exchange.Exchange.{Exchange}
-use Rattle.courses.specs.Cover.{group_of}
-use Rattle.courses.specs.PairMarks.{IsImpossibleAt}
+use Rattle.courses.proofs.Common.{◌≡◌, ℕ, ◌+◌, ◌<◌, ◌≤◌, ◌⊎◌, inl, inr, ⊎_elim, Bool, true, false, true≢false, List, Some, length, slice_get, sym, ap, ◌∙◌, subst, arith, ◌==◌, cases_lt, slice_get_within, ClaimData, IsPossible, Exchange, group_of, IsImpossibleAt}
 use Rattle.courses.proofs.GroupMarks.{equal_from, equal_to}
 
 last_of : (k n : ℕ) → k < n + 1 → (k < n) ⊎ (k ≡ n)

@@ -1,24 +1,9 @@
 -- The first marks of two groups that aren't compatible are of the first two exchanges that contradict each other.
-use Rattle.std.proofs.Common.{◌≡◌, ◌≢◌, ℕ, ◌+◌, ◌<◌, ◌≤◌, ◌⊎◌, inl, inr, ⊎_elim, Bool, true, false, List, Option, None, Some, length, map, get_or, slice_get, pos, refl, sym, ap, ◌∙◌, subst, arith}
-use Rattle.std.specs.Prelude.{◌==◌, slice_index, MatchOption}
-use Rattle.std.proofs.lemmas.Bool.{cond-true, cond-false, cases_lt}
-use Rattle.std.proofs.lemmas.Bool.Decides.{nat_tests}
-use Rattle.std.proofs.lemmas.List.{get_or-map, length-map}
-use Rattle.std.proofs.lemmas.Option.{get_or_from_slice_get, slice_get_within}
-use Rattle.claim_file.specs.Claim.{ClaimData}
+use Rattle.courses.proofs.Common.{◌≡◌, ◌≢◌, ℕ, ◌+◌, ◌<◌, ◌≤◌, ◌⊎◌, inl, inr, ⊎_elim, Bool, true, false, List, Option, None, Some, length, map, get_or, slice_get, pos, refl, sym, ap, ◌∙◌, subst, arith, ◌==◌, slice_index, MatchOption, cond-true, cond-false, cases_lt, nat_tests, get_or-map, length-map, get_or_from_slice_get, slice_get_within, ClaimData, low_mark, high_mark, AreCompatible, Mark, Exchange, Pair, IsContradiction, IsNoLater, group_of, group_exchanges, group_lows, group_highs, group_numbers, IsFirstApart, AreNumberedOf, IsFirstIfAny, IsImpossibleAt, IsFirstImpossible, pair_of, is_no_later, earlier, twice, by_test}
 use Rattle.marks.specs.Compatible.{AllCompatible}
 use Rattle.marks.specs.Conflict.{IsFirstConflict}
-use Rattle.marks.specs.Mark.{low_mark, high_mark, AreCompatible}
-use Rattle.marks.specs.declared.mark.Mark.{Mark}
-use Rattle.pairing.specs.declared.exchange.Exchange.{Exchange}
-use Rattle.courses.specs.Contradiction.{Pair, IsContradiction, IsNoLater}
-use Rattle.courses.specs.Cover.{group_of}
-use Rattle.courses.specs.GroupMarks.{group_exchanges, group_lows, group_highs}
-use Rattle.courses.specs.NumberedMarks.{group_numbers, IsFirstApart, AreNumberedOf, IsFirstIfAny}
-use Rattle.courses.specs.PairMarks.{IsImpossibleAt, IsFirstImpossible, pair_of, is_no_later, earlier, twice}
 use Rattle.courses.specs.declared.contradiction.Contradiction.{Contradiction}
 use Rattle.courses.specs.declared.numbered_marks.NumberedMarks.{NumberedMarks}
-use Rattle.checker.proofs.Part.{by_test}
 use Rattle.courses.proofs.GroupMarks.{equal_from, equal_to, never_both}
 use Rattle.courses.proofs.PassingNumbers.{Found, exchange_at, found, no_less, one_there, placed, rising}
 

@@ -1,17 +1,5 @@
 -- The marks of groups tell which groups are broken and which two conflict.
-use Rattle.std.proofs.Common.{◌≡◌, ◌≢◌, ℕ, zero, suc, ◌<◌, Bool, true, false, true≢false, ◌⊎◌, inl, inr, ⊎_elim, List, [], ◌∷◌, Some, length, slice_get, refl, sym, ◌∙◌, subst, arith}
-use Rattle.std.specs.Prelude.{All, filter, ◌==◌}
-use Rattle.std.proofs.lemmas.Bool.{cond-true, cond-false}
-use Rattle.std.proofs.lemmas.Bool.Decides.{nat_tests}
-use Rattle.std.proofs.lemmas.List.Elements.{All-nil, All-cons, All-map}
-use Rattle.claim_file.specs.Claim.{ClaimData}
-use Rattle.pairing.specs.declared.exchange.Exchange.{Exchange}
-use Rattle.marks.specs.Mark.{low_mark, high_mark, IsPossible, AreCompatible}
-use Rattle.courses.specs.TrueMarks.{AreAllCompatible}
-use Rattle.courses.specs.Cover.{group_of, HasImpossible, Contradicts, IsBroken, DoConflict}
-use Rattle.courses.specs.GroupMarks.{group_exchanges, group_lows, group_highs, IsSound, DoGroupsAgree}
-use Rattle.courses.specs.ConflictTable.{IsConflictTable}
-use Rattle.checker.proofs.Part.{by_test}
+use Rattle.courses.proofs.Common.{◌≡◌, ◌≢◌, ℕ, zero, suc, ◌<◌, Bool, true, false, true≢false, ◌⊎◌, inl, inr, ⊎_elim, List, [], ◌∷◌, Some, length, slice_get, refl, sym, ◌∙◌, subst, arith, All, filter, ◌==◌, cond-true, cond-false, nat_tests, All-nil, All-cons, All-map, ClaimData, Exchange, low_mark, high_mark, IsPossible, AreCompatible, AreAllCompatible, group_of, HasImpossible, Contradicts, IsBroken, DoConflict, group_exchanges, group_lows, group_highs, IsSound, DoGroupsAgree, IsConflictTable, by_test}
 use Rattle.courses.proofs.TrueExchanges.{at_passing, All-unmap}
 use Rattle.courses.proofs.Covers.{is_possible_or_not, are_compatible_or_not}
 

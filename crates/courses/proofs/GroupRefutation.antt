@@ -1,27 +1,8 @@
 -- A refutation whose liars are the servers of some groups: it stands exactly if these are a cover, and its own
 -- mark is compatible with those of the other groups.
-use Rattle.std.proofs.Common.{◌≡◌, ℕ, ◌+◌, ◌<◌, ◌≤◌, Bool, true, false, true≢false, cond, not, ◌&&◌, List, [], ◌∷◌, length, map, slice_get, Some, refl, sym, ap, ap₂, ◌∙◌, subst, arith}
-use Rattle.std.specs.Prelude.{All, ◌==◌, ◌↔◌, IsTrue}
-use Rattle.std.specs.List.{list_any}
-use Rattle.std.proofs.lemmas.Bool.Decides.{nat_tests}
-use Rattle.std.proofs.lemmas.List.Elements.{All-head, All-tail, All-map}
+use Rattle.courses.proofs.Common.{◌≡◌, ℕ, ◌+◌, ◌<◌, ◌≤◌, Bool, true, false, true≢false, cond, not, ◌&&◌, List, [], ◌∷◌, length, map, slice_get, Some, refl, sym, ap, ap₂, ◌∙◌, subst, arith, All, ◌==◌, ◌↔◌, IsTrue, list_any, nat_tests, All-head, All-tail, All-map, slice_get_within, RefutationData, is_liar, IsAgainst, ClaimData, IsConflictTable, ConflictData, IsCover, is_of, servers_of, IsCompatibleWith, IsRefutedWithDrift, mark_of, true_exchanges, AreAllCompatible, DoAgree, low_mark, high_mark, IsPossible, AreCompatible, Mark, IsLawful as IsLawfulExchange, Exchange, numbers_below, by_test, fails_below}
 use Rattle.std.proofs.lemmas.Map.Views.{any-filter_same}
-use Rattle.std.proofs.lemmas.Option.{slice_get_within}
-use Rattle.certificate.specs.Refutation.{RefutationData}
-use Rattle.checker.specs.Refutation.{is_liar, IsAgainst}
-use Rattle.claim_file.specs.Claim.{ClaimData, IsLawful}
-use Rattle.courses.specs.ConflictTable.{IsConflictTable}
-use Rattle.courses.specs.Conflicts.{ConflictData, IsCover}
-use Rattle.courses.specs.Cover.{is_of, servers_of}
-use Rattle.courses.specs.DriftRefutation.{IsCompatibleWith, IsRefutedWithDrift, mark_of}
-use Rattle.courses.specs.TrueMarks.{true_exchanges, AreAllCompatible, DoAgree}
-use Rattle.marks.specs.Mark.{low_mark, high_mark, IsPossible, AreCompatible}
-use Rattle.marks.specs.declared.mark.Mark.{Mark}
-use Rattle.pairing.specs.Exchange.{IsLawful as IsLawfulExchange}
-use Rattle.pairing.specs.declared.exchange.Exchange.{Exchange}
-use Rattle.span_cover.specs.Group.{numbers_below}
-use Rattle.checker.proofs.Part.{by_test}
-use Rattle.checker.proofs.Counting.{fails_below}
+use Rattle.claim_file.specs.Claim.{IsLawful}
 use Rattle.courses.proofs.ConflictTables.{by_table, from_table}
 use Rattle.courses.proofs.Covers.{agree_outside, cover_by_agreement}
 use Rattle.courses.proofs.TableCovers.{from_table as to_conflicts, to_table}

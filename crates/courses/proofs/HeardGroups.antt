@@ -1,22 +1,9 @@
 -- Where no more groups have an exchange than may be false: every server of theirs may be false, no
 -- mark is left, and the lowest course of one mark of its own fits.
-use Rattle.std.proofs.Common.{◌≡◌, ℕ, zero, suc, ◌≤◌, ◌==◌, ℤ, pos, ◌+ℤ◌, ◌*ℤ◌, ◌≤ℤ◌, ◌<ℤ◌, unsigned_abs, Bool, true, false, ◌||◌, List, [], ◌∷◌, length, Some, refl, sym, ap, ◌∙◌, true≢false, eq-eqb, arith}
-use Rattle.std.specs.Prelude.{All, slice_get, slice_index}
-use Rattle.std.specs.List.{list_any}
-use Rattle.std.proofs.lemmas.Int.{ints}
-use Rattle.claim_file.specs.Claim.{ClaimData, IsLawful}
-use Rattle.intersection.specs.Fineness.{times_le}
-use Rattle.pairing.specs.Exchange.{IsLawful as IsLawfulExchange}
-use Rattle.pairing.specs.declared.exchange.Exchange.{Exchange}
-use Rattle.marks.specs.declared.mark.Mark.{Mark}
-use Rattle.marks.specs.Mark.{low_mark, high_mark, IsPossible, AreCompatible}
-use Rattle.checker.specs.Course.{Course}
-use Rattle.checker.specs.Traceability.{IsObservedIn, IsTraceable, samples_of}
-use Rattle.sample_interval.specs.Moment.{error_of}
-use Rattle.courses.specs.Cover.{group_of}
-use Rattle.courses.specs.Evidence.{has_exchange, count_with_exchange, IsPossibleError, IsNoEvidence}
-use Rattle.courses.specs.LowestCourse.{lowest_course}
-use Rattle.courses.specs.TrueMarks.{low_marks}
+use Rattle.std.proofs.Common.{◌==◌}
+use Rattle.std.specs.Prelude.{slice_get}
+use Rattle.courses.proofs.Common.{◌≡◌, ℕ, zero, suc, ◌≤◌, ℤ, pos, ◌+ℤ◌, ◌*ℤ◌, ◌≤ℤ◌, ◌<ℤ◌, unsigned_abs, Bool, true, false, ◌||◌, List, [], ◌∷◌, length, Some, refl, sym, ap, ◌∙◌, true≢false, eq-eqb, arith, All, slice_index, list_any, ints, ClaimData, times_le, IsLawful as IsLawfulExchange, Exchange, Mark, low_mark, high_mark, IsPossible, AreCompatible, Course, IsObservedIn, IsTraceable, samples_of, error_of, group_of, has_exchange, count_with_exchange, IsPossibleError, IsNoEvidence, lowest_course, low_marks}
+use Rattle.claim_file.specs.Claim.{IsLawful}
 use Rattle.courses.proofs.Covers.{few_by_cover}
 use Rattle.courses.proofs.DriftCourse.{beyond}
 use Rattle.courses.proofs.LowestCourse.{Needs, lowest_fits, lowest_shares}

@@ -1,22 +1,6 @@
 -- Lists of kept marks, as they are gathered.
-use Rattle.std.proofs.Common.{◌≡◌, ℕ, ◌+◌, ◌<◌, suc, drop, length, Some, subst, ℤ, Bool, true, false, not, List, [], ◌∷◌, ◌++◌, map, refl, sym, ap, ap₂, ◌∙◌, arith}
-use Rattle.std.specs.Prelude.{All, slice_get, slice_index, ◌==◌}
-use Rattle.std.proofs.lemmas.Bool.Decides.{nat_tests}
-use Rattle.std.proofs.lemmas.Grind.{get_or_default_zero}
-use Rattle.courses.specs.GroupMarks.{is_outside}
-use Rattle.std.specs.List.{list_all, slice_index_or}
-use Rattle.std.proofs.lemmas.Bool.{cond-true, cond-false}
-use Rattle.std.proofs.lemmas.List.Elements.{All-append, All-cons, All-nil}
-use Rattle.std.proofs.Math.Seq.{append_snoc, drop-cons}
-use Rattle.std.proofs.lemmas.Option.{get_or_from_slice_get, slice_get-get_or, slice_get_within}
-use Rattle.std.proofs.lemmas.List.{get_or-map, length-map}
-use Rattle.marks.specs.declared.mark.Mark.{Mark}
-use Rattle.marks.specs.Range.{IsWithinRange}
-use Rattle.marks.specs.Mark.{low_mark, high_mark}
-use Rattle.pairing.specs.Exchange.{IsLawful as IsLawfulExchange}
-use Rattle.pairing.specs.declared.exchange.Exchange.{Exchange}
-use Rattle.courses.specs.DriftTest.{is_possible}
-use Rattle.courses.specs.TrueMarks.{true_exchanges, low_marks, high_marks}
+use Rattle.courses.proofs.Common.{◌≡◌, ℕ, ◌+◌, ◌<◌, suc, drop, length, Some, subst, ℤ, Bool, true, false, not, List, [], ◌∷◌, ◌++◌, map, refl, sym, ap, ap₂, ◌∙◌, arith, All, slice_index, ◌==◌, nat_tests, get_or_default_zero, is_outside, list_all, slice_index_or, cond-true, cond-false, All-append, All-cons, All-nil, append_snoc, drop-cons, get_or_from_slice_get, slice_get-get_or, slice_get_within, get_or-map, length-map, Mark, IsWithinRange, low_mark, high_mark, IsLawful as IsLawfulExchange, Exchange, is_possible, true_exchanges, low_marks, high_marks}
+use Rattle.std.specs.Prelude.{slice_get}
 
 -- ---- what the element at a place shows
 

@@ -1,12 +1,5 @@
 -- Two marks that moments of one clock keep are compatible, and each holds at its place.
-use Rattle.std.proofs.Common.{◌≡◌, ℕ, ◌+◌, ◌-◌, ◌*◌, ◌<◌, ◌≤◌, ℤ, pos, ◌+ℤ◌, ◌-ℤ◌, ◌*ℤ◌, ◌≤ℤ◌, ◌<ℤ◌, unsigned_abs, refl, subst, arith}
-use Rattle.std.proofs.lemmas.Int.{ints}
-use Rattle.std.proofs.Math.Nat.{le_of_mul-le-mul_right, mul-le-mul_right}
-use Rattle.marks.specs.declared.mark.Mark.{Mark}
-use Rattle.marks.specs.Mark.{AreCompatible}
-use Rattle.sample_interval.specs.Moment.{Moment, error_of, error_change, DriftsWithin}
-use Rattle.sample_interval.specs.Widening.{billion}
-use Rattle.courses.specs.Keeping.{time_of, KeepsLow, KeepsHigh}
+use Rattle.courses.proofs.Common.{◌≡◌, ℕ, ◌+◌, ◌-◌, ◌*◌, ◌<◌, ◌≤◌, ℤ, pos, ◌+ℤ◌, ◌-ℤ◌, ◌*ℤ◌, ◌≤ℤ◌, ◌<ℤ◌, unsigned_abs, refl, subst, arith, ints, le_of_mul-le-mul_right, mul-le-mul_right, Mark, AreCompatible, Moment, error_of, error_change, DriftsWithin, billion, time_of, KeepsLow, KeepsHigh}
 use Rattle.courses.proofs.Scaling.{times-sub, scaled_beyond, bounded}
 use Rattle.courses.proofs.Steps.{Drifts, Drifts-turned, rises_by, falls_by, readings_go_on, times_go_on}
 use Rattle.courses.proofs.Agreement.{TwoKept, ahead, behind}

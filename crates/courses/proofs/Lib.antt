@@ -1,3 +1,4 @@
+mod Common
 pub mod Scaling
 pub mod Steps
 pub mod Agreement

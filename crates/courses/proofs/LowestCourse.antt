@@ -1,24 +1,7 @@
 -- The lowest course fits: the servers that aren't false receive and answer in time.
-use Rattle.std.proofs.Common.{◌≡◌, ℕ, ◌+◌, ◌-◌, ◌*◌, ◌<◌, ◌≤◌, ℤ, pos, ◌+ℤ◌, ◌-ℤ◌, ◌*ℤ◌, ◌≤ℤ◌, Bool, false, ⊎_elim, List, Some, length, refl, ap, arith}
-use Rattle.std.specs.Prelude.{All, AllPairs, slice_get}
-use Rattle.std.specs.Int.{int_max, int_min}
-use Rattle.std.proofs.lemmas.Int.{ints, clamps}
-use Rattle.std.proofs.Math.Nat.{mul-le-mul_left}
-use Rattle.intersection.specs.Fineness.{times_le, times-add}
-use Rattle.claim_file.specs.Claim.{ClaimData, IsLawful}
-use Rattle.pairing.specs.declared.exchange.Exchange.{Exchange}
-use Rattle.marks.specs.declared.mark.Mark.{Mark}
-use Rattle.pairing.specs.Exchange.{IsLawful as IsLawfulExchange, SameRequest}
-use Rattle.marks.specs.Mark.{low_mark, high_mark, IsPossible, AreCompatible}
-use Rattle.sample_interval.specs.Moment.{Moment, DriftsWithin, IsWithinDistance}
-use Rattle.sample_interval.specs.Widening.{billion}
-use Rattle.sample_interval.specs.Window.{request_start, request_end, reply_start, reply_end}
-use Rattle.checker.specs.Course.{Course, FitsInWindows, IsClientMoment, ReadsInWindows, ComesInOrder, KeepsRootDistance}
-use Rattle.checker.specs.Groups.{false_group_count}
-use Rattle.checker.specs.Refutation.{SharesRequests}
-use Rattle.courses.specs.Keeping.{KeepsLow, KeepsHigh}
-use Rattle.courses.specs.TrueMarks.{low_marks, high_marks, DoAgree}
-use Rattle.courses.specs.LowestCourse.{fineness_of, lowest_moment, of_exchange, lowest_course}
+use Rattle.courses.proofs.Common.{◌≡◌, ℕ, ◌+◌, ◌-◌, ◌*◌, ◌<◌, ◌≤◌, ℤ, pos, ◌+ℤ◌, ◌-ℤ◌, ◌*ℤ◌, ◌≤ℤ◌, Bool, false, ⊎_elim, List, Some, length, refl, ap, arith, All, AllPairs, int_max, int_min, ints, clamps, mul-le-mul_left, times_le, times-add, ClaimData, Exchange, Mark, IsLawful as IsLawfulExchange, SameRequest, low_mark, high_mark, IsPossible, AreCompatible, Moment, DriftsWithin, IsWithinDistance, billion, request_start, request_end, reply_start, reply_end, Course, FitsInWindows, IsClientMoment, ReadsInWindows, ComesInOrder, KeepsRootDistance, false_group_count, SharesRequests, KeepsLow, KeepsHigh, low_marks, high_marks, DoAgree, fineness_of, lowest_moment, of_exchange, lowest_course}
+use Rattle.std.specs.Prelude.{slice_get}
+use Rattle.claim_file.specs.Claim.{IsLawful}
 use Rattle.checker.proofs.RefutationCourse.{around, widened, one_start}
 use Rattle.courses.proofs.Scaling.{times-sub}
 use Rattle.courses.proofs.TrueExchanges.{each_at, true_at, marks_at, all_marks, pair_at}

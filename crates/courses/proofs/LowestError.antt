@@ -1,14 +1,5 @@
 -- The lowest error rises and falls no faster than it may, and keeps every mark.
-use Rattle.std.proofs.Common.{◌≡◌, ℕ, ◌+◌, ◌-◌, ◌*◌, ◌≤◌, ℤ, pos, ◌+ℤ◌, ◌-ℤ◌, ◌*ℤ◌, ◌≤ℤ◌, unsigned_abs, List, [], ◌∷◌, arith}
-use Rattle.std.specs.Prelude.{All, fold}
-use Rattle.std.specs.Int.{int_max}
-use Rattle.std.proofs.lemmas.Int.{ints, clamps, by_lt_z}
-use Rattle.std.proofs.lemmas.List.Elements.{All-nil, All-cons, All-head, All-tail}
-use Rattle.std.proofs.Math.Nat.{mul-le-mul_left}
-use Rattle.marks.specs.declared.mark.Mark.{Mark}
-use Rattle.sample_interval.specs.Moment.{DriftsWithin}
-use Rattle.sample_interval.specs.Widening.{billion}
-use Rattle.courses.specs.LowestCourse.{fineness_of, most_rise, most_fall, error_left, lowest_error, lowest_moment}
+use Rattle.courses.proofs.Common.{◌≡◌, ℕ, ◌+◌, ◌-◌, ◌*◌, ◌≤◌, ℤ, pos, ◌+ℤ◌, ◌-ℤ◌, ◌*ℤ◌, ◌≤ℤ◌, unsigned_abs, List, [], ◌∷◌, arith, All, fold, int_max, ints, clamps, by_lt_z, All-nil, All-cons, All-head, All-tail, mul-le-mul_left, Mark, DriftsWithin, billion, fineness_of, most_rise, most_fall, error_left, lowest_error, lowest_moment}
 use Rattle.courses.proofs.Scaling.{scaled_beyond}
 use Rattle.courses.proofs.Slope.{Changes, Changes-asked, Changes-greatest}
 use Rattle.courses.proofs.AllowedDrift.{drifts, drifts_back, no_sooner}

@@ -1,18 +1,6 @@
 -- The lowest course keeps every mark: it is no lower than a low mark, and no higher than a high
 -- mark with which each low mark is compatible.
-use Rattle.std.proofs.Common.{◌≡◌, ℕ, ◌+◌, ◌-◌, ◌*◌, ◌≤◌, ℤ, pos, ◌+ℤ◌, ◌-ℤ◌, ◌*ℤ◌, ◌≤ℤ◌, ◌<ℤ◌, unsigned_abs, List, refl, ◌∙◌, arith}
-use Rattle.std.specs.Prelude.{All}
-use Rattle.std.specs.List.{slice_index_or}
-use Rattle.std.proofs.lemmas.Int.{ints, by_lt_z}
-use Rattle.std.proofs.lemmas.List.Elements.{All-weaker}
-use Rattle.std.proofs.Math.Nat.{mul-le-mul_left}
-use Rattle.intersection.specs.Fineness.{times_le, times-add}
-use Rattle.marks.specs.declared.mark.Mark.{Mark}
-use Rattle.marks.specs.Mark.{AreCompatible}
-use Rattle.sample_interval.specs.Moment.{error_of}
-use Rattle.sample_interval.specs.Widening.{billion}
-use Rattle.courses.specs.Keeping.{KeepsLow, KeepsHigh}
-use Rattle.courses.specs.LowestCourse.{fineness_of, most_rise, most_fall, error_left, lowest_error, lowest_moment}
+use Rattle.courses.proofs.Common.{◌≡◌, ℕ, ◌+◌, ◌-◌, ◌*◌, ◌≤◌, ℤ, pos, ◌+ℤ◌, ◌-ℤ◌, ◌*ℤ◌, ◌≤ℤ◌, ◌<ℤ◌, unsigned_abs, List, refl, ◌∙◌, arith, All, slice_index_or, ints, by_lt_z, All-weaker, mul-le-mul_left, times_le, times-add, Mark, AreCompatible, error_of, billion, KeepsLow, KeepsHigh, fineness_of, most_rise, most_fall, error_left, lowest_error, lowest_moment}
 use Rattle.courses.proofs.Scaling.{times-sub, product_from, bounded}
 use Rattle.courses.proofs.Slope.{asked_after, asked_before}
 use Rattle.courses.proofs.LowestError.{first_at_most, each_at_most, all_at_most}

@@ -1,16 +1,5 @@
 -- The numbers and marks of a group, as they are gathered.
-use Rattle.std.proofs.Common.{◌≡◌, ℕ, ◌+◌, ◌<◌, ◌⊎◌, ⊎_elim, List, [], ◌∷◌, ◌++◌, drop, length, map, Bool, true, false, refl, sym, ap, ◌∙◌, subst, get_or, arith}
-use Rattle.std.specs.Prelude.{All, ◌==◌, filter}
-use Rattle.std.proofs.Math.ListN.{get_or-append, length-append}
-use Rattle.std.proofs.Math.Seq.{append_snoc, get_or-append_seam}
-use Rattle.claim_file.specs.Claim.{ClaimData}
-use Rattle.marks.specs.Mark.{low_mark, high_mark}
-use Rattle.marks.specs.Range.{IsWithinRange}
-use Rattle.marks.specs.declared.mark.Mark.{Mark}
-use Rattle.pairing.specs.declared.exchange.Exchange.{Exchange}
-use Rattle.courses.specs.Cover.{group_of}
-use Rattle.courses.specs.GroupMarks.{group_lows, group_highs}
-use Rattle.courses.specs.NumberedMarks.{numbers_from, group_numbers}
+use Rattle.courses.proofs.Common.{◌≡◌, ℕ, ◌+◌, ◌<◌, ◌⊎◌, ⊎_elim, List, [], ◌∷◌, ◌++◌, drop, length, map, Bool, true, false, refl, sym, ap, ◌∙◌, subst, get_or, arith, All, ◌==◌, filter, get_or-append, length-append, append_snoc, get_or-append_seam, ClaimData, low_mark, high_mark, IsWithinRange, Mark, Exchange, group_of, group_lows, group_highs, numbers_from, group_numbers}
 use Rattle.courses.proofs.KeptMarkLists.{with_last}
 use Rattle.courses.proofs.PassingNumbers.{kept, left_out, counted, not_counted}
 

@@ -1,19 +1,5 @@
 -- A refutation's own mark among the others, and what it refutes besides.
-use Rattle.std.proofs.Common.{◌≡◌, ℕ, ◌+◌, ◌-◌, ◌*◌, ◌<◌, ◌≤◌, ℤ, pos, ◌-ℤ◌, ◌≤ℤ◌, ◌<ℤ◌, unsigned_abs, List, ◌∷◌, arith}
-use Rattle.std.specs.Prelude.{All}
-use Rattle.std.specs.List.{slice_index_or}
-use Rattle.std.proofs.lemmas.Int.{ints}
-use Rattle.std.proofs.lemmas.List.Elements.{All-cons, All-head, All-tail}
-use Rattle.std.proofs.Math.Nat.{le_of_mul-le-mul_left, mul-le-mul_left, mul-le-mul_right}
-use Rattle.certificate.specs.Refutation.{RefutationData}
-use Rattle.claim_file.specs.Claim.{ClaimData}
-use Rattle.pairing.specs.declared.exchange.Exchange.{Exchange}
-use Rattle.sample_interval.specs.Widening.{billion}
-use Rattle.marks.specs.declared.mark.Mark.{Mark}
-use Rattle.marks.specs.Mark.{AreCompatible}
-use Rattle.checker.specs.Refutation.{is_liar}
-use Rattle.courses.specs.TrueMarks.{low_marks, high_marks}
-use Rattle.courses.specs.DriftRefutation.{mark_of, IsRefutedWithDrift, IsRefutedByMarks}
+use Rattle.courses.proofs.Common.{◌≡◌, ℕ, ◌+◌, ◌-◌, ◌*◌, ◌<◌, ◌≤◌, ℤ, pos, ◌-ℤ◌, ◌≤ℤ◌, ◌<ℤ◌, unsigned_abs, List, ◌∷◌, arith, All, slice_index_or, ints, All-cons, All-head, All-tail, le_of_mul-le-mul_left, mul-le-mul_left, mul-le-mul_right, RefutationData, ClaimData, Exchange, billion, Mark, AreCompatible, is_liar, low_marks, high_marks, mark_of, IsRefutedWithDrift, IsRefutedByMarks}
 use Rattle.courses.proofs.Scaling.{bounded, product_from}
 use Rattle.courses.proofs.LowestMarks.{with_itself}
 

@@ -1,16 +1,6 @@
 -- Where the exchanges with servers that aren't false agree, the lowest course fits.
-use Rattle.std.proofs.Common.{ℕ, ◌≤◌, ℤ, pos, Bool, List, [], ◌∷◌, map, length, refl}
-use Rattle.std.specs.Prelude.{All}
-use Rattle.std.proofs.lemmas.List.Elements.{All-nil, All-head}
-use Rattle.claim_file.specs.Claim.{ClaimData, IsLawful}
-use Rattle.pairing.specs.Exchange.{IsLawful as IsLawfulExchange}
-use Rattle.pairing.specs.declared.exchange.Exchange.{Exchange}
-use Rattle.marks.specs.declared.mark.Mark.{Mark}
-use Rattle.marks.specs.Mark.{low_mark, high_mark, AreCompatible}
-use Rattle.checker.specs.Groups.{false_group_count}
-use Rattle.courses.specs.Cover.{SomeCourseAt}
-use Rattle.courses.specs.TrueMarks.{true_exchanges, low_marks, AreAllCompatible, DoAgree, FitsWithFalse}
-use Rattle.courses.specs.LowestCourse.{lowest_course}
+use Rattle.courses.proofs.Common.{ℕ, ◌≤◌, ℤ, pos, Bool, List, [], ◌∷◌, map, length, refl, All, All-nil, All-head, ClaimData, IsLawful as IsLawfulExchange, Exchange, Mark, low_mark, high_mark, AreCompatible, false_group_count, SomeCourseAt, true_exchanges, low_marks, AreAllCompatible, DoAgree, FitsWithFalse, lowest_course}
+use Rattle.claim_file.specs.Claim.{IsLawful}
 use Rattle.courses.proofs.LowestCourse.{Needs, lowest_fits, lowest_shares}
 
 -- the first of some marks, or one at 0

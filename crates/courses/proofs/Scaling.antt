@@ -1,7 +1,5 @@
 -- Whole numbers of ticks times a natural number, and their order.
-use Rattle.std.proofs.Common.{◌≡◌, ℕ, ◌*◌, ◌<◌, ◌≤◌, ℤ, pos, negsuc, ◌+ℤ◌, ◌-ℤ◌, ◌*ℤ◌, ◌≤ℤ◌, refl, arith}
-use Rattle.std.proofs.lemmas.Int.{ints, by_lt_z}
-use Rattle.intersection.specs.Fineness.{times_le, times-add}
+use Rattle.courses.proofs.Common.{◌≡◌, ℕ, ◌*◌, ◌<◌, ◌≤◌, ℤ, pos, negsuc, ◌+ℤ◌, ◌-ℤ◌, ◌*ℤ◌, ◌≤ℤ◌, refl, arith, ints, by_lt_z, times_le, times-add}
 
 -- n times a difference
 pub times-sub : (c a b : ℤ) (n : ℕ) → c ≡ a -ℤ b → (c *ℤ pos n) ≡ (a *ℤ pos n) -ℤ (b *ℤ pos n)

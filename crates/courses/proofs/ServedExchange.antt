@@ -1,9 +1,5 @@
 -- An exchange with a server that isn't false: its four moments keep its two marks.
-use Rattle.std.proofs.Common.{ℕ, ◌<◌, ℤ, pos, ◌+ℤ◌, ◌-ℤ◌, ◌*ℤ◌, ◌≤ℤ◌, true, false, cond, int_lt, refl, arith}
-use Rattle.std.specs.Int.{int_max, int_min}
-use Rattle.std.proofs.lemmas.Int.{ints}
-use Rattle.intersection.specs.Fineness.{times-add}
-use Rattle.sample_interval.specs.Moment.{IsWithinDistance}
+use Rattle.courses.proofs.Common.{ℕ, ◌<◌, ℤ, pos, ◌+ℤ◌, ◌-ℤ◌, ◌*ℤ◌, ◌≤ℤ◌, true, false, cond, int_lt, refl, arith, int_max, int_min, ints, times-add, IsWithinDistance}
 use Rattle.courses.proofs.Scaling.{times-sub, cancel}
 
 -- the true times of the four moments

@@ -1,26 +1,10 @@
 -- Marks of groups, gathered and sorted.
-use Rattle.std.proofs.Common.{◌≡◌, ℕ, ◌+◌, ◌<◌, ◌⊎◌, ⊎_elim, get_or, Vec, Global, Bool, true, false, true≢false, not, List, [], ◌∷◌, ◌++◌, map, length, IsTrue, ◌↔◌, IsPermutation, refl, sym, ap, ◌∙◌, subst, arith}
-use Rattle.std.specs.Prelude.{All, filter, slice_index, ◌==◌}
-use Rattle.std.specs.List.{list_all}
-use Rattle.std.proofs.lemmas.List.Sums.{AllPass-from_list_all, list_all-from_AllPass}
+use Rattle.std.proofs.Common.{IsTrue, ◌↔◌}
+use Rattle.courses.proofs.Common.{◌≡◌, ℕ, ◌+◌, ◌<◌, ◌⊎◌, ⊎_elim, get_or, Vec, Global, Bool, true, false, true≢false, not, List, [], ◌∷◌, ◌++◌, map, length, IsPermutation, refl, sym, ap, ◌∙◌, subst, arith, All, filter, slice_index, ◌==◌, list_all, AllPass-from_list_all, list_all-from_AllPass, with_items_is, IsWithinRange, get_or-append, length-append, get_or-append_seam, ClaimData, Mark, Exchange, is_possible, is_outside, group_exchanges, group_lows, group_highs, IsSound, DoGroupsAgree, AreMarksOf, AreSorted, AreAllSorted, AreOfGroupsInOrder, true_exchanges, low_marks, high_marks, AreAllCompatible, low_mark, high_mark, get_or_default, KeptMarks}
 use Rattle.std.specs.Vec.{with_items}
-use Rattle.std.proofs.lemmas.List.{with_items_is}
 use Rattle.std.proofs.lemmas.List.Sorted.{All-permutation, IsPermutation-sym, length_permutation}
 use Rattle.marks.specs.Direction.{IsInOrder}
-use Rattle.marks.specs.Range.{IsWithinRange}
-use Rattle.std.proofs.Math.ListN.{get_or-append, length-append}
-use Rattle.std.proofs.Math.Seq.{get_or-append_seam}
-use Rattle.claim_file.specs.Claim.{ClaimData}
-use Rattle.marks.specs.declared.mark.Mark.{Mark}
 use Rattle.marks.proofs.Compatibility.{of_permutation, of_sorted}
-use Rattle.pairing.specs.declared.exchange.Exchange.{Exchange}
-use Rattle.courses.specs.DriftTest.{is_possible}
-use Rattle.courses.specs.GroupMarks.{is_outside, group_exchanges, group_lows, group_highs, IsSound, DoGroupsAgree}
-use Rattle.courses.specs.SortedMarks.{AreMarksOf, AreSorted, AreAllSorted, AreOfGroupsInOrder}
-use Rattle.courses.specs.TrueMarks.{true_exchanges, low_marks, high_marks, AreAllCompatible}
-use Rattle.marks.specs.Mark.{low_mark, high_mark}
-use Rattle.std.proofs.lemmas.List.{get_or_default}
-use Rattle.courses.specs.declared.kept_marks.KeptMarks.{KeptMarks}
 use Rattle.courses.specs.declared.sorted_marks.SortedMarks.{SortedMarks}
 use Rattle.courses.proofs.DriftTest.{possible_from, possible_to}
 

@@ -1,15 +1,8 @@
 -- What is observed in a course that fits is observed in the lowest course of what it was: its error at
 -- its reading is compatible with all marks.
-use Rattle.std.proofs.Common.{◌≤◌, ℕ, ℤ, Bool, List, length, refl}
-use Rattle.std.specs.Prelude.{All}
-use Rattle.claim_file.specs.Claim.{ClaimData, IsLawful}
-use Rattle.pairing.specs.Exchange.{IsLawful as IsLawfulExchange}
-use Rattle.pairing.specs.declared.exchange.Exchange.{Exchange}
-use Rattle.marks.specs.declared.mark.Mark.{Mark}
-use Rattle.checker.specs.Course.{Fits, FitsInWindows}
-use Rattle.courses.specs.LowestCourse.{lowest_course}
+use Rattle.courses.proofs.Common.{◌≤◌, ℕ, ℤ, Bool, List, length, refl, All, ClaimData, IsLawful as IsLawfulExchange, Exchange, Mark, Fits, FitsInWindows, lowest_course, low_marks}
+use Rattle.claim_file.specs.Claim.{IsLawful}
 use Rattle.courses.specs.Stamps.{IsObservable}
-use Rattle.courses.specs.TrueMarks.{low_marks}
 use Rattle.courses.proofs.Converse.{agree, low_agrees, high_agrees, observed_low, observed_high}
 use Rattle.courses.proofs.LowestCourse.{Needs, lowest_fits}
 use Rattle.courses.proofs.LowestMarks.{first_is_met}

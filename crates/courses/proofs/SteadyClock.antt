@@ -1,19 +1,6 @@
 -- Refutations of which the error never changes, among those of which it may drift.
-use Rattle.std.proofs.Common.{◌≡◌, ℕ, ◌+◌, ◌-◌, ◌*◌, ◌≤◌, ℤ, pos, ◌+ℤ◌, ◌-ℤ◌, ◌≤ℤ◌, unsigned_abs, false, List, Some, subst, arith}
+use Rattle.courses.proofs.Common.{◌≡◌, ℕ, ◌+◌, ◌-◌, ◌*◌, ◌≤◌, ℤ, pos, ◌+ℤ◌, ◌-ℤ◌, ◌≤ℤ◌, unsigned_abs, false, List, Some, subst, arith, slice_index_or, int_min, int_max, ints, clamps, by_lt_z, slice_get-get_or, ClaimData, RefutationData, Exchange, Mark, low_mark, high_mark, IsPossible, AreCompatible, billion, request_start, reply_end, is_liar, AdmitsError, Admits, IsRefuted, mark_of, IsRefutedWithDrift}
 use Rattle.std.specs.Prelude.{slice_get}
-use Rattle.std.specs.List.{slice_index_or}
-use Rattle.std.specs.Int.{int_min, int_max}
-use Rattle.std.proofs.lemmas.Int.{ints, clamps, by_lt_z}
-use Rattle.std.proofs.lemmas.Option.{slice_get-get_or}
-use Rattle.claim_file.specs.Claim.{ClaimData}
-use Rattle.certificate.specs.Refutation.{RefutationData}
-use Rattle.pairing.specs.declared.exchange.Exchange.{Exchange}
-use Rattle.marks.specs.declared.mark.Mark.{Mark}
-use Rattle.marks.specs.Mark.{low_mark, high_mark, IsPossible, AreCompatible}
-use Rattle.sample_interval.specs.Widening.{billion}
-use Rattle.sample_interval.specs.Window.{request_start, reply_end}
-use Rattle.checker.specs.Refutation.{is_liar, AdmitsError, Admits, IsRefuted}
-use Rattle.courses.specs.DriftRefutation.{mark_of, IsRefutedWithDrift}
 use Rattle.courses.proofs.Scaling.{bounded, product_from}
 use Rattle.courses.proofs.TrueExchanges.{each_at, true_at, all_true, marks_at, all_marks, all_pairs}
 

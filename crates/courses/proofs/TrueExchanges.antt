@@ -1,14 +1,6 @@
 -- What holds of the exchanges with servers that aren't false, one by one and as a list.
-use Rattle.std.proofs.Common.{◌≡◌, ℕ, zero, suc, ℤ, Bool, true, false, not, List, [], ◌∷◌, map, Some, refl, sym, subst}
-use Rattle.std.specs.Prelude.{All, filter, slice_get}
-use Rattle.std.proofs.lemmas.Bool.{cond-true, cond-false}
-use Rattle.std.proofs.lemmas.List.Elements.{All-nil, All-cons, All-head, All-tail, All-map}
-use Rattle.std.proofs.lemmas.Option.{get_or_from_slice_get, slice_get_within}
-use Rattle.pairing.specs.declared.exchange.Exchange.{Exchange}
-use Rattle.marks.specs.declared.mark.Mark.{Mark}
-use Rattle.marks.specs.Mark.{low_mark, high_mark, AreCompatible}
-use Rattle.courses.specs.TrueMarks.{true_exchanges, low_marks, high_marks, AreAllCompatible}
-use Rattle.checker.proofs.Part.{by_test}
+use Rattle.courses.proofs.Common.{◌≡◌, ℕ, zero, suc, ℤ, Bool, true, false, not, List, [], ◌∷◌, map, Some, refl, sym, subst, All, filter, cond-true, cond-false, All-nil, All-cons, All-head, All-tail, All-map, get_or_from_slice_get, slice_get_within, Exchange, Mark, low_mark, high_mark, AreCompatible, true_exchanges, low_marks, high_marks, AreAllCompatible, by_test}
+use Rattle.std.specs.Prelude.{slice_get}
 
 -- what holds of each holds of the one at a place
 pub each_at : {X : Type 0} (P : X → Type 0) (xs : List X) (k : ℕ) (x : X) → All P xs → slice_get xs k ≡ Some x → P x

@@ -1,18 +1,8 @@
 -- The two exchanges an hour apart.
-use Rattle.std.proofs.Common.{◌≡◌, ℕ, ◌+◌, ◌-◌, ◌<◌, ◌≤◌, ℤ, pos, ◌+ℤ◌, ◌-ℤ◌, ◌*ℤ◌, ◌≤ℤ◌, ◌<ℤ◌, Bool, true, false, inr, [], ◌∷◌, count_by, refl, arith}
-use Rattle.std.specs.Prelude.{All, int_le}
-use Rattle.std.proofs.lemmas.Int.{ints}
-use Rattle.std.proofs.lemmas.List.Elements.{All-nil, All-cons}
-use Rattle.sample_interval.specs.Widening.{billion}
-use Rattle.checker.specs.Refutation.{IsRefuted}
+use Rattle.courses.proofs.Common.{◌≡◌, ℕ, ◌+◌, ◌-◌, ◌<◌, ◌≤◌, ℤ, pos, ◌+ℤ◌, ◌-ℤ◌, ◌*ℤ◌, ◌≤ℤ◌, ◌<ℤ◌, Bool, true, false, inr, [], ◌∷◌, count_by, refl, arith, All, int_le, ints, All-nil, All-cons, billion, IsRefuted, Mark, low_mark, high_mark, IsPossible, AreCompatible, mark_of, IsRefutedWithDrift, Contradicts, SomeCourse, le_from}
 use Rattle.checker.specs.WorkedCourse.{worked_exchange}
 use Rattle.checker.specs.WorkedRefutation.{claim_with, refutation_with}
-use Rattle.marks.specs.declared.mark.Mark.{Mark}
-use Rattle.marks.specs.Mark.{low_mark, high_mark, IsPossible, AreCompatible}
-use Rattle.courses.specs.DriftRefutation.{mark_of, IsRefutedWithDrift}
-use Rattle.courses.specs.Cover.{Contradicts, SomeCourse}
 use Rattle.courses.specs.WorkedDrift.{later_exchange, both_exchanges, drifting_claim}
-use Rattle.checker.proofs.RefutationTests.{le_from}
 use Rattle.courses.proofs.Covers.{small_cover}
 
 -- ---- compatible by a test

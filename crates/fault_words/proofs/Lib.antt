@@ -1,2 +1,3 @@
+mod Common
 pub mod Quiet
 pub mod TwoLines

@@ -1,14 +1,10 @@
 -- Texts of which a terminal obeys no character.
-use Rattle.std.proofs.Common.{◌≡◌, ℕ, zero, suc, ◌/◌, ◌%◌, ◌<◌, ◌≤◌, ◌++◌, ◌==◌, ◌&&◌, Bool, true, false, if◌then◌else◌, T, List, [], ◌∷◌, codes, refl, sym, subst, append-nil, arith}
+use Rattle.fault_words.proofs.Common.{◌≡◌, ℕ, zero, suc, ◌/◌, ◌%◌, ◌<◌, ◌≤◌, ◌++◌, ◌==◌, ◌&&◌, Bool, true, false, if◌then◌else◌, T, List, [], ◌∷◌, codes, refl, sym, subst, append-nil, arith, encode_utf8, flat_map, NoCharPasses-append, NoCharPasses-nil, encodes-IsAscii, IsQuiet, are_visible, is_obeyed, is_visible, shown_char}
 use Rattle.std.proofs.lemmas.Bool.Decides.{nat_tests}
 use Rattle.std.proofs.Math.Nat.{mod-lt}
 use lib.Ieee.Fits.{and_l, and_r}
-use Rattle.std.specs.Prelude.{encode_utf8}
 use Rattle.std.specs.Fmt.{decimal, digits, digits_onto, digit_glyph}
-use Rattle.std.specs.List.{flat_map}
 use Rattle.std.specs.Str.{IsAscii, NonePass}
-use Rattle.std.proofs.lemmas.Str.{NoCharPasses-append, NoCharPasses-nil, encodes-IsAscii}
-use Rattle.fault_words.specs.Quote.{IsQuiet, are_visible, is_obeyed, is_visible, shown_char}
 
 visible_is_unobeyed : (c : ℕ) → T (is_visible c) → is_obeyed c ≡ false
 visible_is_unobeyed c visible = grind (arith, nat_tests)

@@ -1,15 +1,9 @@
 -- The words about a fault are two lines.
-use Rattle.std.proofs.Common.{◌∙◌, inl, inr, ℕ, ◌++◌, Bool, true, false, T, List, [], ◌∷◌, codes, refl, sym, subst, append_assoc, nat_eq, if◌then◌else◌, take}
-use Rattle.std.specs.Prelude.{Option, Some, None, chars}
-use Rattle.std.specs.List.{flat_map}
-use Rattle.std.proofs.lemmas.Str.{NoCharPasses-nil}
+use Rattle.fault_words.proofs.Common.{◌∙◌, inl, inr, ℕ, ◌++◌, Bool, true, false, T, List, [], ◌∷◌, codes, refl, sym, subst, append_assoc, nat_eq, if◌then◌else◌, take, Option, Some, None, chars, flat_map, NoCharPasses-nil, AreQuiet, AreTwoLines, AreWords, FoundData, IsExplanation, IsOutputExplanation, IsTimeExplanation, field_of, field_words, IsQuiet, IsQuoted, are_visible, front, is_obeyed, IsQuietKnown, KnownData, are_words, filled, filling}
 use Rattle.report.specs.declared.fault.Input.{Input}
 use Rattle.report.specs.declared.fault.Input.TheVariants as inputs
 use Rattle.report.specs.declared.fault.RunFault.{RunFault}
 use Rattle.fault_words.specs.ClaimField.{field_name}
-use Rattle.fault_words.specs.Explanation.{AreQuiet, AreTwoLines, AreWords, FoundData, IsExplanation, IsOutputExplanation, IsTimeExplanation, field_of, field_words}
-use Rattle.fault_words.specs.Quote.{IsQuiet, IsQuoted, are_visible, front, is_obeyed}
-use Rattle.fault_words.specs.Sentence.{IsQuietKnown, KnownData, are_words, filled, filling}
 use Rattle.fault_words.specs.Subject.{NamesData, input_of, name_of, subject}
 use Rattle.fault_words.proofs.Quiet.{either_visible, quiet_append, said, said_between, shown_char_is_quiet, shown_is_quiet, visible_is_quiet}
 

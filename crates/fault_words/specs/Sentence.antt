@@ -1,5 +1,5 @@
 -- The sentence of a fault: what is wrong, and what to do. That there is a sentence for each, and
--- which, is a table of the program, which tests/words sees; here stands what holds of all.
+-- which, is a table, which tests/system/test_words.py sees; here stands what holds of all.
 use Rattle.std.specs.Prelude.{List, ℕ, [], ◌∷◌, Bool, false, T, if◌then◌else◌, nat_eq, chars}
 use Rattle.std.specs.Prelude.{string_bytes}
 use Rattle.std.specs.List.{flat_map}

@@ -2,7 +2,7 @@
 //!
 //! [`sentence_of`] has the sentence of each fault, `claim_field` those of a claim's fields, and
 //! `kind` and [`obstacle_sentence`] what is done about a file that is something else. They are
-//! tables, and no definition says the same again: `tests/words` sees each of their texts.
+//! tables, and no definition says the same again: `tests/system/test_words.py` sees each text.
 //! [`explain`] puts a sentence behind the name of the file that the fault is of, with what [`look`]
 //! sees there, and names and places into what is to be done. What is seen is no more than help: it
 //! changes no sentence's subject and no fault. A terminal obeys nothing of what [`look`], [`shown`]

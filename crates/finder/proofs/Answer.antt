@@ -1,22 +1,8 @@
 -- What is found, and what that says.
-use Rattle.std.proofs.Common.{◌≡◌, ℕ, ◌<◌, ◌≤◌, nat_lt, true, not, length, Option, Some, None, Ok, Err, inl, inr, refl, sym, ap, ◌∙◌, subst, arith}
-use Rattle.std.specs.Prelude.{◌⊎◌, ◌↔◌, List, Result, IsErrAnd}
-use Rattle.std.proofs.lemmas.Bool.{cond-true, cond-false}
-use Rattle.std.proofs.lemmas.List.FromFn.{length-map-range_with_len}
-use Rattle.certificate.specs.Certificate.{CertificateData, data_of as certificate_data, max_pieces}
-use Rattle.claim_file.specs.Claim.{ClaimData, IsLawful}
-use Rattle.intersection.specs.declared.kinds.Hull.{Hull}
-use Rattle.sample_interval.specs.declared.kinds.Sample.{Sample}
-use Rattle.checker.specs.Traceability.{HoldsError}
-use Rattle.checker.specs.Verdict.{verdict_of}
-use Rattle.checker.specs.declared.verdict.Verdict.TheVariants.{Yes}
-use Rattle.span_cover.specs.Group.{is_inside}
-use Rattle.finder.specs.Answer.{Finds}
-use Rattle.finder.specs.Found.{data_of, IsFirstFailing, pieces_from, piece_at, hull_at, passes, first_failing, found_without, found_of}
-use Rattle.finder.specs.Piece.{IsPieceCount, count_of, stretch_at}
-use Rattle.checker.specs.Samples.{AreSamplesOf}
-use Rattle.finder.specs.declared.fault.FindFault.{FindFault}
-use Rattle.finder.specs.declared.fault.FindFault.TheVariants.{TooManyPieces, Memory}
+use Rattle.finder.proofs.Common.{◌≡◌, ℕ, ◌<◌, ◌≤◌, nat_lt, true, not, length, Option, Some, None, Ok, Err, inl, inr, refl, sym, ap, ◌∙◌, subst, arith, ◌↔◌, IsErrAnd, cond-true, cond-false, length-map-range_with_len, CertificateData, max_pieces, ClaimData, IsLawful, Hull, Sample, HoldsError, verdict_of, Yes, is_inside, Finds, IsFirstFailing, pieces_from, piece_at, hull_at, passes, first_failing, found_without, found_of, IsPieceCount, count_of, stretch_at, AreSamplesOf, FindFault, TooManyPieces, Memory}
+use Rattle.std.specs.Prelude.{◌⊎◌, List, Result}
+use Rattle.certificate.specs.Certificate.{data_of as certificate_data}
+use Rattle.finder.specs.Found.{data_of}
 use Rattle.finder.specs.declared.found.Found.{Found}
 use Rattle.finder.specs.declared.found.Found.TheVariants.{Certificate, Nothing}
 use Rattle.finder.proofs.List.{find_is_first, find_is_none, was, was_not}

@@ -1,14 +1,5 @@
 -- Accepted certificates reach no further than the longest pieces.
-use Rattle.std.proofs.Common.{◌≡◌, ℕ, zero, suc, ℤ, pos, ◌≤ℤ◌, List, [], ◌∷◌, Some, refl, subst, arith}
-use Rattle.std.specs.Prelude.{slice_get}
-use Rattle.std.proofs.lemmas.Int.{ints}
-use Rattle.certificate.specs.Certificate.{PieceData, CertificateData}
-use Rattle.claim_file.specs.Claim.{ClaimData, IsLawful}
-use Rattle.sample_interval.specs.declared.kinds.Sample.{Sample}
-use Rattle.checker.specs.Verdict.{verdict_of}
-use Rattle.checker.specs.declared.verdict.Verdict.TheVariants.{Yes}
-use Rattle.finder.specs.Fewest.{AreLongest}
-use Rattle.checker.specs.Samples.{AreSamplesOf}
+use Rattle.finder.proofs.Common.{◌≡◌, ℕ, zero, suc, ℤ, pos, ◌≤ℤ◌, List, [], ◌∷◌, Some, refl, subst, arith, slice_get, ints, PieceData, CertificateData, ClaimData, IsLawful, Sample, verdict_of, Yes, AreLongest, AreSamplesOf}
 use Rattle.finder.proofs.FewestPieces.{InSpan, Laws, end_in_span, first_in_span, no_further, pass_of}
 use Rattle.finder.proofs.Refusal.{Pass}
 

@@ -1,20 +1,5 @@
 -- The least bound of hulls.
-use Rattle.std.proofs.Common.{◌≡◌, inl, inr, ℕ, zero, suc, ◌+◌, ◌-◌, ◌*◌, ◌/◌, ◌%◌, ◌<◌, ◌≤◌, max, ℤ, pos, neg_ℤ, int_le, nat_lt, Bool, true, false, ◌&&◌, refl, sym, ap, ◌∙◌, subst, ⊎_elim, arith, add-one}
-use Rattle.std.proofs.Math.Nat.{mul-le-mul_right}
-use Rattle.std.proofs.lemmas.Bool.{cases_lt}
-use Rattle.std.proofs.lemmas.Bool.Decides.{nat_tests}
-use Rattle.std.proofs.lemmas.Grind.{div_ceil_times}
-use Rattle.std.proofs.lemmas.Int.{ints, clamps}
-use Rattle.std.proofs.lemmas.Nat.{div-mul-add}
-use Rattle.std.specs.Int.{div_ceil}
-use Rattle.era_unfold.specs.Nanoseconds.{nanoseconds_per_second, ticks_down}
-use Rattle.era_unfold.specs.Ratio.{IsCeiling, ceiling_of}
-use Rattle.era_unfold.specs.Window.{ticks_per_second}
-use Rattle.intersection.specs.declared.kinds.Hull.{Hull}
-use Rattle.intersection.specs.declared.kinds.Hull.TheVariants.{Unbounded, Empty, Bounded}
-use Rattle.finder.specs.Envelope.{IsInside, HasNoEnds, AreInside, IsLeastBound, IsFirstInNeed, IsFirstWithout, IsLeast, reach_of, nanoseconds_of, with_need, with_piece, least_of}
-use Rattle.finder.specs.declared.least.LeastBound.{LeastBound}
-use Rattle.finder.specs.declared.least.LeastBound.TheVariants.{Holds, NoneHolds}
+use Rattle.finder.proofs.Common.{◌≡◌, inl, inr, ℕ, zero, suc, ◌+◌, ◌-◌, ◌*◌, ◌/◌, ◌%◌, ◌<◌, ◌≤◌, max, ℤ, pos, neg_ℤ, int_le, nat_lt, Bool, true, false, ◌&&◌, refl, sym, ap, ◌∙◌, subst, ⊎_elim, arith, add-one, mul-le-mul_right, cases_lt, nat_tests, div_ceil_times, ints, clamps, div-mul-add, div_ceil, nanoseconds_per_second, ticks_down, IsCeiling, ceiling_of, ticks_per_second, Hull, Unbounded, Empty, Bounded, IsInside, HasNoEnds, AreInside, IsLeastBound, IsFirstInNeed, IsFirstWithout, IsLeast, reach_of, nanoseconds_of, with_need, with_piece, least_of, LeastBound, Holds, NoneHolds}
 
 -- ---- the number that the code computes
 

@@ -1,11 +1,5 @@
 -- The numbers of a claim that keeps its limits, as 128 bits hold them.
-use Rattle.std.proofs.Common.{◌≡◌, ℕ, ◌<◌, ◌≤◌, ◌^◌, pos, ◌-ℤ◌, ◌≤ℤ◌, ◌<ℤ◌, unsigned_abs, length, to_z, of_z, Fits, w8, arith}
-use Rattle.std.proofs.lemmas.Int.{ints, fits_signed_from_abs}
-use Rattle.std.specs.Int.Signed.{non_neg, yes_non_neg}
-use Rattle.std.proofs.Math.Dec.{T}
-use mir.Syntax.{w128}
-use mir.Val.{SFits}
-use Rattle.claim_file.specs.Claim.{ClaimData, IsLawful}
+use Rattle.finder.proofs.Common.{◌≡◌, ℕ, ◌<◌, ◌≤◌, ◌^◌, pos, ◌-ℤ◌, ◌≤ℤ◌, ◌<ℤ◌, unsigned_abs, length, to_z, of_z, Fits, w8, arith, ints, fits_signed_from_abs, non_neg, yes_non_neg, T, w128, SFits, ClaimData, IsLawful}
 use Rattle.finder.proofs.NoOverflow.{kept, kept_difference}
 
 module _ (claim : ClaimData) (lawful : IsLawful claim) where

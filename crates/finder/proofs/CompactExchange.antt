@@ -1,9 +1,7 @@
 -- The exchange at a place of the list that says them, of a claim with any number of servers.
-use Rattle.std.proofs.Common.{◌≡◌, ℕ, ◌<◌, List, Some, length, get_or, ap, ◌∙◌, subst}
-use Rattle.std.specs.Prelude.{map, slice_get, All}
-use Rattle.std.proofs.lemmas.Option.{slice_get-get_or}
+use Rattle.finder.proofs.Common.{◌≡◌, ℕ, ◌<◌, List, Some, length, get_or, ap, ◌∙◌, subst, slice_get, All, slice_get-get_or, Exchange}
+use Rattle.std.specs.Prelude.{map}
 use Rattle.pairing.specs.Exchange.{IsLawful}
-use Rattle.pairing.specs.declared.exchange.Exchange.{Exchange}
 use Rattle.finder.proofs.Rooms.{shown_here, within_shown}
 
 module _ {X : Type 0} (shown : X → Exchange) (held : List X) (index : ℕ) (item : X) (x : Exchange)

@@ -1,23 +1,8 @@
 -- The pieces of an envelope, one after another.
-use Rattle.std.proofs.Common.{◌≡◌, ℕ, zero, suc, ◌+◌, ◌<◌, ◌≤◌, nat_lt, List, [], ◌∷◌, ◌++◌, length, map, Ok, Err, inl, inr, refl, sym, ap, ◌∙◌, arith, add-one, subst}
-use Rattle.std.specs.Prelude.{All, Result, ◌⊎◌, ◌↔◌, IsErrAnd}
-use Rattle.std.specs.List.{range_with_len}
-use Rattle.std.proofs.lemmas.Bool.{cond-true, cond-false}
-use Rattle.std.proofs.lemmas.List.{get_or-map, length-map}
-use Rattle.std.proofs.lemmas.List.Elements.{All-nil, All-cons}
-use Rattle.std.proofs.lemmas.List.FromFn.{map-range_with_len_more}
-use Rattle.certificate.specs.Certificate.{max_pieces}
-use Rattle.claim_file.specs.Claim.{ClaimData, IsLawful}
-use Rattle.intersection.specs.declared.kinds.Hull.{Hull}
-use Rattle.sample_interval.specs.declared.kinds.Sample.{Sample}
-use Rattle.finder.specs.Answer.{FindsEnvelope}
-use Rattle.finder.specs.Envelope.{EnvelopeData, PieceHullData, IsLawfulEnvelope, IsLawfulPiece, IsLeast, data_of, piece_hull_at, piece_hulls, least_of, with_piece, envelope_of, envelope_to}
-use Rattle.finder.specs.Found.{hull_at}
-use Rattle.finder.specs.Piece.{count_of, stretch_at}
+use Rattle.finder.proofs.Common.{◌≡◌, ℕ, zero, suc, ◌+◌, ◌<◌, ◌≤◌, nat_lt, List, [], ◌∷◌, ◌++◌, length, map, Ok, Err, inl, inr, refl, sym, ap, ◌∙◌, arith, add-one, subst, All, ◌↔◌, IsErrAnd, range_with_len, cond-true, cond-false, get_or-map, length-map, All-nil, All-cons, map-range_with_len_more, max_pieces, ClaimData, IsLawful, Hull, Sample, FindsEnvelope, EnvelopeData, PieceHullData, IsLawfulEnvelope, IsLawfulPiece, IsLeast, piece_hull_at, piece_hulls, least_of, with_piece, envelope_of, envelope_to, hull_at, count_of, stretch_at, FindFault, TooManyPieces, Memory, LeastBound}
+use Rattle.std.specs.Prelude.{Result, ◌⊎◌}
+use Rattle.finder.specs.Envelope.{data_of}
 use Rattle.finder.specs.declared.envelope.Envelope.{Envelope}
-use Rattle.finder.specs.declared.fault.FindFault.{FindFault}
-use Rattle.finder.specs.declared.fault.FindFault.TheVariants.{TooManyPieces, Memory}
-use Rattle.finder.specs.declared.least.LeastBound.{LeastBound}
 use Rattle.finder.proofs.Best.{BestLaw}
 use Rattle.finder.proofs.EntryList.{entries_there}
 use Rattle.finder.proofs.SpanPieces.{is_few, is_many, piece_of_claim}

@@ -1,17 +1,8 @@
 -- The errors for which exchanges leave room.
-use Rattle.std.proofs.Common.{◌≡◌, ◌⊎◌, ◌↔◌, inl, inr, ◌≤◌, ◌^◌, ℤ, pos, ◌+ℤ◌, ◌-ℤ◌, ◌≤ℤ◌, ◌<ℤ◌, int_le, int_lt, unsigned_abs, to_z, of_z, Bool, true, false, not, ◌||◌, refl, sym, ap, ◌∙◌, ⊎_elim, arith}
-use Rattle.std.specs.Int.{int_max, int_min}
-use Rattle.std.proofs.lemmas.Int.{ints, clamps}
-use mir.Syntax.{w128}
-use Rattle.intersection.specs.Interval.{leaves_out}
-use Rattle.intersection.specs.declared.kinds.Interval.{Interval}
-use Rattle.pairing.specs.declared.exchange.Exchange.{Exchange}
-use Rattle.pairing.specs.Exchange.{IsInRange}
+use Rattle.std.proofs.Common.{◌↔◌}
+use Rattle.finder.proofs.Common.{◌≡◌, ◌⊎◌, inl, inr, ◌≤◌, ◌^◌, ℤ, pos, ◌+ℤ◌, ◌-ℤ◌, ◌≤ℤ◌, ◌<ℤ◌, int_le, int_lt, unsigned_abs, to_z, of_z, Bool, true, false, not, ◌||◌, refl, sym, ap, ◌∙◌, ⊎_elim, arith, int_max, int_min, ints, clamps, w128, leaves_out, Interval, Exchange, IsInRange, Admits, admits, IsNear}
 use Rattle.sample_interval.specs.Exchange.{IsOfSomeClaim}
 use Rattle.sample_interval.specs.Window.{request_start, reply_end}
-use Rattle.checker.specs.Refutation.{Admits}
-use Rattle.checker.specs.RefutationTest.{admits}
-use Rattle.finder.specs.Room.{IsNear}
 use Rattle.finder.proofs.NoOverflow.{kept}
 use Rattle.finder.proofs.List.{by_test}
 

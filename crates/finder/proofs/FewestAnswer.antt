@@ -1,18 +1,6 @@
 -- What is found, and what that says.
-use Rattle.std.proofs.Common.{◌≡◌, ℕ, ◌+◌, ℤ, pos, ◌≤ℤ◌, to_z, of_z, List, [], ◌∷◌, ◌++◌, length, Ok, Err, inr, refl, sym, ap, ◌∙◌, subst, arith}
-use mir.Syntax.{w128}
+use Rattle.finder.proofs.Common.{◌≡◌, ℕ, ◌+◌, ℤ, pos, ◌≤ℤ◌, to_z, of_z, List, [], ◌∷◌, ◌++◌, length, Ok, Err, inr, refl, sym, ap, ◌∙◌, subst, arith, w128, Certificate, ClaimData, IsLawful, Hull, Sample, HoldsError, IsInHull, verdict_from, IsStuck, IsTooLong, hull_over, pieces_over, stretch_over, FindsFewest, AreEnds, AreSamplesOf, TooManyPieces}
 use Rattle.certificate.specs.Certificate.{data_of as certificate_data}
-use Rattle.certificate.specs.declared.certificate.Certificate.{Certificate}
-use Rattle.claim_file.specs.Claim.{ClaimData, IsLawful}
-use Rattle.intersection.specs.declared.kinds.Hull.{Hull}
-use Rattle.sample_interval.specs.declared.kinds.Sample.{Sample}
-use Rattle.checker.specs.Traceability.{HoldsError, IsInHull}
-use Rattle.checker.specs.Verdict.{verdict_from}
-use Rattle.finder.specs.Fewest.{IsStuck, IsTooLong, hull_over, pieces_over, stretch_over}
-use Rattle.finder.specs.FewestAnswer.{FindsFewest}
-use Rattle.finder.specs.Reach.{AreEnds}
-use Rattle.checker.specs.Samples.{AreSamplesOf}
-use Rattle.finder.specs.declared.fault.FindFault.TheVariants.{TooManyPieces}
 use Rattle.finder.specs.declared.fewest.Fewest.TheVariants as found
 use Rattle.finder.proofs.FewestPieces.{InSpan, Laws, as_many_pieces, end_after_in_span, end_after_later, first_in_span, more_of_accepted, next_within, none_accepted_over, one_more_end, yes_from}
 use Rattle.finder.proofs.LongestPiece.{in_64_bits, tick_kept}

@@ -1,18 +1,5 @@
 -- What is found, piece by piece.
-use Rattle.std.proofs.Common.{◌≡◌, ℕ, ◌+◌, ◌<◌, ℤ, true, false, not, List, [], ◌∷◌, ◌++◌, Some, None, sym, ap, ◌∙◌, subst, ⊎_elim, unsigned_abs, arith}
-use Rattle.std.proofs.lemmas.Bool.{cases_lt}
-use Rattle.std.proofs.lemmas.List.FromFn.{map-range_with_len_more}
-use Rattle.certificate.specs.Certificate.{PieceData}
-use Rattle.claim_file.specs.Claim.{ClaimData}
-use Rattle.intersection.specs.declared.kinds.Hull.{Hull}
-use Rattle.sample_interval.specs.declared.kinds.Sample.{Sample}
-use Rattle.span_cover.specs.Step.{piece_end_of}
-use Rattle.span_cover.specs.Group.{piece_hull}
-use Rattle.span_cover.specs.declared.stretch.Stretch.{Stretch}
-use Rattle.span_cover.specs.Group.{is_inside}
-use Rattle.finder.specs.Entry.{best_entries, best_hull, parts_named}
-use Rattle.finder.specs.Found.{certificate, nothing, piece_at, pieces_from, hull_at, passes, first_failing, found_without}
-use Rattle.finder.specs.Piece.{count_of, stretch_at}
+use Rattle.finder.proofs.Common.{◌≡◌, ℕ, ◌+◌, ◌<◌, ℤ, true, false, not, List, [], ◌∷◌, ◌++◌, Some, None, sym, ap, ◌∙◌, subst, ⊎_elim, unsigned_abs, arith, cases_lt, map-range_with_len_more, PieceData, ClaimData, Hull, Sample, piece_end_of, piece_hull, Stretch, is_inside, best_entries, best_hull, parts_named, certificate, nothing, piece_at, pieces_from, hull_at, passes, first_failing, found_without, count_of, stretch_at}
 use Rattle.finder.proofs.List.{find_none, find_first}
 
 module _ (samples : List Sample) (claim : ClaimData) (step : ℕ) where

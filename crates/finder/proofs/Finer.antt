@@ -1,24 +1,5 @@
 -- Pieces that are cut finer.
-use Rattle.std.proofs.Common.{◌≡◌, ◌≢◌, inl, inr, ℕ, zero, suc, ◌+◌, ◌-◌, ◌*◌, ◌/◌, ◌<◌, ◌≤◌, ℤ, pos, ◌+ℤ◌, ◌≤ℤ◌, ◌<ℤ◌, List, Ok, refl, sym, ◌∙◌, ⊎_elim, arith}
-use Rattle.std.proofs.Math.Nat.{mod-lt, mul-le-mul_right}
-use Rattle.std.proofs.lemmas.Bool.{cases_lt}
-use Rattle.std.proofs.lemmas.Int.{ints, clamps}
-use Rattle.std.proofs.lemmas.Nat.{div-add-mod'}
-use Rattle.era_unfold.specs.Window.{ticks_per_second}
-use Rattle.claim_file.specs.Claim.{ClaimData, IsLawful}
-use Rattle.intersection.specs.declared.kinds.Hull.{Hull}
-use Rattle.intersection.specs.declared.kinds.Hull.TheVariants.{Unbounded, Empty}
-use Rattle.sample_interval.specs.declared.kinds.Sample.{Sample}
-use Rattle.span_cover.specs.Piece.{IsPiece}
-use Rattle.span_cover.specs.Step.{piece_end_of}
-use Rattle.span_cover.specs.declared.stretch.Stretch.{Stretch}
-use Rattle.finder.specs.Entry.{best_entries, best_hull}
-use Rattle.finder.specs.Envelope.{AreInside, EnvelopeData, IsInside, envelope_of, with_bound}
-use Rattle.finder.specs.Found.{hull_at}
-use Rattle.finder.specs.Piece.{IsPieceCount, count_of, piece_begin_of, stretch_at}
-use Rattle.finder.specs.Refusal.{HoldsWhole}
-use Rattle.checker.specs.Samples.{AreSamplesOf}
-use Rattle.finder.specs.declared.least.LeastBound.TheVariants.{Holds, NoneHolds}
+use Rattle.finder.proofs.Common.{◌≡◌, ◌≢◌, inl, inr, ℕ, zero, suc, ◌+◌, ◌-◌, ◌*◌, ◌/◌, ◌<◌, ◌≤◌, ℤ, pos, ◌+ℤ◌, ◌≤ℤ◌, ◌<ℤ◌, List, Ok, refl, sym, ◌∙◌, ⊎_elim, arith, mod-lt, mul-le-mul_right, cases_lt, ints, clamps, div-add-mod', ticks_per_second, ClaimData, IsLawful, Hull, Unbounded, Empty, Sample, IsPiece, piece_end_of, Stretch, best_entries, best_hull, AreInside, EnvelopeData, IsInside, envelope_of, with_bound, hull_at, IsPieceCount, count_of, piece_begin_of, stretch_at, HoldsWhole, AreSamplesOf, Holds, NoneHolds}
 use Rattle.finder.proofs.Bound.{Roundings, none_inside}
 use Rattle.finder.proofs.OtherBounds.{least_is}
 use Rattle.finder.proofs.Best.{BestLaw}

@@ -1,13 +1,6 @@
 -- Groups that hold a server of some kind.
-use Rattle.std.proofs.Common.{◌≡◌, ℕ, zero, suc, ◌+◌, ◌<◌, ◌≤◌, Bool, true, false, true≢false, cond, ◌&&◌, ◌||◌, List, [], ◌∷◌, length, count_by, refl, sym, ◌∙◌, ⊎_elim, arith}
-use Rattle.std.specs.Prelude.{◌==◌, slice_index}
-use Rattle.std.specs.List.{list_any}
-use Rattle.std.proofs.lemmas.Bool.{cases_lt}
-use Rattle.std.proofs.lemmas.Bool.Decides.{nat_tests}
-use Rattle.std.proofs.lemmas.List.Folds.{list_any-append}
-use Rattle.std.proofs.lemmas.List.Sums.{sum_by-append}
-use Rattle.checker.specs.Groups.{holds_false, false_group_count}
-use Rattle.span_cover.specs.Group.{numbers_below}
+use Rattle.std.proofs.Common.{count_by}
+use Rattle.finder.proofs.Common.{◌≡◌, ℕ, zero, suc, ◌+◌, ◌<◌, ◌≤◌, Bool, true, false, true≢false, cond, ◌&&◌, ◌||◌, List, [], ◌∷◌, length, refl, sym, ◌∙◌, ⊎_elim, arith, ◌==◌, slice_index, list_any, cases_lt, nat_tests, list_any-append, sum_by-append, holds_false, false_group_count, numbers_below}
 use Rattle.finder.proofs.List.{by_test}
 
 either_right : (a b : Bool) → b ≡ true → (a || b) ≡ true

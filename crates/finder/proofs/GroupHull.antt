@@ -1,24 +1,11 @@
 -- Narrower intervals of the same servers: the hull over their groups is no wider, and if the wider one is empty, so
 -- is this one.
-use Rattle.std.proofs.Common.{◌≡◌, ℕ, ◌+◌, ◌<◌, ◌≤◌, ℤ, ◌≤ℤ◌, Bool, true, false, cond, ◌&&◌, ◌||◌, List, [], ◌∷◌, length, Option, Some, None, count_by, refl, sym, ap, ◌∙◌, subst, arith}
-use Rattle.std.specs.Prelude.{slice_index, ◌==◌, fold, filter, filter_map}
-use Rattle.std.specs.List.{Any, list_any, cons_option}
-use Rattle.std.proofs.lemmas.Int.{ints, clamps}
-use Rattle.std.proofs.lemmas.Bool.{cond-true, cond-false, and_parts, and_from, or_left, or_right, or_from}
-use Rattle.std.proofs.lemmas.List.Folds.{Any-from_list_any}
-use Rattle.std.proofs.lemmas.List.Sums.{sum_by-cons, sum_by-le-sum_by}
-use Rattle.std.proofs.lemmas.List.Elements.{All-get_or}
+use Rattle.std.proofs.Common.{count_by}
+use Rattle.std.specs.Prelude.{filter_map}
+use Rattle.std.specs.List.{Any}
+use Rattle.finder.proofs.Common.{◌≡◌, ℕ, ◌+◌, ◌<◌, ◌≤◌, ℤ, ◌≤ℤ◌, Bool, true, false, cond, ◌&&◌, ◌||◌, List, [], ◌∷◌, length, Option, Some, None, refl, sym, ap, ◌∙◌, subst, arith, slice_index, ◌==◌, fold, filter, list_any, cons_option, ints, clamps, cond-true, cond-false, and_parts, and_from, or_left, or_right, or_from, Any-from_list_any, sum_by-cons, sum_by-le-sum_by, All-get_or, slice_get_read, leaves_out, Hull, Unbounded, Empty, Bounded, Interval, IsNarrower, AreNarrower, group_interval, group_intervals, meet_of, narrowed, numbers_below, piece_hull, Part, IsNoWider}
 use Rattle.std.proofs.lemmas.Map.Keys.{any_passes_from_place}
-use Rattle.std.proofs.lemmas.Option.{slice_get_read}
 use Rattle.intersection.specs.Hull.{IsAdmissible, IsHull, hull_of}
-use Rattle.intersection.specs.Interval.{leaves_out}
-use Rattle.intersection.specs.declared.kinds.Hull.{Hull}
-use Rattle.intersection.specs.declared.kinds.Hull.TheVariants.{Unbounded, Empty, Bounded}
-use Rattle.intersection.specs.declared.kinds.Interval.{Interval}
-use Rattle.checker.specs.Comparison.{IsNarrower, AreNarrower}
-use Rattle.span_cover.specs.Group.{group_interval, group_intervals, meet_of, narrowed, numbers_below, piece_hull}
-use Rattle.span_cover.specs.declared.part.Part.{Part}
-use Rattle.finder.specs.Fewest.{IsNoWider}
 use Rattle.finder.proofs.List.{by_test}
 
 -- ---- what a group's interval passes, one of its parts does

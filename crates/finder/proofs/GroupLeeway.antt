@@ -1,22 +1,6 @@
 -- The leeways of groups, from one exchange to the next.
-use Rattle.std.proofs.Common.{◌≡◌, ℕ, zero, suc, ◌+◌, ◌-◌, ◌*◌, ◌/◌, ◌<◌, ◌≤◌, ℤ, pos, negsuc, neg_ℤ, ◌+ℤ◌, ◌-ℤ◌, ◌*ℤ◌, ◌≤ℤ◌, ◌<ℤ◌, unsigned_abs, Bool, true, false, true≢false, ◌||◌, ◌⊎◌, inl, inr, ⊎_elim, List, [], ◌∷◌, Some, replicate, length, get_or, set, refl, sym, ap, ap₂, ◌∙◌, subst, arith, get_or-set_other, get_or-set_same, to_z, of_z, ◌^◌}
-use mir.Syntax.{w128}
-use Rattle.std.specs.Prelude.{◌↔◌, ◌==◌, slice_get}
-use Rattle.std.specs.Int.{int_min}
-use Rattle.std.specs.List.{list_any}
-use Rattle.std.proofs.lemmas.List.Elements.{All-cons, All-nil}
-use Rattle.std.proofs.lemmas.Int.{ints}
-use Rattle.std.proofs.lemmas.Bool.Decides.{nat_tests}
-use Rattle.std.proofs.Math.Nat.{le-div_iff_mul-le}
-use Rattle.claim_file.specs.Claim.{ClaimData}
-use Rattle.courses.specs.Cover.{group_of}
-use Rattle.marks.specs.Mark.{low_mark, AreCompatible}
-use Rattle.marks.specs.declared.mark.Mark.{Mark}
-use Rattle.pairing.specs.declared.exchange.Exchange.{Exchange}
-use Rattle.sample_interval.specs.Widening.{billion}
-use Rattle.finder.specs.declared.side.Side.{Side}
-use Rattle.finder.specs.declared.side.Side.TheVariants.{Below}
-use Rattle.finder.specs.Leeway.{Lets, DoLet, AreLeeways, IsNarrowed, IsTightest, IsUnlimited, leeway_in, mark_at, no_limit, turned}
+use Rattle.std.proofs.Common.{get_or-set_other, get_or-set_same}
+use Rattle.finder.proofs.Common.{◌≡◌, ℕ, zero, suc, ◌+◌, ◌-◌, ◌*◌, ◌/◌, ◌<◌, ◌≤◌, ℤ, pos, negsuc, neg_ℤ, ◌+ℤ◌, ◌-ℤ◌, ◌*ℤ◌, ◌≤ℤ◌, ◌<ℤ◌, unsigned_abs, Bool, true, false, true≢false, ◌||◌, ◌⊎◌, inl, inr, ⊎_elim, List, [], ◌∷◌, Some, replicate, length, get_or, set, refl, sym, ap, ap₂, ◌∙◌, subst, arith, to_z, of_z, ◌^◌, w128, ◌↔◌, ◌==◌, slice_get, int_min, list_any, All-cons, All-nil, ints, nat_tests, le-div_iff_mul-le, ClaimData, group_of, low_mark, AreCompatible, Mark, Exchange, billion, Side, Below, Lets, DoLet, AreLeeways, IsNarrowed, IsTightest, IsUnlimited, leeway_in, mark_at, no_limit, turned}
 use Rattle.finder.proofs.NoOverflow.{kept}
 use Rattle.finder.proofs.List.{by_test}
 

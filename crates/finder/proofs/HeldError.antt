@@ -1,26 +1,11 @@
 -- Where nothing beyond the bound is let be, no course is beyond it.
-use Rattle.std.proofs.Common.{◌≡◌, ℕ, zero, suc, ◌+◌, ◌-◌, ◌<◌, ◌≤◌, ℤ, pos, neg_ℤ, ◌+ℤ◌, ◌-ℤ◌, ◌*ℤ◌, ◌≤ℤ◌, ◌<ℤ◌, Bool, true, false, not, ◌==◌, ◌&&◌, ◌||◌, inl, inr, is_some, ◌⊎◌, ⊎_elim, Option, None, Some, List, [], ◌∷◌, length, get_or, refl, sym, ap, ◌∙◌, subst, arith}
-use Rattle.std.specs.Prelude.{◌↔◌, All, Any, IfNone, count_by, nat_lt, slice_index, AllPairs}
-use Rattle.std.specs.Int.{int_min}
-use Rattle.std.specs.List.{list_any}
-use Rattle.std.proofs.lemmas.Int.{clamps, ints}
-use Rattle.std.proofs.lemmas.Bool.{and_parts, lt-ltb, or_cases}
-use Rattle.std.proofs.lemmas.Bool.Decides.{nat_tests}
-use Rattle.std.proofs.lemmas.List.Elements.{All-cons, All-head, All-nil, All-tail}
-use Rattle.std.proofs.lemmas.List.Folds.{list_any-append}
-use Rattle.std.proofs.lemmas.Option.{slice_get_within}
-use Rattle.certificate.specs.Refutation.{RefutationData}
-use Rattle.claim_file.specs.Claim.{ClaimData, IsLawful, max_bound}
+use Rattle.std.proofs.Common.{◌==◌}
+use Rattle.std.specs.Prelude.{nat_lt}
+use Rattle.finder.proofs.Common.{◌≡◌, ℕ, zero, suc, ◌+◌, ◌-◌, ◌<◌, ◌≤◌, ℤ, pos, neg_ℤ, ◌+ℤ◌, ◌-ℤ◌, ◌*ℤ◌, ◌≤ℤ◌, ◌<ℤ◌, Bool, true, false, not, ◌&&◌, ◌||◌, inl, inr, is_some, ◌⊎◌, ⊎_elim, Option, None, Some, List, [], ◌∷◌, length, get_or, refl, sym, ap, ◌∙◌, subst, arith, ◌↔◌, All, Any, IfNone, count_by, slice_index, AllPairs, int_min, list_any, clamps, ints, and_parts, lt-ltb, or_cases, nat_tests, All-cons, All-head, All-nil, All-tail, list_any-append, slice_get_within, RefutationData, ClaimData, IsLawful, max_bound, Exchange, low_mark, high_mark, Course, holds_false, are_different, IsCover, size_of, AreApart, HoldsOne, HoldsOneOr64, holds, numbers_below, AreHeld, AreLeeways, DoLet, HasFalse, HoldsFor, IsBounded, IsCandidate, IsHeld, IsHeldAtAll, IsMade, IsNarrowed, IsOff, IsRounded, greatest_of, leeway_in, mark_at, no_limit, turned, IsErrorOf64Bits, Side, Above, Below}
 use Rattle.pairing.specs.Exchange.{IsLawful as IsLawfulExchange}
-use Rattle.pairing.specs.declared.exchange.Exchange.{Exchange}
-use Rattle.marks.specs.Mark.{low_mark, high_mark}
-use Rattle.checker.specs.Course.{Course, Fits}
-use Rattle.checker.specs.Groups.{holds_false}
-use Rattle.checker.specs.RefutationTest.{are_different}
+use Rattle.checker.specs.Course.{Fits}
 use Rattle.courses.specs.Conflicts.{ConflictData, group_count, HoldsNoLess as HoldsNoLessBy, IsCover as IsCoverBy}
-use Rattle.courses.specs.Cover.{IsCover, size_of}
 use Rattle.courses.specs.DriftRefutation.{IsRefutedWithDrift}
-use Rattle.courses.specs.Groups.{AreApart, HoldsOne, HoldsOneOr64, holds}
 use Rattle.courses.specs.LeastCovers.{AreLeastCovers}
 use Rattle.courses.specs.Members.{LieWithin, passing}
 use Rattle.courses.specs.declared.groups.Groups.{Groups}
@@ -31,12 +16,7 @@ use Rattle.courses.proofs.CoverWithin.{passing_below}
 use Rattle.courses.proofs.Covers.{listed_in_groups, server_is_true}
 use Rattle.courses.proofs.KeptMarks.{kept_are_compatible}
 use Rattle.courses.proofs.Scaling.{times-sub}
-use Rattle.span_cover.specs.Group.{numbers_below}
-use Rattle.finder.specs.Leeway.{AreHeld, AreLeeways, DoLet, HasFalse, HoldsFor, IsBounded, IsCandidate, IsHeld, IsHeldAtAll, IsMade, IsNarrowed, IsOff, IsRounded, greatest_of, leeway_in, mark_at, no_limit, turned}
-use Rattle.finder.specs.NearestRefutation.{IsErrorOf64Bits}
 use Rattle.finder.specs.declared.drift_refutation.Place.{Place}
-use Rattle.finder.specs.declared.side.Side.{Side}
-use Rattle.finder.specs.declared.side.Side.TheVariants.{Above, Below}
 use Rattle.finder.proofs.GroupLeeway.{below_or_at, same_default}
 use Rattle.finder.proofs.List.{by_test, was}
 

@@ -1,26 +1,9 @@
 -- The servers that a refutation has to name.
-use Rattle.std.proofs.Common.{◌≡◌, ◌≢◌, ℕ, zero, suc, ◌<◌, ◌≤◌, ℤ, pos, ◌<ℤ◌, unsigned_abs, Bool, true, false, true≢false, cond, not, ◌&&◌, List, [], ◌∷◌, ◌++◌, length, get_or, refl, sym, ap, ◌∙◌, arith}
-use Rattle.std.specs.Prelude.{◌==◌, filter, All, AllPairs}
+use Rattle.finder.proofs.Common.{◌≡◌, ◌≢◌, ℕ, zero, suc, ◌<◌, ◌≤◌, ℤ, pos, ◌<ℤ◌, unsigned_abs, Bool, true, false, true≢false, cond, not, ◌&&◌, List, [], ◌∷◌, ◌++◌, length, get_or, refl, sym, ap, ◌∙◌, arith, ◌==◌, filter, All, AllPairs, Any-from_list_any, list_any-from_Any, list_any, nat_tests, ints, append-nil, All-nil, All-cons, All-append, All-filter, filter-append, get_or_from_slice_get, slice_get-get_or, RefutationData, ClaimData, IsLawful, Exchange, false_group_count, numbers_below, Admits, IsRefuted, is_liar, admits, refuses, is_possible, refutation_at}
 use Rattle.std.specs.List.{Any}
-use Rattle.std.proofs.lemmas.List.Folds.{Any-from_list_any, list_any-from_Any}
-use Rattle.std.specs.List.{list_any}
-use Rattle.std.proofs.lemmas.Bool.Decides.{nat_tests}
-use Rattle.std.proofs.lemmas.Int.{ints}
-use Rattle.std.proofs.lemmas.List.{append-nil}
-use Rattle.std.proofs.lemmas.List.Elements.{All-nil, All-cons, All-append, All-filter, filter-append}
 use Rattle.std.proofs.lemmas.List.Quantifiers.{all_pairs_push}
 use Rattle.std.proofs.lemmas.Map.Views.{any-filter_same}
-use Rattle.std.proofs.lemmas.Option.{get_or_from_slice_get, slice_get-get_or}
-use Rattle.certificate.specs.Refutation.{RefutationData}
-use Rattle.claim_file.specs.Claim.{ClaimData, IsLawful}
 use Rattle.pairing.specs.Exchange.{IsLawful as IsLawfulExchange}
-use Rattle.pairing.specs.declared.exchange.Exchange.{Exchange}
-use Rattle.checker.specs.Groups.{false_group_count}
-use Rattle.span_cover.specs.Group.{numbers_below}
-use Rattle.checker.specs.Refutation.{Admits, IsRefuted, is_liar}
-use Rattle.checker.specs.RefutationTest.{admits}
-use Rattle.finder.specs.Room.{refuses}
-use Rattle.finder.specs.NearestRefutation.{is_possible, refutation_at}
 use Rattle.finder.proofs.Group.{as_many_groups, both_to, both_true, found_below, no_more_groups}
 use Rattle.finder.proofs.List.{by_test}
 use Rattle.finder.proofs.Nearest.{at_most_from, at_most_to}

@@ -1,19 +1,5 @@
 -- Where the longest piece ends, by halving; and the longest pieces, one after another.
-use Rattle.std.proofs.Common.{◌≡◌, ℕ, zero, suc, ◌+◌, ◌-◌, ◌<◌, ◌≤◌, ◌^◌, ℤ, pos, ◌+ℤ◌, ◌≤ℤ◌, ◌<ℤ◌, unsigned_abs, true, false, true≢false, List, [], ◌∷◌, ◌++◌, length, take, vec_len, length-append, Vec, Global, get_or, Some, refl, sym, ap, ◌∙◌, subst, arith, to_z, of_z, Fits, w64}
-use Rattle.std.specs.Int.{int_min}
-use Rattle.std.proofs.lemmas.Int.{ints, clamps}
-use mir.Syntax.{w128}
-use Rattle.std.proofs.Math.Dec.{T}
-use Rattle.std.proofs.lemmas.List.{take_more}
-use Rattle.std.specs.Int.Signed.{non_neg, yes_non_neg}
-use Rattle.certificate.specs.Certificate.{PieceData, max_pieces}
-use Rattle.claim_file.specs.Claim.{ClaimData, IsLawful}
-use Rattle.sample_interval.specs.declared.kinds.Sample.{Sample}
-use Rattle.span_cover.specs.Piece.{IsPiece}
-use Rattle.sweep.specs.Pieces.{ArePieces, IsPieceAt}
-use Rattle.finder.specs.Entry.{best_entries}
-use Rattle.finder.specs.Fewest.{AreLongest, IsLongest, end_after, next_tick, piece_over, pieces_over, shows, stretch_over}
-use Rattle.checker.specs.Samples.{AreSamplesOf}
+use Rattle.finder.proofs.Common.{◌≡◌, ℕ, zero, suc, ◌+◌, ◌-◌, ◌<◌, ◌≤◌, ◌^◌, ℤ, pos, ◌+ℤ◌, ◌≤ℤ◌, ◌<ℤ◌, unsigned_abs, true, false, true≢false, List, [], ◌∷◌, ◌++◌, length, take, vec_len, length-append, Vec, Global, get_or, Some, refl, sym, ap, ◌∙◌, subst, arith, to_z, of_z, Fits, w64, int_min, ints, clamps, w128, T, take_more, non_neg, yes_non_neg, PieceData, max_pieces, ClaimData, IsLawful, Sample, IsPiece, ArePieces, IsPieceAt, best_entries, AreLongest, IsLongest, end_after, next_tick, piece_over, pieces_over, shows, stretch_over, AreSamplesOf}
 use Rattle.finder.proofs.Claim.{first_kept, last_kept}
 use Rattle.finder.proofs.FewestPieces.{InSpan, Laws, end_in_span, longest_forward, piece_to, shown_before}
 use Rattle.finder.proofs.NoOverflow.{kept}

@@ -1,28 +1,8 @@
 -- What the best entries of a piece show, if others show something of a stretch that has the whole of it.
-use Rattle.std.proofs.Common.{◌≡◌, ℕ, zero, suc, ◌+◌, ◌<◌, ◌≤◌, ℤ, ◌≤ℤ◌, true, ◌⊎◌, inl, inr, ⊎_elim, get_or, List, [], ◌∷◌, length, Option, Some, None, Result, Ok, Err, refl, sym, subst, arith}
-use Rattle.std.specs.Prelude.{All, Any, slice_get, filter_map}
-use Rattle.std.specs.List.{cons_option, range_with_len}
-use Rattle.std.proofs.lemmas.Bool.{cases_lt}
-use Rattle.std.proofs.lemmas.Int.{ints}
-use Rattle.claim_file.specs.Claim.{ClaimData, max_drift_ppb}
-use Rattle.intersection.specs.declared.kinds.Hull.TheVariants.{Empty}
-use Rattle.sample_interval.specs.Sample.{IsLawfulSample}
-use Rattle.sample_interval.specs.Widening.{billion}
-use Rattle.sample_interval.specs.declared.kinds.Sample.{Sample}
-use Rattle.span_cover.specs.Group.{is_inside, piece_hull}
-use Rattle.span_cover.specs.Part.{part_of}
-use Rattle.span_cover.specs.Piece.{IsPiece, moved_low, moved_high}
-use Rattle.span_cover.specs.declared.part.Part.{Part}
-use Rattle.span_cover.specs.declared.stretch.Stretch.{Stretch}
-use Rattle.checker.specs.Comparison.{IsNarrower, AreNarrower, IsOfSamples}
-use Rattle.checker.specs.Verdict.{parts_after, hull_fault, parts_fault}
-use Rattle.checker.specs.declared.verdict.Why.{Why}
-use Rattle.finder.specs.Entry.{best_over, best_entries, best_hull, part_named, parts_named}
-use Rattle.finder.specs.Refusal.{HoldsWhole}
-use Rattle.checker.specs.Samples.{AreSamplesOf}
+use Rattle.finder.proofs.Common.{◌≡◌, ℕ, zero, suc, ◌+◌, ◌<◌, ◌≤◌, ℤ, ◌≤ℤ◌, true, ◌⊎◌, inl, inr, ⊎_elim, get_or, List, [], ◌∷◌, length, Option, Some, None, Result, Ok, Err, refl, sym, subst, arith, All, Any, slice_get, cons_option, range_with_len, cases_lt, ints, ClaimData, max_drift_ppb, Empty, IsLawfulSample, billion, Sample, is_inside, piece_hull, part_of, IsPiece, moved_low, moved_high, Part, Stretch, IsNarrower, AreNarrower, IsOfSamples, parts_after, hull_fault, parts_fault, Why, best_over, best_entries, best_hull, part_named, parts_named, HoldsWhole, AreSamplesOf, IsNoWider}
+use Rattle.std.specs.Prelude.{filter_map}
 use Rattle.finder.proofs.Best.{BestLaw, best_of_is, best_of_none}
 use Rattle.finder.proofs.List.{All-slice_get}
-use Rattle.finder.specs.Fewest.{IsNoWider}
 use Rattle.finder.proofs.GroupHull.{EveryHull, narrower_is_no_wider}
 use Rattle.finder.proofs.Verdict.{entries_accepted, passes_inside}
 

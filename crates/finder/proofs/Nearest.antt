@@ -1,12 +1,5 @@
 -- The nearest error that few enough groups refuse.
-use Rattle.std.proofs.Common.{◌≡◌, ◌⊎◌, inl, inr, ℕ, zero, suc, ◌+◌, ◌<◌, ◌≤◌, ℤ, pos, ◌+ℤ◌, ◌≤ℤ◌, ◌<ℤ◌, int_lt, nat_le, true, false, true≢false, ◌||◌, List, length, refl, sym, ap, ◌∙◌, ⊎_elim, arith, add-one}
-use Rattle.std.proofs.lemmas.Bool.{cases_lt}
-use Rattle.std.proofs.lemmas.Bool.Decides.{nat_tests}
-use Rattle.std.proofs.lemmas.Int.{ints}
-use Rattle.claim_file.specs.Claim.{ClaimData}
-use Rattle.intersection.specs.declared.kinds.Interval.{Interval}
-use Rattle.finder.specs.Room.{room_at, refused_by, possible_by}
-use Rattle.finder.specs.NearestRefutation.{IsFirstBeyond}
+use Rattle.finder.proofs.Common.{◌≡◌, ◌⊎◌, inl, inr, ℕ, zero, suc, ◌+◌, ◌<◌, ◌≤◌, ℤ, pos, ◌+ℤ◌, ◌≤ℤ◌, ◌<ℤ◌, int_lt, nat_le, true, false, true≢false, ◌||◌, List, length, refl, sym, ap, ◌∙◌, ⊎_elim, arith, add-one, cases_lt, nat_tests, ints, ClaimData, Interval, room_at, refused_by, possible_by, IsFirstBeyond}
 use Rattle.finder.proofs.Group.{no_more_groups}
 use Rattle.finder.proofs.List.{by_test}
 

@@ -1,13 +1,5 @@
 -- The longest pieces end in one of three ways, and in no two of them.
-use Rattle.std.proofs.Common.{◌≡◌, ◌⊎◌, inl, inr, ⊎_elim, ℕ, zero, suc, ◌<◌, ◌≤◌, ℤ, pos, ◌+ℤ◌, ◌-ℤ◌, ◌≤ℤ◌, ◌<ℤ◌, unsigned_abs, Bool, true, false, true≢false, List, [], ◌∷◌, ◌++◌, length, refl, sym, ap, ◌∙◌, subst, arith}
-use Rattle.std.proofs.lemmas.Int.{ints, clamps}
-use Rattle.certificate.specs.Certificate.{CertificateData, PieceData, max_pieces}
-use Rattle.claim_file.specs.Claim.{ClaimData}
-use Rattle.intersection.specs.declared.kinds.Hull.{Hull}
-use Rattle.sample_interval.specs.declared.kinds.Sample.{Sample}
-use Rattle.span_cover.specs.Group.{is_inside}
-use Rattle.finder.specs.Carried.{GetStuck, IsCarried}
-use Rattle.finder.specs.Fewest.{AreLongest, IsLongest, IsOfLongest, IsStuck, IsTooLong, end_after, hull_over, next_tick, pieces_over, shows}
+use Rattle.finder.proofs.Common.{◌≡◌, ◌⊎◌, inl, inr, ⊎_elim, ℕ, zero, suc, ◌<◌, ◌≤◌, ℤ, pos, ◌+ℤ◌, ◌-ℤ◌, ◌≤ℤ◌, ◌<ℤ◌, unsigned_abs, Bool, true, false, true≢false, List, [], ◌∷◌, ◌++◌, length, refl, sym, ap, ◌∙◌, subst, arith, ints, clamps, CertificateData, PieceData, max_pieces, ClaimData, Hull, Sample, is_inside, GetStuck, IsCarried, AreLongest, IsLongest, IsOfLongest, IsStuck, IsTooLong, end_after, hull_over, next_tick, pieces_over, shows}
 use Rattle.finder.proofs.GroupLeeway.{below_or_at}
 use Rattle.finder.proofs.List.{by_test}
 use Rattle.finder.proofs.Nearest.{int_cases}

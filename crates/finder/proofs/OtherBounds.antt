@@ -1,17 +1,5 @@
 -- What is found with other bounds.
-use Rattle.std.proofs.Common.{◌≡◌, ℕ, ◌<◌, ◌≤◌, pos, not, List, Option, Some, None, Ok, Err, refl, sym, ap, ◌∙◌, ⊎_elim, arith}
-use Rattle.std.proofs.lemmas.Bool.{cases_lt}
-use Rattle.era_unfold.specs.Nanoseconds.{ticks_down}
-use Rattle.certificate.specs.Certificate.{max_pieces}
-use Rattle.claim_file.specs.Claim.{ClaimData}
-use Rattle.sample_interval.specs.declared.kinds.Sample.{Sample}
-use Rattle.span_cover.specs.Group.{is_inside}
-use Rattle.finder.specs.Entry.{best_hull}
-use Rattle.finder.specs.Envelope.{EnvelopeData, IsInside, IsLeast, IsCertified, IsNotCertified, envelope_of, envelope_to, least_of, with_bound}
-use Rattle.finder.specs.Found.{hull_at, passes, first_failing, found_without, found_of}
-use Rattle.finder.specs.Piece.{count_of, piece_count_of}
-use Rattle.finder.specs.declared.least.LeastBound.{LeastBound}
-use Rattle.finder.specs.declared.least.LeastBound.TheVariants.{Holds, NoneHolds}
+use Rattle.finder.proofs.Common.{◌≡◌, ℕ, ◌<◌, ◌≤◌, pos, not, List, Option, Some, None, Ok, Err, refl, sym, ap, ◌∙◌, ⊎_elim, arith, cases_lt, ticks_down, max_pieces, ClaimData, Sample, is_inside, best_hull, EnvelopeData, IsInside, IsLeast, IsCertified, IsNotCertified, envelope_of, envelope_to, least_of, with_bound, hull_at, passes, first_failing, found_without, found_of, count_of, piece_count_of, LeastBound, Holds, NoneHolds}
 use Rattle.finder.proofs.Answer.{found_of_few}
 use Rattle.finder.proofs.Bound.{Roundings, least_is_least, none_inside, wider}
 use Rattle.finder.proofs.EnvelopePieces.{envelope_of_few, envelope_of_many}

@@ -1,18 +1,6 @@
 -- What the tables of servers say of a piece is what its best entries say.
-use Rattle.std.proofs.Common.{◌≡◌, ℕ, ◌<◌, ℤ, List, [], ◌∷◌, length, Option, Some, None, refl, sym, ap, ◌∙◌}
-use Rattle.std.specs.Prelude.{All}
-use Rattle.std.specs.List.{filter_map, cons_option}
-use Rattle.claim_file.specs.Claim.{ClaimData}
-use Rattle.claim_file.specs.Group.{servers_of}
-use Rattle.intersection.specs.declared.kinds.Hull.{Hull}
-use Rattle.sample_interval.specs.declared.kinds.Sample.{Sample}
-use Rattle.span_cover.specs.Group.{piece_hull}
-use Rattle.span_cover.specs.Piece.{piece_interval_of}
-use Rattle.span_cover.specs.declared.part.Part.{Part}
+use Rattle.finder.proofs.Common.{◌≡◌, ℕ, ◌<◌, ℤ, List, [], ◌∷◌, length, Option, Some, None, refl, sym, ap, ◌∙◌, All, filter_map, cons_option, ClaimData, servers_of, Hull, Sample, piece_hull, piece_interval_of, Part, best_over, best_entries, best_hull, part_named, parts_named, stretch_over, AreSamplesOf}
 use Rattle.sweep.specs.Table.{best_part, best_parts, said_by}
-use Rattle.finder.specs.Entry.{best_over, best_entries, best_hull, part_named, parts_named}
-use Rattle.finder.specs.Fewest.{stretch_over}
-use Rattle.checker.specs.Samples.{AreSamplesOf}
 use Rattle.finder.proofs.Best.{BestLaw, best_of_is}
 use Rattle.finder.proofs.EntryList.{listed_parts}
 

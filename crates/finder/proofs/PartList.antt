@@ -1,19 +1,7 @@
 -- What servers say at one reading of the clock, one server after another.
-use Rattle.std.proofs.Common.{zero, suc, ◌≡◌, ◌∙◌, ℕ, ℤ, ◌+◌, ◌<◌, ◌≤◌, ◌++◌, List, [], ◌∷◌, length, take, Option, Some, None, refl, sym, ap, subst, add-one, append-nil, arith, length-append}
-use Rattle.std.specs.Prelude.{filter_map, slice_get, All}
-use Rattle.std.specs.List.{cons_option, range_with_len}
-use Rattle.std.proofs.lemmas.List.{take_more}
-use Rattle.std.proofs.lemmas.List.Elements.{filter_map-append, All-push}
-use Rattle.std.proofs.lemmas.Option.{get_or_from_slice_get, slice_get_within}
-use Rattle.sample_interval.specs.declared.kinds.Sample.{Sample}
-use Rattle.span_cover.specs.Gathering.{Gathered, Gathering}
-use Rattle.span_cover.specs.declared.part.Part.{Part}
-use Rattle.span_cover.specs.Group.{numbers_below, piece_hull}
-use Rattle.claim_file.specs.Claim.{ClaimData}
-use Rattle.claim_file.specs.Group.{servers_of}
-use Rattle.finder.specs.Entry.{best_entries, best_hull, parts_named}
-use Rattle.finder.specs.Fewest.{stretch_over}
-use Rattle.finder.specs.TickParts.{best_part, best_parts}
+use Rattle.std.proofs.Common.{append-nil}
+use Rattle.std.specs.Prelude.{filter_map}
+use Rattle.finder.proofs.Common.{zero, suc, ◌≡◌, ◌∙◌, ℕ, ℤ, ◌+◌, ◌<◌, ◌≤◌, ◌++◌, List, [], ◌∷◌, length, take, Option, Some, None, refl, sym, ap, subst, add-one, arith, length-append, slice_get, All, cons_option, range_with_len, take_more, filter_map-append, All-push, get_or_from_slice_get, slice_get_within, Sample, Gathered, Gathering, Part, numbers_below, piece_hull, ClaimData, servers_of, best_entries, best_hull, parts_named, stretch_over, best_part, best_parts}
 use Rattle.finder.proofs.Best.{BestLaw}
 use Rattle.finder.proofs.List.{range_more}
 use Rattle.finder.proofs.Part.{parts_said}

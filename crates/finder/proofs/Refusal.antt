@@ -1,24 +1,5 @@
 -- What it says that a piece fails: no certificate with a piece over it is accepted.
-use Rattle.std.proofs.Common.{◌≡◌, ◌≢◌, ℕ, zero, suc, ◌+◌, ◌<◌, ℤ, pos, Bool, true, false, true≢false, cond, ⊎_elim, List, [], ◌∷◌, ◌++◌, length, Option, Some, None, refl, sym, ap, ◌∙◌, subst, arith}
-use Rattle.std.specs.Prelude.{All, slice_get, IsSomeAnd}
-use Rattle.std.proofs.lemmas.Option.{slice_get_within}
-use Rattle.certificate.specs.Certificate.{PieceData, CertificateData}
-use Rattle.claim_file.specs.Claim.{ClaimData, IsLawful}
-use Rattle.intersection.specs.declared.kinds.Hull.{Hull}
-use Rattle.intersection.specs.declared.kinds.Hull.TheVariants.{Empty}
-use Rattle.sample_interval.specs.declared.kinds.Sample.{Sample}
-use Rattle.span_cover.specs.Group.{is_inside}
-use Rattle.span_cover.specs.declared.stretch.Stretch.{Stretch}
-use Rattle.checker.specs.Stretch.{begin_of, stretches_from, stretches_of}
-use Rattle.checker.specs.Traceability.{HoldsError, IsContradicted, IsVerdictOn}
-use Rattle.checker.specs.Verdict.{parts_after, parts_fault, piece_fault, verdict_of, PassBelow}
-use Rattle.checker.specs.declared.verdict.Verdict.TheVariants.{Yes}
-use Rattle.checker.specs.declared.verdict.Why.TheVariants.{Cut}
-use Rattle.finder.specs.Entry.{best_hull}
-use Rattle.finder.specs.Found.{piece_at, pieces_from, IsFirstFailing}
-use Rattle.finder.specs.Piece.{stretch_at}
-use Rattle.finder.specs.Refusal.{HoldsWhole, NoneIsAcceptedOver}
-use Rattle.checker.specs.Samples.{AreSamplesOf}
+use Rattle.finder.proofs.Common.{◌≡◌, ◌≢◌, ℕ, zero, suc, ◌+◌, ◌<◌, ℤ, pos, Bool, true, false, true≢false, cond, ⊎_elim, List, [], ◌∷◌, ◌++◌, length, Option, Some, None, refl, sym, ap, ◌∙◌, subst, arith, All, slice_get, IsSomeAnd, slice_get_within, PieceData, CertificateData, ClaimData, IsLawful, Hull, Empty, Sample, is_inside, Stretch, begin_of, stretches_from, stretches_of, HoldsError, IsContradicted, IsVerdictOn, parts_after, parts_fault, piece_fault, verdict_of, PassBelow, Yes, Cut, best_hull, piece_at, pieces_from, IsFirstFailing, stretch_at, HoldsWhole, NoneIsAcceptedOver, AreSamplesOf}
 use Rattle.finder.proofs.Best.{BestLaw}
 use Rattle.finder.proofs.Narrow.{NarrowLaw}
 use Rattle.finder.proofs.SpanPieces.{piece_of_claim}

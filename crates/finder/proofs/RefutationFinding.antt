@@ -1,17 +1,7 @@
 -- What it says that a refutation is found, or none.
-use Rattle.std.proofs.Common.{◌≡◌, ℕ, ◌-◌, ◌≤◌, ◌^◌, ℤ, pos, neg_ℤ, ◌-ℤ◌, ◌≤ℤ◌, ◌<ℤ◌, unsigned_abs, Bool, false, true≢false, List, length, Option, Some, None, refl, sym, ap, ◌∙◌, subst, ⊎_elim, arith}
-use Rattle.std.specs.Prelude.{filter, option_map, All}
-use Rattle.std.specs.List.{find, range_with_len}
+use Rattle.finder.proofs.Common.{◌≡◌, ℕ, ◌-◌, ◌≤◌, ◌^◌, ℤ, pos, neg_ℤ, ◌-ℤ◌, ◌≤ℤ◌, ◌<ℤ◌, unsigned_abs, Bool, false, true≢false, List, length, Option, Some, None, refl, sym, ap, ◌∙◌, subst, ⊎_elim, arith, filter, option_map, All, find, range_with_len, ints, RefutationData, ClaimData, IsLawful, Exchange, Interval, numbers_below, AreRooms, refused_by, refuses, IsErrorOf64Bits, IsFirstBeyond, IsNearest, IsNearestRefutation, NoneIsRefuted, after, greatest_error, is_possible, least_error_below, nearest, refutation_at, nearest_error}
 use Rattle.std.specs.Option.{option_or}
-use Rattle.std.proofs.lemmas.Int.{ints}
-use Rattle.certificate.specs.Refutation.{RefutationData}
-use Rattle.claim_file.specs.Claim.{ClaimData, IsLawful}
 use Rattle.pairing.specs.Exchange.{IsLawful as IsLawfulExchange}
-use Rattle.pairing.specs.declared.exchange.Exchange.{Exchange}
-use Rattle.intersection.specs.declared.kinds.Interval.{Interval}
-use Rattle.span_cover.specs.Group.{numbers_below}
-use Rattle.finder.specs.Room.{AreRooms, refused_by, refuses}
-use Rattle.finder.specs.NearestRefutation.{IsErrorOf64Bits, IsFirstBeyond, IsNearest, IsNearestRefutation, NoneIsRefuted, after, greatest_error, is_possible, least_error_below, nearest, refutation_at, nearest_error}
 use Rattle.finder.proofs.Liar.{possible_of, refuted_at, same_passing_test}
 use Rattle.finder.proofs.List.{find_is_first, find_is_none}
 use Rattle.finder.proofs.Nearest.{int_cases}

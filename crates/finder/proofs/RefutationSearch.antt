@@ -1,13 +1,5 @@
 -- Which refutation is found.
-use Rattle.std.proofs.Common.{◌≡◌, ℕ, ◌-◌, ◌<◌, ◌^◌, ℤ, pos, neg_ℤ, ◌-ℤ◌, ◌≤ℤ◌, ◌<ℤ◌, int_lt, nat_le, unsigned_abs, Bool, true, false, ◌||◌, List, Some, None, refl, sym, ap, ◌∙◌, arith}
-use Rattle.std.specs.Prelude.{option_map}
-use Rattle.std.specs.List.{find, range_with_len}
-use Rattle.std.proofs.lemmas.Int.{ints}
-use Rattle.claim_file.specs.Claim.{ClaimData, IsLawful}
-use Rattle.pairing.specs.declared.exchange.Exchange.{Exchange}
-use Rattle.intersection.specs.declared.kinds.Interval.{Interval}
-use Rattle.finder.specs.Room.{AreMirrored, AreRooms, IsNear, possible_by, refused_by, refuses, room_at}
-use Rattle.finder.specs.NearestRefutation.{IsFirstBeyond, after, greatest_error, is_possible, least_error_below, nearest, nearest_error}
+use Rattle.finder.proofs.Common.{◌≡◌, ℕ, ◌-◌, ◌<◌, ◌^◌, ℤ, pos, neg_ℤ, ◌-ℤ◌, ◌≤ℤ◌, ◌<ℤ◌, int_lt, nat_le, unsigned_abs, Bool, true, false, ◌||◌, List, Some, None, refl, sym, ap, ◌∙◌, arith, option_map, find, range_with_len, ints, ClaimData, IsLawful, Exchange, Interval, AreMirrored, AreRooms, IsNear, possible_by, refused_by, refuses, room_at, IsFirstBeyond, after, greatest_error, is_possible, least_error_below, nearest, nearest_error}
 use Rattle.finder.proofs.Claim.{few_groups}
 use Rattle.finder.proofs.Group.{as_many_groups}
 use Rattle.finder.proofs.List.{by_test, find_first, find_none}

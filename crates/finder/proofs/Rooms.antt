@@ -1,17 +1,7 @@
 -- The intervals of all servers, exchange by exchange.
-use Rattle.std.proofs.Common.{◌≡◌, ◌≢◌, ℕ, ◌+◌, ◌<◌, ◌≤◌, ◌^◌, ℤ, pos, neg_ℤ, ◌-ℤ◌, int_lt, unsigned_abs, Bool, true, false, not, ◌&&◌, ◌||◌, List, [], ◌∷◌, ◌++◌, length, take, set, replicate, get_or, refl, sym, ap, ◌∙◌, subst, ⊎_elim, arith}
-use Rattle.std.specs.Prelude.{◌==◌, map, All}
-use Rattle.std.proofs.lemmas.Bool.{cases_lt}
-use Rattle.std.proofs.lemmas.Bool.Decides.{nat_tests}
-use Rattle.std.proofs.lemmas.Int.{ints}
-use Rattle.std.proofs.lemmas.List.{get_or-map, get_or-replicate, get_or-set_same, get_or-set_other, length-map, take_more}
-use Rattle.std.proofs.lemmas.List.Folds.{list_any-append}
-use Rattle.intersection.specs.Interval.{leaves_out}
-use Rattle.intersection.specs.declared.kinds.Interval.{Interval}
+use Rattle.finder.proofs.Common.{◌≡◌, ◌≢◌, ℕ, ◌+◌, ◌<◌, ◌≤◌, ◌^◌, ℤ, pos, neg_ℤ, ◌-ℤ◌, int_lt, unsigned_abs, Bool, true, false, not, ◌&&◌, ◌||◌, List, [], ◌∷◌, ◌++◌, length, take, set, replicate, get_or, refl, sym, ap, ◌∙◌, subst, ⊎_elim, arith, ◌==◌, All, cases_lt, nat_tests, ints, get_or-map, get_or-replicate, get_or-set_same, get_or-set_other, length-map, take_more, list_any-append, leaves_out, Interval, Exchange, admits, AreRooms, IsNear, IsRoom, refuses, room_at}
+use Rattle.std.specs.Prelude.{map}
 use Rattle.pairing.specs.Exchange.{IsLawful}
-use Rattle.pairing.specs.declared.exchange.Exchange.{Exchange}
-use Rattle.checker.specs.RefutationTest.{admits}
-use Rattle.finder.specs.Room.{AreRooms, IsNear, IsRoom, refuses, room_at}
 use Rattle.finder.proofs.NoOverflow.{kept}
 use Rattle.finder.proofs.List.{by_test}
 use Rattle.finder.proofs.ErrorRoom.{bits}

@@ -1,32 +1,12 @@
 -- What settles a claim.
-use Rattle.std.proofs.Common.{◌≡◌, ℕ, ◌<◌, ◌≤◌, ℤ, pos, ◌*ℤ◌, ◌≤ℤ◌, true, false, true≢false, List, [], ◌∷◌, Ok, refl, sym, ◌∙◌, subst, to_z, of_z, Fits, w64, unsigned_abs, arith}
-use Rattle.std.proofs.Math.Dec.{T}
-use Rattle.std.specs.Int.Signed.{non_neg}
-use mir.Syntax.{w128}
-use Rattle.std.specs.Prelude.{◌↔◌, All, Bool, IsTrue, length}
-use Rattle.std.proofs.lemmas.Int.{ints, clamps}
-use Rattle.claim_file.specs.Claim.{ClaimData, IsLawful}
+use Rattle.finder.proofs.Common.{◌≡◌, ℕ, ◌<◌, ◌≤◌, ℤ, pos, ◌*ℤ◌, ◌≤ℤ◌, true, false, true≢false, List, [], ◌∷◌, Ok, refl, sym, ◌∙◌, subst, to_z, of_z, Fits, w64, unsigned_abs, arith, T, non_neg, w128, ◌↔◌, All, IsTrue, ints, clamps, ClaimData, IsLawful, Exchange, CertificateData, RefutationData, Certificate, Hull, Sample, IsPiece, Course, IsObservedIn, samples_of, verdict_of, Yes, HasSmallCover, IsCover, SomeCourse, AreLongest, IsStuck, end_after, FindsFewest, AreHeld, NoneIsRefuted}
+use Rattle.std.specs.Prelude.{Bool, length}
 use Rattle.pairing.specs.Exchange.{IsLawful as IsLawfulExchange}
-use Rattle.pairing.specs.declared.exchange.Exchange.{Exchange}
-use Rattle.certificate.specs.Certificate.{CertificateData, data_of as certificate_data}
-use Rattle.certificate.specs.Refutation.{RefutationData}
-use Rattle.certificate.specs.declared.certificate.Certificate.{Certificate}
+use Rattle.certificate.specs.Certificate.{data_of as certificate_data}
 use Rattle.intersection.specs.Fineness.{times_le}
-use Rattle.intersection.specs.declared.kinds.Hull.{Hull}
-use Rattle.sample_interval.specs.declared.kinds.Sample.{Sample}
-use Rattle.span_cover.specs.Piece.{IsPiece}
-use Rattle.checker.specs.Course.{Course}
-use Rattle.checker.specs.Traceability.{IsObservedIn, samples_of}
-use Rattle.checker.specs.Verdict.{verdict_of}
-use Rattle.checker.specs.declared.verdict.Verdict.TheVariants.{Yes}
 use Rattle.courses.specs.Contradiction.{AreAllConflicts, HoldsAnEnd, ShownConflict}
-use Rattle.courses.specs.Cover.{HasSmallCover, IsCover, SomeCourse}
 use Rattle.courses.specs.DriftSettlement.{SettlesWithDrift}
 use Rattle.courses.specs.Evidence.{IsNoEvidence, count_with_exchange}
-use Rattle.finder.specs.Fewest.{AreLongest, IsStuck, end_after}
-use Rattle.finder.specs.FewestAnswer.{FindsFewest}
-use Rattle.finder.specs.Leeway.{AreHeld}
-use Rattle.finder.specs.NearestRefutation.{NoneIsRefuted}
 use Rattle.finder.specs.Settlement.{IsContestedBy, IsFitted, IsFittedByNone, IsHeard, IsLeftOpen, IsShownBy, IsUnheard}
 use Rattle.finder.specs.declared.fewest.Fewest.TheVariants as found
 use Rattle.finder.proofs.LongestPiece.{end_kept, fits_64}

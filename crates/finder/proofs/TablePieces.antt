@@ -1,14 +1,5 @@
 -- The best samples of each server in each piece, table by table.
-use Rattle.std.proofs.Common.{◌≡◌, ℕ, zero, suc, ◌+◌, ◌<◌, ◌≤◌, ◌^◌, ℤ, pos, ◌≤ℤ◌, ◌<ℤ◌, List, [], ◌∷◌, ◌++◌, length, Option, Some, refl, sym, ap, ◌∙◌, subst, le_trans, arith, Vec, Global}
-use Rattle.std.specs.Prelude.{All, slice_get}
-use Rattle.std.specs.List.{filter_map, cons_option, range_with_len}
-use Rattle.std.proofs.lemmas.List.Elements.{filter_map-append}
-use Rattle.std.proofs.lemmas.List.FromFn.{length-map-range_with_len, get_or-map-range_with_len}
-use Rattle.std.proofs.lemmas.Option.{slice_get-get_or, slice_get_within}
-use Rattle.span_cover.specs.Piece.{IsPiece}
-use Rattle.span_cover.specs.Step.{piece_end_of}
-use Rattle.sweep.specs.Pieces.{IsPieceAt, ArePieces}
-use Rattle.finder.specs.Piece.{piece_begin_of, ends_of}
+use Rattle.finder.proofs.Common.{◌≡◌, ℕ, zero, suc, ◌+◌, ◌<◌, ◌≤◌, ◌^◌, ℤ, pos, ◌≤ℤ◌, ◌<ℤ◌, List, [], ◌∷◌, ◌++◌, length, Option, Some, refl, sym, ap, ◌∙◌, subst, le_trans, arith, Vec, Global, All, slice_get, filter_map, cons_option, range_with_len, filter_map-append, length-map-range_with_len, get_or-map-range_with_len, slice_get-get_or, slice_get_within, IsPiece, piece_end_of, IsPieceAt, ArePieces, piece_begin_of, ends_of}
 use Rattle.finder.proofs.List.{one_more}
 use Rattle.finder.proofs.SpanPieces.{each_is_piece}
 

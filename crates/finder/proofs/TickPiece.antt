@@ -1,15 +1,5 @@
 -- The piece that holds a tick.
-use Rattle.std.proofs.Common.{◌≡◌, ℕ, zero, suc, ◌+◌, ◌-◌, ◌*◌, ◌/◌, ◌<◌, ◌≤◌, ℤ, pos, ◌+ℤ◌, ◌-ℤ◌, ◌≤ℤ◌, unsigned_abs, List, ap, ◌∙◌, ⊎_elim, arith}
-use Rattle.std.proofs.Math.Nat.{mul-le-mul_right}
-use Rattle.std.proofs.lemmas.Bool.{cases_lt}
-use Rattle.std.proofs.lemmas.Int.{ints, clamps}
-use Rattle.era_unfold.specs.Window.{ticks_per_second}
-use Rattle.claim_file.specs.Claim.{ClaimData, IsLawful}
-use Rattle.sample_interval.specs.declared.kinds.Sample.{Sample}
-use Rattle.span_cover.specs.Step.{piece_end_of}
-use Rattle.finder.specs.Carried.{HoldsTick, IsTick, piece_holding}
-use Rattle.finder.specs.Fewest.{next_tick}
-use Rattle.finder.specs.Piece.{IsPieceCount, count_of, piece_begin_of}
+use Rattle.finder.proofs.Common.{◌≡◌, ℕ, zero, suc, ◌+◌, ◌-◌, ◌*◌, ◌/◌, ◌<◌, ◌≤◌, ℤ, pos, ◌+ℤ◌, ◌-ℤ◌, ◌≤ℤ◌, unsigned_abs, List, ap, ◌∙◌, ⊎_elim, arith, mul-le-mul_right, cases_lt, ints, clamps, ticks_per_second, ClaimData, IsLawful, Sample, piece_end_of, HoldsTick, IsTick, piece_holding, next_tick, IsPieceCount, count_of, piece_begin_of}
 
 -- a quotient, by its bounds
 record Quotient (n d k : ℕ) : Type 0 where

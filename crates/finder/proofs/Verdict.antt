@@ -1,32 +1,5 @@
 -- What the checker says about pieces with the best samples.
-use Rattle.std.proofs.Common.{◌≡◌, ℕ, zero, suc, ◌+◌, ◌-◌, ◌<◌, ◌≤◌, ℤ, pos, ◌≤ℤ◌, int_lt, nat_lt, unsigned_abs, Bool, true, false, cond, not, ◌&&◌, ◌||◌, List, [], ◌∷◌, ◌++◌, length, Option, Some, None, Result, Ok, refl, sym, ap, ◌∙◌, subst, arith, append_assoc, add-one, add-zero}
-use Rattle.std.specs.Prelude.{slice_get, ◌==◌}
-use Rattle.std.specs.List.{list_any, filter_map, cons_option, range_with_len}
-use Rattle.std.specs.Ordering.{int_eq}
-use Rattle.std.proofs.lemmas.Bool.{cond-true, cond-false}
-use Rattle.std.proofs.lemmas.Bool.Decides.{nat_tests}
-use Rattle.std.proofs.lemmas.Int.{ints}
-use Rattle.std.proofs.lemmas.List.{append-nil}
-use Rattle.std.proofs.lemmas.List.Folds.{list_any-append}
-use Rattle.certificate.specs.Certificate.{PieceData}
-use Rattle.claim_file.specs.Claim.{ClaimData, IsLawful}
-use Rattle.intersection.specs.declared.kinds.Hull.{Hull}
-use Rattle.intersection.specs.declared.kinds.Hull.TheVariants.{Unbounded, Empty, Bounded}
-use Rattle.sample_interval.specs.declared.kinds.Sample.{Sample}
-use Rattle.span_cover.specs.Step.{piece_end_of}
-use Rattle.checker.specs.Stretch.{stretches_from}
-use Rattle.span_cover.specs.Part.{part_of}
-use Rattle.checker.specs.Verdict.{part_from, parts_after, unless_refused, hull_fault, parts_fault, piece_fault, verdict_after, verdict_from}
-use Rattle.span_cover.specs.declared.part.Part.{Part}
-use Rattle.span_cover.specs.declared.stretch.Stretch.{Stretch}
-use Rattle.checker.specs.declared.verdict.Verdict.{Verdict}
-use Rattle.checker.specs.declared.verdict.Verdict.TheVariants.{Yes, No}
-use Rattle.checker.specs.declared.verdict.Why.{Why}
-use Rattle.checker.specs.declared.verdict.Why.TheVariants.{Cut, Contradiction, Exceeds, Uncovered}
-use Rattle.span_cover.specs.Group.{is_inside}
-use Rattle.finder.specs.Entry.{best_over, best_entries, best_hull, part_between, parts_named}
-use Rattle.finder.specs.Found.{piece_at, pieces_from, hull_at, passes}
-use Rattle.finder.specs.Piece.{IsPieceCount, piece_begin_of, stretch_at}
+use Rattle.finder.proofs.Common.{◌≡◌, ℕ, zero, suc, ◌+◌, ◌-◌, ◌<◌, ◌≤◌, ℤ, pos, ◌≤ℤ◌, int_lt, nat_lt, unsigned_abs, Bool, true, false, cond, not, ◌&&◌, ◌||◌, List, [], ◌∷◌, ◌++◌, length, Option, Some, None, Result, Ok, refl, sym, ap, ◌∙◌, subst, arith, append_assoc, add-one, add-zero, slice_get, ◌==◌, list_any, filter_map, cons_option, range_with_len, int_eq, cond-true, cond-false, nat_tests, ints, append-nil, list_any-append, PieceData, ClaimData, IsLawful, Hull, Unbounded, Empty, Bounded, Sample, piece_end_of, stretches_from, part_of, part_from, parts_after, unless_refused, hull_fault, parts_fault, piece_fault, verdict_after, verdict_from, Part, Stretch, Verdict, Yes, No, Why, Cut, Contradiction, Exceeds, Uncovered, is_inside, best_over, best_entries, best_hull, part_between, parts_named, piece_at, pieces_from, hull_at, passes, IsPieceCount, piece_begin_of, stretch_at}
 use Rattle.finder.proofs.Best.{BestLaw, best_of_is}
 use Rattle.finder.proofs.SpanPieces.{begin_before_end, end_to_last, piece_of_claim, stretch_is}
 

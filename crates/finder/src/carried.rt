@@ -11,7 +11,7 @@ ghost use Rattle.finder.specs.Piece.{IsStep};
 ghost use Rattle.finder.specs.Reach.{AreTablesFor, IsTabled};
 ghost use Rattle.checker.specs.Samples.{AreSamplesOf};
 
-use crate::guess::Guess;
+use crate::guess::likely_least;
 use crate::laws::{
     best_entries_show_as_much, best_hulls_hold_the_error, pieces_within_have_no_wider_hulls,
 };
@@ -64,17 +64,18 @@ pub fn least_bound<S: SampleSource>(
 {
     let tables = tables_for(alloc, samples, claim)?;
     let start = likely_bound(alloc, &tables, claim, covers, samples.count())?;
-    let found = least_bound_by(alloc, &tables, claim, start)?;
+    let near = likely_least(alloc, &tables, claim, start)?;
+    let found = least_bound_by(alloc, &tables, claim, near)?;
     Ok(found)
 }
 
-/// The least bound, by the tables of the servers, looked for at `start`, if that isn't enough where
-/// it likely is, and from there on in steps that double or halve: at most a hundred.
+/// The least bound, by the tables of the servers, looked for at `near`, and from there on in steps
+/// that double or halve: at most a hundred.
 fn least_bound_by(
     alloc: Global,
     tables: &[BestTable],
     claim: &Claim,
-    start: u64,
+    near: u64,
 ) -> Result<Option<LeastCarried>, AllocError>
     requires claim { IsLawful (claim_data claim.now) }
     requires tables { IsTabled (claim_data claim.now) tables.now }
@@ -93,12 +94,10 @@ fn least_bound_by(
     if widest.is_some() {
         return Ok(None);
     }
-    let mut guess = Guess::at(start);
     let mut least = 0;
     let mut bound_ns = MOST_BOUND_NS;
     let mut tick = claim.first as u64;
     while least < bound_ns {
-        let near = guess.next(alloc, tables, claim, least, bound_ns)?;
         let tried_ns = trial(least, bound_ns, near);
         match try_bound(alloc, tables, claim, tried_ns)? {
             None => bound_ns = tried_ns,

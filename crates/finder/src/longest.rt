@@ -1,7 +1,7 @@
 //! The longest piece from a reading.
 
 ghost use Rattle.std.specs.Prelude.{◌≡◌, ◌≤◌, pos, ◌+ℤ◌, ◌≤ℤ◌, true, List, length, IfOk};
-ghost use Rattle.std.specs.Prelude.{IfSome, IsTrue, MatchResult};
+ghost use Rattle.std.specs.Prelude.{IsTrue, MatchResult};
 ghost use Rattle.std.specs.Int.{int_min};
 ghost use Rattle.claim_file.specs.Claim.{IsLawful, data_of};
 ghost use Rattle.pairing.specs.Exchange.{most_exchanges};
@@ -99,14 +99,7 @@ pub(crate) struct Pace {
     /// How long a piece was that ended before the servers' ends left the bound, if the last ones
     /// weren't longer.
     shortened: u64,
-    /// How many pieces may be taken for as long as is likely, without a look.
-    trust: u32,
-    /// How many of them are left.
-    left: u32,
 }
-
-/// So many pieces are taken at most before the next one is looked at.
-const MOST_TRUST: u32 = 15;
 
 impl Pace {
     /// No piece is found yet.
@@ -116,23 +109,11 @@ impl Pace {
             length: 0,
             same: 0,
             shortened: u64::MAX,
-            trust: 0,
-            left: 0,
         }
     }
 
     /// Takes note of a piece of so many ticks, where so many were likely.
     fn see(&mut self, length: u64, likely: u64) {
-        let is_right = length == likely && likely < self.shortened;
-        self.trust = if is_right {
-            self.trust
-                .saturating_mul(2)
-                .saturating_add(1)
-                .min(MOST_TRUST)
-        } else {
-            0
-        };
-        self.left = self.trust;
         if length < likely {
             self.shortened = length;
         } else if self.shortened < length {
@@ -146,9 +127,9 @@ impl Pace {
         self.length = length;
     }
 
-    /// How long the last piece was, if so many before it were as long, and it was looked at.
+    /// How long the last piece was, if so many before it were as long.
     pub(crate) fn steady(self, before: u32) -> Option<u64> {
-        if before <= self.same && self.left == self.trust {
+        if before <= self.same {
             Some(self.length)
         } else {
             None
@@ -186,36 +167,13 @@ pub(crate) fn longest_piece(
     Ok(end)
 }
 
-/// Where the longest piece from `begin` likely ends, before the span does, if the last ones ended
-/// where it was likely.
-pub(crate) fn likely_end(
-    tables: &[BestTable],
-    pace: &mut Pace,
-    claim: &Claim,
-    begin: u64,
-) -> Option<u64>
-    requires claim { IsLawful (data_of claim.now) }
-    requires tables { IsTabled (data_of claim.now) tables.now }
-    ensures { IfSome result (λ end. pos end ≤ℤ claim.now.last) }
-{
-    pace.left = pace.left.checked_sub(1)?;
-    let length = likely_length(tables, &mut pace.places, claim, begin);
-    let end = begin.saturating_add(length);
-    if length == 0 || pace.shortened <= length || claim.last as u64 <= end {
-        return None;
-    }
-    Some(end)
-}
-
-/// Whether the longest piece from `begin` likely has so many ticks, and ends before the span; if it
-/// `is_near`, only where the same maxima decide as did over the last piece.
+/// Whether the longest piece from `begin` has so many ticks, and ends before the span.
 pub(crate) fn is_as_long(
     tables: &[BestTable],
     pace: &mut Pace,
     claim: &Claim,
     begin: u64,
     length: u64,
-    is_near: bool,
 ) -> bool
     requires claim { IsLawful (data_of claim.now) }
     requires tables { IsTabled (data_of claim.now) tables.now }
@@ -225,23 +183,8 @@ pub(crate) fn is_as_long(
     if claim.last as u64 <= end {
         return false;
     }
-    let before = pace.places;
     is_shown(tables, &mut pace.places, claim, begin, end)
         && !is_shown(tables, &mut pace.places, claim, begin, end + 1)
-        && (!is_near || have_same_maxima(&before, &pace.places))
-}
-
-/// Whether the same maxima decided in all tables, at whatever levels.
-fn have_same_maxima(one: &Places, other: &Places) -> bool {
-    for index in 0..32 {
-        let mut levelled = other.near[index];
-        levelled.lows.level = one.near[index].lows.level;
-        levelled.highs.level = one.near[index].highs.level;
-        if one.near[index] != levelled {
-            return false;
-        }
-    }
-    true
 }
 
 /// Where the longest piece from `begin` ends, if the piece from there to `next`, the next tick,

@@ -1,4 +1,4 @@
--- What a run over inputs in memory comes to, by what the engine promises of any run.
+-- How a run over inputs in memory ends, by what the engine promises of any run.
 use Rattle.std.proofs.Common.{◌≡◌, ℕ, List, refl, subst}
 use Rattle.byte_stream.specs.State.{FeedState, SinkState}
 use Rattle.report.specs.Run.{RunState, run_state}

@@ -18,8 +18,8 @@ use report::{Conclusion, conclude};
 use std::alloc::Global;
 use std::hash::BuildHasher;
 
-/// Answers a question on inputs that are held to their sums, and reports the answer. What was read
-/// is handed back beside what that comes to.
+/// Answers a question on inputs that are held to their sums, and reports the answer. Returns what
+/// was read, and the conclusion.
 ///
 /// `sums` is the text of a file of sums, which has the inputs by their names. The inputs are read
 /// whole into memory, in the order claim, second input, capture; each is held to its sum as soon as

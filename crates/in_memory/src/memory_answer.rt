@@ -15,7 +15,7 @@ use std::alloc::Global;
 use std::hash::BuildHasher;
 
 /// Answers a question on the bytes of a claim and a capture, and on a second input from memory, and
-/// reports the answer. The result is what that comes to.
+/// reports the answer. Returns the conclusion.
 pub(crate) fn answer_with<
     Q: Question,
     T: SecondSource<Q::Second>,

@@ -63,8 +63,8 @@ pub trait SummedSource<V: SecondInput>: SecondSource<V> {
         ensures at_most { TakesAtMost (most_second V.kind)
             (Self.state self.old) (Self.state self.new) };
 
-    /// Answers a question on what was read, and reports the answer. The result is what that comes
-    /// to. A question without a second input has no byte of it.
+    /// Answers a question on what was read, reports the answer, and returns the conclusion. A
+    /// question without a second input has no byte of it.
     fn answer_on<Q: Question<Second = V>, S: Sink, E: Sink, H: BuildHasher + Drop>(
         alloc: Global,
         question: Q,

@@ -1,16 +1,6 @@
 -- If a point is admissible, so are an end that is not above it and one that is not below it.
-use Rattle.std.proofs.Common.{◌≡◌, ℕ, ◌+◌, ◌<◌, ◌≤◌, ℤ, ◌≤ℤ◌, Bool, true, false, cond, nat_le, ◌⊎◌, inl, inr, ⊎_elim, List, [], ◌∷◌, length, refl, sym, ap, ◌∙◌, subst, arith}
-use Rattle.std.specs.Prelude.{filter, fold}
-use Rattle.std.specs.Int.{int_max, int_min}
-use Rattle.std.proofs.lemmas.Int.{ints, clamps}
-use Rattle.std.proofs.lemmas.List.Sums.{sum_by-cons}
-use Rattle.std.proofs.lemmas.Bool.{cond-true, cond-false}
-use Rattle.std.proofs.lemmas.Bool.Decides.{nat_tests}
+use Rattle.intersection.proofs.Common.{◌≡◌, ℕ, ◌+◌, ◌<◌, ◌≤◌, ℤ, ◌≤ℤ◌, Bool, true, false, cond, nat_le, ◌⊎◌, inl, inr, ⊎_elim, List, [], ◌∷◌, length, refl, sym, ap, ◌∙◌, subst, arith, filter, fold, int_max, int_min, ints, clamps, sum_by-cons, cond-true, cond-false, nat_tests, leaves_out, count_leaving_out, IsAdmissible, IsHull, end_points, admissible_ends, range_of, hull_of, Interval, Unbounded}
 use Rattle.intersection.proofs.Intervals.{int_max_or, int_min_or}
-use Rattle.intersection.specs.Interval.{leaves_out}
-use Rattle.intersection.specs.Hull.{count_leaving_out, IsAdmissible, IsHull, end_points, admissible_ends, range_of, hull_of}
-use Rattle.intersection.specs.declared.kinds.Interval.{Interval}
-use Rattle.intersection.specs.declared.kinds.Hull.TheVariants.{Unbounded}
 
 -- a point stands in a list
 abbrev pub StandsIn : List ℤ → ℤ → Type 0

@@ -1,15 +1,6 @@
 -- Products by a positive number, floors and ceilings, and whole points beside fractions.
-use Rattle.std.proofs.Common.{◌≡◌, ℕ, zero, suc, ◌*◌, ◌/◌, ◌<◌, ◌≤◌, ℤ, pos, negsuc, ◌+ℤ◌, ◌*ℤ◌, ◌<ℤ◌, ◌≤ℤ◌, neg_ℤ, Bool, true, false, cond, List, refl, arith, count_by}
-use Rattle.std.proofs.lemmas.Int.{ints, by_lt_z}
-use Rattle.std.proofs.lemmas.List.Sums.{sum_by-le-sum_by}
-use Rattle.intersection.specs.Fineness.{times_le}
-use Rattle.intersection.specs.Interval.{leaves_out}
-use Rattle.intersection.specs.Hull.{count_leaving_out, IsAdmissible, IsHull}
+use Rattle.intersection.proofs.Common.{◌≡◌, ℕ, zero, suc, ◌*◌, ◌/◌, ◌<◌, ◌≤◌, ℤ, pos, negsuc, ◌+ℤ◌, ◌*ℤ◌, ◌<ℤ◌, ◌≤ℤ◌, neg_ℤ, Bool, true, false, cond, List, refl, arith, count_by, ints, by_lt_z, sum_by-le-sum_by, times_le, leaves_out, count_leaving_out, IsAdmissible, IsHull, HoldsFraction, leaves_fraction_out, IsAdmissibleFraction, HullHoldsFraction, Interval, Hull, Unbounded, Empty, Bounded}
 use Rattle.era_unfold.specs.Ratio.{IsSignedFloor, IsSignedCeiling}
-use Rattle.intersection.specs.Fraction.{HoldsFraction, leaves_fraction_out, IsAdmissibleFraction, HullHoldsFraction}
-use Rattle.intersection.specs.declared.kinds.Interval.{Interval}
-use Rattle.intersection.specs.declared.kinds.Hull.{Hull}
-use Rattle.intersection.specs.declared.kinds.Hull.TheVariants.{Unbounded, Empty, Bounded}
 
 next_times : (a next : ℤ) (n : ℕ) → next ≡ a +ℤ pos 1 → (next *ℤ pos n) ≡ (a *ℤ pos n) +ℤ pos n
 next_times (pos x) (pos y) n h = let is : y ≡ suc x = omega (arith, ints) in rw is (omega (arith, ints))

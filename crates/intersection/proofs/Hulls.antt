@@ -1,12 +1,6 @@
 -- What follows of hulls from their definition.
-use Rattle.std.proofs.Common.{◌≡◌, ℕ, ◌<◌, ◌≤◌, ℤ, ◌↔◌, List, length, IsPermutation, refl, arith}
-use Rattle.std.proofs.lemmas.Int.{ints}
-use Rattle.std.proofs.lemmas.List.Sorted.{sum_by-IsPermutation, length_permutation, IsPermutation-sym}
-use Rattle.intersection.specs.Hull.{count_leaving_out, IsAdmissible, IsLeastAdmissible, IsGreatestAdmissible, IsHull, HullHolds, IfBounded, DescribesHull, hull_of}
+use Rattle.intersection.proofs.Common.{◌≡◌, ℕ, ◌<◌, ◌≤◌, ℤ, ◌↔◌, List, length, IsPermutation, refl, arith, ints, sum_by-IsPermutation, length_permutation, IsPermutation-sym, count_leaving_out, IsAdmissible, IsLeastAdmissible, IsGreatestAdmissible, IsHull, HullHolds, IfBounded, DescribesHull, hull_of, Interval, Hull, Unbounded, Empty, Bounded}
 use Rattle.intersection.proofs.EndPoints.{IsHull-hull_of}
-use Rattle.intersection.specs.declared.kinds.Interval.{Interval}
-use Rattle.intersection.specs.declared.kinds.Hull.{Hull}
-use Rattle.intersection.specs.declared.kinds.Hull.TheVariants.{Unbounded, Empty, Bounded}
 
 pub one_answer : (list : List Interval) (f : ℕ) (first second : Hull) → IsHull list f first → IsHull list f second
     → first ≡ second

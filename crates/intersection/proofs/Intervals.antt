@@ -1,11 +1,5 @@
 -- The tests on one interval, and the points of the meet of two.
-use Rattle.std.proofs.Common.{◌≡◌, ℕ, ℤ, pos, ◌*ℤ◌, ◌<ℤ◌, ◌⊎◌, ◌↔◌, inl, inr, ⊎_elim, true, false, cond, refl, sym, subst, ◌∙◌, arith, int_lt}
-use Rattle.std.proofs.lemmas.Int.{ints, clamps}
-use Rattle.std.specs.Int.{int_max, int_min}
-use Rattle.intersection.specs.Fineness.{times_le}
-use Rattle.intersection.specs.Interval.{LeavesOut}
-use Rattle.intersection.specs.Fraction.{LeavesFractionOut}
-use Rattle.intersection.specs.declared.kinds.Interval.{Interval}
+use Rattle.intersection.proofs.Common.{◌≡◌, ℕ, ℤ, pos, ◌*ℤ◌, ◌<ℤ◌, ◌⊎◌, ◌↔◌, inl, inr, ⊎_elim, true, false, cond, refl, sym, subst, ◌∙◌, arith, int_lt, ints, clamps, int_max, int_min, times_le, LeavesOut, LeavesFractionOut, Interval}
 
 pub int_max_or : (x y : ℤ) → (int_max x y ≡ x) ⊎ (int_max x y ≡ y)
 int_max_or x y = elim (int_lt y x) as (λ t. (cond t x y ≡ x) ⊎ (cond t x y ≡ y)) [ true ↦ inl refl | false ↦ inr refl ]

@@ -1,3 +1,4 @@
+mod Common
 pub mod Fractions
 pub mod Intervals
 pub mod EndPoints

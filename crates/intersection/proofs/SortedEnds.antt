@@ -1,15 +1,8 @@
 -- Ends that are sorted by their derived order are in order.
-use Rattle.std.proofs.Common.{◌≡◌, ℤ, false, List, Ordering, get_or, arith}
-use Rattle.std.specs.Prelude.{IsSorted}
+use Rattle.intersection.proofs.Common.{◌≡◌, ℤ, false, List, Ordering, get_or, arith, IsSorted, ints, sorted_far, ranks_by, MayPrecede, IsInOrder, End, Side, Low, High}
 use Rattle.std.specs.Ordering.{is_lt}
-use Rattle.std.proofs.lemmas.Int.{ints}
-use Rattle.std.proofs.lemmas.List.Sorted.{sorted_far, ranks_by}
 use Rattle.intersection.specs.contracts.ends.EndOrd.TheImpl as end_ord
 use Rattle.intersection.specs.contracts.ends.EndOrd.TheImpl.Laws.{total-law}
-use Rattle.intersection.specs.Ends.{MayPrecede, IsInOrder}
-use Rattle.intersection.specs.declared.ends.End.{End}
-use Rattle.intersection.specs.declared.ends.Side.{Side}
-use Rattle.intersection.specs.declared.ends.Side.TheVariants.{Low, High}
 
 -- what the derived `cmp` answers
 abbrev pub end_cmp : End → End → Ordering

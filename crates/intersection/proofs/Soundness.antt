@@ -1,19 +1,5 @@
 -- The points where Marzullo's walks stop are the ends of the hull: what was entered and left, against what is left out.
-use Rattle.std.proofs.Common.{◌≡◌, ℕ, ◌+◌, ◌-◌, ◌<◌, ℤ, int_lt, int_le, Bool, true, false, cond, not, ◌&&◌, ◌||◌, List, [], ◌∷◌, ◌++◌, length, reverse, Option, Some, None, IfSome, IsPermutation, refl, sym, ◌∙◌, arith}
-use Rattle.std.specs.Prelude.{AllPairs}
-use Rattle.std.specs.List.{flat_map, sum_by}
-use Rattle.std.proofs.lemmas.Int.{ints, by_lt_z}
-use Rattle.std.proofs.lemmas.List.Sums.{sum_by-cons, sum_by-append}
-use Rattle.std.proofs.lemmas.List.Sorted.{sum_by-IsPermutation, IsPermutation-trans, IsPermutation-reverse}
-use Rattle.intersection.specs.Interval.{leaves_out}
-use Rattle.intersection.specs.Hull.{count_leaving_out, IsAdmissible, IsHull}
-use Rattle.intersection.specs.Ends.{low_end, high_end, ends_of, MayPrecede, IsInOrder, enters}
-use Rattle.intersection.specs.Marzullo.{first_reached}
-use Rattle.intersection.specs.declared.kinds.Interval.{Interval}
-use Rattle.intersection.specs.declared.kinds.Hull.TheVariants.{Empty, Bounded}
-use Rattle.intersection.specs.declared.ends.End.{End}
-use Rattle.intersection.specs.declared.ends.Side.{Side}
-use Rattle.intersection.specs.declared.ends.Side.TheVariants.{Low, High}
+use Rattle.intersection.proofs.Common.{◌≡◌, ℕ, ◌+◌, ◌-◌, ◌<◌, ℤ, int_lt, int_le, Bool, true, false, cond, not, ◌&&◌, ◌||◌, List, [], ◌∷◌, ◌++◌, length, reverse, Option, Some, None, IfSome, IsPermutation, refl, sym, ◌∙◌, arith, AllPairs, flat_map, sum_by, ints, by_lt_z, sum_by-cons, sum_by-append, sum_by-IsPermutation, IsPermutation-trans, IsPermutation-reverse, leaves_out, count_leaving_out, IsAdmissible, IsHull, low_end, high_end, ends_of, MayPrecede, IsInOrder, enters, first_reached, Interval, Empty, Bounded, End, Side, Low, High}
 use Rattle.intersection.proofs.Walks.{Follows, is_met, IsShortOf, entered_by, left_by, ordered_from_pairs, pairs_reversed, short_of_stop, stop_reaches}
 
 -- ---- ends against intervals

@@ -2,20 +2,9 @@
 --
 -- Of the ends before a point p in the walk, those that enter an interval are counted by `entered_by`, and those that
 -- leave one by `left_by`: p lies in as many intervals as the one is above the other.
-use Rattle.std.proofs.Common.{◌≡◌, ℕ, suc, ◌+◌, ◌-◌, ◌<◌, ◌≤◌, ℤ, ◌<ℤ◌, int_lt, int_le, nat_le, Bool, true, false, cond, not, ◌&&◌, List, [], ◌∷◌, length, count_by, reverse, Option, Some, IfSome, refl, sym, ap, ◌∙◌, subst, arith}
-use Rattle.std.specs.Prelude.{⊤, AllPairs}
-use Rattle.std.specs.List.{AllByRecursion}
-use Rattle.std.proofs.lemmas.Int.{ints}
+use Rattle.intersection.proofs.Common.{◌≡◌, ℕ, suc, ◌+◌, ◌-◌, ◌<◌, ◌≤◌, ℤ, ◌<ℤ◌, int_lt, int_le, nat_le, Bool, true, false, cond, not, ◌&&◌, List, [], ◌∷◌, length, count_by, reverse, Option, Some, IfSome, refl, sym, ap, ◌∙◌, subst, arith, ⊤, AllPairs, AllByRecursion, ints, sum_by-cons, and_left, and_right, and_from, not_from_true, not_from_false, cond-true, cond-false, nat_tests, MayPrecede, is_low, enters, first_reached, End, Side, Low, High}
 use Rattle.std.proofs.lemmas.List.{get_or-reverse, length-reverse}
-use Rattle.std.proofs.lemmas.List.Sums.{sum_by-cons}
-use Rattle.std.proofs.lemmas.Bool.{and_left, and_right, and_from, not_from_true, not_from_false, cond-true, cond-false}
-use Rattle.std.proofs.lemmas.Bool.Decides.{nat_tests}
 use Rattle.std.proofs.lemmas.List.Elements.{recursion_from_All}
-use Rattle.intersection.specs.Ends.{MayPrecede, is_low, enters}
-use Rattle.intersection.specs.Marzullo.{first_reached}
-use Rattle.intersection.specs.declared.ends.End.{End}
-use Rattle.intersection.specs.declared.ends.Side.{Side}
-use Rattle.intersection.specs.declared.ends.Side.TheVariants.{Low, High}
 
 -- the second may come after the first in a walk that enters at this side
 abbrev pub Follows : Side → End → End → Type 0

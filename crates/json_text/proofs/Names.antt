@@ -1,11 +1,7 @@
 -- The names of an object that was read, beside those of its value.
-use Rattle.std.proofs.Common.{◌≡◌, ◌∙◌, ℕ, List, [], ◌∷◌, Bool, ◌&&◌, ◌||◌, Some, None, if◌then◌else◌, option_and_then, map, Bor, String, Global, string_bytes, refl, sym, ap}
+use Rattle.json_text.proofs.Common.{◌≡◌, ◌∙◌, ℕ, List, [], ◌∷◌, Bool, ◌&&◌, ◌||◌, Some, None, if◌then◌else◌, option_and_then, map, Bor, String, Global, string_bytes, refl, sym, ap, bytes_eq, Data, as_object, members_view}
 use Rattle.std.specs.List.{list_all, list_any}
 use Rattle.std.specs.Map.{keys_of}
-use Rattle.std.specs.Str.{bytes_eq}
-use Rattle.serde_json.specs.Data.{Data}
-use Rattle.serde_json.specs.Find.{as_object}
-use Rattle.serde_json.specs.View.{members_view}
 use Rattle.serde_json.specs.declared.value.Value.{Value}
 use Rattle.json_text.specs.Member.{has_only, members_among}
 

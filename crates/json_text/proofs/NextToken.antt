@@ -1,10 +1,5 @@
 -- What comes next, under what is made of it.
-use Rattle.std.proofs.Common.{◌≡◌, ℕ, ◌<◌, List, length, Option, Some, None, refl, sym, ap, ◌∙◌}
-use Rattle.json.specs.Json.{parse_map, after_end_array}
-use Rattle.json.specs.Token.{Token}
-use Rattle.json.proofs.Grammar.{left_some}
-use Rattle.serde_json.specs.Data.{Data, Items, no_items, item}
-use Rattle.json_text.specs.Next.{next_value, next_items, rest_after}
+use Rattle.json_text.proofs.Common.{◌≡◌, ℕ, ◌<◌, List, length, Option, Some, None, refl, sym, ap, ◌∙◌, parse_map, after_end_array, Token, left_some, Data, Items, no_items, item, next_value, next_items, rest_after}
 use Rattle.json_text.proofs.NextTokens.{pick, items_over, item_refused, item_read, value-shorter}
 
 module _ {A B : Type 0} (f : A → B) where

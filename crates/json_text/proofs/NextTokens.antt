@@ -1,14 +1,6 @@
 -- What comes next, token by token.
-use Rattle.std.proofs.Common.{◌≡◌, Bool, ℕ, zero, suc, ◌-◌, ◌<◌, ◌≤◌, List, [], ◌∷◌, length, Option, Some, None, option_map, option_and_then, refl, sym, ap, ◌∙◌, arith}
+use Rattle.json_text.proofs.Common.{◌≡◌, Bool, ℕ, zero, suc, ◌-◌, ◌<◌, ◌≤◌, List, [], ◌∷◌, length, Option, Some, None, option_map, option_and_then, refl, sym, ap, ◌∙◌, arith, Parse, parse_map, after_end_array, read_key, items_step, members_step, items, members, value, tokens, Token, left, Takes, skip_value-shorter, items_end, items_more, items_fail, members_end, members_no_key, members_more, value_is, value-begin_array, value-begin_object, read_key-shorter, left_some, left-parse_map, Data, Num, unsigned, negative, float, null, boolean, number, string, array, object, no_items, item, Members, no_members, put, as_u64, of_json, of_items, of_members, number_of, converted, read, max_depth, next_value, next_items, next_members, rest_after, IsOther}
 use Rattle.json.specs.Json as json
-use Rattle.json.specs.Json.{Parse, parse_map, after_end_array, read_key, items_step, members_step, items, members, value}
-use Rattle.json.specs.Lex.{tokens}
-use Rattle.json.specs.Token.{Token}
-use Rattle.json.proofs.Grammar.{left, Takes, skip_value-shorter, items_end, items_more, items_fail, members_end, members_no_key, members_more, value_is, value-begin_array, value-begin_object, read_key-shorter, left_some, left-parse_map}
-use Rattle.serde_json.specs.Data.{Data, Num, unsigned, negative, float, null, boolean, number, string, array, object, no_items, item, Members, no_members, put}
-use Rattle.serde_json.specs.Find.{as_u64}
-use Rattle.serde_json.specs.Read.{of_json, of_items, of_members, number_of, converted, read, max_depth}
-use Rattle.json_text.specs.Next.{next_value, next_items, next_members, rest_after, IsOther}
 
 -- ---- how much is enough to read the elements that are left plays no part
 

@@ -1,19 +1,13 @@
 -- A JSON value whose text is read as that value.
-use Rattle.std.proofs.Common.{◌≡◌, ℕ, suc, ◌<◌, ◌≤◌, ◌^◌, List, [], ◌∷◌, map, Option, Some, option_and_then, append-nil, refl, sym, ap, ◌∙◌, arith, decimal}
-use Rattle.std.specs.Prelude.{All}
+use Rattle.std.proofs.Common.{decimal}
+use Rattle.json_text.proofs.Common.{◌≡◌, ℕ, suc, ◌<◌, ◌≤◌, ◌^◌, List, [], ◌∷◌, map, Option, Some, option_and_then, append-nil, refl, sym, ap, ◌∙◌, arith, All, tokens, Token, Data, Items, array, depth, items_depth, number, string, unsigned, read, of_json, of_items, max_depth, items_of, outline, items_outline, blank, blank_items, compact_text}
 use Rattle.json.specs.Json as json
-use Rattle.json.specs.Lex.{tokens}
-use Rattle.json.specs.Token.{Token}
 use Rattle.json.specs.Tree as tree
 use Rattle.json.proofs.Printed.Decimals.{IsNumber-decimal}
 use Rattle.json.proofs.Printed.Tokens.{tokens-print}
 use Rattle.json.proofs.Printed.Trees.{ArePrintable-json_tokens, value-json_tokens}
 use Rattle.serde_json.proofs.Numbers.{number_of-decimal}
 use Rattle.serde_json.proofs.Texts.{print-outline, unless_float-number_of}
-use Rattle.serde_json.specs.Data.{Data, Items, array, depth, items_depth, number, string, unsigned}
-use Rattle.serde_json.specs.Read.{read, of_json, of_items, max_depth}
-use Rattle.serde_json.specs.View.{items_of}
-use Rattle.serde_json.specs.Written.{outline, items_outline, blank, blank_items, compact_text}
 
 -- a value whose outline says it: its numbers are whole, and each name of an object stands once and in order
 pub record IsOutlined (value : Data) : Type 0 where

@@ -1,10 +1,5 @@
 -- Which answers of the reader say what `parsed` says.
-use Rattle.std.proofs.Common.{◌≡◌, ℕ, List, Bool, true, false, if◌then◌else◌, Some, None, refl, sym}
-use Rattle.std.proofs.lemmas.Str.{is_utf8-from_IsUtf8, IsUtf8-from_is_utf8}
-use Rattle.std.specs.Prelude.{IsUtf8}
-use Rattle.std.specs.Str.{is_utf8}
-use Rattle.serde_json.specs.Data.{Data}
-use Rattle.serde_json.specs.Read.{read}
+use Rattle.json_text.proofs.Common.{◌≡◌, ℕ, List, Bool, true, false, if◌then◌else◌, Some, None, refl, sym, is_utf8-from_IsUtf8, IsUtf8-from_is_utf8, IsUtf8, is_utf8, Data, read}
 use Rattle.json_text.specs.Text.{parsed}
 
 pub parsed_some : (bytes : List ℕ) (value : Data) → IsUtf8 bytes → read bytes ≡ Some value → Some value ≡ parsed bytes

@@ -1,13 +1,9 @@
 -- The compact text of a value is UTF-8, if its texts are.
-use Rattle.std.proofs.Common.{◌≡◌, ℕ, suc, ◌^◌, ◌<◌, Bool, true, false, List, [], ◌∷◌, map, IsUtf8, refl, arith}
-use Rattle.std.specs.Prelude.{All, decimal}
+use Rattle.std.proofs.Common.{IsUtf8}
+use Rattle.json_text.proofs.Common.{◌≡◌, ℕ, suc, ◌^◌, ◌<◌, Bool, true, false, List, [], ◌∷◌, map, refl, arith, All, decimal, IsUtf8-append, IsUtf8-from_ascii, Data, Members, array, member, no_members, number, object, string, unsigned, items_of, comma_if, compact_text, items_text, members_text}
 use Rattle.std.proofs.lemmas.Fmt.{IsAscii-decimal}
-use Rattle.std.proofs.lemmas.Str.{IsUtf8-append, IsUtf8-from_ascii}
 use Rattle.json.proofs.Printed.Utf8.{are_ascii, IsUtf8-are_ascii, IsUtf8-quoted}
 use Rattle.json.specs.Print.{quoted}
-use Rattle.serde_json.specs.Data.{Data, Members, array, member, no_members, number, object, string, unsigned}
-use Rattle.serde_json.specs.View.{items_of}
-use Rattle.serde_json.specs.Written.{comma_if, compact_text, items_text, members_text}
 
 utf8_comma : (later : Bool) → IsUtf8 (comma_if later)
 utf8_comma true = IsUtf8-are_ascii (44 ∷ []) refl

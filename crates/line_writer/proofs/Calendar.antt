@@ -1,13 +1,9 @@
 -- The date of a day, by years that begin in March.
-use Rattle.std.proofs.Common.{◌≡◌, ◌*◌, ℕ, suc, pos, ◌+ℤ◌, ◌+◌, ◌-◌, ◌^◌, ◌<◌, ◌≤◌, nat_lt, true, false, inl, inr, arith}
-use Rattle.std.proofs.lemmas.Bool.{cases_lt}
-use Rattle.std.proofs.lemmas.Bool.Decides.{nat_tests}
+use Rattle.line_writer.proofs.Common.{◌≡◌, ◌*◌, ℕ, suc, pos, ◌+ℤ◌, ◌+◌, ◌-◌, ◌^◌, ◌<◌, ◌≤◌, nat_lt, true, false, inl, inr, arith, cases_lt, nat_tests, signed_arith, day_number, march_day, march_year, days_passed, march_month, year_of, month_of, day_of, hour_of, minute_of, second_of}
 use Rattle.jiff_core.specs.March.{march_days}
 use Rattle.jiff_core.specs.Calendar.{IsCivilDate, day_count, days_from_civil}
-use Rattle.jiff_core.proofs.SignedLemmas.{signed_arith}
 use Rattle.jiff_core.proofs.CalendarLemmas.{days_from_civil-day_count}
 use Rattle.jiff_core.proofs.MarchLemmas.{leap_day, leap_day-shift, march_days-suc, day_count-early, day_count-late, day_in_month, day_in_early_month, month_and_day}
-use Rattle.line_writer.specs.Date.{day_number, march_day, march_year, days_passed, march_month, year_of, month_of, day_of, hour_of, minute_of, second_of}
 
 -- the year that began in March is the day's
 years_whole : (day : ℕ) → day < 49711 → march_days (march_year day) + days_passed day ≡ march_day day

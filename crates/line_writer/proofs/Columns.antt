@@ -1,9 +1,7 @@
 -- Texts in columns.
-use Rattle.std.proofs.Common.{◌≡◌, ℕ, ◌+◌, ◌-◌, ◌≤◌, ◌∷◌, ◌++◌, List, length, arith, refl, length-append, add-one, append_assoc}
-use Rattle.std.specs.Prelude.{replicate}
+use Rattle.line_writer.proofs.Common.{◌≡◌, ℕ, ◌+◌, ◌-◌, ◌≤◌, ◌∷◌, ◌++◌, List, length, arith, refl, length-append, add-one, append_assoc, replicate, FieldData, Word, Label, Named, Instead, Heading, in_column, width, width_of, most_of}
 use Rattle.line_writer.specs.declared.field.Kind.{Kind}
 use Rattle.line_writer.specs.declared.field.Kind.TheVariants as kind
-use Rattle.line_writer.specs.Field.{FieldData, Word, Label, Named, Instead, Heading, in_column, width, width_of, most_of}
 
 pub one_more : (n : ℕ) (text : List ℕ) → 32 ∷ (replicate n 32 ++ text) ≡ replicate (n + 1) 32 ++ text
 one_more n text = rw add-one refl

@@ -1,7 +1,5 @@
 -- How many digits a number of each width has at most.
-use Rattle.std.proofs.Common.{◌≡◌, ℕ, ◌+◌, ◌/◌, ◌%◌, ◌^◌, ◌<◌, ◌≤◌, ◌∷◌, ◌++◌, List, length, arith, ap, ◌∙◌, append_assoc, length-append}
-use Rattle.std.proofs.lemmas.Fmt.{length-decimal-le, length-decimal-le_wide, decimal_step_wide}
-use Rattle.std.specs.Fmt.{decimal}
+use Rattle.line_writer.proofs.Common.{◌≡◌, ℕ, ◌+◌, ◌/◌, ◌%◌, ◌^◌, ◌<◌, ◌≤◌, ◌∷◌, ◌++◌, List, length, arith, ap, ◌∙◌, append_assoc, length-append, length-decimal-le, length-decimal-le_wide, decimal_step_wide, decimal}
 
 pub digits_of_8_bits : (n : ℕ) → n < 2 ^ 8 → length (decimal n) ≤ 3
 digits_of_8_bits n h = length-decimal-le 3 n (omega arith) (omega arith) (omega arith)

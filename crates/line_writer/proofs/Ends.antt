@@ -1,10 +1,7 @@
 -- The ends of a range in whole nanoseconds, rounded outwards.
-use Rattle.std.proofs.Common.{◌≡◌, ℕ, zero, suc, ℤ, pos, negsuc, neg_ℤ, ◌*ℤ◌, ◌≤ℤ◌, ◌*◌, ◌^◌, ◌<◌, ◌≤◌, arith, refl}
+use Rattle.line_writer.proofs.Common.{◌≡◌, ℕ, zero, suc, ℤ, pos, negsuc, neg_ℤ, ◌*ℤ◌, ◌≤ℤ◌, ◌*◌, ◌^◌, ◌<◌, ◌≤◌, arith, refl, IsFloor, IsCeiling, IsSignedFloor, IsSignedCeiling, IsFloor-floor_of, IsCeiling-ceiling_of, IsSignedFloor-IsFloor, IsSignedCeiling-IsCeiling, nanosecond_above, nanosecond_below}
 use Rattle.std.proofs.lemmas.Int.{ints}
 use Rattle.std.proofs.Math.Nat.{zero-mul}
-use Rattle.era_unfold.specs.Ratio.{IsFloor, IsCeiling, IsSignedFloor, IsSignedCeiling}
-use Rattle.era_unfold.proofs.Rounding.{IsFloor-floor_of, IsCeiling-ceiling_of, IsSignedFloor-IsFloor, IsSignedCeiling-IsCeiling}
-use Rattle.line_writer.specs.Millisecond.{nanosecond_above, nanosecond_below}
 
 times : (q d : ℕ) → neg_ℤ (pos q) *ℤ pos d ≡ neg_ℤ (pos (q * d))
 times zero d = rw zero-mul refl

@@ -1,9 +1,6 @@
 -- How much room short fields take.
-use Rattle.std.proofs.Common.{◌≡◌, ◌≤◌, ◌*◌, ◌&&◌, Bool, true, false, List, [], ◌∷◌, length, map, refl, arith}
-use Rattle.std.proofs.lemmas.Bool.Decides.{nat_tests}
-use Rattle.std.specs.List.{list_all}
+use Rattle.line_writer.proofs.Common.{◌≡◌, ◌≤◌, ◌*◌, ◌&&◌, Bool, true, false, List, [], ◌∷◌, length, map, refl, arith, nat_tests, list_all, FieldData, Word, Label, Instead, Named, Heading, field_data, is_short, most_of, room_of}
 use Rattle.line_writer.specs.declared.field.Field.{Field}
-use Rattle.line_writer.specs.Field.{FieldData, Word, Label, Instead, Named, Heading, field_data, is_short, most_of, room_of}
 
 one_room : (field : FieldData) → is_short field ≡ true → most_of field ≤ 101
 one_room (Word word) short = grind (arith, nat_tests)

@@ -1,9 +1,5 @@
 -- Pieces of text in the scratch array, each before those that stand there.
-use Rattle.std.proofs.Common.{◌≡◌, ℕ, suc, ◌+◌, ◌-◌, ◌<◌, ◌≤◌, List, [], ◌∷◌, ◌++◌, length, get_or, set, drop, Fits}
-use Rattle.std.proofs.Common.{w64, arith, refl, ap, ◌∙◌, sym, length-append, length-drop, length-set}
-use Rattle.std.proofs.Common.{drop-cons, drop-drop}
-use Rattle.std.proofs.lemmas.List.{drop-append-le}
-use Rattle.std.proofs.lemmas.Grind.{drop-set_at}
+use Rattle.line_writer.proofs.Common.{◌≡◌, ℕ, suc, ◌+◌, ◌-◌, ◌<◌, ◌≤◌, List, [], ◌∷◌, ◌++◌, length, get_or, set, drop, Fits, w64, arith, refl, ap, ◌∙◌, sym, length-append, length-drop, length-set, drop-cons, drop-drop, drop-append-le, drop-set_at}
 use lib.Seq.{drop-set-add}
 
 -- the line may start this much further left

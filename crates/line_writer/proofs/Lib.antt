@@ -1,3 +1,4 @@
+mod Common
 pub mod FieldRoom
 pub mod Digits
 pub mod Last

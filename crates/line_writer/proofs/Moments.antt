@@ -1,14 +1,9 @@
 -- Ticks of the Unix epoch as moments, at whole nanoseconds.
-use Rattle.std.proofs.Common.{◌≡◌, ℕ, pos, true, ◌+◌, ◌*◌, ◌^◌, ◌<◌, nat_lt, arith}
-use Rattle.std.proofs.lemmas.Bool.Decides.{nat_tests}
-use Rattle.era_unfold.specs.Ratio.{IsFloor, IsCeiling, floor_of, ceiling_of}
+use Rattle.line_writer.proofs.Common.{◌≡◌, ℕ, pos, true, ◌+◌, ◌*◌, ◌^◌, ◌<◌, nat_lt, arith, nat_tests, IsFloor, IsCeiling, floor_of, ceiling_of, IsFloor-floor_of, IsCeiling-ceiling_of, shorter, longer, moment_above, moment_below, part_of, SaysMoment}
 use Rattle.era_unfold.specs.Window.{per_second, window_low}
 use Rattle.era_unfold.specs.declared.unit.Unit.{Unit as SubsecondUnit}
 use Rattle.era_unfold.specs.declared.unit.Unit.TheVariants.{Micro, Nano}
-use Rattle.era_unfold.proofs.Rounding.{IsFloor-floor_of, IsCeiling-ceiling_of}
-use Rattle.line_writer.specs.Millisecond.{shorter, longer}
-use Rattle.line_writer.specs.Moment.{moment_above, moment_below, part_of, second_of}
-use Rattle.line_writer.specs.Reading.{SaysMoment}
+use Rattle.line_writer.specs.Moment.{second_of}
 use Rattle.line_writer.proofs.Readback.{moment_back}
 
 pub below : (tick : ℕ) → second_of (shorter tick) < 2 ^ 32 →

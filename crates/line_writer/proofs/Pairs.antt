@@ -1,7 +1,5 @@
 -- The table of all bytes' digits.
-use Rattle.std.proofs.Common.{◌≡◌, ℕ, zero, suc, ◌+◌, ◌-◌, ◌*◌, ◌/◌, ◌%◌, ◌<◌, Bool, true, ◌&&◌, T, eqb, List, [], ◌∷◌, refl, length, get_or, drop, inl, inr, arith, eq-zero-or-pos, eqb→eq, drop-cons, add-one}
-use lib.Ieee.Fits.{and_l, and_r}
-use Rattle.hex.specs.Hex.{encode_with, encode_lower, lower_digits}
+use Rattle.line_writer.proofs.Common.{◌≡◌, ℕ, zero, suc, ◌+◌, ◌-◌, ◌*◌, ◌/◌, ◌%◌, ◌<◌, Bool, true, ◌&&◌, T, eqb, List, [], ◌∷◌, refl, length, get_or, drop, inl, inr, arith, eq-zero-or-pos, eqb→eq, drop-cons, add-one, and_l, and_r, encode_with, encode_lower, lower_digits}
 use Rattle.line_writer.specs.declared.hexadecimal.TheConstants.{PAIRS}
 
 -- the digits of a byte, and those of the table

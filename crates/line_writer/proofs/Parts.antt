@@ -1,9 +1,6 @@
 -- Ticks as nanoseconds, by whole seconds and a part of a second.
-use Rattle.std.proofs.Common.{◌≡◌, ◌∙◌, ℕ, ◌+◌, ◌*◌, ◌/◌, ◌%◌, sym, ap, arith}
+use Rattle.line_writer.proofs.Common.{◌≡◌, ◌∙◌, ℕ, ◌+◌, ◌*◌, ◌/◌, ◌%◌, sym, ap, arith, floor_of, ceiling_of, div-whole_and_part, div-whole_and_part_up, shorter, longer}
 use Rattle.std.proofs.lemmas.Nat.{div-add-mod'}
-use Rattle.era_unfold.specs.Ratio.{floor_of, ceiling_of}
-use Rattle.era_unfold.proofs.Rounding.{div-whole_and_part, div-whole_and_part_up}
-use Rattle.line_writer.specs.Millisecond.{shorter, longer}
 
 pub shorter_by_parts : (ticks : ℕ) →
     ticks / 4294967296 * 1000000000 + ticks % 4294967296 * 1000000000 / 4294967296 ≡ shorter ticks

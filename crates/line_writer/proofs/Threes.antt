@@ -1,12 +1,5 @@
 -- Digits three at a time, and the table of four.
-use Rattle.std.proofs.Common.{◌≡◌, ℕ, zero, suc, ◌+◌, ◌-◌, ◌*◌, ◌/◌, ◌%◌, ◌^◌, ◌<◌, ◌≤◌, Bool, true, ◌&&◌, T, eqb, List, [], ◌∷◌, ◌++◌, refl, ap, ◌∙◌, sym, subst, length, get_or, drop, inl, inr, arith, eq-zero-or-pos, eqb→eq, append_assoc, length-append}
-use Rattle.std.specs.Prelude.{replicate}
-use Rattle.std.specs.Fmt.{decimal}
-use Rattle.std.proofs.lemmas.Fmt.{decimal_digit, decimal_step}
-use Rattle.std.proofs.lemmas.List.{replicate-append-replicate, length-replicate}
-use Rattle.std.proofs.Math.Seq.{drop-append_seam}
-use lib.Ieee.Fits.{and_l, and_r}
-use Rattle.line_writer.specs.Text.{zero_padded}
+use Rattle.line_writer.proofs.Common.{◌≡◌, ℕ, zero, suc, ◌+◌, ◌-◌, ◌*◌, ◌/◌, ◌%◌, ◌^◌, ◌<◌, ◌≤◌, Bool, true, ◌&&◌, T, eqb, List, [], ◌∷◌, ◌++◌, refl, ap, ◌∙◌, sym, subst, length, get_or, drop, inl, inr, arith, eq-zero-or-pos, eqb→eq, append_assoc, length-append, replicate, decimal, decimal_digit, decimal_step, replicate-append-replicate, length-replicate, drop-append_seam, and_l, and_r, zero_padded}
 use Rattle.line_writer.specs.declared.decimal.TheConstants.{FOUR_DIGITS}
 
 -- the byte at each place of the table

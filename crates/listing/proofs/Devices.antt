@@ -1,11 +1,6 @@
 -- How often the device of a listing fails.
-use Rattle.std.proofs.Common.{◌≡◌, ◌∙◌, ℕ, Result, Bool, sym, subst}
-use Rattle.byte_stream.specs.Fault.{CountsFault}
+use Rattle.listing.proofs.Common.{◌≡◌, ◌∙◌, ℕ, Result, Bool, sym, subst, CountsFault, Outcome, RunFault, is_device, is_claim, is_second, is_capture, is_sums, CountsCapture}
 use Rattle.report.specs.declared.fault.Input.{Input}
-use Rattle.report.specs.declared.fault.Outcome.{Outcome}
-use Rattle.report.specs.declared.fault.RunFault.{RunFault}
-use Rattle.report.specs.Reports.{is_device, is_claim, is_second, is_capture, is_sums}
-use Rattle.listing.specs.Progress.{CountsCapture}
 
 -- ending a run asks no input's device
 pub closed_counts : {ran answer : Result Outcome RunFault} {before after : ℕ} →

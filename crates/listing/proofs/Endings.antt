@@ -1,25 +1,10 @@
 -- How a listing comes to its answer.
-use Rattle.std.proofs.Common.{◌≡◌, ◌∙◌, ◌++◌, ◌+◌, ◌≤◌, ℕ, List, [], ◌∷◌, Option, Some, None, Result, Ok, Err, refl, sym, ap, subst, arith, append-nil, true≢false, inl, inr}
-use Rattle.std.specs.Prelude.{IfSome}
-use Rattle.std.specs.List.{concat}
-use Rattle.std.specs.Option.{option_map}
-use Rattle.std.proofs.lemmas.List.Folds.{concat-append}
-use Rattle.byte_stream.specs.State.{SinkState}
-use Rattle.pcap_reader.specs.declared.fault.CaptureFault.{CaptureFault}
+use Rattle.listing.proofs.Common.{◌≡◌, ◌∙◌, ◌++◌, ◌+◌, ◌≤◌, ℕ, List, [], ◌∷◌, Option, Some, None, Result, Ok, Err, refl, sym, ap, subst, arith, append-nil, true≢false, inl, inr, IfSome, concat, option_map, concat-append, SinkState, CaptureFault, Coming, broken_end, SourceState, IsStep, IsNext, TakesFrom, TakesFrom-trans, Outcome, RunFault, run_fault_of, OutputState, Puts, fresh_output, put_count, Report, GetsText, lines_of, closing_line, listing, HasGiven, HasPassed, IsUnderWay, HasListed, Lists, progress, most_line}
 use Rattle.pcap_reader.specs.declared.fault.CaptureFault.TheVariants as captures
-use Rattle.pcap_reader.specs.Remaining.{Coming, broken_end}
-use Rattle.pcap_reader.specs.Source.{SourceState, IsStep, IsNext, TakesFrom, TakesFrom-trans}
 use Rattle.report.specs.declared.fault.Input.TheVariants as inputs
-use Rattle.report.specs.declared.fault.Outcome.{Outcome}
 use Rattle.report.specs.declared.fault.Outcome.TheVariants as outcomes
-use Rattle.report.specs.declared.fault.RunFault.{RunFault}
 use Rattle.report.specs.declared.fault.RunFault.TheVariants as faults
 use Rattle.report.specs.Closing.{HasRun, Closes, StaysOrWrites}
-use Rattle.report.specs.Fault.{run_fault_of}
-use Rattle.report.specs.Output.{OutputState, Puts, fresh_output, put_count}
-use Rattle.report.specs.Reports.{Report, GetsText}
-use Rattle.listing.specs.Listing.{lines_of, closing_line, listing}
-use Rattle.listing.specs.Progress.{HasGiven, HasPassed, IsUnderWay, HasListed, Lists, progress, most_line}
 use Rattle.listing.proofs.Devices.{closed_counts}
 use Rattle.listing.proofs.Progress.{at_some, lines-listing, cut_in_lines, listing-whole, listing-broken}
 use Rattle.listing.proofs.UnderWay.{ready_after}

@@ -1,3 +1,4 @@
+mod Common
 pub mod Endings
 pub mod Devices
 pub mod Progress

@@ -1,22 +1,9 @@
 -- How a listing of known bytes goes on, record by record, and how it ends.
-use Rattle.std.proofs.Common.{◌≡◌, ◌∙◌, ◌++◌, ◌+◌, ℕ, List, [], ◌∷◌, length, take, Option, Some, None, Ok, Err, refl, sym, ap, subst, arith, append_assoc, append-nil, length-append}
-use Rattle.std.specs.Prelude.{IfSome}
+use Rattle.listing.proofs.Common.{◌≡◌, ◌∙◌, ◌++◌, ◌+◌, ℕ, List, [], ◌∷◌, length, take, Option, Some, None, Ok, Err, refl, sym, ap, subst, arith, append_assoc, append-nil, length-append, IfSome, concat, concat-append, CaptureFault, RecordHead, Record, Coming, then_coming, whole_end, broken_end, IsNext, IsCut, Report, text_of, line_of, lines_of, closing_line, report_on, listing, HasGiven, HasPassed, texts_of}
 use Rattle.std.specs.Io.KnownBytes.{Appends}
-use Rattle.std.specs.List.{concat}
 use Rattle.std.proofs.lemmas.List.{take-append-le}
-use Rattle.std.proofs.lemmas.List.Folds.{concat-append}
-use Rattle.pcap_reader.specs.declared.fault.CaptureFault.{CaptureFault}
-use Rattle.pcap_reader.specs.declared.format.RecordHead.{RecordHead}
-use Rattle.pcap_reader.specs.Capture.{Record}
-use Rattle.pcap_reader.specs.Remaining.{Coming, then_coming, whole_end, broken_end}
-use Rattle.pcap_reader.specs.Source.{IsNext}
 use Rattle.report.specs.declared.fault.Outcome.TheVariants as outcomes
 use Rattle.report.specs.declared.fault.RunFault.TheVariants as faults
-use Rattle.report.specs.Output.{IsCut}
-use Rattle.report.specs.Reports.{Report, text_of}
-use Rattle.listing.specs.PacketLine.{line_of}
-use Rattle.listing.specs.Listing.{lines_of, closing_line, report_on, listing}
-use Rattle.listing.specs.Progress.{HasGiven, HasPassed, texts_of}
 
 -- what holds of what is there
 pub at_some : {X : Type 0} (o : Option X) (x : X) (P : X → Type 0) → o ≡ Some x → IfSome o P → P x

@@ -1,25 +1,12 @@
 -- How the run of a listing ends that has no record to list, and what it makes of a capture's bytes.
-use Rattle.std.proofs.Common.{◌≡◌, ◌≤◌, ℕ, List, [], Option, Some, None, Result, Ok, Err, refl, sym, ap, subst, arith}
-use Rattle.std.specs.Prelude.{IfSome}
-use Rattle.std.specs.Option.{option_map}
-use Rattle.byte_stream.specs.Fault.{CountsFault}
+use Rattle.listing.proofs.Common.{◌≡◌, ◌≤◌, ℕ, List, [], Option, Some, None, Result, Ok, Err, refl, sym, ap, subst, arith, IfSome, option_map, CountsFault, FeedState, SinkState, CaptureFault, Coming, capture_of, AllRemains, is_read, Outcome, RunFault, run_fault_of, Report, Reports, text_of, GetsText, refused, listing, report_on, report_of, list_report, CountsCapture}
 use Rattle.byte_stream.specs.Intake.{TakesAtMost, TakesAtMost-weaker}
-use Rattle.byte_stream.specs.State.{FeedState, SinkState}
-use Rattle.pcap_reader.specs.declared.fault.CaptureFault.{CaptureFault}
 use Rattle.pcap_reader.specs.declared.fault.CaptureFault.TheVariants as captures
 use Rattle.pcap_reader.specs.Limit.{most_taken, buffer_size}
 use Rattle.pcap_reader.specs.Refusal.{IsRefusal, most_refused}
-use Rattle.pcap_reader.specs.Remaining.{Coming, capture_of}
-use Rattle.pcap_reader.specs.Source.{AllRemains, is_read}
-use Rattle.report.specs.declared.fault.Outcome.{Outcome}
-use Rattle.report.specs.declared.fault.RunFault.{RunFault}
 use Rattle.report.specs.declared.fault.RunFault.TheVariants as faults
-use Rattle.report.specs.Fault.{run_fault_of}
 use Rattle.report.specs.Publication.{IsMadeFor, Publishes}
-use Rattle.report.specs.Reports.{Report, Reports, text_of, GetsText, refused}
 use Rattle.report.specs.Run.{capture_state}
-use Rattle.listing.specs.Listing.{listing, report_on, report_of, list_report}
-use Rattle.listing.specs.Progress.{CountsCapture}
 
 -- the report on what is to come
 pub listing-of : (coming : Coming) → listing coming ≡ report_on coming.records coming.fault

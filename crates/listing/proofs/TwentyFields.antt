@@ -1,9 +1,6 @@
 -- A line, field by field.
-use Rattle.std.proofs.Common.{◌≡◌, ◌∙◌, ◌++◌, ℕ, List, [], ◌∷◌, length, refl, ap, append_assoc}
-use Rattle.std.specs.List.{join_with_byte}
+use Rattle.listing.proofs.Common.{◌≡◌, ◌∙◌, ◌++◌, ℕ, List, [], ◌∷◌, length, refl, ap, append_assoc, join_with_byte, RecordHead, endpoint_fields, mode_fields, clock_fields, root_fields, stamp_fields, tick_fields, packet_fields, spaced}
 use Rattle.ntp_packet.specs.Packet.{Packet}
-use Rattle.pcap_reader.specs.declared.format.RecordHead.{RecordHead}
-use Rattle.listing.specs.PacketLine.{endpoint_fields, mode_fields, clock_fields, root_fields, stamp_fields, tick_fields, packet_fields, spaced}
 
 -- fields in two groups
 pub spaced-append : (xs ys : List (List ℕ)) (text : List ℕ) → spaced (xs ++ ys) text ≡ spaced xs (spaced ys text)

@@ -1,12 +1,6 @@
 -- How a listing goes on, call by call.
-use Rattle.std.proofs.Common.{◌≡◌, ◌∙◌, ◌++◌, ◌+◌, ◌<◌, ◌≤◌, ◌^◌, ℕ, List, [], length, Option, Some, None, Ok, refl, sym, ap, subst, arith, append-nil, length-append}
+use Rattle.listing.proofs.Common.{◌≡◌, ◌∙◌, ◌++◌, ◌+◌, ◌<◌, ◌≤◌, ◌^◌, ℕ, List, [], length, Option, Some, None, Ok, refl, sym, ap, subst, arith, append-nil, length-append, RecordHead, SourceState, IsFresh, IsStep, TakesFrom-none, TakesFrom-trans, SinkState, OutputState, HasPut, IsReady, Puts, fresh_output, put_count, line_of, HasPassed, IsUnderWay, PutsLine, progress, most_line, texts_of}
 use Rattle.std.proofs.KnownBytes.{Appends-nil}
-use Rattle.pcap_reader.specs.declared.format.RecordHead.{RecordHead}
-use Rattle.pcap_reader.specs.Source.{SourceState, IsFresh, IsStep, TakesFrom-none, TakesFrom-trans}
-use Rattle.byte_stream.specs.State.{SinkState}
-use Rattle.report.specs.Output.{OutputState, HasPut, IsReady, Puts, fresh_output, put_count}
-use Rattle.listing.specs.PacketLine.{line_of}
-use Rattle.listing.specs.Progress.{HasPassed, IsUnderWay, PutsLine, progress, most_line, texts_of}
 use Rattle.listing.proofs.Progress.{passed_start, passed_more}
 
 -- an output that has just taken texts may take more

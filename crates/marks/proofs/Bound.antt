@@ -1,17 +1,10 @@
 -- The marks of an exchange, as the code computes them.
-use Rattle.std.proofs.Common.{◌≡◌, ◌^◌, ◌≤◌, ℤ, pos, ◌+ℤ◌, ◌-ℤ◌, ◌≤ℤ◌, unsigned_abs, to_z, of_z, arith, ◌↔◌, IsTrue, ◌∙◌, refl, true, false}
+use Rattle.marks.proofs.Common.{◌≡◌, ◌^◌, ◌≤◌, ℤ, pos, ◌+ℤ◌, ◌-ℤ◌, ◌≤ℤ◌, unsigned_abs, to_z, of_z, arith, ◌↔◌, IsTrue, ◌∙◌, refl, true, false, w128, le_z, ints, clamps, kept, stamp_is, kept_sum, kept_difference, low_mark, high_mark, IsPossible, IsWithinRange, Mark}
 use Rattle.std.specs.Int.{int_max, int_min}
-use mir.Syntax.{w128}
-use lib.Signed.{le_z}
-use Rattle.std.proofs.lemmas.Int.{ints, clamps}
 use Rattle.pairing.specs.Exchange.{IsInRange}
 use Rattle.pairing.specs.declared.exchange.Exchange.{Exchange}
 use Rattle.sample_interval.specs.Exchange.{IsOfSomeClaim}
-use Rattle.sample_interval.proofs.NoOverflow.{kept, stamp_is, kept_sum, kept_difference}
-use Rattle.marks.specs.Mark.{low_mark, high_mark, IsPossible}
-use Rattle.marks.specs.Range.{IsWithinRange}
 use Rattle.marks.proofs.MarkPair.{le_from_test, lt_from_test, tests, not_both}
-use Rattle.marks.specs.declared.mark.Mark.{Mark}
 
 -- marks whose numbers are equal
 pub same_mark : {place place' error error' : ℤ} → place ≡ place' → error ≡ error' →

@@ -1,15 +1,5 @@
 -- Marks are compatible exactly if both ways through them keep the lines below.
-use Rattle.std.proofs.Common.{◌≡◌, ℕ, zero, suc, ◌+◌, ◌-◌, ◌*◌, ◌<◌, ◌≤◌, ℤ, pos, negsuc, ◌-ℤ◌, ◌*ℤ◌, ◌≤ℤ◌, ◌<ℤ◌, neg_ℤ, ◌↔◌, Bool, true, false, IsTrue, List, IsPermutation, get_or, sym, ◌∙◌, arith}
-use Rattle.std.specs.List.{All}
-use Rattle.std.proofs.lemmas.Int.{ints, by_lt_z}
-use Rattle.std.proofs.lemmas.List.Sorted.{All-permutation, IsPermutation-sym}
-use Rattle.std.proofs.Math.Nat.{mul-le-mul_left}
-use Rattle.sample_interval.specs.Widening.{billion, IsRate}
-use Rattle.marks.specs.Compatible.{AllCompatible}
-use Rattle.marks.specs.Direction.{KeepsBelow, AllKeepBelow}
-use Rattle.marks.specs.Line.{rising_line}
-use Rattle.marks.specs.Mark.{AreCompatible}
-use Rattle.marks.specs.declared.mark.Mark.{Mark}
+use Rattle.marks.proofs.Common.{◌≡◌, ℕ, zero, suc, ◌+◌, ◌-◌, ◌*◌, ◌<◌, ◌≤◌, ℤ, pos, negsuc, ◌-ℤ◌, ◌*ℤ◌, ◌≤ℤ◌, ◌<ℤ◌, neg_ℤ, ◌↔◌, Bool, true, false, IsTrue, List, IsPermutation, get_or, sym, ◌∙◌, arith, All, ints, by_lt_z, All-permutation, IsPermutation-sym, mul-le-mul_left, billion, IsRate, AllCompatible, KeepsBelow, AllKeepBelow, rising_line, AreCompatible, Mark}
 use Rattle.marks.specs.declared.direction.Direction.TheVariants.{Falling, Rising}
 use Rattle.marks.proofs.MarkPair.{falls_line, rises_line, rising_lines}
 use Rattle.marks.proofs.Passage.{up_to}

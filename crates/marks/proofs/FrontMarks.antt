@@ -1,14 +1,5 @@
 -- The low marks in front that are compatible with each high mark.
-use Rattle.std.proofs.Common.{◌≡◌, ℕ, ◌+◌, ◌-◌, ◌<◌, ◌≤◌, ⊎_elim, List, length, take, drop, get_or, IsPermutation, ap, ◌∙◌, sym, subst, arith}
-use Rattle.std.specs.List.{AllWithin}
-use Rattle.std.proofs.lemmas.Bool.{cases_lt}
-use Rattle.std.proofs.lemmas.List.{get_or-drop, get_or-take, length-drop, length-take-le}
-use Rattle.std.proofs.lemmas.List.Elements.{AllWithin-more}
-use Rattle.std.proofs.lemmas.List.Sorted.{All-permutation, IsPermutation-sym}
-use Rattle.marks.specs.Compatible.{AllCompatible}
-use Rattle.marks.specs.Conflict.{FitsAll, AreInFront}
-use Rattle.marks.specs.Mark.{AreCompatible}
-use Rattle.marks.specs.declared.mark.Mark.{Mark}
+use Rattle.marks.proofs.Common.{◌≡◌, ℕ, ◌+◌, ◌-◌, ◌<◌, ◌≤◌, ⊎_elim, List, length, take, drop, get_or, IsPermutation, ap, ◌∙◌, sym, subst, arith, AllWithin, cases_lt, get_or-drop, get_or-take, length-drop, length-take-le, AllWithin-more, All-permutation, IsPermutation-sym, AllCompatible, FitsAll, AreInFront, AreCompatible, Mark}
 use Rattle.marks.proofs.Passage.{at_any}
 
 within_both : (X : Type 0) (P : X → Type 0) (xs : List X) (low middle high : ℕ) → AllWithin P xs low middle

@@ -1,3 +1,4 @@
+mod Common
 pub mod Bound
 pub mod Compatibility
 pub mod FrontMarks

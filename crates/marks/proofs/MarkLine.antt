@@ -1,13 +1,5 @@
 -- The lines through a mark, as the code computes them.
-use Rattle.std.proofs.Common.{◌≡◌, ℕ, ◌+◌, ◌-◌, ◌*◌, ◌^◌, ◌≤◌, ℤ, pos, ◌+ℤ◌, ◌-ℤ◌, ◌*ℤ◌, unsigned_abs, to_z, of_z, FitsSigned, arith}
-use mir.Syntax.{w128}
-use Rattle.std.proofs.lemmas.Int.{ints, unsigned_abs-mul, fits_signed_from_abs}
-use Rattle.std.proofs.Math.Nat.{mul-le-mul_left}
-use Rattle.sample_interval.specs.Widening.{billion, IsRate}
-use Rattle.sample_interval.proofs.NoOverflow.{kept}
-use Rattle.marks.specs.Line.{falling_line, rising_line}
-use Rattle.marks.specs.Range.{IsWithinRange}
-use Rattle.marks.specs.declared.mark.Mark.{Mark}
+use Rattle.marks.proofs.Common.{◌≡◌, ℕ, ◌+◌, ◌-◌, ◌*◌, ◌^◌, ◌≤◌, ℤ, pos, ◌+ℤ◌, ◌-ℤ◌, ◌*ℤ◌, unsigned_abs, to_z, of_z, FitsSigned, arith, w128, ints, unsigned_abs-mul, fits_signed_from_abs, mul-le-mul_left, billion, IsRate, kept, falling_line, rising_line, IsWithinRange, Mark}
 
 -- what is left of 10^9, and what is more
 parts_left : (r : ℤ) (ppb : ℕ) → IsRate ppb → r ≡ pos ppb →

@@ -1,15 +1,6 @@
 -- When two marks are compatible: by the lines through them.
-use Rattle.std.proofs.Common.{◌≡◌, ℕ, ◌+◌, ◌-◌, ◌*◌, ◌^◌, ◌≤◌, ℤ, pos, negsuc, ◌+ℤ◌, ◌-ℤ◌, ◌*ℤ◌, ◌≤ℤ◌, ◌<ℤ◌, ◌↔◌, IsTrue, true, false, unsigned_abs, to_z, of_z, arith, ap}
+use Rattle.marks.proofs.Common.{◌≡◌, ℕ, ◌+◌, ◌-◌, ◌*◌, ◌^◌, ◌≤◌, ℤ, pos, negsuc, ◌+ℤ◌, ◌-ℤ◌, ◌*ℤ◌, ◌≤ℤ◌, ◌<ℤ◌, ◌↔◌, IsTrue, true, false, unsigned_abs, to_z, of_z, arith, ap, w128, le_z, ints, billion, kept, falling_line, rising_line, AreCompatible, IsWithinRange, Mark}
 use borrow.Author.Differences.{up, down}
-use mir.Syntax.{w128}
-use lib.Signed.{le_z}
-use Rattle.std.proofs.lemmas.Int.{ints}
-use Rattle.sample_interval.specs.Widening.{billion}
-use Rattle.sample_interval.proofs.NoOverflow.{kept}
-use Rattle.marks.specs.Line.{falling_line, rising_line}
-use Rattle.marks.specs.Mark.{AreCompatible}
-use Rattle.marks.specs.Range.{IsWithinRange}
-use Rattle.marks.specs.declared.mark.Mark.{Mark}
 
 -- n times what is above zero, less n times what is below
 times-parts : (n : ℕ) (a : ℤ) → (pos n *ℤ a) ≡ pos (n * up a) -ℤ pos (n * down a)

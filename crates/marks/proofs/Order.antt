@@ -1,12 +1,8 @@
 -- Marks in order.
-use Rattle.std.proofs.Common.{◌≡◌, ℤ, ◌≤ℤ◌, false, List, arith}
+use Rattle.marks.proofs.Common.{◌≡◌, ℤ, ◌≤ℤ◌, false, List, arith, ints, sorted_far, ranks_by, IsInOrder, Mark}
 use Rattle.std.specs.Prelude.{IsSortedByKey}
 use Rattle.std.specs.Ordering.{is_lt, int_cmp}
 use Rattle.std.proofs.lemmas.Cmp.{int_cmp_total}
-use Rattle.std.proofs.lemmas.Int.{ints}
-use Rattle.std.proofs.lemmas.List.Sorted.{sorted_far, ranks_by}
-use Rattle.marks.specs.Direction.{IsInOrder}
-use Rattle.marks.specs.declared.mark.Mark.{Mark}
 
 not_less : (a b : ℤ) → is_lt (int_cmp b a) ≡ false → a ≤ℤ b
 not_less a b h = grind (arith, ints)

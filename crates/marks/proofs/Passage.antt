@@ -1,12 +1,5 @@
 -- Passing low marks, and what that says of a high mark.
-use Rattle.std.proofs.Common.{ℕ, ◌+◌, ◌<◌, ◌≤◌, ◌≡◌, ℤ, ◌≤ℤ◌, ◌⊎◌, inl, inr, ⊎_elim, List, length, get_or, sym, subst, arith}
-use Rattle.std.specs.List.{All, AllWithin, HoldsAt}
-use Rattle.std.proofs.lemmas.Int.{ints, by_lt_z}
-use Rattle.std.proofs.lemmas.List.{get_or_default}
-use Rattle.std.proofs.lemmas.Bool.{cases_lt}
-use Rattle.marks.specs.Direction.{Precedes, IsBelow, KeepsBelow, IsInOrder, line_along}
-use Rattle.marks.specs.Passage.{IsHighest, HasPassed}
-use Rattle.marks.specs.declared.mark.Mark.{Mark}
+use Rattle.marks.proofs.Common.{ℕ, ◌+◌, ◌<◌, ◌≤◌, ◌≡◌, ℤ, ◌≤ℤ◌, ◌⊎◌, inl, inr, ⊎_elim, List, length, get_or, sym, subst, arith, All, AllWithin, HoldsAt, ints, by_lt_z, get_or_default, cases_lt, Precedes, IsBelow, KeepsBelow, IsInOrder, line_along, IsHighest, HasPassed, Mark}
 use Rattle.marks.specs.declared.direction.Direction.{Direction}
 use Rattle.marks.specs.declared.sweep.Passage.{Passage}
 

@@ -1,11 +1,5 @@
 -- What a greater rate and weaker marks keep.
-use Rattle.std.proofs.Common.{◌≡◌, ℕ, ◌+◌, ◌-◌, ◌*◌, ◌<◌, ◌≤◌, ℤ, pos, negsuc, ◌-ℤ◌, ◌*ℤ◌, ◌≤ℤ◌, ◌<ℤ◌, ◌↔◌, ⊎_elim, sym, subst, arith}
-use Rattle.std.proofs.lemmas.Bool.{cases_lt}
-use Rattle.std.proofs.lemmas.Int.{ints, by_lt_z}
-use Rattle.std.proofs.Math.Nat.{mul-le-mul_left, mul-le-mul_right}
-use Rattle.sample_interval.specs.Widening.{billion, IsRate}
-use Rattle.marks.specs.Mark.{AreCompatible}
-use Rattle.marks.specs.declared.mark.Mark.{Mark}
+use Rattle.marks.proofs.Common.{◌≡◌, ℕ, ◌+◌, ◌-◌, ◌*◌, ◌<◌, ◌≤◌, ℤ, pos, negsuc, ◌-ℤ◌, ◌*ℤ◌, ◌≤ℤ◌, ◌<ℤ◌, ◌↔◌, ⊎_elim, sym, subst, arith, cases_lt, ints, by_lt_z, mul-le-mul_left, mul-le-mul_right, billion, IsRate, AreCompatible, Mark}
 use Rattle.marks.proofs.MarkPair.{times-sub}
 use Rattle.marks.proofs.Compatibility.{none_above, some_above, no_less, no_higher}
 

@@ -1,5 +1,5 @@
--- What the program comes to: from the words of a command line to standard output, standard error and
--- the exit status, over any files.
+-- What the program does: from the words of a command line to its two outputs and the exit status,
+-- over any files.
 use Rattle.std.specs.Prelude.{◌≡◌, ◌⊎◌, List, String, Err}
 use Rattle.std.specs.declared.alloc.Global.{Global}
 use Rattle.report.specs.Conclusion.{Concludes, conclusion_of}
@@ -26,7 +26,7 @@ pub record IsUndone (before after : World) (response : Response) : Type 0 where
   pub conclusion_is : response.conclusion ≡ conclusion_of (Err Memory)
   pub bare : IsBare response
 
--- what the words of a command line come to
+-- the response to the words of a command line
 abbrev pub Runs : List (String Global) → World → World → Response → Type 0
 Runs words before after response =
     IsDone words before after response ⊎ IsUndone before after response

@@ -1,7 +1,7 @@
 //! The file that `-o` names: written beside its place, and put there once it's whole.
 //!
 //! FILE.part is made anew, so that nobody else's file or link is followed or overwritten. What the
-//! system does with files is in no clause: `tests/outputs.py` tries it.
+//! system does with files is in no clause: `tests/system/test_outputs.py` tries it.
 
 use crate::second_look::path_of;
 use fault_words::Obstacle;

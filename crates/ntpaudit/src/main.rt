@@ -1,7 +1,7 @@
 //! ntpaudit: what a packet capture of NTP shows of a clock.
 //!
-//! The words of the command line, the host's files and outputs, and a random key. What they come to
-//! is said by the contract of `run`, over any files and outputs.
+//! It hands the words of the command line, the host's files and outputs, and a random key to `run`,
+//! whose contract says what follows, over any files and outputs.
 
 #![tactic(auto)]
 
@@ -50,7 +50,7 @@ fn run_on<H: BuildHasher + Copy + Drop>(rt: &HostRuntime, hasher: H) -> ExitCode
 
 fn main(rt: HostRuntime) -> ExitCode {
     // A random key, so that nobody can write a capture whose packets collide. If the system has no
-    // random bytes a fixed key has to do: it slows such a capture down, no more.
+    // random bytes a fixed key has to do: such a capture then takes longer, and that is all.
     match RandomState::new(&rt) {
         Ok(hasher) => run_on(&rt, hasher),
         Err(_) => run_on(&rt, BuildHasherDefault::<FoldHasher>::new()),

@@ -1,4 +1,4 @@
-//! The program: from the words of a command line to what it comes to, over any files and outputs.
+//! The program: from the words of a command line to its response, over any files and outputs.
 
 ghost use Rattle.std.specs.Prelude.{◌≡◌, Err};
 ghost use Rattle.byte_stream.specs.State.{IsWritable};
@@ -17,7 +17,7 @@ use report::{RunFault, conclude};
 use std::alloc::{AllocError, Global};
 use std::hash::BuildHasher;
 
-/// What a command line comes to that memory is refused for.
+/// The response to a command line for which memory is refused.
 pub(crate) fn out_of_memory<E: Sink>(err: &mut E) -> Response
     requires { IsWritable (E.state err.old) }
     ensures concludes { Concludes (Err Memory) (E.state err.old) (E.state err.new) }

@@ -1,28 +1,7 @@
 -- From what was gathered to the answer.
-use Rattle.std.proofs.Common.{◌≡◌, ℕ, ◌≤◌, List, Option, Some, None, Result, Ok, Err, refl, sym, ap, subst, inl, inr, length, arith}
-use Rattle.std.specs.Prelude.{IfOk, IfSome, MatchResult, filter, nat_lt, Bool, true, false, ◌⊎◌, if◌then◌else◌}
-use Rattle.std.proofs.lemmas.Bool.Decides.{nat_tests}
-use Rattle.std.proofs.lemmas.List.{length-map}
-use Rattle.std.proofs.lemmas.List.Sums.{count_by-le-length, length-filter}
-use Rattle.pcap_reader.specs.Capture.{Record, most_records}
-use Rattle.pcap_reader.specs.Remaining.{Coming}
-use Rattle.pcap_reader.specs.Source.{SourceState}
-use Rattle.claim_file.specs.Claim.{ClaimData}
-use Rattle.pairing.specs.declared.counts.Counts.{Counts}
-use Rattle.pairing.specs.declared.exchange.Exchange.{Exchange}
-use Rattle.pairing.specs.declared.fault.PairFault.{PairFault}
-use Rattle.pairing.specs.declared.fault.PairFault.TheVariants.{Memory, TooManyExchanges}
-use Rattle.pairing.specs.declared.compact.CompactExchange.{CompactExchange}
+use Rattle.pairing.proofs.Common.{◌≡◌, ℕ, ◌≤◌, List, Option, Some, None, Result, Ok, Err, refl, sym, ap, subst, inl, inr, length, arith, IfOk, IfSome, MatchResult, filter, nat_lt, ◌⊎◌, if◌then◌else◌, nat_tests, length-map, count_by-le-length, length-filter, Record, most_records, Coming, SourceState, ClaimData, Counts, Exchange, PairFault, Memory, TooManyExchanges, CompactExchange, IndexedRequest, IsAnswerTo, IsFromOutside, LeavesSource, MayAnswer, answer_of, capture_failed, device_failed, AreLawful, most_exchanges, IsGatheredFrom, is_accepted, HasRoom, compact_data, compact_of, reply_of, Collection, collection_of, counts_of, exchanges_of, replies_of, IsWhole}
+use Rattle.std.specs.Prelude.{Bool, true, false}
 use Rattle.pairing.specs.declared.compact.CompactCollection.{CompactCollection}
-use Rattle.pairing.specs.declared.index.IndexedRequest.{IndexedRequest}
-use Rattle.pairing.specs.Answer.{IsAnswerTo, IsFromOutside, LeavesSource, MayAnswer, answer_of, capture_failed, device_failed}
-use Rattle.pairing.specs.Exchange.{AreLawful, most_exchanges}
-use Rattle.pairing.specs.Gathering.{IsGatheredFrom, is_accepted}
-use Rattle.pairing.specs.Counts.{HasRoom}
-use Rattle.pairing.specs.Compact.{compact_data, compact_of}
-use Rattle.pairing.specs.Message.{reply_of}
-use Rattle.pairing.specs.Pairing.{Collection, collection_of, counts_of, exchanges_of, replies_of}
-use Rattle.pairing.specs.Reading.{IsWhole}
 use Rattle.pairing.proofs.JoinSteps.{length-filter_map}
 use Rattle.pairing.proofs.ReadingSteps.{HasRoom-weaker, gathered-room}
 

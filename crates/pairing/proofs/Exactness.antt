@@ -1,32 +1,5 @@
 -- What is collected is what the definition says.
-use Rattle.std.proofs.Common.{◌≡◌, ◌∙◌, ℕ, ◌+◌, List, [], ◌∷◌, Bool, true, false, Option, Some, None, Result, Ok, Err, refl, sym, ap, length, arith, ◌<◌, ◌≤◌, zero-add, map}
-use Rattle.ntp_packet.specs.Header.{origin_of, precision_of, precision_ticks_of, root_delay_of, root_dispersion_of, root_distance_of}
-use Rattle.std.specs.Prelude.{◌*◌, pos, unsigned_abs, unwrap_or, int_lt, filter, count_by, is_none, nat_lt, if◌then◌else◌}
-use Rattle.std.specs.List.{cons_option, filter_map}
-use Rattle.std.specs.Result.{result_ok}
-use Rattle.std.proofs.lemmas.Bool.Decides.{nat_tests}
-use Rattle.std.proofs.lemmas.List.Sums.{sum_by-append}
-use Rattle.pcap_reader.specs.Capture.{Record}
-use Rattle.claim_file.specs.Claim.{ClaimData}
-use Rattle.pairing.specs.declared.counts.Counts.{Counts}
-use Rattle.pairing.specs.declared.exchange.Exchange.{Exchange}
-use Rattle.pairing.specs.declared.fault.PairFault.{PairFault}
-use Rattle.pairing.specs.declared.fault.PairFault.TheVariants.{TooManyExchanges}
-use Rattle.pairing.specs.declared.compact.CompactExchange.{CompactExchange}
-use Rattle.pairing.specs.declared.index.IndexedRequest.{IndexedRequest}
-use Rattle.pairing.specs.declared.index.Key.{Key}
-use Rattle.pairing.specs.declared.index.Place.{Place}
-use Rattle.pairing.specs.declared.refusal.Refusal.{Refusal}
-use Rattle.pairing.specs.declared.refusal.Refusal.TheVariants.{Version, Leap, Stratum, Precision, ZeroStamp, NoRequest, Ambiguous}
-use Rattle.pairing.specs.Counts.{count_for, IsJoined}
-use Rattle.pairing.specs.Exchange.{most_exchanges}
-use Rattle.pairing.specs.Gathering.{IsGatheredFrom, is_accepted, is_early, is_for}
-use Rattle.pairing.specs.Compact.{compact_of}
-use Rattle.pairing.specs.Index.{Indexes, found_in, place_of}
-use Rattle.pairing.specs.Join.{exchange_by, outcome_by, outcomes_by, request_at}
-use Rattle.pairing.specs.Message.{Request, Reply}
-use Rattle.pairing.specs.Pairing.{Collection, collection_of, requests_of, replies_of, requests_for, outcome_of, outcomes_of, paired, unless_refused, distance_of, exchange_of, is_refused, refused_for, is_warning, exchanges_of, counts_of}
-use Rattle.pairing.specs.Refusal.{refusal_of}
+use Rattle.pairing.proofs.Common.{◌≡◌, ◌∙◌, ℕ, ◌+◌, List, [], ◌∷◌, Bool, true, false, Option, Some, None, Result, Ok, Err, refl, sym, ap, length, arith, ◌<◌, ◌≤◌, zero-add, map, origin_of, precision_of, precision_ticks_of, root_delay_of, root_dispersion_of, root_distance_of, ◌*◌, pos, unsigned_abs, unwrap_or, int_lt, filter, count_by, is_none, nat_lt, if◌then◌else◌, cons_option, filter_map, result_ok, nat_tests, sum_by-append, Record, ClaimData, Counts, Exchange, PairFault, TooManyExchanges, CompactExchange, IndexedRequest, Key, Place, Refusal, Version, Leap, Stratum, Precision, ZeroStamp, NoRequest, Ambiguous, count_for, IsJoined, most_exchanges, IsGatheredFrom, is_accepted, is_early, is_for, compact_of, Indexes, found_in, place_of, exchange_by, outcome_by, outcomes_by, request_at, Request, Reply, Collection, collection_of, requests_of, replies_of, requests_for, outcome_of, outcomes_of, paired, unless_refused, distance_of, exchange_of, is_refused, refused_for, is_warning, exchanges_of, counts_of, refusal_of}
 use Rattle.pairing.proofs.LookUps.{indexed_as_found}
 use Rattle.pairing.proofs.Windows.{last_tick}
 

@@ -1,33 +1,7 @@
 -- One more record gathered.
-use Rattle.std.proofs.Common.{◌≡◌, ◌∙◌, ℕ, ◌+◌, List, [], ◌∷◌, ◌++◌, Bool, true, false, Option, Some, None, refl, sym, ap, length-append, arith, append-nil, map, true≢false}
-use Rattle.std.specs.Prelude.{filter, count_by, is_none, IsSome, ◌&&◌, ◌==◌, if◌then◌else◌}
-use Rattle.std.specs.List.{cons_option}
-use Rattle.std.specs.Option.{option_and_then, option_map}
-use Rattle.std.specs.Str.{bytes_eq}
-use Rattle.std.proofs.lemmas.List.{map-append}
-use Rattle.std.proofs.lemmas.List.Elements.{filter-append, filter_map-append}
-use Rattle.std.proofs.lemmas.Bool.Decides.{nat_tests}
-use Rattle.pcap_reader.specs.declared.format.RecordHead.{RecordHead}
-use Rattle.pcap_reader.specs.Capture.{Record}
-use Rattle.ntp_packet.specs.Header.{mode_of, version_of}
-use Rattle.ntp_packet.specs.Packet.{Packet, packet_of, ntp_port}
-use Rattle.claim_file.specs.Claim.{ClaimData}
-use Rattle.pairing.specs.declared.counts.Counts.{Counts}
-use Rattle.pairing.specs.declared.compact.CompactExchange.{CompactExchange}
-use Rattle.pairing.specs.declared.index.IndexedRequest.{IndexedRequest}
-use Rattle.pairing.specs.declared.index.Key.{Key}
-use Rattle.pairing.specs.declared.message.Message.{Message}
+use Rattle.pairing.proofs.Common.{◌≡◌, ◌∙◌, ℕ, ◌+◌, List, [], ◌∷◌, ◌++◌, Bool, true, false, Option, Some, None, refl, sym, ap, length-append, arith, append-nil, map, true≢false, filter, count_by, is_none, IsSome, ◌&&◌, ◌==◌, if◌then◌else◌, cons_option, option_and_then, option_map, bytes_eq, map-append, filter-append, filter_map-append, nat_tests, RecordHead, Record, mode_of, version_of, Packet, packet_of, ntp_port, ClaimData, Counts, CompactExchange, IndexedRequest, Key, Message, Refusal, Version, Leap, Stratum, Precision, ZeroStamp, NoRequest, Ambiguous, zero_counts, count_for, IsGathered, IsGatheredFrom, counts_with, is_accepted, is_early, is_for, indexed_in, compact_in, compact_of, key_of, indexed_of, Request, Reply, is_request, is_reply, server_at, requested_server, replying_server, request_to, reply_from, request_in, reply_in, request_of, reply_of, requests_of, replies_of, refusal_of, judged, message_in, message_of}
 use Rattle.pairing.specs.declared.message.Message.TheVariants.{Request as Asks, Refused, Reply as Waits}
-use Rattle.pairing.specs.declared.refusal.Refusal.{Refusal}
-use Rattle.pairing.specs.declared.refusal.Refusal.TheVariants.{Version, Leap, Stratum, Precision, ZeroStamp, NoRequest, Ambiguous}
-use Rattle.pairing.specs.Counts.{zero_counts, count_for}
-use Rattle.pairing.specs.Gathering.{IsGathered, IsGatheredFrom, counts_with, is_accepted, is_early, is_for, indexed_in, compact_in}
-use Rattle.pairing.specs.Compact.{compact_of}
-use Rattle.pairing.specs.Index.{key_of, indexed_of, request_at}
-use Rattle.pairing.specs.Message.{Request, Reply, is_request, is_reply, server_at, requested_server, replying_server, request_to, reply_from, request_in, reply_in, request_of, reply_of}
-use Rattle.pairing.specs.Pairing.{requests_of, replies_of}
-use Rattle.pairing.specs.Refusal.{refusal_of}
-use Rattle.pairing.specs.Statement.{judged, message_in, message_of}
+use Rattle.pairing.specs.Index.{request_at}
 use Rattle.pairing.proofs.JoinSteps.{keeps_others, count_by-push, count_for-with_refusal}
 
 -- nothing is counted yet

@@ -1,21 +1,6 @@
 -- One more reply joined with its request in place.
-use Rattle.std.proofs.Common.{◌≡◌, ◌∙◌, ℕ, ◌+◌, ◌<◌, List, [], ◌∷◌, ◌++◌, Option, Result, Ok, Err, refl, sym, ap, length, map, take, drop, get_or, set, arith, append-nil, length-take}
+use Rattle.pairing.proofs.Common.{◌≡◌, ◌∙◌, ℕ, ◌+◌, ◌<◌, List, [], ◌∷◌, ◌++◌, Option, Result, Ok, Err, refl, sym, ap, length, map, take, drop, get_or, set, arith, append-nil, length-take, IsOk, filter_map, result_ok, get_or-drop, length-map, map-append, take_more_set, Counts, Exchange, CompactExchange, CompactRequest, Named, Found, Key, Place, Refusal, IsJoined, with_leap, with_outcome, with_refusal, exchange_shown, shown_with, exchange_by, outcome_by, outcomes_by, request_by}
 use native.Mathlib.Numerals.{unary_clauses}
-use Rattle.std.specs.Prelude.{IsOk}
-use Rattle.std.specs.List.{filter_map}
-use Rattle.std.specs.Result.{result_ok}
-use Rattle.std.proofs.lemmas.List.{get_or-drop, length-map, map-append, take_more_set}
-use Rattle.pairing.specs.declared.counts.Counts.{Counts}
-use Rattle.pairing.specs.declared.exchange.Exchange.{Exchange}
-use Rattle.pairing.specs.declared.compact.CompactExchange.{CompactExchange}
-use Rattle.pairing.specs.declared.compact.CompactRequest.{CompactRequest}
-use Rattle.pairing.specs.declared.compact.CompactRequest.TheVariants.{Named, Found}
-use Rattle.pairing.specs.declared.index.Key.{Key}
-use Rattle.pairing.specs.declared.index.Place.{Place}
-use Rattle.pairing.specs.declared.refusal.Refusal.{Refusal}
-use Rattle.pairing.specs.Counts.{IsJoined, with_leap, with_outcome, with_refusal}
-use Rattle.pairing.specs.Compact.{exchange_shown, shown_with}
-use Rattle.pairing.specs.Join.{exchange_by, outcome_by, outcomes_by, request_by}
 use Rattle.pairing.proofs.JoinSteps.{joined-push, outcomes-more, too_many}
 
 -- with this request in place of what is known of it

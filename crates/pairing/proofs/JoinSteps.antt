@@ -1,18 +1,5 @@
 -- One more reply joined with its request.
-use Rattle.std.proofs.Common.{◌≡◌, ◌∙◌, ℕ, suc, ◌+◌, ◌≤◌, ◌<◌, List, [], ◌∷◌, ◌++◌, Bool, Result, Ok, Err, refl, sym, ap, length, arith, zero-add, append-nil, Option, Some, None, map, take, drop, get_or, length-append, take-append-drop, true≢false}
-use Rattle.std.specs.Prelude.{count_by, IsOk, if◌then◌else◌}
-use Rattle.std.specs.List.{filter_map, cons_option}
-use Rattle.std.specs.Result.{result_ok}
-use Rattle.std.proofs.lemmas.List.Elements.{filter_map-append}
-use Rattle.std.proofs.lemmas.List.{map-append, take_more}
-use Rattle.std.proofs.lemmas.List.Sums.{sum_by-append}
-use Rattle.pairing.specs.declared.counts.Counts.{Counts}
-use Rattle.pairing.specs.declared.exchange.Exchange.{Exchange}
-use Rattle.pairing.specs.declared.refusal.Refusal.{Refusal}
-use Rattle.pairing.specs.declared.refusal.Refusal.TheVariants.{Version, Leap, Stratum, Precision, ZeroStamp, NoRequest, Ambiguous}
-use Rattle.pairing.specs.Counts.{count_for, with_refusal, with_outcome, IsJoined}
-use Rattle.pairing.specs.Pairing.{is_refused, is_warning}
-use Rattle.pairing.specs.Refusal.{same_refusal}
+use Rattle.pairing.proofs.Common.{◌≡◌, ◌∙◌, ℕ, suc, ◌+◌, ◌≤◌, ◌<◌, List, [], ◌∷◌, ◌++◌, Bool, Result, Ok, Err, refl, sym, ap, length, arith, zero-add, append-nil, Option, Some, None, map, take, drop, get_or, length-append, take-append-drop, true≢false, count_by, IsOk, if◌then◌else◌, filter_map, cons_option, result_ok, filter_map-append, map-append, take_more, sum_by-append, Counts, Exchange, Refusal, Version, Leap, Stratum, Precision, ZeroStamp, NoRequest, Ambiguous, count_for, with_refusal, with_outcome, IsJoined, is_refused, is_warning, same_refusal}
 
 abbrev Outcome : Type 0
 Outcome = Result Exchange Refusal

@@ -1,3 +1,4 @@
+mod Common
 pub mod JoinSteps
 pub mod JoinInPlace
 pub mod GatheringSteps

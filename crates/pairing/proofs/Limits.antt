@@ -1,30 +1,9 @@
 -- Every exchange keeps its limits.
-use Rattle.std.proofs.Common.{◌≡◌, ◌∙◌, ℕ, suc, ◌+◌, ◌*◌, ◌^◌, ◌≤◌, ◌<◌, List, [], ◌∷◌, Bool, true, false, Option, Some, None, Result, Ok, Err, refl, sym, ap, length, get_or, arith, map}
-use Rattle.std.specs.Prelude.{All, ℤ, pos, ◌≤ℤ◌, ◌<ℤ◌, IfOk, IfSome, slice_get, unwrap_or, position, if◌then◌else◌}
-use Rattle.std.specs.List.{cons_option, filter_map}
-use Rattle.std.specs.Option.{option_and_then, option_map}
-use Rattle.std.specs.Result.{result_ok}
-use Rattle.std.specs.Str.{bytes_eq}
+use Rattle.std.proofs.Common.{◌*◌}
+use Rattle.pairing.proofs.Common.{◌≡◌, ◌∙◌, ℕ, suc, ◌+◌, ◌^◌, ◌≤◌, ◌<◌, List, [], ◌∷◌, Bool, true, false, Option, Some, None, Result, Ok, Err, refl, sym, ap, length, get_or, arith, map, All, ℤ, pos, ◌≤ℤ◌, ◌<ℤ◌, IfOk, IfSome, slice_get, unwrap_or, position, if◌then◌else◌, cons_option, filter_map, option_and_then, option_map, result_ok, bytes_eq, All-nil, All-cons, All-filter, All-map, position-Some, Unit as SubsecondUnit, per_second, ticks_per_second, window_low, window_high, RecordHead, Record, IsLawfulHead, IsBytes, receive_of, root_distance_of, transmit_of, Packet, packet_of, ClaimData, Exchange, Refusal, AreGiven, IsGiven, AreLawful, IsInRange, SameRequest, most_exchanges, Request, Reply, is_reply, server_at, requested_server, replying_server, request_to, reply_from, request_in, reply_in, request_of, reply_of, requests_of, replies_of, answers, requests_for, low_of, high_of, distance_of, exchange_of, paired, unless_refused, outcome_of, exchanges_of, refusal_of}
 use Rattle.std.proofs.lemmas.Int.{ints}
-use Rattle.std.proofs.lemmas.List.Elements.{All-nil, All-cons, All-filter, All-map}
-use Rattle.std.proofs.lemmas.List.Quantifiers.{position-Some}
-use Rattle.era_unfold.specs.declared.unit.Unit.{Unit as SubsecondUnit}
 use Rattle.era_unfold.specs.Stamp.{IsUnfolded, unfolded}
-use Rattle.era_unfold.specs.Window.{per_second, ticks_per_second, window_low, window_high}
-use Rattle.pcap_reader.specs.declared.format.RecordHead.{RecordHead}
-use Rattle.pcap_reader.specs.Capture.{Record, IsLawfulHead}
-use Rattle.byte_stream.specs.Bytes.{IsBytes}
-use Rattle.ntp_packet.specs.Header.{receive_of, root_distance_of, transmit_of}
-use Rattle.ntp_packet.specs.Packet.{Packet, packet_of}
-use Rattle.claim_file.specs.Claim.{ClaimData}
-use Rattle.pairing.specs.declared.exchange.Exchange.{Exchange}
-use Rattle.pairing.specs.declared.refusal.Refusal.{Refusal}
-use Rattle.pairing.specs.Answer.{AreGiven, IsGiven}
-use Rattle.pairing.specs.Exchange.{AreLawful, IsInRange, SameRequest, most_exchanges}
-use Rattle.pairing.specs.Message.{Request, Reply, is_reply, server_at, requested_server, replying_server, request_to, reply_from, request_in, reply_in, request_of, reply_of}
-use Rattle.pairing.specs.Pairing.{requests_of, replies_of, answers, requests_for, low_of, high_of, distance_of, exchange_of, paired, unless_refused, outcome_of, exchanges_of}
 use Rattle.pairing.specs.Provenance.{IsExchangeAmong, IsListedReply, IsRequestAmong}
-use Rattle.pairing.specs.Refusal.{refusal_of}
 
 All-kept : {Y : Type 0} (P : Y → Type 0) (o : Option Y) (ys : List Y) → IfSome o P → All P ys →
     All P (cons_option o ys)

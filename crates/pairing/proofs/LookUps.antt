@@ -1,10 +1,5 @@
 -- A look-up among what is kept of requests is one among them.
-use Rattle.std.proofs.Common.{◌≡◌, ◌∙◌, List, [], ◌∷◌, Bool, true, false, refl, ap, map}
-use Rattle.std.specs.Prelude.{if◌then◌else◌}
-use Rattle.pairing.specs.declared.index.Key.{Key}
-use Rattle.pairing.specs.declared.index.IndexedRequest.{IndexedRequest}
-use Rattle.pairing.specs.Index.{Indexes, found_in, having, indexed_of, indexed_with, key_of, place_at, place_of, same_key}
-use Rattle.pairing.specs.Message.{Request}
+use Rattle.pairing.proofs.Common.{◌≡◌, ◌∙◌, List, [], ◌∷◌, Bool, true, false, refl, ap, map, if◌then◌else◌, Key, IndexedRequest, Indexes, found_in, having, indexed_of, indexed_with, key_of, place_at, place_of, same_key, Request}
 
 indexed_with-head : (same : Bool) (q : Request) (ks : List IndexedRequest) (qs : List Request) →
     ks ≡ map indexed_of qs →

@@ -1,18 +1,5 @@
 -- What the order of records, and one more request, change.
-use Rattle.std.proofs.Common.{◌≡◌, ◌∙◌, ◌+◌, ◌≤◌, ◌<◌, List, [], ◌∷◌, ◌++◌, Bool, true, Option, Some, None, Err, refl, sym, ap, length, length-append, arith}
-use Rattle.std.specs.Prelude.{if◌then◌else◌}
-use Rattle.std.specs.List.{cons_option, filter_map}
-use Rattle.std.proofs.lemmas.List.Elements.{filter-append, filter_map-append}
-use Rattle.pcap_reader.specs.Capture.{Record}
-use Rattle.pcap_reader.specs.declared.format.RecordHead.{RecordHead}
-use Rattle.claim_file.specs.Claim.{ClaimData}
-use Rattle.pairing.specs.declared.message.Message.{Message}
-use Rattle.pairing.specs.declared.refusal.Refusal.{Refusal}
-use Rattle.pairing.specs.declared.refusal.Refusal.TheVariants.{Ambiguous}
-use Rattle.pairing.specs.Message.{Request, Reply, request_of, reply_of}
-use Rattle.pairing.specs.Pairing.{requests_of, replies_of, answers, requests_for, outcome_of, paired, unless_refused, collection_of, counts_of, exchanges_of}
-use Rattle.pairing.specs.Refusal.{refusal_of}
-use Rattle.pairing.specs.Statement.{message_of}
+use Rattle.pairing.proofs.Common.{◌≡◌, ◌∙◌, ◌+◌, ◌≤◌, ◌<◌, List, [], ◌∷◌, ◌++◌, Bool, true, Option, Some, None, Err, refl, sym, ap, length, length-append, arith, if◌then◌else◌, cons_option, filter_map, filter-append, filter_map-append, Record, RecordHead, ClaimData, Message, Refusal, Ambiguous, Request, Reply, request_of, reply_of, requests_of, replies_of, answers, requests_for, outcome_of, paired, unless_refused, collection_of, counts_of, exchanges_of, refusal_of, message_of}
 use Rattle.pairing.proofs.GatheringSteps.{Says, silent, asks, refused, accepted, says}
 
 -- neighbours of which one gives nothing may change places

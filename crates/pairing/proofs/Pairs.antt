@@ -1,23 +1,8 @@
 -- Exchanges are those of the pairs.
-use Rattle.std.proofs.Common.{◌≡◌, ◌∙◌, ◌==◌, ◌&&◌, ℕ, zero, suc, ◌<◌, List, [], ◌∷◌, true, Option, Some, None, Ok, refl, sym, ap, subst, length, get_or, arith, map}
-use Rattle.std.specs.Prelude.{All, AllPairs, Contains, IfSome, ◌≢◌}
-use Rattle.std.specs.List.{cons_option, filter_map}
-use Rattle.std.specs.Option.{option_and_then, option_map}
-use Rattle.std.specs.Result.{result_ok}
-use Rattle.std.proofs.lemmas.Bool.Decides.{nat_tests}
-use Rattle.std.proofs.lemmas.List.Elements.{All-contains_itself, filter_passes}
+use Rattle.std.proofs.Common.{◌==◌, ◌&&◌}
+use Rattle.pairing.proofs.Common.{◌≡◌, ◌∙◌, ℕ, zero, suc, ◌<◌, List, [], ◌∷◌, true, Option, Some, None, Ok, refl, sym, ap, subst, length, get_or, arith, map, All, AllPairs, Contains, IfSome, ◌≢◌, cons_option, filter_map, option_and_then, option_map, result_ok, nat_tests, All-contains_itself, filter_passes, RecordHead, Record, origin_of, Packet, packet_of, ClaimData, Exchange, Refusal, Request, Reply, reply_from, reply_in, reply_of, replying_server, requests_of, replies_of, answers, requests_for, exchange_of, outcome_of, paired, unless_refused, exchanges_of, refusal_of}
 use Rattle.std.proofs.lemmas.List.Kept.{AllPairs-cons}
-use Rattle.pcap_reader.specs.declared.format.RecordHead.{RecordHead}
-use Rattle.pcap_reader.specs.Capture.{Record}
-use Rattle.ntp_packet.specs.Header.{origin_of}
-use Rattle.ntp_packet.specs.Packet.{Packet, packet_of}
-use Rattle.claim_file.specs.Claim.{ClaimData}
-use Rattle.pairing.specs.declared.exchange.Exchange.{Exchange}
-use Rattle.pairing.specs.declared.refusal.Refusal.{Refusal}
-use Rattle.pairing.specs.Message.{Request, Reply, reply_from, reply_in, reply_of, replying_server}
 use Rattle.pairing.specs.Pair.{IsExchangeOf, IsPair, NameEachOther}
-use Rattle.pairing.specs.Pairing.{requests_of, replies_of, answers, requests_for, exchange_of, outcome_of, paired, unless_refused, exchanges_of}
-use Rattle.pairing.specs.Refusal.{refusal_of}
 use Rattle.pairing.proofs.Limits.{All-filter_map}
 
 filter_map-map : {X Y Z : Type 0} (g : Y → Option Z) (f : X → Y) (xs : List X) →

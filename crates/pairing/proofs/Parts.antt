@@ -1,9 +1,5 @@
 -- What an exchange that is held shares with the exchange that it says.
-use Rattle.std.proofs.Common.{◌≡◌, refl}
-use Rattle.pairing.specs.declared.compact.CompactExchange.{CompactExchange}
-use Rattle.pairing.specs.declared.compact.CompactRequest.{CompactRequest}
-use Rattle.pairing.specs.declared.compact.CompactRequest.TheVariants.{Named, Found}
-use Rattle.pairing.specs.Compact.{exchange_shown, shown_with}
+use Rattle.pairing.proofs.Common.{◌≡◌, refl, CompactExchange, CompactRequest, Named, Found, exchange_shown, shown_with}
 
 server_with : (request : CompactRequest) (x : CompactExchange) → x.server ≡ (shown_with request x).server
 server_with (Named port stamp) x = refl

@@ -1,29 +1,9 @@
 -- One more record read.
-use Rattle.std.proofs.Common.{◌≡◌, ◌∙◌, ℕ, zero, suc, ◌≤◌, ◌<◌, List, [], ◌∷◌, ◌++◌, false, Option, Some, None, Result, Ok, Err, refl, sym, ap, subst, inl, inr, length, length-append, append_assoc, arith, true≢false}
-use Rattle.std.specs.Prelude.{slice_get, IfSome, IfErr, ◌⊎◌}
-use Rattle.std.proofs.lemmas.List.Elements.{All-push, All-weaker}
-use Rattle.std.proofs.lemmas.List.Sums.{count_by-le-length}
+use Rattle.pairing.proofs.Common.{◌≡◌, ◌∙◌, ℕ, zero, suc, ◌≤◌, ◌<◌, List, [], ◌∷◌, ◌++◌, false, Option, Some, None, Result, Ok, Err, refl, sym, ap, subst, inl, inr, length, length-append, append_assoc, arith, true≢false, slice_get, IfSome, IfErr, ◌⊎◌, All-push, All-weaker, count_by-le-length, RecordHead, Record, most_records, Coming, SourceState, IsNext, IsStep, read_failed, TakesFrom-trans, IsBytes, ClaimData, Counts, PairFault, Capture, CompactExchange, IndexedRequest, AreGiven, IsFromOutside, IsGiven, LeavesSource, MayAnswer, answer_of, capture_failed, device_failed, HasRoom, IsGatheredFrom, is_early, request_of, reply_of, requests_of, replies_of, Continues, IsRead}
 use Rattle.byte_stream.specs.Fault.{CountsFault}
 use Rattle.pcap_reader.specs.declared.fault.CaptureFault.{CaptureFault}
 use Rattle.pcap_reader.specs.declared.fault.CaptureFault.TheVariants.{Read, Failed}
-use Rattle.pcap_reader.specs.declared.format.RecordHead.{RecordHead}
-use Rattle.pcap_reader.specs.Capture.{Record, most_records}
 use Rattle.pcap_reader.specs.Fault.{MayAnswer as MayStep}
-use Rattle.pcap_reader.specs.Remaining.{Coming}
-use Rattle.pcap_reader.specs.Source.{SourceState, IsNext, IsStep, read_failed, TakesFrom-trans}
-use Rattle.byte_stream.specs.Bytes.{IsBytes}
-use Rattle.claim_file.specs.Claim.{ClaimData}
-use Rattle.pairing.specs.declared.counts.Counts.{Counts}
-use Rattle.pairing.specs.declared.fault.PairFault.{PairFault}
-use Rattle.pairing.specs.declared.fault.PairFault.TheVariants.{Capture}
-use Rattle.pairing.specs.declared.compact.CompactExchange.{CompactExchange}
-use Rattle.pairing.specs.declared.index.IndexedRequest.{IndexedRequest}
-use Rattle.pairing.specs.Answer.{AreGiven, IsFromOutside, IsGiven, LeavesSource, MayAnswer, answer_of, capture_failed, device_failed}
-use Rattle.pairing.specs.Counts.{HasRoom}
-use Rattle.pairing.specs.Gathering.{IsGatheredFrom, is_early}
-use Rattle.pairing.specs.Message.{request_of, reply_of}
-use Rattle.pairing.specs.Pairing.{requests_of, replies_of}
-use Rattle.pairing.specs.Reading.{Continues, IsRead}
 use Rattle.pairing.proofs.JoinSteps.{length-filter_map}
 
 -- an element stays at its place when more follow

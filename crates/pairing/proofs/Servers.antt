@@ -1,17 +1,6 @@
 -- To which server a packet is a request, and of which it is a reply.
-use Rattle.std.proofs.Common.{◌≡◌, ◌∙◌, ℕ, ◌<◌, List, [], Bool, true, false, Option, Some, None, refl, sym, ap, length, get_or, arith, cond}
-use Rattle.std.specs.Prelude.{AllPairs, ◌≢◌, ◌↔◌, ◌&&◌, ◌==◌, nat_lt, slice_get, if◌then◌else◌}
-use Rattle.std.specs.List.{position_or_len}
-use Rattle.std.specs.Str.{bytes_eq}
-use Rattle.std.proofs.lemmas.Bool.Decides.{nat_tests}
-use Rattle.std.proofs.lemmas.List.Quantifiers.{position-Some}
-use Rattle.std.proofs.lemmas.List.Sums.{position_or_len_is}
+use Rattle.pairing.proofs.Common.{◌≡◌, ◌∙◌, ℕ, ◌<◌, List, [], Bool, true, false, Option, Some, None, refl, sym, ap, length, get_or, arith, cond, AllPairs, ◌≢◌, ◌↔◌, ◌&&◌, ◌==◌, nat_lt, slice_get, if◌then◌else◌, position_or_len, bytes_eq, nat_tests, position-Some, position_or_len_is, bytes_eq-Decides, mode_of, version_of, Packet, ntp_port, ClaimData, IsReplyOf, IsRequestTo, client_mode, server_mode, is_reply, is_request, replying_server, requested_server, server_at}
 use Rattle.std.proofs.lemmas.Option.{get_or_from_slice_get, slice_get-get_or, slice_get_within}
-use Rattle.std.proofs.lemmas.Slice.Eq.{bytes_eq-Decides}
-use Rattle.ntp_packet.specs.Header.{mode_of, version_of}
-use Rattle.ntp_packet.specs.Packet.{Packet, ntp_port}
-use Rattle.claim_file.specs.Claim.{ClaimData}
-use Rattle.pairing.specs.Message.{IsReplyOf, IsRequestTo, client_mode, server_mode, is_reply, is_request, replying_server, requested_server, server_at}
 
 -- the server at an address
 server_at-found : (claim : ClaimData) (address : List ℕ) (server : ℕ) → server_at claim address ≡ Some server →

@@ -1,16 +1,12 @@
 -- Which servers the exchanges are with, one exchange and one server after another.
-use Rattle.std.proofs.Common.{◌≡◌, ◌∙◌, ◌+◌, ◌-◌, ◌≤◌, if◌then◌else◌, cond, Bool, true, false, ℕ, List, [], ◌∷◌, map, take, drop, length, length-drop, get_or, refl, ap, sym, arith, Some, None}
-use Rattle.std.specs.List.{list_all, count_by}
+use Rattle.std.proofs.Common.{if◌then◌else◌}
+use Rattle.std.specs.List.{count_by}
 use Rattle.std.specs.Bool.{then_some}
-use Rattle.std.specs.Str.{bytes_eq}
+use Rattle.pairing.proofs.Common.{◌≡◌, ◌∙◌, ◌+◌, ◌-◌, ◌≤◌, cond, Bool, true, false, ℕ, List, [], ◌∷◌, map, take, drop, length, length-drop, get_or, refl, ap, sym, arith, Some, None, list_all, bytes_eq, map-id, take_all, CompactExchange, exchange_shown, common_reference}
 use mir.Val.{bool_byte}
-use Rattle.std.proofs.lemmas.List.{map-id, take_all}
 use Rattle.std.proofs.lemmas.List.FromFn.{sum_by-map-range_with_len_more}
 use Rattle.std.proofs.lemmas.List.Folds.{list_all-map}
 use Rattle.claim_file.specs.Group.{servers_of}
-use Rattle.pairing.specs.declared.compact.CompactExchange.{CompactExchange}
-use Rattle.pairing.specs.Compact.{exchange_shown}
-use Rattle.pairing.specs.Sources.{common_reference}
 
 -- the reference of the first, if all others are compared with it
 pub first_reference : (held : List CompactExchange) (d : CompactExchange) (reference : List ℕ) → 1 ≤ length held →

@@ -1,15 +1,5 @@
 -- Sums of counts.
-use Rattle.std.proofs.Common.{◌≡◌, ◌∙◌, ℕ, ◌+◌, List, [], ◌∷◌, Result, Ok, Err, refl, sym, length, arith}
-use Rattle.std.specs.Prelude.{if◌then◌else◌}
-use Rattle.std.specs.List.{cons_option, filter_map}
-use Rattle.std.specs.Result.{result_ok}
-use Rattle.std.proofs.lemmas.List.{length-map}
-use Rattle.pcap_reader.specs.Capture.{Record}
-use Rattle.claim_file.specs.Claim.{ClaimData}
-use Rattle.pairing.specs.declared.exchange.Exchange.{Exchange}
-use Rattle.pairing.specs.declared.refusal.Refusal.{Refusal}
-use Rattle.pairing.specs.declared.refusal.Refusal.TheVariants.{Version, Leap, Stratum, Precision, ZeroStamp, NoRequest, Ambiguous}
-use Rattle.pairing.specs.Pairing.{requests_of, replies_of, outcome_of, outcomes_of, is_refused, refused_for, exchanges_of}
+use Rattle.pairing.proofs.Common.{◌≡◌, ◌∙◌, ℕ, ◌+◌, List, [], ◌∷◌, Result, Ok, Err, refl, sym, length, arith, if◌then◌else◌, cons_option, filter_map, result_ok, length-map, Record, ClaimData, Exchange, Refusal, Version, Leap, Stratum, Precision, ZeroStamp, NoRequest, Ambiguous, requests_of, replies_of, outcome_of, outcomes_of, is_refused, refused_for, exchanges_of}
 use Rattle.pairing.proofs.Exactness.{count_by-cons}
 
 abbrev Outcome : Type 0

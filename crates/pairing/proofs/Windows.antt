@@ -1,12 +1,7 @@
 -- Windows as they are held.
-use Rattle.std.proofs.Common.{ℕ, ◌+◌, ◌<◌, ◌≤◌, ◌≡◌, ap, arith}
-use Rattle.std.specs.Prelude.{pos}
+use Rattle.pairing.proofs.Common.{ℕ, ◌+◌, ◌<◌, ◌≤◌, ◌≡◌, ap, arith, pos, window_low, window_high, RecordHead, high_of, Unit as SubsecondUnit}
 use Rattle.era_unfold.specs.Ratio.{floor_of, ceiling_of}
-use Rattle.era_unfold.specs.Window.{window_low, window_high}
-use Rattle.pcap_reader.specs.declared.format.RecordHead.{RecordHead}
-use Rattle.pairing.specs.Pairing.{high_of}
 use Rattle.pairing.specs.CompactWindow.{tick_of, width_of}
-use Rattle.era_unfold.specs.declared.unit.Unit.{Unit as SubsecondUnit}
 use Rattle.era_unfold.specs.declared.unit.Unit.TheVariants.{Micro, Nano}
 
 -- it ends less than 2^16 ticks after its first tick: a microsecond has 4,295 ticks

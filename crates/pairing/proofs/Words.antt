@@ -1,11 +1,6 @@
 -- Four bytes and the number that they spell.
-use Rattle.std.proofs.Common.{◌≡◌, ◌∙◌, ℕ, ◌<◌, List, Bool, true, false, refl, sym, ap, length, get_or, arith}
-use Rattle.std.specs.Prelude.{◌==◌}
+use Rattle.pairing.proofs.Common.{◌≡◌, ◌∙◌, ℕ, ◌<◌, List, Bool, true, false, refl, sym, ap, length, get_or, arith, ◌==◌, bytes_eq, nat_tests, be_bytes_4, bytes_eq-Decides}
 use Rattle.std.specs.Int.{w32, from_be_bytes, to_be_bytes}
-use Rattle.std.specs.Str.{bytes_eq}
-use Rattle.std.proofs.lemmas.Bool.Decides.{nat_tests}
-use Rattle.std.proofs.lemmas.Nat.{be_bytes_4}
-use Rattle.std.proofs.lemmas.Slice.Eq.{bytes_eq-Decides}
 
 -- four bytes
 pub record IsWord (bs : List ℕ) : Type 0 where

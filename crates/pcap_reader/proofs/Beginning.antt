@@ -1,21 +1,6 @@
 -- What the header at the front of a feed's bytes tells of all of them.
-use Rattle.std.proofs.Common.{◌≡◌, ◌-◌, ◌<◌, ◌≤◌, ℕ, List, [], ◌++◌, length, take, drop, Option, Some, None, Ok, Err, IfSome, refl, sym, ap, ◌∙◌, arith}
-use Rattle.std.specs.Io.KnownBytes.{Keeps, IsAtEnd, prepend_known}
-use Rattle.std.proofs.lemmas.List.{drop-append-le}
-use Rattle.byte_stream.specs.Fault.{CountsFault}
-use Rattle.byte_stream.specs.Intake.{TakesAtMost}
-use Rattle.byte_stream.specs.State.{FeedState}
-use Rattle.pcap_reader.specs.declared.buffered.Buffered.{Buffered}
-use Rattle.pcap_reader.specs.declared.format.Format.{Format}
-use Rattle.pcap_reader.specs.declared.fault.CaptureFault.{CaptureFault}
-use Rattle.pcap_reader.specs.declared.fault.CaptureFault.TheVariants.{Read, Memory}
-use Rattle.pcap_reader.specs.Buffered.{held_bytes}
-use Rattle.pcap_reader.specs.Fault.{IsHeaderFault}
-use Rattle.pcap_reader.specs.Header.{header_of}
-use Rattle.pcap_reader.specs.Limit.{buffer_size}
+use Rattle.pcap_reader.proofs.Common.{◌≡◌, ◌-◌, ◌<◌, ◌≤◌, ℕ, List, [], ◌++◌, length, take, drop, Option, Some, None, Ok, Err, IfSome, refl, sym, ap, ◌∙◌, arith, Keeps, IsAtEnd, prepend_known, drop-append-le, CountsFault, TakesAtMost, FeedState, Buffered, Format, CaptureFault, Read, Memory, held_bytes, IsHeaderFault, header_of, buffer_size, capture_of, is_read}
 use Rattle.pcap_reader.specs.Refusal.{IsRefusal, most_refused}
-use Rattle.pcap_reader.specs.Remaining.{capture_of}
-use Rattle.pcap_reader.specs.Source.{is_read}
 use Rattle.pcap_reader.proofs.Prefix.{header_front, header_fault}
 
 -- at first nothing is held

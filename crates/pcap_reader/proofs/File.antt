@@ -1,14 +1,5 @@
 -- What is read of the whole bytes of a file, and what they are.
-use Rattle.std.proofs.Common.{◌≡◌, ◌+◌, ◌<◌, ◌≤◌, ◌⊎◌, ℕ, List, [], ◌++◌, length, take, drop, Option, Some, None, Result, Ok, Err, refl, sym, ap, subst, ◌∙◌, arith, inl, inr, append_assoc, append-nil, length-append, zero-add}
-use Rattle.std.specs.Prelude.{MatchOption}
-use Rattle.std.proofs.lemmas.List.{take-append-drop}
-use Rattle.pcap_reader.specs.declared.fault.CaptureFault.{CaptureFault}
-use Rattle.pcap_reader.specs.declared.format.Format.{Format}
-use Rattle.byte_stream.specs.Bytes.{IsBytes}
-use Rattle.pcap_reader.specs.Broken.{BeginsWith, IsBrokenAfter, HasHeaderFault, HasFault}
-use Rattle.pcap_reader.specs.Capture.{Record, IsHeader, IsRecordAt, IsCapture, record_spelling, spelling, most_records}
-use Rattle.pcap_reader.specs.Header.{header_of}
-use Rattle.pcap_reader.specs.Remaining.{Coming, coming_from, capture_of, fault_at}
+use Rattle.pcap_reader.proofs.Common.{◌≡◌, ◌+◌, ◌<◌, ◌≤◌, ◌⊎◌, ℕ, List, [], ◌++◌, length, take, drop, Option, Some, None, Result, Ok, Err, refl, sym, ap, subst, ◌∙◌, arith, inl, inr, append_assoc, append-nil, length-append, zero-add, MatchOption, take-append-drop, CaptureFault, Format, IsBytes, BeginsWith, IsBrokenAfter, HasHeaderFault, HasFault, Record, IsHeader, IsRecordAt, IsCapture, record_spelling, spelling, most_records, header_of, Coming, coming_from, capture_of, fault_at}
 use Rattle.pcap_reader.proofs.RecordList.{IsReadFrom, after_records, coming_from-spelled, read_from, same_place}
 use Rattle.pcap_reader.proofs.Remaining.{coming_from-nil, coming_from_fault, capture_of_begun}
 use Rattle.pcap_reader.proofs.FileHeader.{spelled_header, header_read, header_is_read, header_has_fault, header_fault_read}

@@ -1,21 +1,6 @@
 -- The header of a file: the bytes that spell it are read as its format, what is read is spelled by its bytes, and
 -- which fault is the first.
-use Rattle.std.proofs.Common.{◌≡◌, ◌<◌, ◌≤◌, ℕ, List, ◌++◌, length, take, drop, Option, Some, None, Result, Ok, Err, refl, sym, ap, subst, ◌∙◌, arith, inl, inr, append_assoc, length-append, length-take, length-drop, drop-drop}
-use Rattle.std.proofs.lemmas.Bool.{cases_lt, cases_eq, lt-ltb, le-ltb, eq-eqb, ne_eqb}
-use Rattle.std.proofs.lemmas.List.{take-append-drop}
-use Rattle.std.proofs.Math.Seq.{take-add}
-use Rattle.era_unfold.specs.declared.unit.Unit.{Unit as TimeUnit}
-use Rattle.era_unfold.specs.declared.unit.Unit.TheVariants.{Micro, Nano}
-use Rattle.pcap_reader.specs.declared.fault.CaptureFault.{CaptureFault}
-use Rattle.pcap_reader.specs.declared.fault.CaptureFault.TheVariants.{TornHeader, Magic, Version, Link}
-use Rattle.pcap_reader.specs.declared.format.Endian.{Endian}
-use Rattle.pcap_reader.specs.declared.format.Endian.TheVariants.{Big, Little}
-use Rattle.pcap_reader.specs.declared.format.Format.{Format}
-use Rattle.byte_stream.specs.Bytes.{IsBytes}
-use Rattle.pcap_reader.specs.Broken.{HasMagic, HasVersion, HasLink, HasHeaderFault}
-use Rattle.pcap_reader.specs.Capture.{IsHeader, magic_of}
-use Rattle.pcap_reader.specs.Field.{number_in, spelled}
-use Rattle.pcap_reader.specs.Header.{format_of, version_and_link, header_of}
+use Rattle.pcap_reader.proofs.Common.{◌≡◌, ◌<◌, ◌≤◌, ℕ, List, ◌++◌, length, take, drop, Option, Some, None, Result, Ok, Err, refl, sym, ap, subst, ◌∙◌, arith, inl, inr, append_assoc, length-append, length-take, length-drop, drop-drop, cases_lt, cases_eq, lt-ltb, le-ltb, eq-eqb, ne_eqb, take-append-drop, take-add, Unit as TimeUnit, Micro, Nano, CaptureFault, TornHeader, Magic, Version, Link, Endian, Big, Little, Format, IsBytes, HasMagic, HasVersion, HasLink, HasHeaderFault, IsHeader, magic_of, number_in, spelled, format_of, version_and_link, header_of}
 use Rattle.pcap_reader.proofs.Parts.{bytes_after, front, after, further, six_parts, taken_24}
 use Rattle.pcap_reader.proofs.Spelling.{number_in-spelled, length-spelled, spelled-number_in_2, spelled-number_in_4}
 

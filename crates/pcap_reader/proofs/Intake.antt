@@ -1,13 +1,7 @@
 -- Bytes that were pulled from a feed, after those that were held.
-use Rattle.std.proofs.Common.{◌≡◌, ◌+◌, ◌-◌, ◌≤◌, ℕ, List, Result, [], ◌++◌, length, Option, Some, None, sym, ap, ◌∙◌, arith, append_assoc, append-nil, length-append, take, drop, length-take, length-drop}
+use Rattle.pcap_reader.proofs.Common.{◌≡◌, ◌+◌, ◌-◌, ◌≤◌, ℕ, List, Result, [], ◌++◌, length, Option, Some, None, sym, ap, ◌∙◌, arith, append_assoc, append-nil, length-append, take, drop, length-take, length-drop, Consumes, Keeps, prepend_known, FeedState, Buffered, Pulls, Refills, held_bytes, last_bytes, still_has, supply_of, most_taken, TakesFrom}
 use Rattle.std.proofs.KnownBytes.{Consumes-nil, Consumes-trans, Keeps-trans}
-use Rattle.std.specs.Io.KnownBytes.{Consumes, Keeps, prepend_known}
-use Rattle.byte_stream.specs.State.{FeedState}
 use Rattle.byte_stream.specs.declared.feed.FeedFault.{FeedFault}
-use Rattle.pcap_reader.specs.declared.buffered.Buffered.{Buffered}
-use Rattle.pcap_reader.specs.Buffered.{Pulls, Refills, held_bytes, last_bytes, still_has, supply_of}
-use Rattle.pcap_reader.specs.Limit.{most_taken}
-use Rattle.pcap_reader.specs.Source.{TakesFrom}
 
 pub Pulls-none : (a : FeedState) (held held' : List ℕ) → held' ≡ held → Pulls a a held held'
 Pulls-none a held held' same =

@@ -1,3 +1,4 @@
+mod Common
 pub mod RecordList
 pub mod Remaining
 pub mod RecordFault

@@ -1,16 +1,5 @@
 -- What an answer says of the bytes that are known, by those held when it was given.
-use Rattle.std.proofs.Common.{◌≡◌, ◌+◌, ◌<◌, ◌≤◌, ℕ, List, ◌++◌, length, take, drop, Option, Some, None, Result, Ok, Err, IfSome, refl, sym, ap, subst, ◌∙◌, arith, append_assoc, length-append, length-drop}
-use Rattle.std.specs.Option.{option_map}
-use Rattle.std.specs.Io.KnownBytes.{Keeps, IsAtEnd, prepend_known}
-use Rattle.std.proofs.lemmas.List.{drop-append-le, take-append-le}
-use Rattle.pcap_reader.specs.declared.format.Format.{Format}
-use Rattle.pcap_reader.specs.declared.format.RecordHead.{RecordHead}
-use Rattle.pcap_reader.specs.declared.fault.CaptureFault.{CaptureFault}
-use Rattle.pcap_reader.specs.declared.fault.CaptureFault.TheVariants.{TornRecord}
-use Rattle.pcap_reader.specs.Capture.{most_records}
-use Rattle.pcap_reader.specs.Prefix.{ShowsHead, ShowsFault}
-use Rattle.pcap_reader.specs.Remaining.{Coming, coming_from}
-use Rattle.pcap_reader.specs.Source.{IsNext}
+use Rattle.pcap_reader.proofs.Common.{◌≡◌, ◌+◌, ◌<◌, ◌≤◌, ℕ, List, ◌++◌, length, take, drop, Option, Some, None, Result, Ok, Err, IfSome, refl, sym, ap, subst, ◌∙◌, arith, append_assoc, length-append, length-drop, option_map, Keeps, IsAtEnd, prepend_known, drop-append-le, take-append-le, Format, RecordHead, CaptureFault, TornRecord, most_records, ShowsHead, ShowsFault, Coming, coming_from, IsNext}
 use Rattle.pcap_reader.proofs.Remaining.{coming_from-nil, coming_from_fault, coming_from_read, next_is_fault}
 use Rattle.pcap_reader.proofs.Prefix.{record_whole, record_torn}
 

@@ -1,9 +1,6 @@
 -- Lists joined of parts of known length.
-use Rattle.std.proofs.Common.{◌≡◌, ℕ, ◌+◌, ◌<◌, List, ◌++◌, length, take, drop, refl, sym, ◌∙◌, append_assoc, drop-drop}
-use Rattle.std.proofs.lemmas.List.{take-append-drop}
+use Rattle.pcap_reader.proofs.Common.{◌≡◌, ℕ, ◌+◌, ◌<◌, List, ◌++◌, length, take, drop, refl, sym, ◌∙◌, append_assoc, drop-drop, take-append-drop, drop-append_seam, take-append_seam, take-add, IsBytes}
 use Rattle.std.proofs.lemmas.List.Elements.{All-drop}
-use Rattle.std.proofs.Math.Seq.{drop-append_seam, take-append_seam, take-add}
-use Rattle.byte_stream.specs.Bytes.{IsBytes}
 
 -- bytes stay bytes
 pub bytes_after : (bytes : List ℕ) (n : ℕ) → IsBytes bytes → IsBytes (drop n bytes)

@@ -1,22 +1,7 @@
 -- What the bytes at the front say, whatever follows them.
-use Rattle.std.proofs.Common.{◌≡◌, ◌+◌, ◌*◌, ◌^◌, ◌<◌, ◌≤◌, ℕ, zero, suc, List, [], ◌++◌, length, drop, Option, Some, None, Result, Ok, Err, Bool, true, false, refl, sym, ap, ap₂, subst, ◌∙◌, arith, length-append, append-nil, length-drop, ⊎_elim}
-use Rattle.std.specs.Prelude.{◌==◌, if◌then◌else◌}
-use Rattle.std.proofs.lemmas.List.{drop-append-le, get_or_append_left}
-use Rattle.std.proofs.lemmas.Bool.{lt-ltb, le-ltb, cases_lt}
+use Rattle.pcap_reader.proofs.Common.{◌≡◌, ◌+◌, ◌*◌, ◌^◌, ◌<◌, ◌≤◌, ℕ, zero, suc, List, [], ◌++◌, length, drop, Option, Some, None, Result, Ok, Err, Bool, true, false, refl, sym, ap, ap₂, subst, ◌∙◌, arith, length-append, append-nil, length-drop, ⊎_elim, ◌==◌, if◌then◌else◌, drop-append-le, get_or_append_left, lt-ltb, le-ltb, cases_lt, CaptureFault, TornHeader, Magic, Version, Link, TornRecord, Endian, Big, Little, Format, IsHeaderFault, number_in, RecordHead, most_records, ShowsHead, ShowsFault, format_of, version_and_link, header_of, head_at, fault_at, captured_in, sub_in, head_fault}
 use Rattle.byteorder.specs.Endian.{big_from, little_from}
-use Rattle.pcap_reader.specs.declared.fault.CaptureFault.{CaptureFault}
-use Rattle.pcap_reader.specs.declared.fault.CaptureFault.TheVariants.{TornHeader, Magic, Version, Link, TornRecord}
-use Rattle.pcap_reader.specs.declared.format.Endian.{Endian}
-use Rattle.pcap_reader.specs.declared.format.Endian.TheVariants.{Big, Little}
-use Rattle.pcap_reader.specs.declared.format.Format.{Format}
-use Rattle.pcap_reader.specs.Fault.{IsHeaderFault}
-use Rattle.pcap_reader.specs.Field.{number_in}
-use Rattle.pcap_reader.specs.declared.format.RecordHead.{RecordHead}
-use Rattle.pcap_reader.specs.Capture.{most_records}
-use Rattle.pcap_reader.specs.Prefix.{ShowsHead, ShowsFault}
 use Rattle.pcap_reader.proofs.RecordFault.{fault_at_none, fault_at_torn}
-use Rattle.pcap_reader.specs.Header.{format_of, version_and_link, header_of}
-use Rattle.pcap_reader.specs.Remaining.{head_at, fault_at, captured_in, sub_in, head_fault}
 
 big_front : (i n : ℕ) (xs ys : List ℕ) → i + n ≤ length xs → big_from i n (xs ++ ys) ≡ big_from i n xs
 big_front i zero xs ys long = refl

@@ -1,7 +1,5 @@
 -- Ranges of a buffer: after its front was taken, and after bytes were pulled into it.
-use Rattle.std.proofs.Common.{◌≡◌, ◌+◌, ◌-◌, ◌≤◌, ◌++◌, ℕ, List, take, drop, slice_range, sym, ap, ◌∙◌, length-take-le, arith, length, length-take, length-drop, drop-drop}
-use Rattle.std.proofs.lemmas.List.{drop-take, take-take, take-append-le}
-use Rattle.std.proofs.Math.Seq.{take-append-add}
+use Rattle.pcap_reader.proofs.Common.{◌≡◌, ◌+◌, ◌-◌, ◌≤◌, ◌++◌, ℕ, List, take, drop, slice_range, sym, ap, ◌∙◌, length-take-le, arith, length, length-take, length-drop, drop-drop, drop-take, take-take, take-append-le, take-append-add}
 use borrow.Rule.Slice.PartMut.{put_mid}
 
 -- what stays

@@ -1,11 +1,5 @@
 -- The first fault at a place, test by test.
-use Rattle.std.proofs.Common.{◌≡◌, ◌+◌, ◌<◌, ◌≤◌, ℕ, List, length, Some, None, refl}
-use Rattle.std.proofs.lemmas.Bool.{lt-ltb, le-ltb, le-leb, lt-leb}
-use Rattle.pcap_reader.specs.declared.format.Format.{Format}
-use Rattle.pcap_reader.specs.declared.fault.CaptureFault.{CaptureFault}
-use Rattle.pcap_reader.specs.declared.fault.CaptureFault.TheVariants.{TornRecord, TooMany}
-use Rattle.pcap_reader.specs.Capture.{most_records}
-use Rattle.pcap_reader.specs.Remaining.{fault_at, head_fault, captured_in}
+use Rattle.pcap_reader.proofs.Common.{◌≡◌, ◌+◌, ◌<◌, ◌≤◌, ℕ, List, length, Some, None, refl, lt-ltb, le-ltb, le-leb, lt-leb, Format, CaptureFault, TornRecord, TooMany, most_records, fault_at, head_fault, captured_in}
 
 -- after so many records nothing may stand there
 pub fault_at_most : (f : Format) (n p : ℕ) (bytes : List ℕ) → most_records ≤ n → fault_at f n p bytes ≡ Some TooMany

@@ -1,18 +1,5 @@
 -- Bytes that are too few to show the next answer.
-use Rattle.std.proofs.Common.{◌≡◌, ◌+◌, ◌<◌, ◌≤◌, ℕ, List, [], ◌∷◌, length, Option, Some, None, Err, IfSome, refl, sym, ap, subst, ◌∙◌, arith, inl, inr, length-append}
-use Rattle.std.specs.Option.{option_map}
-use Rattle.std.specs.Io.KnownBytes.{Keeps, prepend_known}
-use Rattle.std.proofs.lemmas.Bool.{cases_lt}
-use Rattle.era_unfold.specs.Window.{per_second}
-use Rattle.pcap_reader.specs.declared.format.Format.{Format}
-use Rattle.pcap_reader.specs.declared.format.RecordHead.{RecordHead}
-use Rattle.pcap_reader.specs.declared.fault.CaptureFault.{CaptureFault}
-use Rattle.pcap_reader.specs.declared.fault.CaptureFault.TheVariants.{TornRecord, TooLong, BadFraction, TooMany, Read}
-use Rattle.pcap_reader.specs.Capture.{most_captured, most_records}
-use Rattle.pcap_reader.specs.Fault.{IsRecordFault}
-use Rattle.pcap_reader.specs.Prefix.{ShowsHead}
-use Rattle.pcap_reader.specs.Remaining.{Coming, coming_from, fault_at, head_at, head_fault, captured_in, sub_in}
-use Rattle.pcap_reader.specs.Source.{IsUndecided, IsReadInTime, shown_by}
+use Rattle.pcap_reader.proofs.Common.{◌≡◌, ◌+◌, ◌<◌, ◌≤◌, ℕ, List, [], ◌∷◌, length, Option, Some, None, Err, IfSome, refl, sym, ap, subst, ◌∙◌, arith, inl, inr, length-append, option_map, Keeps, prepend_known, cases_lt, per_second, Format, RecordHead, CaptureFault, TornRecord, TooLong, BadFraction, TooMany, Read, most_captured, most_records, IsRecordFault, ShowsHead, Coming, coming_from, fault_at, head_at, head_fault, captured_in, sub_in, IsUndecided, IsReadInTime, shown_by}
 use Rattle.pcap_reader.proofs.Prefix.{record_whole, record_torn}
 use Rattle.pcap_reader.proofs.RecordBytes.{head_fault-none, head_fault-long, head_fault-fraction, not_some}
 use Rattle.pcap_reader.proofs.RecordFault.{fault_at_short, fault_at_head, fault_at_torn, fault_at_none}

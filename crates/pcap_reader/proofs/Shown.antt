@@ -1,15 +1,5 @@
 -- When the bytes that are held show the next answer.
-use Rattle.std.proofs.Common.{◌≡◌, ◌+◌, ◌<◌, ◌≤◌, ℕ, List, ◌++◌, length, Bool, true, false, Option, Some, None, Result, Ok, Err, IfSome, refl, sym, subst, ◌∙◌, arith}
-use Rattle.std.specs.Prelude.{IsTrue, IfOk, OnOk, MatchResult}
-use Rattle.std.specs.Option.{option_map}
-use Rattle.std.specs.Io.KnownBytes.{prepend_known}
-use Rattle.pcap_reader.specs.declared.format.Format.{Format}
-use Rattle.pcap_reader.specs.declared.format.RecordHead.{RecordHead}
-use Rattle.pcap_reader.specs.declared.fault.CaptureFault.{CaptureFault}
-use Rattle.pcap_reader.specs.Capture.{most_records}
-use Rattle.pcap_reader.specs.Prefix.{ShowsHead}
-use Rattle.pcap_reader.specs.Remaining.{coming_from}
-use Rattle.pcap_reader.specs.Source.{IsUndecided}
+use Rattle.pcap_reader.proofs.Common.{◌≡◌, ◌+◌, ◌<◌, ◌≤◌, ℕ, List, ◌++◌, length, Bool, true, false, Option, Some, None, Result, Ok, Err, IfSome, refl, sym, subst, ◌∙◌, arith, IsTrue, IfOk, OnOk, MatchResult, option_map, prepend_known, Format, RecordHead, CaptureFault, most_records, ShowsHead, coming_from, IsUndecided}
 use Rattle.pcap_reader.proofs.NextRecord.{next_whole}
 
 module _ (f : Format) (n p : ℕ) (held : List ℕ) (size : ℕ) (size_is : size ≡ length held) where

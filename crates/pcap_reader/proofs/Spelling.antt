@@ -1,10 +1,6 @@
 -- Numbers, and the bytes that spell them.
-use Rattle.std.proofs.Common.{◌≡◌, ℕ, ◌+◌, ◌*◌, ◌/◌, ◌%◌, ◌^◌, ◌<◌, ◌≤◌, List, [], ◌∷◌, ◌++◌, length, take, refl, arith}
+use Rattle.pcap_reader.proofs.Common.{◌≡◌, ℕ, ◌+◌, ◌*◌, ◌/◌, ◌%◌, ◌^◌, ◌<◌, ◌≤◌, List, [], ◌∷◌, ◌++◌, length, take, refl, arith, Endian, Big, Little, IsBytes, byte_at-lt, number_in, spelled}
 use Rattle.byteorder.specs.Numbers.{big_number-reads_back, little_number-reads_back, length-bytes_high_first, length-bytes_low_first, big_from-lt, little_from-lt}
-use Rattle.pcap_reader.specs.declared.format.Endian.{Endian}
-use Rattle.pcap_reader.specs.declared.format.Endian.TheVariants.{Big, Little}
-use Rattle.byte_stream.specs.Bytes.{IsBytes, byte_at-lt}
-use Rattle.pcap_reader.specs.Field.{number_in, spelled}
 
 -- the bytes of a number have that number in them
 pub number_in-spelled : (order : Endian) (n x : ℕ) (rest : List ℕ) → x < 256 ^ n →

@@ -1,12 +1,5 @@
 -- Steps of a source.
-use Rattle.std.proofs.Common.{◌≡◌, ◌∙◌, ◌↔◌, ℕ, Err, Option, Result, Bool, true, false, sym}
-use Rattle.std.specs.Prelude.{IsTrue, IsErrOf}
-use Rattle.byte_stream.specs.Fault.{CountsFault}
-use Rattle.pcap_reader.specs.declared.format.RecordHead.{RecordHead}
-use Rattle.pcap_reader.specs.declared.fault.CaptureFault.{CaptureFault}
-use Rattle.pcap_reader.specs.declared.fault.CaptureFault.TheVariants.{Read, Failed}
-use Rattle.pcap_reader.specs.Fault.{IsRecordFault, MayAnswer}
-use Rattle.pcap_reader.specs.Source.{read_failed}
+use Rattle.pcap_reader.proofs.Common.{◌≡◌, ◌∙◌, ◌↔◌, ℕ, Err, Option, Result, Bool, true, false, sym, IsTrue, IsErrOf, CountsFault, RecordHead, CaptureFault, Read, Failed, IsRecordFault, MayAnswer, read_failed}
 
 -- a record's fault is one that may be answered
 pub record_fault_may : (e : CaptureFault) → IsRecordFault e → MayAnswer e

@@ -1,4 +1,4 @@
--- What a question comes to whose text for a program goes into a draft.
+-- The answer to a question whose text for a program goes into a draft.
 use Rattle.std.specs.Prelude.{◌≡◌, ◌⊎◌, ◌==◌, ℕ, List, true, false, if◌then◌else◌, is_some}
 use Rattle.std.specs.Prelude.{Option, Some, None, Result, Ok, Err, IfOk}
 use Rattle.byte_stream.specs.State.{FeedState, SinkState}
@@ -35,7 +35,7 @@ pub record IsDraftedAndTold (asked : AskedData) (feeds : Feeds)
   pub runs : RunsTwice asked (run_over feeds draft) (run_over after draft')
       feeds.second after.second feeds.capture after.capture out out' answer
 
--- what a question comes to, for a program or for a person
+-- the answer to a question, for a program or for a person
 pub record IsDrafted (asked : AskedData) (feeds : Feeds) (draft draft' out out' : SinkState)
     (answer : Result Outcome RunFault) : Type 0 where
   pub alone : is_human asked.style ≡ false →
@@ -50,7 +50,7 @@ hindrance_of (Write sent) faults =
     if faults == 0 then None else Some (record { obstacle = Full; error = None })
 hindrance_of fault faults = None
 
--- something hinders a file from being written, and that is what the run comes to
+-- something hinders a file from being written, and the run ends with that
 abbrev pub TellsHindrance : Written → Type 0
 TellsHindrance written = (written.answer ≡ Err (Write 0)) × (is_some written.hindrance ≡ true)
 
@@ -82,7 +82,7 @@ pub record HasNoDraft (out out' : SinkState) (before after : DraftsState) (writt
       ⊎ (IsHindered before after × TellsHindrance written)
   pub untouched : out' ≡ out
 
--- what a question comes to in a draft of the file of this path
+-- the answer to a question in a draft of the file of this path
 abbrev pub DraftsOn : AskedData → Feeds → List ℕ → SinkState → SinkState → DraftsState
     → DraftsState → Written → Type 0
 DraftsOn asked feeds path out out' before after written =

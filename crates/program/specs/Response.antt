@@ -1,4 +1,4 @@
--- What a run comes to over inputs that were opened.
+-- How a run ends over inputs that were opened.
 use Rattle.std.specs.Prelude.{◌≡◌, ℕ, List, [], Option, Some, None, IfSome, Err}
 use Rattle.byte_stream.specs.Fault.{CountsFault}
 use Rattle.byte_stream.specs.State.{FeedState, SinkState}
@@ -61,7 +61,7 @@ pub record IsJudgedBy (asked : AskedData) (names : SumNames) (feeds : Feeds) (te
   pub judges : JudgesBySums asked (sums_of names text) (run_over feeds sink) (run_over after sink')
       err err' read conclusion
 
--- What a question comes to by a file of sums: that can't be read, or what was read of it and of
+-- The answer to a question by a file of sums: that can't be read, or what was read of it and of
 -- the inputs is handed back, and judged.
 abbrev pub AnswersBySums : AskedData → SumNames → Feeds → FeedState → SinkState → SinkState
     → SinkState → SinkState → Option Summed → Conclusion → Type 0
@@ -72,7 +72,7 @@ AnswersBySums asked names feeds sums sink sink' err err' (Some summed) conclusio
     × IsJudgedBy asked names feeds summed.text.items sink sink' err err' (data_of summed.read)
     conclusion
 
--- what a question comes to, by a file of sums if there is one
+-- the answer to a question, by a file of sums if there is one
 pub record Responds (asked : AskedData) (names : SumNames) (feeds : Feeds)
     (sums : Option FeedState) (sink sink' err err' : SinkState) (summed : Option Summed)
     (conclusion : Conclusion) : Type 0 where

@@ -1,4 +1,4 @@
--- What a command line comes to over files: what is opened by which path, what is written, and how
+-- What a command line does over files: what is opened by which path, what is written, and how
 -- that is reported.
 use Rattle.std.specs.Prelude.{◌≡◌, ◌⊎◌, ◌+◌, ℕ, List, [], ◌∷◌, Option, Some, None, codes}
 use Rattle.std.specs.Prelude.{String, string_bytes}
@@ -40,7 +40,7 @@ pub record IsListed (path : List ℕ) (before after : World) (conclusion : Concl
       (capture_state capture before.out) (capture_state capture_after after.out)
       before.err after.err conclusion
 
--- what a listing comes to
+-- how a listing ends
 abbrev pub Lists : List ℕ → World → World → Conclusion → Type 0
 Lists path before after conclusion =
     IsUnopened (place Capture path ∷ []) before after conclusion
@@ -57,7 +57,7 @@ pub record IsAnsweredOver (asked : AskedData) (places : Places) (before after : 
   pub responds : Responds asked (names_of places) feeds sums before.out after.out
       before.err after.err summed conclusion
 
--- what a question comes to
+-- the answer to a question
 abbrev pub AnswersOver : AskedData → Places → World → World → Option Summed → Conclusion → Type 0
 AnswersOver asked places before after summed conclusion =
     (IsUnopened (order_of places) before after conclusion × (summed ≡ None))
@@ -89,7 +89,7 @@ pub record IsBare (response : Response) : Type 0 where
   pub unsummed : response.summed ≡ None
   pub unhindered : response.hindrance ≡ None
 
--- what a command line comes to
+-- the response to a command line
 abbrev pub Says : Invocation → World → World → Response → Type 0
 Says (calls.List listed) before after response =
     Lists (listed_name listed) before after response.conclusion × IsBare response

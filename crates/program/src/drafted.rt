@@ -68,7 +68,7 @@ fn draft<
     }
 }
 
-/// What an answer comes to that goes into a file.
+/// How an answer ends that goes into a file.
 #[derive(Drop)]
 pub(crate) struct Written {
     /// The answer.

@@ -46,22 +46,22 @@ impl Listed {
 pub struct Paths {
     /// The style of the answer.
     pub style: Style,
-    /// The claim's.
+    /// The path of the claim.
     pub claim: String,
-    /// The capture's.
+    /// The path of the capture.
     pub capture: String,
-    /// That of the file of sums, if they are held to one.
+    /// The path of the file of sums, if the inputs are held to one.
     pub sums: Option<String>,
-    /// That of the file that a program reads, if the answer isn't for standard output alone.
+    /// The path of the file for a program, if the answer isn't for standard output alone.
     pub output: Option<String>,
 }
 
-/// The same of a question with a second input.
+/// The same for a question with a second input.
 #[derive(Drop)]
 pub struct JudgedPaths {
-    /// The others.
+    /// All but that of the second input.
     pub evidence: Paths,
-    /// That of the certificate or refutation.
+    /// The path of the certificate or refutation.
     pub second: String,
 }
 
@@ -99,8 +99,8 @@ pub enum Invocation {
     Show(String),
     /// The command line is refused, for the reason in this text.
     Refuse(String),
-    /// The command line is refused, since its TIME, which is here for a person, isn't written as a
-    /// claim's times are.
+    /// The command line is refused, since its TIME isn't written as a claim's times are. For a
+    /// person TIME is kept here.
     RefuseTime(Option<String>),
 }
 

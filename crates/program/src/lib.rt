@@ -1,5 +1,5 @@
-//! The program, but for its command line and its host: what an invocation comes to over any files
-//! and outputs.
+//! The program, but for its command line and its host: the response to an invocation, over any
+//! files and outputs.
 //!
 //! [`respond`] opens the files that an invocation names, each once and in order, and calls the
 //! engine of its command. `specs/Run` says, command by command, what is opened by which path, what

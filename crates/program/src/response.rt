@@ -27,7 +27,7 @@ pub struct Summed {
     pub read: InputBytes,
 }
 
-/// Answers a question. The result is what that comes to.
+/// Answers a question, and returns the conclusion.
 fn answer_alone<
     Q: Question,
     N: NamedFeed + Drop,
@@ -59,7 +59,7 @@ fn answer_alone<
 }
 
 /// Answers a question, with each input held to its line in the text of a file of sums, under its
-/// name. What was read is handed back beside what that comes to.
+/// name. Returns what was read, and the conclusion.
 fn answer_by_text<
     Q: Question,
     N: NamedFeed + Drop,
@@ -136,8 +136,8 @@ fn answer_by_file<
     }
 }
 
-/// Answers a question, by a file of sums if there is one. What was read then is handed back beside
-/// what that comes to.
+/// Answers a question, by a file of sums if there is one. Returns what was read then, and the
+/// conclusion.
 pub(crate) fn ask<
     Q: Question,
     N: NamedFeed + Drop,
@@ -172,8 +172,8 @@ pub(crate) fn ask<
     }
 }
 
-/// Judges a certificate or a refutation, by a file of sums if there is one. What was read then is
-/// handed back beside what that comes to.
+/// Judges a certificate or a refutation, by a file of sums if there is one. Returns what was read
+/// then, and the conclusion.
 pub(crate) fn judge<N: NamedFeed + Drop, S: Sink, E: Sink, H: BuildHasher + Drop>(
     alloc: Global,
     judgement: Judgement,

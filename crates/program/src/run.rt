@@ -1,4 +1,4 @@
-//! What an invocation comes to, over files that it opens.
+//! The response to an invocation, over files that it opens.
 
 ghost use Rattle.std.specs.Prelude.{◌≡◌, None};
 ghost use Rattle.byte_stream.specs.State.{IsWritable};
@@ -23,7 +23,7 @@ use report::{Conclusion, Input, conclude, refuse, refuse_time, show};
 use std::alloc::Global;
 use std::hash::BuildHasher;
 
-/// Lists a capture. The result is what that comes to.
+/// Lists a capture, and returns the conclusion.
 fn list<Fs: Files, S: Sink, E: Sink>(
     alloc: Global,
     files: &mut Fs,
@@ -43,8 +43,8 @@ fn list<Fs: Files, S: Sink, E: Sink>(
     }
 }
 
-/// Answers a question, once its files are opened. If they are held to sums, what was read is handed
-/// back beside what that comes to.
+/// Answers a question, once its files are opened. Returns what was read, if they are held to sums,
+/// and the conclusion.
 fn ask_of_files<Fs: Files, S: Sink, E: Sink, H: BuildHasher + Drop>(
     alloc: Global,
     files: &mut Fs,
@@ -68,7 +68,7 @@ fn ask_of_files<Fs: Files, S: Sink, E: Sink, H: BuildHasher + Drop>(
 }
 
 /// Answers a question in a file of this path, and on `out` too if it's a person who asks, once its
-/// files are opened. Beside what that comes to stands what hinders the file from being written, if
+/// files are opened. Returns the conclusion, and what hinders the file from being written, if
 /// that's why.
 fn ask_for_file<Fs: Files, S: Sink, E: Sink, H: BuildHasher + Copy + Drop>(
     alloc: Global,
@@ -98,8 +98,8 @@ fn ask_for_file<Fs: Files, S: Sink, E: Sink, H: BuildHasher + Copy + Drop>(
     }
 }
 
-/// Judges a certificate or a refutation, once its files are opened. If they are held to sums, what
-/// was read is handed back beside what that comes to.
+/// Judges a certificate or a refutation, once its files are opened. Returns what was read, if they
+/// are held to sums, and the conclusion.
 fn judge_files<Fs: Files, S: Sink, E: Sink, H: BuildHasher + Drop>(
     alloc: Global,
     files: &mut Fs,
@@ -123,8 +123,8 @@ fn judge_files<Fs: Files, S: Sink, E: Sink, H: BuildHasher + Drop>(
     }
 }
 
-/// Answers a question on standard output, or in a file if one is named. The result is what that
-/// comes to.
+/// Answers a question on standard output, or in a file if one is named, and returns the
+/// conclusion.
 fn ask_paths<Fs: Files, S: Sink, E: Sink, H: BuildHasher + Copy + Drop>(
     alloc: Global,
     files: &mut Fs,
@@ -157,7 +157,7 @@ fn ask_paths<Fs: Files, S: Sink, E: Sink, H: BuildHasher + Copy + Drop>(
     }
 }
 
-/// What a command line comes to, and what may be said of it behind its fault line.
+/// How a command line ended, and what may be said of it behind its fault line.
 #[derive(Drop)]
 pub struct Response {
     /// The exit status, and the fault that is reported.

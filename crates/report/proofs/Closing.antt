@@ -1,18 +1,6 @@
 -- How a run ends.
-use Rattle.std.proofs.Common.{◌≡◌, ◌∙◌, ◌++◌, ◌+◌, ℕ, List, [], ◌∷◌, Option, Some, None, Bool, true, false, Ok, Err, refl, sym, ap, subst, inl, inr, length, take, arith, IsOk}
-use Rattle.std.proofs.Math.Seq.{take-length}
-use Rattle.std.proofs.lemmas.List.{append-nil}
-use Rattle.std.specs.List.{concat}
-use Rattle.std.specs.Io.KnownBytes.{Appends, Keeps}
+use Rattle.report.proofs.Common.{◌≡◌, ◌∙◌, ◌++◌, ◌+◌, ℕ, List, [], ◌∷◌, Option, Some, None, Bool, true, false, Ok, Err, refl, sym, ap, subst, inl, inr, length, take, arith, IsOk, take-length, append-nil, concat, Appends, Keeps, SinkState, Input, Outcome, RunFault, Device, Write, Memory, OutputState, Puts, IsWrite, Report, text_of, GetsText, CountsSink, is_device, IsPut, HasRun, Closes, IsRefusal, StaysOrWrites, stops_of}
 use Rattle.byte_stream.specs.Fault.{CountsFault, CountsFault-after}
-use Rattle.byte_stream.specs.State.{SinkState}
-use Rattle.report.specs.declared.fault.Input.{Input}
-use Rattle.report.specs.declared.fault.Outcome.{Outcome}
-use Rattle.report.specs.declared.fault.RunFault.{RunFault}
-use Rattle.report.specs.declared.fault.RunFault.TheVariants.{Device, Write, Memory}
-use Rattle.report.specs.Output.{OutputState, Puts, IsWrite}
-use Rattle.report.specs.Reports.{Report, text_of, GetsText, CountsSink, is_device}
-use Rattle.report.specs.Closing.{IsPut, HasRun, Closes, IsRefusal, StaysOrWrites, stops_of}
 use Rattle.report.proofs.Known.{appends_kept, appends_same}
 use Rattle.report.proofs.OutputSteps.{put_all}
 

@@ -1,26 +1,19 @@
 -- The line that reports a fault is ASCII, and so UTF-8.
-use Rattle.std.proofs.Common.{ℕ, zero, suc, ◌/◌, ◌%◌, ◌<◌, ◌++◌, ◌==◌, ◌&&◌, Bool, true, false, if◌then◌else◌, T, List, [], ◌∷◌, codes, nat_lt, arith}
+use Rattle.report.proofs.Common.{ℕ, zero, suc, ◌/◌, ◌%◌, ◌<◌, ◌++◌, ◌==◌, ◌&&◌, Bool, true, false, if◌then◌else◌, T, List, [], ◌∷◌, codes, nat_lt, arith, IsUtf8, IsAscii, ClaimFault, CertificateFault, RefutationFault, Input, RunFault, fault_text, fault_fields, input_word}
 use Rattle.std.proofs.lemmas.Bool.Decides.{nat_tests}
 use Rattle.std.proofs.Math.Facts.{ltb_yes}
 use lib.Ieee.Fits.{and_l, and_r}
 use Rattle.std.specs.Fmt.{decimal, digits, digits_onto, digit_glyph}
-use Rattle.std.specs.Str.{IsUtf8, IsAscii}
 use Rattle.std.proofs.lemmas.Str.{IsUtf8-from_ascii}
 use Rattle.pcap_reader.specs.declared.fault.CaptureFault.{CaptureFault}
 use Rattle.pcap_reader.specs.declared.fault.CaptureFault.TheVariants.{TornRecord}
-use Rattle.claim_file.specs.declared.fault.ClaimFault.{ClaimFault}
 use Rattle.claim_file.specs.declared.fault.ClaimFault.TheVariants.{Field}
-use Rattle.certificate.specs.declared.fault.CertificateFault.{CertificateFault}
 use Rattle.certificate.specs.declared.fault.CertificateFault.TheVariants.{Shape}
-use Rattle.certificate.specs.declared.refutation_fault.RefutationFault.{RefutationFault}
 use Rattle.certificate.specs.declared.refutation_fault.RefutationFault.TheVariants as refutations
-use Rattle.report.specs.declared.fault.Input.{Input}
 use Rattle.report.specs.declared.fault.Input.TheVariants.{Claim}
-use Rattle.report.specs.declared.fault.RunFault.{RunFault}
 use Rattle.report.specs.declared.fault.RunFault.TheVariants as faults
 use Rattle.report.specs.declared.fault.SumsFault.{SumsFault}
 use Rattle.report.specs.declared.fault.SumsFault.TheVariants as sums
-use Rattle.report.specs.FaultText.{fault_text, fault_fields, input_word}
 use Rattle.line_writer.specs.Field.{FieldData, fields_text, next_text, rest_text, text_of, Word, Number, Named, Nothing}
 use Rattle.line_writer.specs.declared.field.Style.TheVariants.{Plain}
 

@@ -1,11 +1,7 @@
 -- How much is taken of an input that is read whole.
-use Rattle.std.proofs.Common.{◌≤◌, ℕ, Result, Ok, Err, arith}
+use Rattle.report.proofs.Common.{◌≤◌, ℕ, Result, Ok, Err, arith, FeedState, Input, RunFault, most_read}
 use Rattle.byte_stream.specs.Intake.{TakesAtMost, TakesAtMost-weaker}
-use Rattle.byte_stream.specs.State.{FeedState}
-use Rattle.report.specs.declared.fault.Input.{Input}
-use Rattle.report.specs.declared.fault.RunFault.{RunFault}
 use Rattle.report.specs.declared.fault.RunFault.TheVariants as faults
-use Rattle.report.specs.Input.{most_read}
 
 module _ {X : Type 0} (which : Input) (limit : ℕ) where
   limit_is_within : (answer : Result X RunFault) → limit ≤ most_read which limit answer

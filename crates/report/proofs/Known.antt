@@ -1,6 +1,5 @@
 -- What a sink whose bytes are known holds after several pushes.
-use Rattle.std.proofs.Common.{◌≡◌, ◌∙◌, ℕ, List, Option, Some, None, subst}
-use Rattle.std.specs.Io.KnownBytes.{Appends, Keeps}
+use Rattle.report.proofs.Common.{◌≡◌, ◌∙◌, ℕ, List, Option, Some, None, subst, Appends, Keeps}
 
 -- bytes, and then nothing
 pub appends_kept : (a b c : Option (List ℕ)) (xs : List ℕ) → Appends a b xs → Keeps b c → Appends a c xs

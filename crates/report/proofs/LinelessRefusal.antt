@@ -1,11 +1,5 @@
 -- A refusal with no lines stays.
-use Rattle.std.proofs.Common.{ℕ, List, [], Option, Result, Err, ap, inl, inr, arith}
-use Rattle.std.specs.List.{concat}
-use Rattle.std.specs.Io.KnownBytes.{Keeps}
-use Rattle.report.specs.declared.fault.Outcome.{Outcome}
-use Rattle.report.specs.declared.fault.RunFault.{RunFault}
-use Rattle.report.specs.declared.fault.RunFault.TheVariants.{Device, Write, Memory}
-use Rattle.report.specs.Reports.{GetsText, MayStop, refused}
+use Rattle.report.proofs.Common.{ℕ, List, [], Option, Result, Err, ap, inl, inr, arith, concat, Keeps, Outcome, RunFault, Device, Write, Memory, GetsText, MayStop, refused}
 use Rattle.report.proofs.Closing.{keeps_nothing, left_nil}
 use Rattle.report.proofs.Known.{appends_same}
 

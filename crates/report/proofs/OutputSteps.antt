@@ -1,15 +1,5 @@
 -- How texts go their way to a sink.
-use Rattle.std.proofs.Common.{◌≡◌, ◌∙◌, ◌++◌, ◌+◌, ℕ, List, [], ◌∷◌, Option, Ok, refl, sym, ap, subst}
-use Rattle.std.proofs.Common.{append_assoc, length, take, length-append, arith}
-use Rattle.std.proofs.lemmas.List.{append-nil}
-use Rattle.std.proofs.lemmas.List.Folds.{concat-append}
-use Rattle.std.proofs.Math.Seq.{take-append-add}
-use Rattle.std.proofs.KnownBytes.{Appends-nil, Appends-trans}
-use Rattle.std.specs.List.{concat}
-use Rattle.std.specs.Io.KnownBytes.{Appends}
-use Rattle.byte_stream.specs.State.{SinkState}
-use Rattle.report.specs.declared.fault.RunFault.TheVariants.{Write}
-use Rattle.report.specs.Output.{OutputState, HasPut, IsCut, StopsIn, Puts, IsReady, fresh_output, with_text}
+use Rattle.report.proofs.Common.{◌≡◌, ◌∙◌, ◌++◌, ◌+◌, ℕ, List, [], ◌∷◌, Option, Ok, refl, sym, ap, subst, append_assoc, length, take, length-append, arith, append-nil, concat-append, take-append-add, Appends-nil, Appends-trans, concat, Appends, SinkState, Write, OutputState, HasPut, IsCut, StopsIn, Puts, IsReady, fresh_output, with_text}
 use Rattle.report.proofs.Known.{appends_same}
 
 -- at the start nothing was put

@@ -1,16 +1,7 @@
 -- How a whole text goes out part by part, over a fresh output.
-use Rattle.std.proofs.Common.{◌≡◌, ◌∙◌, ◌++◌, ◌<◌, ◌^◌, ℕ, List, [], ◌∷◌, Bool, Result, Ok, Err, refl, sym, ap, subst, inl, inr, length, take, arith, append-nil, append_assoc, length-append}
-use Rattle.std.specs.List.{concat}
-use Rattle.std.proofs.lemmas.List.{take-append-le}
-use Rattle.std.proofs.lemmas.List.Folds.{concat-append}
-use Rattle.byte_stream.specs.State.{SinkState}
-use Rattle.report.specs.declared.fault.Input.{Input}
-use Rattle.report.specs.declared.fault.Outcome.{Outcome}
-use Rattle.report.specs.declared.fault.RunFault.{RunFault}
-use Rattle.report.specs.Closing.{Closes, HasRun, StaysOrWrites}
-use Rattle.report.specs.Output.{HasPut, IsCut, IsReady, OutputState, Puts, fresh_output, put_count}
+use Rattle.std.proofs.Common.{append-nil}
+use Rattle.report.proofs.Common.{◌≡◌, ◌∙◌, ◌++◌, ◌<◌, ◌^◌, ℕ, List, [], ◌∷◌, Bool, Result, Ok, Err, refl, sym, ap, subst, inl, inr, length, take, arith, append_assoc, length-append, concat, take-append-le, concat-append, SinkState, Input, Outcome, RunFault, Closes, HasRun, StaysOrWrites, HasPut, IsCut, IsReady, OutputState, Puts, fresh_output, put_count, Report, is_device}
 use Rattle.report.specs.Publication.{IsAnswerFor, IsMadeFor, Publishes, PutsReady, Ready}
-use Rattle.report.specs.Reports.{Report, is_device}
 use Rattle.report.proofs.Known.{appends_same}
 use Rattle.report.proofs.OutputSteps.{put_nothing}
 

@@ -1,12 +1,7 @@
 -- What is read of an input that is read whole is what its bytes give.
-use Rattle.std.proofs.Common.{◌≡◌, ◌∙◌, ◌≤◌, ◌<◌, ◌⊎◌, ℕ, List, length, Option, Some, None, Result, Ok, Err, refl, sym, ap, subst, inl, inr}
+use Rattle.report.proofs.Common.{◌≡◌, ◌∙◌, ◌≤◌, ◌<◌, ◌⊎◌, ℕ, List, length, Option, Some, None, Result, Ok, Err, refl, sym, ap, subst, inl, inr, IfSome, Input, RunFault, ReadsWhole, IsInputFault, IsFromOutside, Reads, whole_read}
 use Rattle.std.proofs.lemmas.Bool.{lt-ltb, le-ltb}
-use Rattle.std.specs.Prelude.{IfSome}
-use Rattle.report.specs.declared.fault.Input.{Input}
-use Rattle.report.specs.declared.fault.RunFault.{RunFault}
 use Rattle.report.specs.declared.fault.RunFault.TheVariants as faults
-use Rattle.report.specs.Input.{ReadsWhole, IsInputFault}
-use Rattle.report.specs.Reading.{IsFromOutside, Reads, whole_read}
 
 module _ {A B : Type 0} (shown : A → B) (limit : ℕ) (input : Input) (meaning : List ℕ → Result B RunFault) where
   -- an input that is too long

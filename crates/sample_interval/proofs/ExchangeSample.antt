@@ -1,13 +1,6 @@
 -- The samples of exchanges.
-use Rattle.std.proofs.Common.{◌≡◌, ℕ, ◌^◌, ℤ, pos, ◌≤ℤ◌, List, map, refl, arith}
-use Rattle.std.specs.List.{All}
-use Rattle.std.proofs.lemmas.Int.{ints}
+use Rattle.sample_interval.proofs.Common.{◌≡◌, ℕ, ◌^◌, ℤ, pos, ◌≤ℤ◌, List, map, refl, arith, All, ints, IsLawful, Exchange, IsOfSomeClaim, sample_of, IsLawfulSample, Sample}
 use Rattle.std.proofs.lemmas.List.Elements.{All-map}
-use Rattle.pairing.specs.Exchange.{IsLawful}
-use Rattle.pairing.specs.declared.exchange.Exchange.{Exchange}
-use Rattle.sample_interval.specs.Exchange.{IsOfSomeClaim}
-use Rattle.sample_interval.specs.Sample.{sample_of, IsLawfulSample}
-use Rattle.sample_interval.specs.declared.kinds.Sample.{Sample}
 
 -- samples whose numbers are equal
 pub same_sample : {server : ℕ} {low low' from from' to to' high high' begin begin' end end' : ℤ} → low ≡ low' →

@@ -1,13 +1,7 @@
 -- The samples of exchanges that are held in some form.
-use Rattle.std.proofs.Common.{◌≡◌, ℕ, ◌<◌, ℤ, List, length, map, get_or, Some, sym, ap, ◌∙◌, subst}
-use Rattle.std.specs.List.{slice_get, All}
+use Rattle.sample_interval.proofs.Common.{◌≡◌, ℕ, ◌<◌, ℤ, List, length, map, get_or, Some, sym, ap, ◌∙◌, subst, slice_get, All, IsLawful, Exchange, IsOfSomeClaim, sample_of, Sample}
 use Rattle.std.specs.Prelude.{option_map}
 use Rattle.std.proofs.lemmas.Option.{slice_get-map, slice_get-get_or, slice_get_within, get_or_from_slice_get}
-use Rattle.pairing.specs.Exchange.{IsLawful}
-use Rattle.pairing.specs.declared.exchange.Exchange.{Exchange}
-use Rattle.sample_interval.specs.Exchange.{IsOfSomeClaim}
-use Rattle.sample_interval.specs.Sample.{sample_of}
-use Rattle.sample_interval.specs.declared.kinds.Sample.{Sample}
 
 -- what is held at a number says this exchange
 module _ {X : Type 0} (shown : X → Exchange) (held : List X) (number : ℕ) (item : X) (x : Exchange)

@@ -1,13 +1,8 @@
 -- The widening as a least number, and the drift by the clock's own readings.
-use Rattle.std.proofs.Common.{◌≡◌, ℕ, zero, suc, ◌+◌, ◌-◌, ◌*◌, ◌^◌, ◌<◌, ◌≤◌, ℤ, pos, ◌-ℤ◌, ◌≤ℤ◌, unsigned_abs}
-use Rattle.std.proofs.Common.{◌⊎◌, inl, inr, ⊎_elim, ◌↔◌, refl, sym, arith, subst}
-use Rattle.std.proofs.lemmas.Int.{ints}
+use Rattle.sample_interval.proofs.Common.{◌≡◌, ℕ, zero, suc, ◌+◌, ◌-◌, ◌*◌, ◌^◌, ◌<◌, ◌≤◌, ℤ, pos, ◌-ℤ◌, ◌≤ℤ◌, unsigned_abs, ◌⊎◌, inl, inr, ⊎_elim, ◌↔◌, refl, sym, arith, subst, ints, IsCeiling, IsRate, IsWidening, widening, billion, Moment, error_change, DriftsWithin, DriftsWithinByReading}
 use Rattle.std.proofs.lemmas.Grind.{div_ceil_times}
 use Rattle.std.proofs.Math.Nat.{lt_of_mul-lt-mul_right, mul-le-mul_left, mul-le-mul_right}
 use Rattle.std.specs.Int.{div_ceil}
-use Rattle.era_unfold.specs.Ratio.{IsCeiling}
-use Rattle.sample_interval.specs.Widening.{IsRate, IsWidening, widening, billion}
-use Rattle.sample_interval.specs.Moment.{Moment, error_change, DriftsWithin, DriftsWithinByReading}
 
 -- with g + ppb for 10^9: the change of the error by the change of the readings
 by_reading : (g ppb e t r : ℕ) → t ≤ e + r → (g + ppb) * e ≤ ppb * t → g * e ≤ ppb * r

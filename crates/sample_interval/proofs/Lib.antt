@@ -1,3 +1,4 @@
+mod Common
 pub mod NoOverflow
 pub mod Moment
 pub mod OnWire

@@ -1,12 +1,5 @@
 -- The error at the two client moments.
-use Rattle.std.proofs.Common.{◌≡◌, ℕ, ℤ, pos, ◌+ℤ◌, ◌-ℤ◌, ◌*ℤ◌, ◌≤ℤ◌, unsigned_abs, refl}
-use Rattle.std.proofs.Common.{ap, ◌∙◌, arith}
-use Rattle.std.proofs.lemmas.Int.{ints}
-use Rattle.intersection.specs.Fineness.{times-add}
-use Rattle.pairing.specs.declared.exchange.Exchange.{Exchange}
-use Rattle.sample_interval.specs.Moment.{Moment, IsOffAtLeast, IsOffAtMost, IsWithinDistance}
-use Rattle.sample_interval.specs.Sample.{least_error, greatest_error}
-use Rattle.sample_interval.specs.Window.{request_start, reply_end}
+use Rattle.sample_interval.proofs.Common.{◌≡◌, ℕ, ℤ, pos, ◌+ℤ◌, ◌-ℤ◌, ◌*ℤ◌, ◌≤ℤ◌, unsigned_abs, refl, ap, ◌∙◌, arith, ints, times-add, Exchange, Moment, IsOffAtLeast, IsOffAtMost, IsWithinDistance, least_error, greatest_error, request_start, reply_end}
 
 no_less : (low start stamp distance reading time received : ℤ) → start ≡ low +ℤ distance +ℤ stamp →
     time ≤ℤ received → pos (unsigned_abs (received -ℤ stamp)) ≤ℤ distance →

@@ -1,8 +1,5 @@
 -- Numbers that 128 bits keep as they are.
-use Rattle.std.proofs.Common.{◌≡◌, ◌^◌, ◌<◌, ◌≤◌, ℤ, ◌+ℤ◌, ◌-ℤ◌, arith, unsigned_abs, to_z, of_z, FitsSigned, ap, ◌∙◌}
-use mir.Syntax.{w128}
-use Rattle.std.proofs.lemmas.Int.{ints, to_z-of_z, fits_signed_from_abs}
-use Rattle.pairing.specs.Exchange.{IsInRange}
+use Rattle.sample_interval.proofs.Common.{◌≡◌, ◌^◌, ◌<◌, ◌≤◌, ℤ, ◌+ℤ◌, ◌-ℤ◌, arith, unsigned_abs, to_z, of_z, FitsSigned, ap, ◌∙◌, w128, ints, to_z-of_z, fits_signed_from_abs, IsInRange}
 
 pub kept : (a : ℤ) → unsigned_abs a < 2 ^ 127 → to_z w128 (of_z w128 a) ≡ a
 kept a h = to_z-of_z w128 a (fits_signed_from_abs w128 a h)

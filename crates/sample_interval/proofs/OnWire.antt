@@ -1,13 +1,7 @@
 -- Offset, delay, and halves of whole numbers.
-use Rattle.std.proofs.Common.{◌≡◌, ℕ, ◌*◌, ℤ, pos, negsuc, ◌+ℤ◌, ◌-ℤ◌, ◌*ℤ◌, ◌≤ℤ◌}
-use Rattle.std.proofs.Common.{neg_ℤ, refl, arith}
-use Rattle.std.proofs.lemmas.Int.{ints}
-use Rattle.intersection.specs.Fineness.{times_le, times-add, times-times}
-use Rattle.era_unfold.specs.Ratio.{IsSignedFloor, IsSignedCeiling}
+use Rattle.sample_interval.proofs.Common.{◌≡◌, ℕ, ◌*◌, ℤ, pos, negsuc, ◌+ℤ◌, ◌-ℤ◌, ◌*ℤ◌, ◌≤ℤ◌, neg_ℤ, refl, arith, ints, times_le, times-add, times-times, IsSignedFloor, IsSignedCeiling, request_start, request_end, reply_start, reply_end, Exchange}
 use Rattle.sample_interval.specs.OnWire.{offset_doubled, delay_of, half_down, half_up, offset_from, offset_to}
 use Rattle.sample_interval.specs.OnWire.{least_offset_doubled, greatest_offset_doubled}
-use Rattle.sample_interval.specs.Window.{request_start, request_end, reply_start, reply_end}
-use Rattle.pairing.specs.declared.exchange.Exchange.{Exchange}
 
 pub IsSignedFloor-half_down : (z : ℤ) → IsSignedFloor (half_down z) z 2
 IsSignedFloor-half_down (pos a) = (omega (arith, ints), λ whole below. omega (arith, ints))

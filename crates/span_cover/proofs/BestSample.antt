@@ -1,20 +1,8 @@
 -- The best of a list of samples, as a relation and as a function.
-use Rattle.std.proofs.Common.{⊎_elim, ◌≡◌, ◌≢◌, ℕ, zero, suc, ◌+◌, ◌<◌, ◌≤◌, ℤ, ◌<ℤ◌, ◌≤ℤ◌, true, false, cond, int_lt}
-use Rattle.std.proofs.Common.{nat_eq, List, [], ◌∷◌, Option, None, Some, refl, sym, subst, arith, length, drop, get_or}
-use Rattle.std.proofs.Common.{◌-◌, neg_ℤ, MatchOption, to_z, of_z, ap, ◌∙◌}
+use Rattle.span_cover.proofs.Common.{⊎_elim, ◌≡◌, ◌≢◌, ℕ, zero, suc, ◌+◌, ◌<◌, ◌≤◌, ℤ, ◌<ℤ◌, ◌≤ℤ◌, true, false, cond, int_lt, nat_eq, List, [], ◌∷◌, Option, None, Some, refl, sym, subst, arith, length, drop, get_or, ◌-◌, neg_ℤ, MatchOption, to_z, of_z, ap, ◌∙◌, drop_all, cases_lt, nat_tests, ints, Sample, HasNoSample, IsFirstBest, IsBestLow, IsBestHigh, better, best_from, first_best_of, best_of, pair_of, IsPiece, moved_low, moved_high, w128, option_map}
 use Rattle.std.proofs.Math.Seq.{drop-cons}
-use Rattle.std.proofs.lemmas.List.{drop_all}
 use Rattle.std.specs.List.{slice_get}
-use Rattle.std.proofs.lemmas.Bool.{cases_lt}
-use Rattle.std.proofs.lemmas.Bool.Decides.{nat_tests}
-use Rattle.std.proofs.lemmas.Int.{ints}
-use Rattle.sample_interval.specs.declared.kinds.Sample.{Sample}
-use Rattle.span_cover.specs.Best.{HasNoSample, IsFirstBest, IsBestLow, IsBestHigh}
-use Rattle.span_cover.specs.Best.{better, best_from, first_best_of, best_of, pair_of}
-use Rattle.span_cover.specs.Piece.{IsPiece, moved_low, moved_high}
 use Rattle.span_cover.proofs.PieceDistance.{kept}
-use mir.Syntax.{w128}
-use Rattle.std.specs.Option.{option_map}
 
 -- the best of the samples from number n on, with its merit
 pub record Found (merit : Sample → ℤ) (server n : ℕ) (samples : List Sample) (b : ℕ × ℤ) : Type 0 where

@@ -1,18 +1,7 @@
 -- The interval of a server's best samples, while samples are taken one by one.
-use Rattle.std.proofs.Common.{◌≡◌, ◌≢◌, ℕ, zero, suc, ◌<◌, ℤ, ◌≤ℤ◌, ◌⊎◌, inl, inr, neg_ℤ, List, [], ◌∷◌, ◌++◌, length}
-use Rattle.std.proofs.Common.{true, false, cond, int_lt, Option, None, Some, MatchOption, refl, sym, ◌∙◌, ap, subst}
-use Rattle.std.proofs.Common.{arith, replicate, set, get_or}
+use Rattle.span_cover.proofs.Common.{◌≡◌, ◌≢◌, ℕ, zero, suc, ◌<◌, ℤ, ◌≤ℤ◌, ◌⊎◌, inl, inr, neg_ℤ, List, [], ◌∷◌, ◌++◌, length, true, false, cond, int_lt, Option, None, Some, MatchOption, refl, sym, ◌∙◌, ap, subst, arith, replicate, set, get_or, int_max, int_min, option_and_then, cases_eq, ints, clamps, Interval, Sample, HasNoSample, IsFirstBest, best_of, Gathering, Gathered, best_interval, interval_between, moved_low, moved_high, piece_interval_of}
 use Rattle.std.specs.List.{slice_get}
-use Rattle.std.specs.Int.{int_max, int_min}
-use Rattle.std.specs.Option.{option_and_then}
-use Rattle.std.proofs.lemmas.Bool.{cases_eq}
-use Rattle.std.proofs.lemmas.Int.{ints, clamps}
 use Rattle.std.proofs.lemmas.Option.{same_Some, get_or_from_slice_get}
-use Rattle.intersection.specs.declared.kinds.Interval.{Interval}
-use Rattle.sample_interval.specs.declared.kinds.Sample.{Sample}
-use Rattle.span_cover.specs.Best.{HasNoSample, IsFirstBest, best_of}
-use Rattle.span_cover.specs.Gathering.{Gathering, Gathered, best_interval, interval_between}
-use Rattle.span_cover.specs.Piece.{moved_low, moved_high, piece_interval_of}
 use Rattle.span_cover.proofs.BestSample.{AreBest, best_numbers, less_from_test, not_less_from_test}
 
 -- ---- lists

@@ -1,11 +1,6 @@
 -- The intervals of groups, one group after another.
-use Rattle.std.proofs.Common.{◌≡◌, ℕ, ◌+◌, [], ◌∷◌, ◌++◌, Option, Some, None, sym, ap, ◌∙◌, add-one}
-use Rattle.std.specs.Prelude.{filter_map}
-use Rattle.std.specs.List.{cons_option}
+use Rattle.span_cover.proofs.Common.{◌≡◌, ℕ, ◌+◌, [], ◌∷◌, ◌++◌, Option, Some, None, sym, ap, ◌∙◌, add-one, filter_map, cons_option, append-nil, Interval, numbers_below}
 use Rattle.std.proofs.lemmas.List.Elements.{filter_map-append}
-use Rattle.std.proofs.lemmas.List.{append-nil}
-use Rattle.intersection.specs.declared.kinds.Interval.{Interval}
-use Rattle.span_cover.specs.Group.{numbers_below}
 
 module _ (h : ℕ → Option Interval) (g : ℕ) where
   one_more : filter_map h (numbers_below (g + 1)) ≡ filter_map h (numbers_below g) ++ filter_map h (g ∷ [])

@@ -1,3 +1,4 @@
+mod Common
 pub mod PieceDistance
 pub mod BestSample
 pub mod GatheringSteps

@@ -1,11 +1,5 @@
 -- Parts of which each is of the group that has its place's number.
-use Rattle.std.proofs.Common.{◌≡◌, ℕ, zero, suc, ◌+◌, ◌<◌, ◌==◌, List, [], ◌∷◌, Bool, true, false, cond}
-use Rattle.std.proofs.Common.{Option, None, Some, refl, arith, ap, ◌∙◌}
-use Rattle.std.specs.Prelude.{fold, filter, slice_get}
-use Rattle.std.specs.Option.{option_map, option_to_list}
-use Rattle.std.proofs.lemmas.Bool.Decides.{nat_tests}
-use Rattle.span_cover.specs.Group.{group_interval, narrowed, group_of, AreTheirOwn}
-use Rattle.span_cover.specs.declared.part.Part.{Part}
+use Rattle.span_cover.proofs.Common.{◌≡◌, ℕ, zero, suc, ◌+◌, ◌<◌, ◌==◌, List, [], ◌∷◌, Bool, true, false, cond, Option, None, Some, refl, arith, ap, ◌∙◌, fold, filter, slice_get, option_map, option_to_list, nat_tests, group_interval, narrowed, group_of, AreTheirOwn, Part}
 
 module _ (key : Part → ℕ) where
   -- their keys count up from this number

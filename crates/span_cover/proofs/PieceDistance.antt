@@ -1,17 +1,10 @@
 -- The greatest distance between a window and a piece, and what it moves.
-use Rattle.std.proofs.Common.{◌≡◌, ℕ, ◌+◌, ◌-◌, ◌*◌, ◌^◌, ◌<◌, ◌≤◌, ℤ, pos, ◌+ℤ◌, ◌-ℤ◌, ◌*ℤ◌, ◌≤ℤ◌, unsigned_abs}
-use Rattle.std.proofs.Common.{refl, ◌∙◌, arith, to_z, of_z, true, FitsSigned, negsuc}
-use mir.Syntax.{w128}
-use Rattle.std.specs.Int.{int_max, int_min}
+use Rattle.span_cover.proofs.Common.{◌≡◌, ℕ, ◌+◌, ◌-◌, ◌*◌, ◌^◌, ◌<◌, ◌≤◌, ℤ, pos, ◌+ℤ◌, ◌-ℤ◌, ◌*ℤ◌, ◌≤ℤ◌, unsigned_abs, refl, ◌∙◌, arith, to_z, of_z, true, FitsSigned, negsuc, w128, int_max, int_min, ints, clamps, to_z-of_z, fits_signed_from_abs, IsRate, IsWidening, widening, billion, Sample, IsPiece, farthest, change, moved_low, moved_high}
 use Rattle.std.specs.Int.Signed.{le_z}
-use Rattle.std.proofs.lemmas.Int.{ints, clamps, to_z-of_z, fits_signed_from_abs}
 use Rattle.std.proofs.Math.Nat.{le_of_mul-le-mul_right, mul-le-mul_left, mul-le-mul_right}
 use Rattle.intersection.specs.Fineness.{times_le, times-add}
 use Rattle.sample_interval.specs.Moment.{Moment, error_of, error_change, DriftsWithinByReading, IsInWindow}
 use Rattle.sample_interval.specs.Moment.{IsOffAtLeast, IsOffAtMost}
-use Rattle.sample_interval.specs.Widening.{IsRate, IsWidening, widening, billion}
-use Rattle.sample_interval.specs.declared.kinds.Sample.{Sample}
-use Rattle.span_cover.specs.Piece.{IsPiece, farthest, change, moved_low, moved_high}
 
 -- a number that 128 bits keep as it is
 pub kept : (a : ℤ) → unsigned_abs a < 2 ^ 127 → to_z w128 (of_z w128 a) ≡ a

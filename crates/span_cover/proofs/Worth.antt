@@ -1,13 +1,7 @@
 -- Numbers that are passed on, and what a sample is worth before it is moved.
-use Rattle.std.proofs.Common.{◌≡◌, ℕ, ◌-◌, ◌*◌, ◌^◌, ◌<◌, ◌≤◌, ℤ, pos, neg_ℤ, ◌+ℤ◌, ◌-ℤ◌, ◌≤ℤ◌, unsigned_abs, arith}
-use Rattle.std.proofs.Common.{to_z, of_z, Fits, FitsSigned}
-use mir.Syntax.{w32, w64, w128}
-use Rattle.std.proofs.lemmas.Int.{ints, fits_signed_from_abs}
+use Rattle.span_cover.proofs.Common.{◌≡◌, ℕ, ◌-◌, ◌*◌, ◌^◌, ◌<◌, ◌≤◌, ℤ, pos, neg_ℤ, ◌+ℤ◌, ◌-ℤ◌, ◌≤ℤ◌, unsigned_abs, arith, to_z, of_z, Fits, FitsSigned, w32, w64, w128, ints, fits_signed_from_abs, Sample, merit, IsPiece, moved_low, moved_high}
 use Rattle.intersection.specs.declared.ends.Side.{Side}
 use Rattle.intersection.specs.declared.ends.Side.TheVariants.{Low, High}
-use Rattle.sample_interval.specs.declared.kinds.Sample.{Sample}
-use Rattle.span_cover.specs.Best.{merit}
-use Rattle.span_cover.specs.Piece.{IsPiece, moved_low, moved_high}
 use Rattle.span_cover.proofs.PieceDistance.{kept}
 
 pub piece_kept : (p q : ℤ) → IsPiece p q → IsPiece (to_z w128 (of_z w128 p)) (to_z w128 (of_z w128 q))

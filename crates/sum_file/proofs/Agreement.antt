@@ -1,11 +1,5 @@
 -- Lines that are all good, and one more line below them.
-use Rattle.std.proofs.Common.{◌≡◌, ℕ, length, map, Bool, true, false, cond, ◌&&◌, List, [], ◌∷◌, ◌++◌, Option, Some, None, option_map, option_and_then, refl, sym, ap, ◌∙◌}
-use Rattle.std.specs.List.{list_all}
-use Rattle.std.proofs.lemmas.List.{length-map}
-use Rattle.std.proofs.lemmas.List.Folds.{list_all-append}
-use Rattle.sum_file.specs.Line.{line_of}
-use Rattle.sum_file.specs.Reading.{all_said, agreed}
-use Rattle.sum_file.specs.Sum.{SumData, agree, all_agree}
+use Rattle.sum_file.proofs.Common.{◌≡◌, ℕ, length, map, Bool, true, false, cond, ◌&&◌, List, [], ◌∷◌, ◌++◌, Option, Some, None, option_map, option_and_then, refl, sym, ap, ◌∙◌, list_all, length-map, list_all-append, line_of, all_said, agreed, SumData, agree, all_agree}
 use Rattle.sum_file.proofs.Pairs.{each_agrees}
 
 -- sums, if they agree

@@ -1,15 +1,7 @@
 -- The lines of a text that is made of lines.
-use Rattle.std.proofs.Common.{◌≡◌, ℕ, ◌-◌, ◌<◌, ◌==◌, ◌≢◌, ◌⊎◌, get_or, inl, inr, true, false, ◌&&◌, cond, nat_eq, List, [], ◌∷◌, ◌++◌, length, take, drop, map, refl, sym, ap, ◌∙◌, subst, arith, length-append, append_assoc}
+use Rattle.sum_file.proofs.Common.{◌≡◌, ℕ, ◌-◌, ◌<◌, ◌==◌, ◌≢◌, ◌⊎◌, get_or, inl, inr, true, false, ◌&&◌, cond, nat_eq, List, [], ◌∷◌, ◌++◌, length, take, drop, map, refl, sym, ap, ◌∙◌, subst, arith, length-append, append_assoc, All, concat, slice_split, eq-eqb, ne_eqb, append-nil, get_or_append_left, map-append, concat-append, All-head, All-tail, drop-append_seam, get_or-append_seam, take-append_seam, carriage_return, line_feed, HasNoFeed, ended, lines_of, without_last}
 use Rattle.std.specs.Cmp.Lexicographic.{pointwise}
-use Rattle.std.specs.List.{All, concat, slice_split}
-use Rattle.std.proofs.lemmas.Bool.{eq-eqb, ne_eqb}
-use Rattle.std.proofs.lemmas.List.{append-nil, get_or_append_left, map-append}
-use Rattle.std.proofs.lemmas.List.Folds.{concat-append}
-use Rattle.std.proofs.lemmas.List.Elements.{All-head, All-tail}
-use Rattle.std.proofs.Math.Seq.{drop-append_seam, get_or-append_seam, take-append_seam}
 use Rattle.std.proofs.lemmas.List.Splits.{slice_split_at, slice_split_none}
-use Rattle.sum_file.specs.Name.{carriage_return, line_feed}
-use Rattle.sum_file.specs.Reading.{HasNoFeed, ended, lines_of, without_last}
 
 -- a byte at the end, or another one
 without_last-end : (byte last : ℕ) (bytes : List ℕ) → without_last byte (bytes ++ last ∷ [])

@@ -1,11 +1,5 @@
 -- The first bad line of a text.
-use Rattle.std.proofs.Common.{◌≡◌, ℕ, ◌+◌, ◌<◌, ◌≤◌, Bool, true, false, cond, suc, zero, List, [], ◌∷◌, ◌++◌, length, take, drop, Option, Some, None, is_none, Err, ok_or, unwrap_or, refl, sym, ap, ◌∙◌, arith, length-append}
-use Rattle.std.proofs.lemmas.List.{take-append-drop, take-append-le}
-use Rattle.std.proofs.Math.Seq.{take-append_seam}
-use Rattle.std.specs.List.{find, range_with_len}
-use Rattle.sum_file.specs.declared.fault.SumFault.TheVariants.{Form}
-use Rattle.sum_file.specs.Reading.{agreed, first_bad}
-use Rattle.sum_file.specs.Sum.{SumData}
+use Rattle.sum_file.proofs.Common.{◌≡◌, ℕ, ◌+◌, ◌<◌, ◌≤◌, Bool, true, false, cond, suc, zero, List, [], ◌∷◌, ◌++◌, length, take, drop, Option, Some, None, is_none, Err, ok_or, unwrap_or, refl, sym, ap, ◌∙◌, arith, length-append, take-append-drop, take-append-le, take-append_seam, find, range_with_len, Form, agreed, first_bad, SumData}
 use Rattle.sum_file.proofs.Agreement.{agreed-front, length-agreed}
 
 -- the first number from one on that passes a test

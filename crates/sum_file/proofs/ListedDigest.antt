@@ -1,13 +1,5 @@
 -- The digest that sums give to a name.
-use Rattle.std.proofs.Common.{◌≡◌, ℕ, ◌↔◌, zero, suc, inl, inr, true, List, [], ◌∷◌, Option, Some, None, option_map, Result, Ok, Err, refl, sym, ap, ◌∙◌, subst, arith}
-use Rattle.std.specs.List.{Contains, find, list_all}
-use Rattle.std.specs.Str.{bytes_eq}
-use Rattle.std.proofs.lemmas.Bool.{and_parts, cases_Bool, cond-false, cond-true}
-use Rattle.std.proofs.lemmas.List.Sums.{AllPass-from_list_all}
-use Rattle.std.proofs.lemmas.Slice.Eq.{bytes_eq-Decides}
-use Rattle.sum_file.specs.declared.fault.SumFault.{SumFault}
-use Rattle.sum_file.specs.Reading.{IsGiven, given_in, sum_given, sums_of}
-use Rattle.sum_file.specs.Sum.{SumData, agree, all_agree, digest_named}
+use Rattle.sum_file.proofs.Common.{◌≡◌, ℕ, ◌↔◌, zero, suc, inl, inr, true, List, [], ◌∷◌, Option, Some, None, option_map, Result, Ok, Err, refl, sym, ap, ◌∙◌, subst, arith, Contains, find, list_all, bytes_eq, and_parts, cases_Bool, cond-false, cond-true, AllPass-from_list_all, bytes_eq-Decides, SumFault, IsGiven, given_in, sum_given, sums_of, SumData, agree, all_agree, digest_named}
 use Rattle.sum_file.proofs.Pairs.{Agree-from, all_agree-from}
 use Rattle.sum_file.proofs.Refusals.{sums_of-is}
 

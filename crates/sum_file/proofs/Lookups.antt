@@ -1,9 +1,5 @@
 -- Finding a name among sums.
-use Rattle.std.proofs.Common.{◌≡◌, ℕ, Bool, true, false, cond, List, [], ◌∷◌, map, Option, Some, option_map, refl, sym, ap, ◌∙◌, Bor}
-use Rattle.std.specs.List.{find}
-use Rattle.std.specs.Str.{bytes_eq}
-use Rattle.sum_file.specs.declared.sum.Sum.{Sum}
-use Rattle.sum_file.specs.Sum.{SumData, data_of, digest_named}
+use Rattle.sum_file.proofs.Common.{◌≡◌, ℕ, Bool, true, false, cond, List, [], ◌∷◌, map, Option, Some, option_map, refl, sym, ap, ◌∙◌, Bor, find, bytes_eq, Sum, SumData, data_of, digest_named}
 
 find-map : {A B : Type 0} (shown : A → B) (test : B → Bool) (xs : List A)
     → find test (map shown xs) ≡ option_map shown (find (λ x. test (shown x)) xs)

@@ -1,14 +1,5 @@
 -- What the sums of a text and its first bad line are, in relations.
-use Rattle.std.proofs.Common.{◌≡◌, ◌≢◌, ℕ, ◌+◌, ◌⊎◌, ◌↔◌, inl, inr, cond, List, [], ◌∷◌, ◌++◌, length, map, Option, Some, None, option_and_then, Ok, Err, ok_or, refl, sym, ap, ◌∙◌, subst}
-use Rattle.std.specs.List.{AllPairs, Any}
-use Rattle.std.proofs.lemmas.Bool.{cases_Bool, cond-true}
-use Rattle.std.proofs.lemmas.List.{append-nil}
-use Rattle.std.proofs.Math.Seq.{append_snoc}
-use Rattle.sum_file.specs.declared.fault.SumFault.{SumFault}
-use Rattle.sum_file.specs.declared.fault.SumFault.TheVariants.{Form, Memory}
-use Rattle.sum_file.specs.Line.{line_of}
-use Rattle.sum_file.specs.Reading.{IsFirstBad, agreed, first_bad, lines_of, sums_of}
-use Rattle.sum_file.specs.Sum.{Agree, Disagree, SumData}
+use Rattle.sum_file.proofs.Common.{◌≡◌, ◌≢◌, ℕ, ◌+◌, ◌⊎◌, ◌↔◌, inl, inr, cond, List, [], ◌∷◌, ◌++◌, length, map, Option, Some, None, option_and_then, Ok, Err, ok_or, refl, sym, ap, ◌∙◌, subst, AllPairs, Any, cases_Bool, cond-true, append-nil, append_snoc, SumFault, Form, Memory, line_of, IsFirstBad, agreed, first_bad, lines_of, sums_of, Agree, Disagree, SumData}
 use Rattle.sum_file.proofs.Agreement.{agreed-from, agreed-push, agreed-said, length-agreed, map-said, with_one}
 use Rattle.sum_file.proofs.FirstBad.{first_bad_line}
 use Rattle.sum_file.proofs.Pairs.{AllPairs-from, Any-disagrees, all_agree-from, each_agrees, fails-from_Any}

@@ -1,15 +1,6 @@
 -- One turn of the reading of lines, and its end.
-use Rattle.std.proofs.Common.{◌≡◌, ℕ, ◌+◌, ◌<◌, ◌==◌, Ok, Err, ok_or, Bool, true, false, cond, List, [], ◌∷◌, ◌++◌, length, take, drop, map, get_or, Some, None, option_and_then, sym, ap, ◌∙◌, Bor}
-use Rattle.std.proofs.lemmas.List.{length-map, map-append, take_more, take-append-drop}
-use Rattle.std.proofs.lemmas.List.Folds.{list_all-map}
+use Rattle.sum_file.proofs.Common.{◌≡◌, ℕ, ◌+◌, ◌<◌, ◌==◌, Ok, Err, ok_or, Bool, true, false, cond, List, [], ◌∷◌, ◌++◌, length, take, drop, map, get_or, Some, None, option_and_then, sym, ap, ◌∙◌, Bor, length-map, map-append, take_more, take-append-drop, list_all-map, list_all, slice_split, Form, Sum, line_of, carriage_return, line_feed, agreed, first_bad, lines_of, sums_of, without_last, SumData, agree, data_of}
 use Rattle.std.proofs.lemmas.Simd.{map-map}
-use Rattle.std.specs.List.{list_all, slice_split}
-use Rattle.sum_file.specs.declared.fault.SumFault.TheVariants.{Form}
-use Rattle.sum_file.specs.declared.sum.Sum.{Sum}
-use Rattle.sum_file.specs.Line.{line_of}
-use Rattle.sum_file.specs.Name.{carriage_return, line_feed}
-use Rattle.sum_file.specs.Reading.{agreed, first_bad, lines_of, sums_of, without_last}
-use Rattle.sum_file.specs.Sum.{SumData, agree, data_of}
 use Rattle.sum_file.proofs.Agreement.{agreed-push, with_one}
 use Rattle.sum_file.proofs.Cuts.{lines_of-some}
 use Rattle.sum_file.proofs.FirstBad.{first_bad_line}

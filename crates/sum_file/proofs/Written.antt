@@ -1,14 +1,5 @@
 -- The line that `sha256sum` writes.
-use Rattle.std.proofs.Common.{◌≡◌, ℕ, ◌==◌, inl, inr, Bool, true, false, not, ◌&&◌, ◌||◌, List, [], ◌∷◌, ◌++◌, get_or, Some, Ok, option_map, subst, refl, sym, ap, ◌∙◌, is_ok, true≢false}
-use Rattle.std.specs.List.{list_all}
-use Rattle.std.proofs.lemmas.Bool.{and_from, cases_Bool, cond_both, cond-true, cond-false, eqb-true, or_cases, or_from, or_parts, false_from_ne_true, not_from_false}
-use Rattle.std.proofs.lemmas.List.Folds.{list_all-append}
-use Rattle.std.proofs.lemmas.List.Sums.{list_all-from_AllPass}
-use Rattle.hex.specs.Hex.{decode_sized, encode_lower, is_hex_digit}
-use Rattle.hex.proofs.HexLemmas.{IsOk-decode_sized, decode_sized-encode_lower}
-use Rattle.sum_file.specs.Line.{IsMark, Says, space, written}
-use Rattle.sum_file.specs.Name.{backslash, carriage_return, escape, escaped, has_special, is_special, line_feed, unescape, unescaped}
-use Rattle.sum_file.specs.Sum.{IsWritable, SumData}
+use Rattle.sum_file.proofs.Common.{◌≡◌, ℕ, ◌==◌, inl, inr, Bool, true, false, not, ◌&&◌, ◌||◌, List, [], ◌∷◌, ◌++◌, get_or, Some, Ok, option_map, subst, refl, sym, ap, ◌∙◌, is_ok, true≢false, list_all, and_from, cases_Bool, cond_both, cond-true, cond-false, eqb-true, or_cases, or_from, or_parts, false_from_ne_true, not_from_false, list_all-append, list_all-from_AllPass, decode_sized, encode_lower, is_hex_digit, IsOk-decode_sized, decode_sized-encode_lower, IsMark, Says, space, written, backslash, carriage_return, escape, escaped, has_special, is_special, line_feed, unescape, unescaped, IsWritable, SumData}
 use Rattle.sum_file.proofs.Escapes.{unescaped-pair, unescaped-plain}
 
 -- a byte that no line has within it or at its end

@@ -1,18 +1,6 @@
 -- The arrivals of extremes, in order.
-use Rattle.std.proofs.Common.{◌≡◌, ℕ, ◌+◌, ◌-◌, ◌*◌, ◌<◌, ◌≤◌, ◌^◌, Bool, true, false}
-use Rattle.std.proofs.Common.{List, [], ◌∷◌, ◌++◌, length, Some, refl}
-use Rattle.std.proofs.Common.{arith, subst, get_or, ⊎_elim, sym, ◌∙◌, ap}
-use Rattle.std.specs.List.{slice_get, Contains}
+use Rattle.sweep.proofs.Common.{◌≡◌, ℕ, ◌+◌, ◌-◌, ◌*◌, ◌<◌, ◌≤◌, ◌^◌, Bool, true, false, List, [], ◌∷◌, ◌++◌, length, Some, refl, arith, subst, get_or, ⊎_elim, sym, ◌∙◌, ap, slice_get, Contains, length-append, length-map, Contains-permutation, IsPermutation-sym, slice_get-get_or, slice_get_within, get_or_from_slice_get, mul-le-mul_right, IsRate, billion, IsLawfulExtreme, mirrored_extreme, seen, seen_one, IsArrivalOf, IsArrivalAt, AreArrivalsOf, IsQueueOf, index_at, Extreme, Arrival}
 use Rattle.std.specs.List.Sorted.{IsPermutation, IsNonDecreasingBy}
-use Rattle.std.proofs.lemmas.List.{length-append, length-map}
-use Rattle.std.proofs.lemmas.List.Sorted.{Contains-permutation, IsPermutation-sym}
-use Rattle.std.proofs.lemmas.Option.{slice_get-get_or, slice_get_within, get_or_from_slice_get}
-use Rattle.std.proofs.Math.Nat.{mul-le-mul_right}
-use Rattle.sample_interval.specs.Widening.{IsRate, billion}
-use Rattle.sweep.specs.Extreme.{IsLawfulExtreme, mirrored_extreme, seen, seen_one}
-use Rattle.sweep.specs.Queue.{IsArrivalOf, IsArrivalAt, AreArrivalsOf, IsQueueOf, index_at}
-use Rattle.sweep.specs.declared.extreme.Extreme.{Extreme}
-use Rattle.sweep.specs.declared.queue.Arrival.{Arrival}
 use Rattle.sweep.proofs.List.{pushed_cases, map_at, there}
 
 -- each extreme has its turn

@@ -1,18 +1,6 @@
 -- The extremes of a server's samples.
-use Rattle.std.proofs.Common.{◌≡◌, ℕ, ◌+◌, ◌<◌, ◌≤◌, ◌^◌, ℤ, List, [], ◌∷◌, ◌++◌, length, map, take, Some}
-use Rattle.std.proofs.Common.{arith, subst, get_or, ⊎_elim, sym, ◌∙◌, ap, neg_ℤ, unsigned_abs, ◌≢◌, ◌≤ℤ◌}
-use Rattle.std.specs.List.{slice_get, All}
-use Rattle.std.proofs.lemmas.Bool.{cases_lt}
-use Rattle.std.proofs.lemmas.Int.{ints}
-use Rattle.std.proofs.lemmas.List.{length-append, length-map, get_or-map, map_more}
-use Rattle.std.proofs.lemmas.Option.{slice_get-get_or, slice_get_within, same_Some, get_or_from_slice_get}
+use Rattle.sweep.proofs.Common.{◌≡◌, ℕ, ◌+◌, ◌<◌, ◌≤◌, ◌^◌, ℤ, List, [], ◌∷◌, ◌++◌, length, map, take, Some, arith, subst, get_or, ⊎_elim, sym, ◌∙◌, ap, neg_ℤ, unsigned_abs, ◌≢◌, ◌≤ℤ◌, slice_get, All, cases_lt, ints, length-append, length-map, get_or-map, map_more, slice_get-get_or, slice_get_within, same_Some, get_or_from_slice_get, Sample, HasNoSample, IsEndAt, IsExtremeOf, IsOfServer, IsLawfulExtreme, AreExtremesOf, Extreme, Side, Low, High}
 use Rattle.sample_interval.specs.Sample.{IsLawfulSample}
-use Rattle.sample_interval.specs.declared.kinds.Sample.{Sample}
-use Rattle.span_cover.specs.Best.{HasNoSample}
-use Rattle.sweep.specs.Extreme.{IsEndAt, IsExtremeOf, IsOfServer, IsLawfulExtreme, AreExtremesOf}
-use Rattle.sweep.specs.declared.extreme.Extreme.{Extreme}
-use Rattle.intersection.specs.declared.ends.Side.{Side}
-use Rattle.intersection.specs.declared.ends.Side.TheVariants.{Low, High}
 use Rattle.sweep.proofs.List.{pushed_cases, slice_get-front, slice_get-last}
 
 lawful_end : (value start stop : ℤ) (extreme : Extreme) → unsigned_abs value ≤ 2 ^ 72 → unsigned_abs start ≤ 2 ^ 72 →
@@ -170,6 +158,9 @@ module _ (side : Side) (samples : List Sample) (server : ℕ) (extremes : List E
     (are : AreExtremesOf side samples server extremes) where
   pub lawful_extremes : All IsLawfulExtreme extremes
   lawful_extremes k d within = (are.each k (get_or extremes k d) (slice_get-get_or extremes k d within)).lawful
+
+  pub lawful_lent : (lent : List Extreme) → lent ≡ extremes → All IsLawfulExtreme lent
+  lawful_lent lent same = rw same lawful_extremes
 
   pub some_sample : 0 < length extremes → ¬ HasNoSample samples server
   some_sample some none =

@@ -1,31 +1,9 @@
 -- The highest level over a stretch, and the interval that it gives.
-use Rattle.std.proofs.Common.{◌≡◌, ℕ, ◌+◌, ◌-◌, ◌/◌, ◌<◌, ◌≤◌, ◌^◌, max, ℤ, pos, ◌+ℤ◌, ◌-ℤ◌, ◌≤ℤ◌, neg_ℤ, List, length, map}
-use Rattle.std.proofs.Common.{Option, Some, None, MatchOption, refl, sym, ◌∙◌, ap, subst, arith, inl, inr, ⊎_elim}
-use Rattle.std.specs.List.{slice_get, All}
-use Rattle.std.specs.Option.{option_map}
-use Rattle.std.proofs.lemmas.Bool.{cases_lt}
-use Rattle.std.proofs.lemmas.Int.{ints}
-use Rattle.std.proofs.lemmas.Nat.{le-div}
-use Rattle.std.proofs.lemmas.Option.{same_Some}
-use Rattle.std.proofs.Math.Nat.{div-mul-le_self}
+use Rattle.sweep.proofs.Common.{◌≡◌, ℕ, ◌+◌, ◌-◌, ◌/◌, ◌<◌, ◌≤◌, ◌^◌, max, ℤ, pos, ◌+ℤ◌, ◌-ℤ◌, ◌≤ℤ◌, neg_ℤ, List, length, map, Option, Some, None, MatchOption, refl, sym, ◌∙◌, ap, subst, arith, inl, inr, ⊎_elim, slice_get, All, option_map, cases_lt, ints, le-div, div-mul-le_self, Side, Low, High, IsRate, IsWidening, widening, billion, Sample, HasNoSample, IsFirstBest, IsBestLow, IsBestHigh, best_of, merit, moved_low, moved_high, Part, IsLawfulExtreme, AreExtremesOf, mirrored_extreme, IsEarlyLevel, IsStretchOf, IsLawfulStretch, mirrored_stretch, IsLevelOver, best_part, said_by, IsAtLeast, distance, Extreme, UnsignedStretch}
 use Rattle.intersection.specs.declared.kinds.Interval.{Interval}
-use Rattle.intersection.specs.declared.ends.Side.{Side}
-use Rattle.intersection.specs.declared.ends.Side.TheVariants.{Low, High}
-use Rattle.sample_interval.specs.Widening.{IsRate, IsWidening, widening, billion}
-use Rattle.sample_interval.specs.declared.kinds.Sample.{Sample}
-use Rattle.span_cover.specs.Best.{HasNoSample, IsFirstBest, IsBestLow, IsBestHigh, best_of, merit}
 use Rattle.span_cover.specs.Gathering.{best_interval, interval_between}
-use Rattle.span_cover.specs.Piece.{moved_low, moved_high}
-use Rattle.span_cover.specs.declared.part.Part.{Part}
-use Rattle.sweep.specs.Extreme.{IsLawfulExtreme, AreExtremesOf, mirrored_extreme}
-use Rattle.sweep.specs.PrefixMaximum.{IsEarlyLevel}
-use Rattle.sweep.specs.UnsignedStretch.{IsStretchOf, IsLawfulStretch, mirrored_stretch}
-use Rattle.sweep.specs.Table.{IsLevelOver, best_part, said_by}
-use Rattle.sweep.specs.Top.{IsAtLeast, distance}
-use Rattle.sweep.specs.declared.extreme.Extreme.{Extreme}
-use Rattle.sweep.specs.declared.unsigned_stretch.UnsignedStretch.{UnsignedStretch}
 use Rattle.sweep.proofs.ExtremeList.{some_sample}
-use Rattle.sweep.proofs.Merit.{merit_is}
+use Rattle.sweep.proofs.Merit.{merit_is, known}
 use Rattle.sweep.proofs.Reach.{reaches_either, either_reaches, some_reaches}
 
 -- ---- the higher of two quotients
@@ -109,21 +87,15 @@ module _ (side : Side) (samples : List Sample) (server : ℕ) (extremes : List E
       level_counted level is number best =
           let extreme : Extreme = is.reached.extreme in
           let own = are.each is.index extreme is.reached.stands in
-          let came = are.all number best.sample best.stands best.of_server in
-          let other = are.each came.0 came.1 came.2 in
-          let same : other.sample ≡ best.sample =
-          same_Some other.sample best.sample (sym other.stands ∙ ap (slice_get samples) came.3 ∙ best.stands) in
-          let counted : merit side best.sample p q ppb +ℤ pos (2 ^ 75)
-          ≡ pos came.1.end -ℤ pos (widening ppb (distance came.1 stretch)) =
-          subst (λ (t : Sample). merit side t p q ppb +ℤ pos (2 ^ 75)
-          ≡ pos came.1.end -ℤ pos (widening ppb (distance came.1 stretch))) same
-          (merit_is side p q ppb other.sample came.1 stretch other.is other.lawful at s) in
+          let other = known side samples server extremes are p q ppb stretch at s number best.sample best.stands
+          best.of_server in
+          let wide = widening ppb (distance other.extreme stretch) in
           level_of_best (merit side own.sample p q ppb) (merit side best.sample p q ppb) extreme.end
-          (widening ppb (distance extreme stretch)) came.1.end (widening ppb (distance came.1 stretch)) level
-          (merit_is side p q ppb own.sample extreme stretch own.is own.lawful at s) counted is.reached.at_least
+          (widening ppb (distance extreme stretch)) other.extreme.end wide level
+          (merit_is side p q ppb own.sample extreme stretch own.is own.lawful at s) other.counted is.reached.at_least
           (best.greatest extreme.number own.sample own.stands own.of_server)
-          (λ le. is.highest came.0 (came.1.end - widening ppb (distance came.1 stretch))
-          (record { extreme = came.1; stands = came.2; at_least = omega arith }))
+          (λ le. is.highest other.index (other.extreme.end - wide)
+          (record { extreme = other.extreme; stands = other.stands_at; at_least = omega arith }))
 
 -- ---- the part of a table
 

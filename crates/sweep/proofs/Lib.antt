@@ -1,3 +1,4 @@
+mod Common
 mod List
 mod ExtremeList
 mod Piece

@@ -1,12 +1,5 @@
 -- Reads of a list that has one element more.
-use Rattle.std.proofs.Common.{◌≡◌, ℕ, zero, suc, ◌<◌, List, [], ◌∷◌, ◌++◌, length, Some, refl}
-use Rattle.std.proofs.Common.{arith, sym, ap, ◌⊎◌, inl, inr, ⊎_elim}
-use Rattle.std.proofs.Common.{set, replicate, ◌∙◌, map, reverse, get_or, ◌-◌, subst}
-use Rattle.std.specs.Option.{option_map}
-use Rattle.std.proofs.lemmas.List.{get_or-replicate, length-replicate, get_or-reverse, length-reverse}
-use Rattle.std.proofs.lemmas.Option.{same_Some, slice_get-get_or, slice_get_within, slice_get-map}
-use Rattle.std.proofs.lemmas.Option.{get_or_from_slice_get}
-use Rattle.std.specs.List.{slice_get, All}
+use Rattle.sweep.proofs.Common.{◌≡◌, ℕ, zero, suc, ◌+◌, ◌<◌, ◌≤◌, List, [], ◌∷◌, ◌++◌, length, Some, refl, arith, sym, ap, ◌⊎◌, inl, inr, ⊎_elim, ◌∙◌, map, reverse, get_or, ◌-◌, subst, option_map, get_or-reverse, length-reverse, same_Some, slice_get-get_or, slice_get_within, slice_get-map, get_or_from_slice_get, slice_get, All, length-append, AreOver, UnsignedStretch}
 
 pub slice_get-front : {X : Type 0} (xs : List X) (x : X) (k : ℕ) → k < length xs →
     slice_get (xs ++ x ∷ []) k ≡ slice_get xs k
@@ -29,24 +22,21 @@ pushed_cases (z ∷ xs) x y (suc k) is = ⊎_elim
     (λ new. inr (ap suc new.0, new.1))
     (pushed_cases xs x y k is)
 
--- an element that was written, and one beside it
-pub slice_get-set_same : {X : Type 0} (xs : List X) (i : ℕ) (x y : X) → slice_get xs i ≡ Some y →
-    slice_get (set xs i x) i ≡ Some x
-slice_get-set_same [] i x y is = absurd cc
-slice_get-set_same (z ∷ xs) zero x y is = refl
-slice_get-set_same (z ∷ xs) (suc i) x y is = slice_get-set_same xs i x y is
-
-pub slice_get-set_other : {X : Type 0} (xs : List X) (i j : ℕ) (x : X) → (i ≡ j → ⊥) →
-    slice_get (set xs i x) j ≡ slice_get xs j
-slice_get-set_other [] i j x other = refl
-slice_get-set_other (z ∷ xs) zero zero x other = absurd (other refl)
-slice_get-set_other (z ∷ xs) zero (suc j) x other = refl
-slice_get-set_other (z ∷ xs) (suc i) zero x other = refl
-slice_get-set_other (z ∷ xs) (suc i) (suc j) x other = slice_get-set_other xs i j x (λ same. other (ap suc same))
-
-pub slice_get-replicate : {X : Type 0} (n i : ℕ) (x : X) → i < n → slice_get (replicate n x) i ≡ Some x
-slice_get-replicate n i x h =
-    slice_get-get_or (replicate n x) i x (omega (arith, length-replicate n x)) ∙ ap Some (get_or-replicate n i x x h)
+-- what holds of each element and each behind it
+pub rises_pushed : {X : Type 0} (R : X → X → Type 0) (xs : List X) (x : X) →
+    ((i j : ℕ) (a b : X) → i ≤ j → slice_get xs i ≡ Some a → slice_get xs j ≡ Some b → R a b) →
+    ((i : ℕ) (a : X) → slice_get xs i ≡ Some a → R a x) → R x x → (i j : ℕ) (a b : X) → i ≤ j →
+    slice_get (xs ++ x ∷ []) i ≡ Some a → slice_get (xs ++ x ∷ []) j ≡ Some b → R a b
+rises_pushed R xs x rise under same i j a b le at_a at_b = ⊎_elim
+    (λ old_b. ⊎_elim
+    (λ old_a. rise i j a b le old_a old_b)
+    (λ new_a. let within = slice_get_within xs j b old_b in absurd (omega (arith, new_a.0)))
+    (pushed_cases xs x a i at_a))
+    (λ new_b. subst (R a) (sym new_b.1) (⊎_elim
+    (λ old_a. under i a old_a)
+    (λ new_a. subst (λ y. R y x) (sym new_a.1) same)
+    (pushed_cases xs x a i at_a)))
+    (pushed_cases xs x b j at_b)
 
 -- an element of a list whose elements were replaced, or that runs backwards
 pub map_at : {X Y : Type 0} (f : X → Y) (xs : List X) (k : ℕ) (x : X) → slice_get xs k ≡ Some x →
@@ -87,3 +77,19 @@ pub there : {X : Type 0} (xs : List X) (i : ℕ) → i < length xs → (x : X) �
 there [] i below = absurd (omega arith)
 there (x ∷ xs) zero below = (x, refl)
 there (x ∷ xs) (suc i) below = there xs i (omega arith)
+
+-- one stretch more
+pub AreOver-more : {X : Type 0} (holds : UnsignedStretch → X → Type 0) (stretches : List UnsignedStretch) (n : ℕ)
+    (found : List X) → AreOver holds stretches n found → (stretch : UnsignedStretch) →
+    slice_get stretches n ≡ Some stretch → (one : X) → holds stretch one →
+    AreOver holds stretches (n + 1) (found ++ one ∷ [])
+AreOver-more holds stretches n found so_far stretch here one is = record {
+  as_many = omega (arith, length-append found (one ∷ []), so_far.as_many);
+  each = λ k s x at there. ⊎_elim
+      (λ old. so_far.each k s x at old)
+      (λ new.
+      let same : n ≡ k = sym (new.0 ∙ so_far.as_many) in
+      let of : stretch ≡ s = same_Some stretch s (sym here ∙ ap (slice_get stretches) same ∙ at) in
+      subst (holds s) (sym new.1) (subst (λ (y : UnsignedStretch). holds y one) of is))
+      (pushed_cases found one x k there);
+}

@@ -1,20 +1,6 @@
 -- The maxima of extremes.
-use Rattle.std.proofs.Common.{◌≡◌, ℕ, ◌+◌, ◌-◌, ◌*◌, ◌/◌, ◌<◌, ◌≤◌, List, [], ◌∷◌, ◌++◌, length, Some, refl}
-use Rattle.std.proofs.Common.{arith, subst, sym, ◌∙◌, ap, ◌⊎◌, inl, inr, ⊎_elim, le_trans}
-use Rattle.std.specs.List.{slice_get}
-use Rattle.std.proofs.lemmas.Bool.{cases_lt}
-use Rattle.std.proofs.lemmas.Nat.{le-div}
-use Rattle.std.proofs.lemmas.Option.{slice_get_within, same_Some}
-use Rattle.std.proofs.Math.Nat.{div-mul-le_self, mul-le-mul_right}
-use Rattle.sample_interval.specs.Widening.{IsRate, billion}
-use Rattle.sweep.specs.PrefixMaximum.{IsMaximumOf, IsTopped, MaximaRise, AreMaximaOf, IsHeightUpto, IsEarlyLevel}
-use Rattle.sweep.specs.Queue.{IsQueueOf}
-use Rattle.sweep.specs.Top.{IsEarlyAtLeast, height}
-use Rattle.sweep.specs.declared.extreme.Extreme.{Extreme}
-use Rattle.sweep.specs.declared.prefix_maximum.PrefixMaximum.{PrefixMaximum}
-use Rattle.sweep.specs.declared.queue.Arrival.{Arrival}
-use Rattle.sweep.specs.declared.unsigned_stretch.UnsignedStretch.{UnsignedStretch}
-use Rattle.sweep.proofs.List.{pushed_cases, slice_get-front, slice_get-last, there}
+use Rattle.sweep.proofs.Common.{◌≡◌, ℕ, ◌+◌, ◌-◌, ◌*◌, ◌/◌, ◌<◌, ◌≤◌, List, [], ◌∷◌, ◌++◌, length, Some, refl, arith, subst, sym, ◌∙◌, ap, ◌⊎◌, inl, inr, ⊎_elim, le_trans, slice_get, cases_lt, le-div, slice_get_within, same_Some, div-mul-le_self, mul-le-mul_right, IsRate, billion, IsMaximumOf, IsTopped, MaximaRise, AreMaximaOf, IsHeightUpto, IsEarlyLevel, IsQueueOf, IsEarlyAtLeast, height, Extreme, PrefixMaximum, Arrival, UnsignedStretch}
+use Rattle.sweep.proofs.List.{pushed_cases, rises_pushed, slice_get-front, slice_get-last, there}
 
 -- a maximum has the place and the height of one of the first n arrivals
 pub record IsFromArrival (queue : List Arrival) (n : ℕ) (maximum : PrefixMaximum) : Type 0 where
@@ -135,25 +121,13 @@ module _ (ppb : ℕ) (extremes : List Extreme) (queue : List Arrival) (are : IsQ
             let early = no_later x (so_far.each i x at) in
             (omega (arith, place), omega (arith, height_is))
 
-        rise : MaximaRise (maxima ++ maximum ∷ [])
-        rise i j x y le at_i at_j = ⊎_elim
-            (λ old_j. ⊎_elim
-            (λ old_i. so_far.rise i j x y le old_i old_j)
-            (λ new_i.
-            let within = slice_get_within maxima j y old_j in
-            absurd (omega (arith, new_i.0)))
-            (pushed_cases maxima maximum x i at_i))
-            (λ new_j. ⊎_elim
-            (λ old_i. subst (λ (z : PrefixMaximum). (x.place ≤ z.place) × (x.height ≤ z.height)) (sym new_j.1)
-            (under_new i x old_i))
-            (λ new_i.
-            let same : x ≡ y = new_i.1 ∙ sym new_j.1 in
-            subst (λ (z : PrefixMaximum). (x.place ≤ z.place) × (x.height ≤ z.height)) same (omega arith, omega arith))
-            (pushed_cases maxima maximum x i at_i))
-            (pushed_cases maxima maximum y j at_j)
-
         pub MaximaSoFar-more : MaximaSoFar queue (n + 1) (maxima ++ maximum ∷ [])
-        MaximaSoFar-more = record { each = each; all = all; rise = rise }
+        MaximaSoFar-more = record {
+          each = each;
+          all = all;
+          rise = rises_pushed (λ x y. (x.place ≤ y.place) × (x.height ≤ y.height)) maxima maximum so_far.rise under_new
+              (omega arith, omega arith);
+        }
 
   -- all of them
   pub AreMaximaOf-all : (n : ℕ) (maxima : List PrefixMaximum) → length queue ≤ n → MaximaSoFar queue n maxima →

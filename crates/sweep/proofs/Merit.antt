@@ -1,21 +1,5 @@
 -- The highest extreme is that of the best sample.
-use Rattle.std.proofs.Common.{◌≡◌, ℕ, ◌+◌, ◌-◌, ◌<◌, ◌≤◌, ◌^◌, ℤ, pos, ◌+ℤ◌, ◌-ℤ◌, ◌≤ℤ◌, ◌<ℤ◌, neg_ℤ, unsigned_abs}
-use Rattle.std.proofs.Common.{List, Some, sym, ◌∙◌, ap, subst, arith, ⊎_elim}
-use Rattle.std.specs.List.{slice_get}
-use Rattle.std.proofs.lemmas.Bool.{cases_lt}
-use Rattle.std.proofs.lemmas.Int.{ints, clamps}
-use Rattle.std.proofs.lemmas.Option.{same_Some}
-use Rattle.sample_interval.specs.Widening.{widening}
-use Rattle.sample_interval.specs.declared.kinds.Sample.{Sample}
-use Rattle.span_cover.specs.Best.{IsFirstBest, merit}
-use Rattle.span_cover.specs.Piece.{farthest, moved_low, moved_high}
-use Rattle.sweep.specs.Extreme.{IsFromOrigin, IsExtremeOf, IsLawfulExtreme, IsOfServer, AreExtremesOf}
-use Rattle.sweep.specs.UnsignedStretch.{IsStretchOf, IsLawfulStretch}
-use Rattle.sweep.specs.Top.{IsTopNumber, distance}
-use Rattle.sweep.specs.declared.extreme.Extreme.{Extreme}
-use Rattle.intersection.specs.declared.ends.Side.{Side}
-use Rattle.intersection.specs.declared.ends.Side.TheVariants.{Low, High}
-use Rattle.sweep.specs.declared.unsigned_stretch.UnsignedStretch.{UnsignedStretch}
+use Rattle.sweep.proofs.Common.{◌≡◌, ℕ, ◌+◌, ◌-◌, ◌<◌, ◌≤◌, ◌^◌, ℤ, pos, ◌+ℤ◌, ◌-ℤ◌, ◌≤ℤ◌, ◌<ℤ◌, neg_ℤ, unsigned_abs, List, Some, sym, ◌∙◌, ap, subst, arith, ⊎_elim, slice_get, cases_lt, ints, clamps, same_Some, widening, Sample, IsFirstBest, merit, farthest, moved_low, moved_high, IsFromOrigin, IsExtremeOf, IsLawfulExtreme, IsOfServer, AreExtremesOf, IsStretchOf, IsLawfulStretch, IsTopNumber, distance, Extreme, Side, Low, High, UnsignedStretch}
 
 distance_is : (start stop p q : ℤ) (extreme : Extreme) (stretch : UnsignedStretch) → IsFromOrigin start extreme.from →
     IsFromOrigin stop extreme.to → IsStretchOf p q stretch → extreme.from ≤ extreme.to → stretch.begin ≤ stretch.end →
@@ -63,8 +47,7 @@ less x y end wide best_end best_wide level a b reached short = ⊎_elim
 
 module _ (side : Side) (samples : List Sample) (server : ℕ) (extremes : List Extreme)
     (are : AreExtremesOf side samples server extremes) (p q : ℤ) (ppb : ℕ) (stretch : UnsignedStretch)
-    (at : IsStretchOf p q stretch)
-    (s : IsLawfulStretch stretch) (number : ℕ) (is : IsTopNumber ppb extremes stretch number) where
+    (at : IsStretchOf p q stretch) (s : IsLawfulStretch stretch) where
   module _ (i : ℕ) (sample : Sample) (stands : slice_get samples i ≡ Some sample) (of : sample.server ≡ server) where
     -- the extreme of a sample, its index and how it is counted
     pub record Known : Type 0 where
@@ -75,7 +58,7 @@ module _ (side : Side) (samples : List Sample) (server : ℕ) (extremes : List E
       pub counted : merit side sample p q ppb +ℤ pos (2 ^ 75)
           ≡ pos extreme.end -ℤ pos (widening ppb (distance extreme stretch))
 
-    known : Known
+    pub known : Known
     known =
         let there = are.all i sample stands of in
         let own = are.each there.0 there.1 there.2 in
@@ -91,61 +74,64 @@ module _ (side : Side) (samples : List Sample) (server : ℕ) (extremes : List E
               (merit_is side p q ppb own.sample there.1 stretch own.is own.lawful at s);
         }
 
-  best : IsOfServer side samples server is.extreme
-  best = are.each is.top.index is.extreme is.stands
+  module _ (number : ℕ) (is : IsTopNumber ppb extremes stretch number) where
+    best : IsOfServer side samples server is.extreme
+    best = are.each is.top.index is.extreme is.stands
 
-  best_counted : merit side best.sample p q ppb +ℤ pos (2 ^ 75)
-      ≡ pos is.extreme.end -ℤ pos (widening ppb (distance is.extreme stretch))
-  best_counted = merit_is side p q ppb best.sample is.extreme stretch best.is best.lawful at s
+    best_counted : merit side best.sample p q ppb +ℤ pos (2 ^ 75)
+        ≡ pos is.extreme.end -ℤ pos (widening ppb (distance is.extreme stretch))
+    best_counted = merit_is side p q ppb best.sample is.extreme stretch best.is best.lawful at s
 
-  best_reached : is.top.level + widening ppb (distance is.extreme stretch) ≤ is.extreme.end
-  best_reached =
-      let reached = is.is_top.reached in
-      let same : reached.extreme ≡ is.extreme = same_Some reached.extreme is.extreme (sym reached.stands ∙ is.stands) in
-      subst (λ (b : Extreme). is.top.level + widening ppb (distance b stretch) ≤ b.end) same reached.at_least
+    best_reached : is.top.level + widening ppb (distance is.extreme stretch) ≤ is.extreme.end
+    best_reached =
+        let reached = is.is_top.reached in
+        let same : reached.extreme ≡ is.extreme =
+        same_Some reached.extreme is.extreme (sym reached.stands ∙ is.stands) in
+        subst (λ (b : Extreme). is.top.level + widening ppb (distance b stretch) ≤ b.end) same reached.at_least
 
-  pub IsFirstBest-top : IsFirstBest (λ s. merit side s p q ppb) samples server number
-  IsFirstBest-top = record {
-    sample = best.sample;
-    stands = ap (slice_get samples) (sym is.number) ∙ best.stands;
-    of_server = best.of_server;
-    greatest = greatest;
-    first = first;
-  }
-    where
-      greatest : (i : ℕ) (t : Sample) → slice_get samples i ≡ Some t → t.server ≡ server →
-          merit side t p q ppb ≤ℤ merit side best.sample p q ppb
-      greatest i t at_i of =
-          let k = known i t at_i of in
-          no_more (merit side t p q ppb) (merit side best.sample p q ppb) k.extreme.end
-          (widening ppb (distance k.extreme stretch)) is.extreme.end (widening ppb (distance is.extreme stretch))
-          is.top.level
-          k.counted best_counted best_reached
-          (λ le.
-          is.is_top.highest k.index (k.extreme.end - widening ppb (distance k.extreme stretch))
-          (record { extreme = k.extreme; stands = k.stands_at; at_least = omega arith }))
+    pub IsFirstBest-top : IsFirstBest (λ s. merit side s p q ppb) samples server number
+    IsFirstBest-top = record {
+      sample = best.sample;
+      stands = ap (slice_get samples) (sym is.number) ∙ best.stands;
+      of_server = best.of_server;
+      greatest = greatest;
+      first = first;
+    }
+      where
+        greatest : (i : ℕ) (t : Sample) → slice_get samples i ≡ Some t → t.server ≡ server →
+            merit side t p q ppb ≤ℤ merit side best.sample p q ppb
+        greatest i t at_i of =
+            let k = known i t at_i of in
+            no_more (merit side t p q ppb) (merit side best.sample p q ppb) k.extreme.end
+            (widening ppb (distance k.extreme stretch)) is.extreme.end (widening ppb (distance is.extreme stretch))
+            is.top.level
+            k.counted best_counted best_reached
+            (λ le.
+            is.is_top.highest k.index (k.extreme.end - widening ppb (distance k.extreme stretch))
+            (record { extreme = k.extreme; stands = k.stands_at; at_least = omega arith }))
 
-      -- an extreme before the best is of a sample with a lower number
-      not_before : (i index : ℕ) (b : Extreme) → slice_get extremes index ≡ Some b → b.number ≡ i → i < number →
-          is.top.index ≤ index → ⊥
-      not_before i index b stands number_is before behind = ⊎_elim
-          (λ later.
-          let higher = are.rising is.top.index index is.extreme b later is.stands stands in
-          omega (arith, number_is, is.number))
-          (λ le.
-          let here : index ≡ is.top.index = omega arith in
-          let same : b ≡ is.extreme = same_Some b is.extreme (sym stands ∙ ap (slice_get extremes) here ∙ is.stands) in
-          let one : b.number ≡ is.extreme.number = ap (λ (x : Extreme). x.number) same in
-          omega (arith, number_is, is.number))
-          (cases_lt is.top.index index)
+        -- an extreme before the best is of a sample with a lower number
+        not_before : (i index : ℕ) (b : Extreme) → slice_get extremes index ≡ Some b → b.number ≡ i → i < number →
+            is.top.index ≤ index → ⊥
+        not_before i index b stands number_is before behind = ⊎_elim
+            (λ later.
+            let higher = are.rising is.top.index index is.extreme b later is.stands stands in
+            omega (arith, number_is, is.number))
+            (λ le.
+            let here : index ≡ is.top.index = omega arith in
+            let same : b ≡ is.extreme =
+            same_Some b is.extreme (sym stands ∙ ap (slice_get extremes) here ∙ is.stands) in
+            let one : b.number ≡ is.extreme.number = ap (λ (x : Extreme). x.number) same in
+            omega (arith, number_is, is.number))
+            (cases_lt is.top.index index)
 
-      first : (i : ℕ) (t : Sample) → slice_get samples i ≡ Some t → t.server ≡ server → i < number →
-          merit side t p q ppb <ℤ merit side best.sample p q ppb
-      first i t at_i of before =
-          let k = known i t at_i of in
-          less (merit side t p q ppb) (merit side best.sample p q ppb) k.extreme.end
-          (widening ppb (distance k.extreme stretch)) is.extreme.end (widening ppb (distance is.extreme stretch))
-          is.top.level
-          k.counted best_counted best_reached
-          (λ enough. not_before i k.index k.extreme k.stands_at k.number_is before
-          (is.is_top.first k.index (record { extreme = k.extreme; stands = k.stands_at; at_least = enough })))
+        first : (i : ℕ) (t : Sample) → slice_get samples i ≡ Some t → t.server ≡ server → i < number →
+            merit side t p q ppb <ℤ merit side best.sample p q ppb
+        first i t at_i of before =
+            let k = known i t at_i of in
+            less (merit side t p q ppb) (merit side best.sample p q ppb) k.extreme.end
+            (widening ppb (distance k.extreme stretch)) is.extreme.end (widening ppb (distance is.extreme stretch))
+            is.top.level
+            k.counted best_counted best_reached
+            (λ enough. not_before i k.index k.extreme k.stands_at k.number_is before
+            (is.is_top.first k.index (record { extreme = k.extreme; stands = k.stands_at; at_least = enough })))

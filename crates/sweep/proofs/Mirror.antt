@@ -1,16 +1,5 @@
 -- Extremes and stretches with time running backwards.
-use Rattle.std.proofs.Common.{◌≡◌, ℕ, ◌+◌, ◌-◌, ◌≤◌, ◌^◌, List, length, Option, Some}
-use Rattle.std.proofs.Common.{map, reverse, arith, sym, ◌∙◌, subst}
-use Rattle.std.specs.List.{slice_get, All}
-use Rattle.std.proofs.lemmas.List.{length-map, length-reverse}
-use Rattle.std.proofs.lemmas.List.Elements.{All-map, All-weaker}
-use Rattle.std.proofs.lemmas.List.Sorted.{All-permutation, IsPermutation-reverse}
-use Rattle.sweep.specs.Extreme.{IsLawfulExtreme, mirrored_extreme}
-use Rattle.sweep.specs.UnsignedStretch.{IsLawfulStretch, MiddlesRise, mirrored_stretch}
-use Rattle.sweep.specs.Top.{AreEarlyTops, AreLateTops, distance}
-use Rattle.sweep.specs.declared.extreme.Extreme.{Extreme}
-use Rattle.sweep.specs.declared.unsigned_stretch.UnsignedStretch.{UnsignedStretch}
-use Rattle.sweep.specs.declared.top.Top.{Top}
+use Rattle.sweep.proofs.Common.{◌≡◌, ℕ, ◌+◌, ◌-◌, ◌≤◌, ◌^◌, List, length, Option, Some, map, reverse, arith, sym, ◌∙◌, subst, slice_get, All, length-map, length-reverse, All-map, All-weaker, All-permutation, IsPermutation-reverse, IsLawfulExtreme, mirrored_extreme, IsLawfulStretch, MiddlesRise, mirrored_stretch, AreEarlyTops, AreLateTops, distance, Extreme, UnsignedStretch, Top}
 use Rattle.sweep.proofs.List.{map_at, at_map, at_reverse, reverse_at, all_at}
 
 pub lawful-mirrored_extreme : (extreme : Extreme) → IsLawfulExtreme extreme → IsLawfulExtreme (mirrored_extreme extreme)
@@ -29,12 +18,6 @@ lawful-mirrored_stretch stretch is = record {
   in_order = omega (arith, is.in_order);
   ends = omega (arith, is.begins);
 }
-
-pub lawful-mirrored_extremes : (extremes : List Extreme) → All IsLawfulExtreme extremes →
-    All IsLawfulExtreme (map mirrored_extreme extremes)
-lawful-mirrored_extremes extremes all =
-    All-map IsLawfulExtreme mirrored_extreme extremes
-    (All-weaker IsLawfulExtreme (λ b. IsLawfulExtreme (mirrored_extreme b)) lawful-mirrored_extreme extremes all)
 
 pub lawful-mirrored_stretches : (stretches : List UnsignedStretch) → All IsLawfulStretch stretches →
     All IsLawfulStretch (reverse (map mirrored_stretch stretches))

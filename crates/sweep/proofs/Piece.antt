@@ -1,16 +1,5 @@
 -- The best samples of each piece.
-use Rattle.std.proofs.Common.{◌≡◌, ℕ, ℤ, List, Some, arith, get_or}
-use Rattle.std.proofs.Common.{subst, sym, ◌∙◌}
-use Rattle.std.proofs.lemmas.Option.{slice_get-get_or, slice_get_within}
-use Rattle.sample_interval.specs.declared.kinds.Sample.{Sample}
-use Rattle.span_cover.specs.Best.{IsBestLow, IsBestHigh, best_of}
-use Rattle.sweep.specs.Extreme.{AreExtremesOf}
-use Rattle.sweep.specs.Pieces.{AreBestOfPieces, ArePairsOf}
-use Rattle.sweep.specs.UnsignedStretch.{AreStretchesOf, IsLawfulStretch}
-use Rattle.sweep.specs.Top.{AreTopNumbers}
-use Rattle.sweep.specs.declared.extreme.Extreme.{Extreme}
-use Rattle.intersection.specs.declared.ends.Side.TheVariants.{Low, High}
-use Rattle.sweep.specs.declared.unsigned_stretch.UnsignedStretch.{UnsignedStretch}
+use Rattle.sweep.proofs.Common.{◌≡◌, ℕ, ℤ, List, Some, arith, get_or, subst, sym, ◌∙◌, slice_get-get_or, slice_get_within, Sample, IsBestLow, IsBestHigh, best_of, AreExtremesOf, AreBestOfPieces, ArePairsOf, AreStretchesOf, IsLawfulStretch, AreTopNumbers, Extreme, Low, High, UnsignedStretch}
 use Rattle.sweep.proofs.List.{all_at}
 use Rattle.sweep.proofs.Merit.{IsFirstBest-top}
 

@@ -1,18 +1,7 @@
 -- An extreme reaches a level if it does so as an early one, or as one that is early with time running
 -- backwards.
-use Rattle.std.proofs.Common.{◌≡◌, ℕ, ◌+◌, ◌-◌, ◌*◌, ◌<◌, ◌≤◌, List, length, map, arith, sym, ◌∙◌, subst, ap, get_or}
-use Rattle.std.proofs.lemmas.Option.{slice_get-get_or}
-use Rattle.std.proofs.Common.{◌⊎◌, inl, inr, ⊎_elim}
-use Rattle.std.specs.List.{All}
-use Rattle.std.proofs.lemmas.Bool.{cases_lt}
-use Rattle.std.proofs.Math.Nat.{mul-le-mul_right, le_of_mul-le-mul_left}
+use Rattle.sweep.proofs.Common.{◌≡◌, ℕ, ◌+◌, ◌-◌, ◌*◌, ◌<◌, ◌≤◌, List, length, map, arith, sym, ◌∙◌, subst, ap, get_or, slice_get-get_or, ◌⊎◌, inl, inr, ⊎_elim, All, cases_lt, mul-le-mul_right, le_of_mul-le-mul_left, IsRate, IsWidening, widening, billion, IsLawfulExtreme, mirrored_extreme, IsLawfulStretch, mirrored_stretch, IsAtLeast, IsEarly, IsEarlyAtLeast, distance, height, height_for, Extreme, UnsignedStretch}
 use Rattle.era_unfold.specs.Ratio.{IsCeiling}
-use Rattle.sample_interval.specs.Widening.{IsRate, IsWidening, widening, billion}
-use Rattle.sweep.specs.Extreme.{IsLawfulExtreme, mirrored_extreme}
-use Rattle.sweep.specs.UnsignedStretch.{IsLawfulStretch, mirrored_stretch}
-use Rattle.sweep.specs.Top.{IsAtLeast, IsEarly, IsEarlyAtLeast, distance, height, height_for}
-use Rattle.sweep.specs.declared.extreme.Extreme.{Extreme}
-use Rattle.sweep.specs.declared.unsigned_stretch.UnsignedStretch.{UnsignedStretch}
 use Rattle.sweep.proofs.List.{map_at, at_map, all_at}
 use Rattle.sweep.proofs.Mirror.{lawful-mirrored_extreme, lawful-mirrored_stretch, distance-mirrored}
 

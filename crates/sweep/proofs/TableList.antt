@@ -1,18 +1,5 @@
 -- The tables of servers, and what they give one after another.
-use Rattle.std.proofs.Common.{◌≡◌, ℕ, zero, suc, ◌+◌, ◌<◌, Bool, true, false, ℤ, List, [], ◌∷◌, ◌++◌, length, map, take}
-use Rattle.std.proofs.Common.{get_or, Option, Some, None, refl, sym, ◌∙◌, ap, arith}
-use Rattle.std.proofs.Common.{cond, nat_eq, ◌||◌, add-one, true≢false}
-use Rattle.std.specs.List.{slice_get, filter, filter_map, cons_option, range_with_len}
-use Rattle.std.proofs.lemmas.Bool.Decides.{nat_tests}
-use Rattle.std.proofs.lemmas.List.{append-nil, take_more, map-append}
-use Rattle.std.proofs.lemmas.List.Elements.{filter-append, filter_map-append}
-use Rattle.std.proofs.lemmas.Option.{slice_get-get_or}
-use Rattle.sample_interval.specs.declared.kinds.Sample.{Sample}
-use Rattle.span_cover.specs.Best.{HasNoSample, best_of}
-use Rattle.span_cover.specs.declared.part.Part.{Part}
-use Rattle.sweep.specs.Table.{AreTablesOf, IsTableOf, best_part, best_parts, has_sample}
-use Rattle.sweep.specs.declared.extreme.Extreme.{Extreme}
-use Rattle.sweep.specs.declared.table.BestTable.{BestTable}
+use Rattle.sweep.proofs.Common.{◌≡◌, ℕ, zero, suc, ◌+◌, ◌<◌, Bool, true, false, ℤ, List, [], ◌∷◌, ◌++◌, length, map, take, get_or, Option, Some, None, refl, sym, ◌∙◌, ap, arith, cond, nat_eq, ◌||◌, add-one, true≢false, slice_get, filter, filter_map, cons_option, range_with_len, nat_tests, append-nil, take_more, map-append, filter-append, filter_map-append, slice_get-get_or, Sample, HasNoSample, best_of, Part, AreTablesOf, IsTableOf, best_part, best_parts, has_sample, Extreme, BestTable}
 
 -- ---- whether a server has a sample
 

@@ -1,9 +1,5 @@
 -- The higher of two tops.
-use Rattle.std.proofs.Common.{◌≡◌, ℕ, ◌<◌, ◌≤◌, true, false}
-use Rattle.std.proofs.Common.{Option, None, Some, refl, arith, subst, sym, ◌⊎◌, inl, inr, ⊎_elim, cond}
-use Rattle.std.proofs.lemmas.Bool.Decides.{nat_tests}
-use Rattle.sweep.specs.Top.{IsTop, IsTopOf, is_above, higher_of}
-use Rattle.sweep.specs.declared.top.Top.{Top}
+use Rattle.sweep.proofs.Common.{◌≡◌, ℕ, ◌<◌, ◌≤◌, true, false, Option, None, Some, refl, arith, subst, sym, ◌⊎◌, inl, inr, ⊎_elim, cond, nat_tests, IsTop, IsTopOf, is_above, higher_of, Top}
 
 -- indexes that reach the same levels have the same top
 pub same_top : (first second : ℕ → ℕ → Type 0) (top : Option Top) →

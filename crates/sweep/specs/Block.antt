@@ -2,11 +2,11 @@
 --
 -- The indices are cut into blocks of a width. A block's limit is one more than the greatest height
 -- of the arrivals in it, and 0 if there are none: so a height is reached in the block exactly if
--- it's below the limit. A block of one width holds 16 of a sixteenth of it. So the first index that
--- reaches a height is found in a few turns, each of which looks at 16 limits.
+-- it's below the limit. A block of one width holds 128 of a 128th of it. So the first index that
+-- reaches a height is found in three turns, each of which looks at 128 limits at most.
 use Rattle.std.specs.Prelude.{◌≡◌, ℕ, ◌+◌, ◌/◌, ◌<◌, ◌≤◌, ◌⊎◌, List, length, Some, slice_get}
 use Rattle.std.specs.Prelude.{slice_index_or}
-use Rattle.sweep.specs.declared.block.Wanted.{Wanted}
+use Rattle.sweep.specs.declared.block.Blocks.{Blocks}
 use Rattle.sweep.specs.declared.queue.Arrival.{Arrival}
 
 -- the arrival of this index comes up to the place, and is no lower than the height
@@ -36,6 +36,9 @@ pub record IsLimitOf (queue : List Arrival) (next width block limit : ℕ) : Typ
 
 -- the limits of the blocks, of the first arrivals
 pub record AreLimitsOf (queue : List Arrival) (next width : ℕ) (limits : List ℕ) : Type 0 where
+  pub few : length limits ≤ 1_000_001
+  pub room : (turn : ℕ) (arrival : Arrival) → slice_get queue turn ≡ Some arrival →
+      arrival.index / width < length limits
   pub above : (turn : ℕ) (arrival : Arrival) → turn < next → slice_get queue turn ≡ Some arrival →
       arrival.height < slice_index_or limits (arrival.index / width) 0
   pub of_one : (block : ℕ) → (slice_index_or limits block 0 ≡ 0)
@@ -49,15 +52,8 @@ pub record AreUpto (queue : List Arrival) (place next : ℕ) : Type 0 where
   pub beyond : (turn : ℕ) (arrival : Arrival) → next ≤ turn → slice_get queue turn ≡ Some arrival →
       place < arrival.at
 
--- no place is before that of one before it
-abbrev pub PlacesRise : List Wanted → Type 0
-PlacesRise wanted = (i j : ℕ) (a b : Wanted) → i ≤ j → slice_get wanted i ≡ Some a →
-    slice_get wanted j ≡ Some b → a.place ≤ b.place
-
--- for each that is wanted the first block, if its height is reached at all
-pub record AreFirstBlocks (queue : List Arrival) (wanted : List Wanted) (width : ℕ)
-    (blocks : List ℕ) : Type 0 where
-  pub as_many : length blocks ≡ length wanted
-  pub each : (k : ℕ) (one : Wanted) (block index : ℕ) → slice_get wanted k ≡ Some one →
-      slice_get blocks k ≡ Some block → IsReached queue one.place one.height index →
-      IsFirstBlock queue one.place one.height width block
+-- the limits of blocks of three widths
+pub record AreBlocksOf (queue : List Arrival) (blocks : Blocks) : Type 0 where
+  pub of_1 : AreLimitsOf queue blocks.taken 1 blocks.of_1.items
+  pub of_128 : AreLimitsOf queue blocks.taken 128 blocks.of_128.items
+  pub of_16384 : AreLimitsOf queue blocks.taken 16384 blocks.of_16384.items

@@ -71,13 +71,22 @@ pub record IsEarlyAtLeast (ppb : ℕ) (extremes : List Extreme) (stretch : Unsig
   pub early : IsEarly extreme stretch
   pub at_least : height_for ppb stretch.end level ≤ height ppb extreme
 
--- the tops of the early extremes, over each stretch
-pub record AreEarlyTops (ppb : ℕ) (extremes : List Extreme) (stretches : List UnsignedStretch)
-    (tops : List (Option Top)) : Type 0 where
-  pub as_many : length tops ≡ length stretches
-  pub each : (k : ℕ) (stretch : UnsignedStretch) (top : Option Top) →
-      slice_get stretches k ≡ Some stretch →
-      slice_get tops k ≡ Some top → IsTopOf (IsEarlyAtLeast ppb extremes stretch) top
+-- there is one for each of the first n stretches, and this holds of it
+pub record AreOver {X : Type 0} (holds : UnsignedStretch → X → Type 0)
+    (stretches : List UnsignedStretch) (n : ℕ) (found : List X) : Type 0 where
+  pub as_many : length found ≡ n
+  pub each : (k : ℕ) (stretch : UnsignedStretch) (one : X) →
+      slice_get stretches k ≡ Some stretch → slice_get found k ≡ Some one → holds stretch one
+
+-- the top over each stretch
+abbrev pub AreTopsOver : (UnsignedStretch → ℕ → ℕ → Type 0) → List UnsignedStretch →
+    List (Option Top) → Type 0
+AreTopsOver reaches stretches =
+    AreOver (λ stretch. IsTopOf (reaches stretch)) stretches (length stretches)
+
+-- the same of the early extremes
+abbrev pub AreEarlyTops : ℕ → List Extreme → List UnsignedStretch → List (Option Top) → Type 0
+AreEarlyTops ppb extremes = AreTopsOver (IsEarlyAtLeast ppb extremes)
 
 -- the same for those that are early with time running backwards: the last stretch comes first
 pub record AreLateTops (ppb : ℕ) (extremes : List Extreme) (stretches : List UnsignedStretch)
@@ -98,9 +107,6 @@ pub record IsTopNumber (ppb : ℕ) (extremes : List Extreme) (stretch : Unsigned
   pub number : extreme.number ≡ chosen
 
 -- such a number for each stretch
-pub record AreTopNumbers (ppb : ℕ) (extremes : List Extreme) (stretches : List UnsignedStretch)
-    (numbers : List ℕ) : Type 0 where
-  pub as_many : length numbers ≡ length stretches
-  pub each : (k : ℕ) (stretch : UnsignedStretch) (number : ℕ) →
-      slice_get stretches k ≡ Some stretch →
-      slice_get numbers k ≡ Some number → IsTopNumber ppb extremes stretch number
+abbrev pub AreTopNumbers : ℕ → List Extreme → List UnsignedStretch → List ℕ → Type 0
+AreTopNumbers ppb extremes stretches =
+    AreOver (IsTopNumber ppb extremes) stretches (length stretches)

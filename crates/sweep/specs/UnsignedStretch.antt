@@ -15,6 +15,11 @@ pub record IsLawfulStretch (stretch : UnsignedStretch) : Type 0 where
   pub in_order : stretch.begin ≤ stretch.end
   pub ends : stretch.end ≤ 2 ^ 75 + 2 ^ 64
 
+-- no middle of a stretch is before that of one before it
+abbrev pub MiddlesRise : List UnsignedStretch → Type 0
+MiddlesRise stretches = (i j : ℕ) (a b : UnsignedStretch) → i ≤ j → slice_get stretches i ≡ Some a →
+    slice_get stretches j ≡ Some b → a.begin + a.end ≤ b.begin + b.end
+
 -- the stretches of pieces
 pub record AreStretchesOf (first : ℤ) (ends : List ℤ) (stretches : List UnsignedStretch)
     : Type 0 where
@@ -22,14 +27,8 @@ pub record AreStretchesOf (first : ℤ) (ends : List ℤ) (stretches : List Unsi
   pub each : (k : ℕ) (p q : ℤ) (stretch : UnsignedStretch) → IsPieceAt first ends k p q →
       slice_get stretches k ≡ Some stretch → IsStretchOf p q stretch
   pub lawful : All IsLawfulStretch stretches
-  pub adjoin : (k : ℕ) (a b : UnsignedStretch) → slice_get stretches k ≡ Some a →
-      slice_get stretches (k + 1) ≡ Some b → a.end ≡ b.begin
+  pub rise : MiddlesRise stretches
 
 -- the same with time running backwards
 abbrev pub mirrored_stretch : UnsignedStretch → UnsignedStretch
 mirrored_stretch stretch = record { begin = 2 ^ 76 - stretch.end; end = 2 ^ 76 - stretch.begin }
-
--- no middle of a stretch is before that of one before it
-abbrev pub MiddlesRise : List UnsignedStretch → Type 0
-MiddlesRise stretches = (i j : ℕ) (a b : UnsignedStretch) → i ≤ j → slice_get stretches i ≡ Some a →
-    slice_get stretches j ≡ Some b → a.begin + a.end ≤ b.begin + b.end

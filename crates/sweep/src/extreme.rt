@@ -3,7 +3,7 @@
 ghost use Rattle.std.specs.Prelude.{◌≡◌, ◌≤◌, length, All, IfOk, map};
 ghost use Rattle.sample_interval.specs.Sample.{IsLawfulSample};
 ghost use Rattle.sweep.specs.Extreme.{AreExtremesOf, IsExtremeOf, IsLawfulExtreme};
-ghost use Rattle.sweep.specs.Extreme.{mirrored_extreme, seen_one};
+ghost use Rattle.sweep.specs.Extreme.{seen_one};
 
 use crate::tick::{from_origin, mirrored_tick};
 use intersection::Side;
@@ -115,16 +115,4 @@ pub fn seen(extreme: &Extreme, backwards: bool) -> Extreme
     } else {
         *extreme
     }
-}
-
-/// The same ends with time running backwards.
-pub fn mirrored_extremes(alloc: Global, extremes: &[Extreme]) -> Result<Vec<Extreme>, AllocError>
-    requires { All IsLawfulExtreme extremes.now }
-    ensures { IfOk result (λ mirrored. mirrored.items ≡ map mirrored_extreme extremes.now) }
-{
-    let mut mirrored = Vec::with_capacity(alloc, extremes.len())?;
-    for extreme in extremes {
-        mirrored.push(seen(extreme, true))?;
-    }
-    Ok(mirrored)
 }

@@ -28,6 +28,7 @@ pub fn lead_upto(lead: &mut Lead, queue: &[Arrival], next: usize, place: u128) -
     requires upto { (i : ℕ) (a : TheArrival) → i < next → slice_get queue.now i ≡ Some a →
         a.at ≤ place }
     requires leads { IsLead queue.now next lead.old }
+    ensures no_fewer { next ≤ result }
     ensures upto { AreUpto queue.now place result }
     ensures leads { IsLead queue.now result lead.new }
 {

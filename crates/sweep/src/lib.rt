@@ -12,9 +12,9 @@
 //! samples that are late. The better of the two is the best of all.
 //!
 //! Of several samples that agree the first is wanted, and rounding makes more of them agree. So the
-//! highest level over each piece is found first, and then the first index that reaches it, digit by
-//! digit: the indices are cut into blocks, each with the height below which one of its samples
-//! lies, and in each of five passes one of 16 blocks is chosen over each piece.
+//! highest level over a piece is found first, and then the first index that reaches it. Mostly only
+//! the highest sample does. Else the indices are cut into blocks, each with the height below which
+//! one of its samples lies, and one of 128 is chosen three times.
 //!
 //! Where the pieces aren't known beforehand, [`tables_of`] lays the samples of each server out
 //! once, by a sort, and [`parts_near`] says by a search what the best of them say over any one

@@ -137,7 +137,7 @@ fn level_over(maxima: &Maxima, near: &mut Near, stretch: UnsignedStretch, drift_
 
 /// The level that an extreme reaches which stands so far above what it falls. If it is some four
 /// seconds above `from` at most, 64 bits are divided, which takes a fifth of the time.
-fn level_of(rise: u128, from: u128, drift_ppb: u32) -> u128
+pub fn level_of(rise: u128, from: u128, drift_ppb: u32) -> u128
     requires rate { IsRate drift_ppb }
     requires in_range { from ≤ 2 ^ 96 }
     ensures { result ≡ rise / (billion - drift_ppb) }
@@ -152,7 +152,7 @@ fn level_of(rise: u128, from: u128, drift_ppb: u32) -> u128
 }
 
 /// A second before a level.
-fn second_before(level: u128) -> u128
+pub fn second_before(level: u128) -> u128
     ensures { result ≤ 2 ^ 96 }
 {
     level.saturating_sub(TICKS_PER_SECOND).min(1 << 96)

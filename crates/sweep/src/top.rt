@@ -7,7 +7,7 @@ ghost use Rattle.sweep.specs.Top.{higher_of, is_above};
 #[derive(Clone, Copy)]
 pub struct Top {
     pub level: u128,
-    pub index: u32,
+    pub index: usize,
 }
 
 /// The higher of two.

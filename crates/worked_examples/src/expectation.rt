@@ -39,11 +39,3 @@ pub(crate) fn assert_equal_at<T: PartialEq + Debug + Drop, C: Debug + Drop>(
 ) {
     assert_eq!(rt; seen, wanted, "{case:?}");
 }
-
-/// The two parts of a row in a table that is text.
-pub(crate) fn halves<'a>(rt: &impl Abort, row: &'a str) -> (&'a str, &'a str) {
-    match row.split_once(" | ") {
-        Some(halves) => halves,
-        None => panic!(rt; "{row}"),
-    }
-}

@@ -1,6 +1,5 @@
 //! From frames and claims to exchanges.
 
-mod captures;
 mod claims;
 mod exchanges;
 mod frames;

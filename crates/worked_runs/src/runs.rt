@@ -2,29 +2,20 @@
 
 ghost use Rattle.std.specs.Prelude.{◌≡◌, Ok};
 
-use audit::{At, Outputs, Refute, Request, Style};
+use audit::{Outputs, Request, Style};
 use byte_stream::{Cut, TestSink};
-use program::{Invocation, JudgedPaths, Judgement, Listed, Paths, Place, Table, respond};
+use program::{Invocation, JudgedPaths, Judgement, Paths, Place, Table, respond};
 use std::alloc::Global;
 use std::fmt::Debug;
 use std::hash::{BuildHasherDefault, FoldHasher};
 use std::process::Abort;
 use std::str;
-use vectors::{C1, K1, SECOND, V1};
-
-const REFUTATION: &str = "{\"error\":42953968,\"false\":[],\"reading\":4294967296000000000}";
+use vectors::{C1, K1, V1};
 
 /// What sha256sum prints of them.
 const SUMS: &str = "\
 cc74a6c536b38e315159a9e3ff872f3d38bc292d19b8b7e66de5986e2a8450af  claim.json
-c21997db04f56146ca9cc84475371e27d3699eff8e5d3b3d198a267e0c08aebb  recording.pcap
-9261c36c34318db779244d761d07ec1f5070284af2b92b66108148af46400035  certificate.json
-";
-
-/// The same, but for the capture's.
-const OTHER_SUMS: &str = "\
-cc74a6c536b38e315159a9e3ff872f3d38bc292d19b8b7e66de5986e2a8450af  claim.json
-d21997db04f56146ca9cc84475371e27d3699eff8e5d3b3d198a267e0c08aebb  recording.pcap
+c21997db04f56146ca9cc84475371e27d3699eff8e5d3b3d198a267e0c08aebb  -
 9261c36c34318db779244d761d07ec1f5070284af2b92b66108148af46400035  certificate.json
 ";
 
@@ -62,14 +53,6 @@ fn paths(rt: &impl Abort, alloc: Global, claim: &str, capture: &str, sums: &str)
     }
 }
 
-/// The call of `list` with this operand.
-fn list(rt: &impl Abort, alloc: Global, capture: &str) -> Invocation {
-    Invocation::List(Listed {
-        style: Style::Plain,
-        path: Some(assert_ok(rt, String::from_str(alloc, capture))),
-    })
-}
-
 /// The question of a claim and a capture.
 fn ask(rt: &impl Abort, alloc: Global, request: Request, claim: &str, capture: &str) -> Invocation {
     Invocation::Ask(request, paths(rt, alloc, claim, capture, ""))
@@ -87,17 +70,14 @@ fn judge(
     Invocation::Judge(judgement, JudgedPaths { evidence, second })
 }
 
-/// An invocation over the worked files comes to this status, with these texts on standard output
+/// An invocation over the worked files ends with this status, with these texts on standard output
 /// and standard error.
 fn comes_to(rt: &impl Abort, alloc: Global, invocation: Invocation, wanted: (u8, &str, &str)) {
     let places = [
         place("claim.json", C1.as_bytes()),
-        place("recording.pcap", &V1),
         place("-", &V1),
         place("certificate.json", K1.as_bytes()),
-        place("refutation.json", REFUTATION.as_bytes()),
         place("SUMS", SUMS.as_bytes()),
-        place("OTHER_SUMS", OTHER_SUMS.as_bytes()),
     ];
     let mut files = Table::new(alloc, &places, Cut::Growing);
     let mut to = Outputs {
@@ -116,130 +96,38 @@ fn place<'a>(path: &'a str, bytes: &'a [u8]) -> Place<'a> {
     Place { path, bytes }
 }
 
-/// Each file is read for its own part.
+/// Each file is read for its own part, and a file that isn't there is told.
 #[test]
 fn judgements(rt: HostRuntime) {
     let alloc = rt.alloc();
-    let (check, refute) = (Judgement::Check, Judgement::Refute(Refute { drift: false }));
-    let (claim, capture) = ("claim.json", "recording.pcap");
-    let (certificate, refutation) = ("certificate.json", "refutation.json");
-    for (judgement, files, wanted) in [
-        (check, [claim, capture, certificate, ""], (0, CHECKED, "")),
-        (check, [claim, "-", certificate, ""], (0, CHECKED, "")),
+    let refused = "ntpaudit: claim 2 field field 0\n";
+    let missing = "ntpaudit: device certificate\n";
+    for (files, wanted) in [
         (
-            refute,
-            [claim, capture, refutation, ""],
-            (1, "refuted no\n", ""),
-        ),
-        (
-            check,
-            [certificate, capture, claim, ""],
-            (2, "", "ntpaudit: claim 2 field field 0\n"),
-        ),
-        (
-            check,
-            [claim, certificate, capture, ""],
-            (2, "", "ntpaudit: certificate 1 json\n"),
-        ),
-        (
-            check,
-            ["none", "none", "none", "none"],
-            (4, "", "ntpaudit: device claim\n"),
-        ),
-        (
-            check,
-            [claim, "none", "none", "none"],
-            (4, "", "ntpaudit: device certificate\n"),
-        ),
-        (
-            refute,
-            [claim, "none", "none", "none"],
-            (4, "", "ntpaudit: device refutation\n"),
-        ),
-        (
-            check,
-            [claim, "none", certificate, "none"],
-            (4, "", "ntpaudit: device capture\n"),
-        ),
-        (
-            check,
-            [claim, capture, certificate, "none"],
-            (4, "", "ntpaudit: device sums\n"),
-        ),
-        (
-            check,
-            [claim, capture, certificate, "SUMS"],
+            ["claim.json", "-", "certificate.json", "SUMS"],
             (0, CHECKED, ""),
         ),
         (
-            check,
-            [claim, capture, certificate, claim],
-            (2, "", "ntpaudit: sums form line 1\n"),
+            ["certificate.json", "-", "claim.json", ""],
+            (2, "", refused),
         ),
-        (
-            check,
-            [claim, capture, certificate, "OTHER_SUMS"],
-            (2, "", "ntpaudit: sums differ capture\n"),
-        ),
-        (
-            refute,
-            [claim, capture, refutation, "SUMS"],
-            (2, "", "ntpaudit: sums missing refutation\n"),
-        ),
+        (["claim.json", "none", "none", "none"], (4, "", missing)),
     ] {
-        comes_to(&rt, alloc, judge(&rt, alloc, judgement, files), wanted);
+        let judgement = judge(&rt, alloc, Judgement::Check, files);
+        comes_to(&rt, alloc, judgement, wanted);
     }
 }
 
-/// Each question is the one that was asked.
+/// A question, and a refused command line.
 #[test]
-fn questions(rt: HostRuntime) {
+fn others(rt: HostRuntime) {
     let alloc = rt.alloc();
-    let at = Request::At(At {
-        unix_second: SECOND,
-    });
-    let moment = "192.0.2.1 -42949674 42953969\nhull -42949674 42953969\n";
     let settled = concat!(
         "{\"pieces\":[{\"entries\":[[0,0]],\"upto\":4294967296000000000}]}",
         "\n"
     );
-    for (request, claim, capture, wanted) in [
-        (at, "claim.json", "recording.pcap", (0, moment, "")),
-        (Request::Settle, "claim.json", "-", (0, settled, "")),
-        (
-            Request::FindRefutation,
-            "claim.json",
-            "-",
-            (1, "nothing refutation\n", ""),
-        ),
-        (at, "none", "none", (4, "", "ntpaudit: device claim\n")),
-        (
-            at,
-            "claim.json",
-            "none",
-            (4, "", "ntpaudit: device capture\n"),
-        ),
-    ] {
-        comes_to(&rt, alloc, ask(&rt, alloc, request, claim, capture), wanted);
-    }
-}
-
-/// A listing is of its own file; help, and a refused command line.
-#[test]
-fn others(rt: HostRuntime) {
-    let alloc = rt.alloc();
-    let torn = "ntpaudit: capture 2 magic\n";
-    let fault = "ntpaudit: device capture\n";
-    comes_to(&rt, alloc, list(&rt, alloc, "claim.json"), (2, "", torn));
-    comes_to(&rt, alloc, list(&rt, alloc, "none"), (4, "", fault));
-    let text = assert_ok(&rt, String::from_str(alloc, "a text\n"));
-    comes_to(&rt, alloc, Invocation::Show(text), (0, "a text\n", ""));
+    let asked = ask(&rt, alloc, Request::Settle, "claim.json", "-");
+    comes_to(&rt, alloc, asked, (0, settled, ""));
     let text = assert_ok(&rt, String::from_str(alloc, "a text\n"));
     comes_to(&rt, alloc, Invocation::Refuse(text), (5, "", "a text\n"));
-    comes_to(
-        &rt,
-        alloc,
-        Invocation::RefuseTime(None),
-        (5, "", "ntpaudit: time\n"),
-    );
 }

@@ -1,15 +1,15 @@
 //! What is made for `at`.
 
 ghost use Rattle.std.specs.Prelude.{◌≡◌, ◌<◌, IfOk, length, All};
+ghost use Rattle.byte_stream.specs.State.{IsWritable};
 ghost use Rattle.claim_file.specs.Claim.{IsLawful, data_of};
 ghost use Rattle.span_cover.specs.Piece.{IsPiece};
 ghost use Rattle.audit.specs.At as spec;
 ghost use Rattle.audit.specs.At.{at};
 ghost use Rattle.audit.specs.Evidence.{IsLawfulEvidence, evidence_data};
-ghost use Rattle.audit.specs.Question.{no_finding};
+ghost use Rattle.audit.specs.Report.{TellsAlone};
 
 use crate::evidence::Evidence;
-use crate::question::Question;
 use crate::sample_list::samples_of;
 use crate::whole_text::publish_text;
 use audit_text::parts_text;
@@ -70,38 +70,20 @@ fn at_text(
     hull_text(alloc, style, claim, parts.as_slice())
 }
 
-impl Question for At {
-    type Second = ();
-
-    type Finding = ();
-
-    ghost asks = { λ asked. at asked.unix_second };
-
-    ghost finding = { λ _. no_finding };
-
-    ghost IsFound = { λ _ _ _ _. Unit {0} };
-
-    fn find(
-        self,
-        _alloc: Global,
-        _style: Style,
-        _second: &(),
-        _evidence: &Evidence,
-    ) -> Result<(), RunFault> {
-        Ok(())
-    }
-
-    fn tell<S: Sink>(
-        self,
-        alloc: Global,
-        style: Style,
-        _second: &(),
-        evidence: &Evidence,
-        _found: &(),
-        out: &mut S,
-    ) -> Result<Outcome, RunFault> {
-        hulls_hold_the_error();
-        let text = at_text(alloc, style, self.unix_second, evidence);
-        publish_text(out, text, Outcome::Yes)
-    }
+/// Tells what each server says about the clock at a moment.
+pub(crate) fn tell<S: Sink>(
+    alloc: Global,
+    asked: At,
+    style: Style,
+    evidence: &Evidence,
+    out: &mut S,
+) -> Result<Outcome, RunFault>
+    requires evidence { IsLawfulEvidence evidence.now }
+    requires out { IsWritable (S.state out.old) }
+    ensures { TellsAlone (at asked.unix_second) style (evidence_data evidence.now)
+        (S.state out.old) (S.state out.new) result }
+{
+    hulls_hold_the_error();
+    let text = at_text(alloc, style, asked.unix_second, evidence);
+    publish_text(out, text, Outcome::Yes)
 }

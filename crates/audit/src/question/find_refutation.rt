@@ -1,16 +1,17 @@
 //! What is made for `find --refutation`.
 
 ghost use Rattle.std.specs.Prelude.{◌≡◌, ◌++◌, IfOk, codes, option_map};
+ghost use Rattle.byte_stream.specs.State.{IsWritable};
 ghost use Rattle.certificate.specs.Refutation.{data_of as refutation_data};
 ghost use Rattle.certificate.specs.RefutationWriting.{refutation_text};
 ghost use Rattle.claim_file.specs.Claim.{data_of};
 ghost use Rattle.audit.specs.FindRefutation as spec;
-ghost use Rattle.audit.specs.FindRefutation.{find_refutation, found_refutation_outcome};
-ghost use Rattle.audit.specs.Question.{no_finding};
+ghost use Rattle.audit.specs.Evidence.{IsLawfulEvidence, evidence_data};
+ghost use Rattle.audit.specs.FindRefutation.{found_refutation_outcome};
+ghost use Rattle.audit.specs.Report.{TellsAlone};
 
 use crate::evidence::Evidence;
 use crate::laws::course_beyond_the_bound_contests_the_claim;
-use crate::question::Question;
 use crate::whole_text::publish_text;
 use audit_text::{no_refutation_text, refutation_answer};
 use byte_stream::Sink;
@@ -21,10 +22,6 @@ use finder::find_refutation;
 use line_writer::Style;
 use report::{Outcome, RunFault};
 use std::alloc::{AllocError, Global};
-
-/// Is there a refutation of the claim?
-#[derive(Clone, Copy, Debug)]
-pub(crate) struct FindRefutation;
 
 /// The outcome of a search.
 fn outcome_of(found: &Option<Refutation>) -> Outcome
@@ -67,41 +64,22 @@ fn found_refutation_text(
     }
 }
 
-impl Question for FindRefutation {
-    type Second = ();
-
-    type Finding = ();
-
-    ghost asks = { λ _. find_refutation };
-
-    ghost finding = { λ _. no_finding };
-
-    ghost IsFound = { λ _ _ _ _. Unit {0} };
-
-    fn find(
-        self,
-        _alloc: Global,
-        _style: Style,
-        _second: &(),
-        _evidence: &Evidence,
-    ) -> Result<(), RunFault> {
-        Ok(())
-    }
-
-    fn tell<S: Sink>(
-        self,
-        alloc: Global,
-        style: Style,
-        _second: &(),
-        evidence: &Evidence,
-        _found: &(),
-        out: &mut S,
-    ) -> Result<Outcome, RunFault> {
-        course_beyond_the_bound_contests_the_claim();
-        accepted_refutations_have_a_course();
-        yes_and_refutation_never_meet();
-        let found = find_refutation(&evidence.held.exchanges, &evidence.claim);
-        let text = found_refutation_text(alloc, style, &evidence.claim, &found);
-        publish_text(out, text, outcome_of(&found))
-    }
+/// Tells whether there is a refutation of the claim.
+pub(crate) fn tell<S: Sink>(
+    alloc: Global,
+    style: Style,
+    evidence: &Evidence,
+    out: &mut S,
+) -> Result<Outcome, RunFault>
+    requires evidence { IsLawfulEvidence evidence.now }
+    requires out { IsWritable (S.state out.old) }
+    ensures { TellsAlone spec.find_refutation style (evidence_data evidence.now)
+        (S.state out.old) (S.state out.new) result }
+{
+    course_beyond_the_bound_contests_the_claim();
+    accepted_refutations_have_a_course();
+    yes_and_refutation_never_meet();
+    let found = find_refutation(&evidence.held.exchanges, &evidence.claim);
+    let text = found_refutation_text(alloc, style, &evidence.claim, &found);
+    publish_text(out, text, outcome_of(&found))
 }

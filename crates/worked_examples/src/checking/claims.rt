@@ -14,17 +14,3 @@ pub(crate) fn claim_like(rt: &impl Abort, alloc: Global, edits: &[Edit<'_>]) -> 
 {
     assert_ok(rt, read_claim(alloc, claim_of(rt, alloc, edits).as_bytes()))
 }
-
-/// The same with this bound in ticks in place of the one that stands there.
-pub(crate) fn claim_with_bound(
-    rt: &impl Abort,
-    alloc: Global,
-    edits: &[Edit<'_>],
-    bound: u32,
-) -> Claim
-    ensures lawful { IsLawful (data_of result) }
-{
-    let mut claim = claim_like(rt, alloc, edits);
-    claim.bound = i128::from(bound);
-    claim
-}

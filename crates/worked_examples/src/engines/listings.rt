@@ -1,8 +1,7 @@
-//! Listings: the lines of the worked capture, of each of its prefixes, and with devices that fail.
+//! Listings: the lines of the worked capture, and with devices that fail.
 
 use crate::engines::trial::{Answer, lines_of};
 use crate::expectation::{assert_equal, assert_equal_at, assert_ok, table};
-use crate::inputs::{Capture, capture_of};
 use CaptureFault::{TornHeader, TornRecord};
 use byte_stream::{Cut, Sink, TestFeed, TestSink};
 use listing::{list_from, run_list};
@@ -20,21 +19,16 @@ const LINE_1: &str = "1 1000000000.020000 192.0.2.1:123 192.0.2.10:49152 v4 m4 l
     0 0 47505300 bf45488000000000 1122334455667788 bf454880028f5c29 bf454880028f5c29 \
     4294967296085899345 4294967296085903641 4294967296042949673 4294967296042949673\n";
 
-const NANO_LINE: &str = "0 1000000000.000000000 192.0.2.10:49152 192.0.2.1:123 v4 m3 l0 s0 p0 0 0 \
-    00000000 0000000000000000 0000000000000000 0000000000000000 1122334455667788 \
-    4294967296000000000 4294967296000000005 - 10193815036915775368\n";
-
-const LATER_LINE: &str = "0 1000000000.001000000 192.0.2.10:49152 192.0.2.1:123 v4 m3 l0 s0 p0 0 0 \
-    00000000 0000000000000000 0000000000000000 0000000000000000 1122334455667788 \
-    4294967296004294967 4294967296004294972 - 10193815036915775368\n";
-
 const NO_RECORD: &str = "records 0 packets 0\n";
-
-const ONE_RECORD: &str = "records 1 packets 1\n";
 
 const CLOSING: &str = "records 2 packets 2\n";
 
-const CUTS: [Cut; 3] = [Cut::Fixed(1), Cut::Growing, Cut::Fixed(usize::MAX)];
+/// How a feed cuts `V1`, and how many pulls that takes at least.
+const CUTS: [(Cut, u64); 3] = [
+    (Cut::Fixed(1), 236),
+    (Cut::Growing, 22),
+    (Cut::Fixed(usize::MAX), 1),
+];
 
 /// The listing of a file is these lines and this answer, from a feed that cuts the bytes so.
 fn lists_cut(
@@ -51,66 +45,19 @@ fn lists_cut(
     assert_equal_at(rt, seen, (wanted, lines.len(), 0, 0), (cut, file.len()));
 }
 
-/// The same however the feed cuts the bytes, and from memory, where the file has a whole header.
-fn lists(rt: &impl Abort, alloc: Global, file: &[u8], (lines, wanted): (&[&str], Answer)) {
-    for cut in CUTS {
-        lists_cut(rt, alloc, file, cut, (lines, wanted));
-    }
-    if let Ok(mut source) = Whole::begin(file) {
-        let mut out = assert_ok(rt, TestSink::new(alloc, 1000, 1000, None, false));
-        let mut buffer = assert_ok(rt, output_buffer(alloc));
-        assert_equal(rt, list_from(&mut source, &mut buffer, &mut out), wanted);
-        assert_equal(rt, lines_of(rt, out.bytes(), lines), lines.len());
-    }
-}
-
-/// A request in nanoseconds, one whose sub-second field is a millisecond there, and a capture in
-/// the other byte order.
-const FILES: [(Capture, &[&str]); 3] = table! {
-    (&[(0, 130)], &[(0, b"\x4d\x3c\xb2\xa1")]), &[NANO_LINE, ONE_RECORD];
-    (&[(0, 130)], LATER), &[LATER_LINE, ONE_RECORD];
-    (&[(0, 236)], BIG_ENDIAN), &[LINE_0, LINE_1, CLOSING];
-};
-
-const LATER: &[(usize, &[u8])] = &[(0, b"\x4d\x3c\xb2\xa1"), (28, b"\x40\x42\x0f\x00")];
-
-const BIG_ENDIAN: &[(usize, &[u8])] = &[
-    (0, b"\xa1\xb2\xc3\xd4\x00\x02\x00\x04"),
-    (16, b"\x00\x04\x00\x00\x00\x00\x00\x01"),
-    (24, b"\x3b\x9a\xca\x00\x00\x00\x00\x00"),
-    (32, b"\x00\x00\x00\x5a\x00\x00\x00\x5a"),
-    (130, b"\x3b\x9a\xca\x00\x00\x00\x4e\x20"),
-    (138, b"\x00\x00\x00\x5a\x00\x00\x00\x5a"),
-];
-
+/// The listing is the same however the feed cuts the bytes, and from memory.
 #[test]
-fn lists_files(rt: HostRuntime) {
-    for (capture, lines) in FILES {
-        let file = capture_of(&rt, rt.alloc(), capture);
-        lists(&rt, rt.alloc(), file.as_slice(), (lines, Ok(Outcome::Yes)));
+fn lists(rt: HostRuntime) {
+    let wanted: (&[&str], Answer) = (&[LINE_0, LINE_1, CLOSING], Ok(Outcome::Yes));
+    for (cut, _) in CUTS {
+        lists_cut(&rt, rt.alloc(), &V1, cut, wanted);
     }
-}
-
-/// What the listing of this many bytes of `V1` says.
-fn listing_of(length: usize) -> (&'static [&'static str], Answer) {
-    let torn = |fault| Err(RunFault::Capture(fault));
-    match length {
-        0..=23 => (&[], torn(TornHeader)),
-        24 => (&[NO_RECORD], Ok(Outcome::Yes)),
-        25..=129 => (&[], torn(TornRecord(24))),
-        130 => (&[LINE_0, ONE_RECORD], Ok(Outcome::Yes)),
-        131..=235 => (&[LINE_0], torn(TornRecord(130))),
-        _ => (&[LINE_0, LINE_1, CLOSING], Ok(Outcome::Yes)),
-    }
-}
-
-#[test]
-fn lists_each_prefix(rt: HostRuntime) {
-    for length in 0..=V1.len() {
-        if let Some(prefix) = V1.get(..length) {
-            lists(&rt, rt.alloc(), prefix, listing_of(length));
-        }
-    }
+    let mut source = assert_ok(&rt, Whole::begin(&V1));
+    let mut out = assert_ok(&rt, TestSink::new(rt.alloc(), 1000, 1000, None, false));
+    let mut buffer = assert_ok(&rt, output_buffer(rt.alloc()));
+    let answer = list_from(&mut source, &mut buffer, &mut out);
+    let count = lines_of(&rt, out.bytes(), wanted.0);
+    assert_equal(&rt, (answer, count), (wanted.1, 3));
 }
 
 /// A listing in which one pull fails: no closing line goes out. If each pull gives one byte, the
@@ -134,15 +81,18 @@ fn fails(rt: &impl Abort, alloc: Global, cut: Cut, failing: u64) -> bool {
     true
 }
 
-/// Each pull fails in turn, until a run meets none that does.
+/// Each pull fails in turn, until a run meets none that does, which isn't before all was given.
 #[test]
 fn pulls_that_fail(rt: HostRuntime) {
-    for cut in CUTS {
+    for (cut, least) in CUTS {
+        let mut failed = 0;
         for failing in 1..1000 {
             if !fails(&rt, rt.alloc(), cut, failing) {
                 break;
             }
+            failed = failing;
         }
+        assert!(rt; failed >= least, "{cut:?} {failed}");
     }
 }
 

@@ -1,11 +1,10 @@
-//! One run of an engine, with devices that go as a test says, and rows of what runs answer.
+//! One run of an engine, with devices that go as a test says, and what it answers.
 
 ghost use Rattle.byte_stream.specs.State.{IsWritable};
 
-use crate::engines::envelopes::SERVERS;
-use crate::expectation::{assert_equal, assert_equal_at, assert_ok, table};
-use crate::inputs::{Capture, Edit, REFUTATION, capture_of, claim_of};
-use audit::{At, Check, Find, Refute, Request, Step, Style};
+use crate::expectation::table;
+use crate::inputs::REFUTATION;
+use audit::{At, Check, Envelope, Find, PLAIN_ENVELOPE, Refute, Request, Step, Style};
 use byte_stream::{Cut, Feed, Sink, TestFeed, TestSink};
 use listing::run_list;
 use report::{Input, Outcome, RunFault};
@@ -24,6 +23,11 @@ pub(crate) enum Command<'a> {
 }
 
 impl<'a> Command<'a> {
+    /// Whether it has a second input.
+    pub(crate) fn has_second(self) -> bool {
+        matches!(self, Command::Check(_) | Command::Refute(_))
+    }
+
     /// Which its second input is, and what that holds. One that a command hasn't stays unread.
     pub(crate) fn second(self) -> (Input, &'a [u8]) {
         match self {
@@ -47,31 +51,55 @@ pub(crate) type Answer = Result<Outcome, RunFault>;
 
 pub(crate) const YES: Answer = Ok(Outcome::Yes);
 
-pub(crate) const NO: Answer = Ok(Outcome::No);
+const NO: Answer = Ok(Outcome::No);
 
-/// A command, and its answer on the worked inputs.
-pub(crate) type Worked = (Command<'static>, Answer);
+/// The lines of a text, each with its line feed.
+pub(crate) type Lines = &'static [&'static str];
+
+/// A command, and its answer and its lines on the worked inputs.
+pub(crate) type Worked = (Command<'static>, Answer, Lines);
 
 /// The worked moment.
 pub(crate) const AT: Command<'static> = Command::Ask(Request::At(At {
     unix_second: SECOND,
 }));
 
-/// Pieces of 64 seconds.
-pub(crate) const LONG_STEP: Step = Step { seconds: 64 };
+/// A certificate in pieces of 64 seconds.
+const FIND: Command<'static> = Command::Ask(Request::Find(Find {
+    step: Step { seconds: 64 },
+}));
 
-/// A certificate in such pieces.
-pub(crate) const FIND: Command<'static> = Command::Ask(Request::Find(Find { step: LONG_STEP }));
+/// Such pieces, with what each server says.
+const SERVERS: Command<'static> = Command::Ask(Request::Envelope(Envelope {
+    servers: true,
+    ..PLAIN_ENVELOPE
+}));
+
+const SAMPLE: &str = "0 192.0.2.1 0 1 offset -4295 1 delay 85895050 85903641 \
+    low -42949674 high 42953969\n";
+
+const COUNTS: &str = "records 2 requests 1 replies 1 samples 1 version 0 leap 0 stratum 0 \
+    precision 0 zero 0 norequest 0 ambiguous 0 warnings 0\n";
+
+const MOMENT: &str = "192.0.2.1 -42949674 42953969\nhull -42949674 42953969\n";
+
+const CLAIM: &str = "client 192.0.2.10 servers 1 false_max 0\n\
+    span 1000000000 1000000000 bound_ns 10001001 drift_ppb 0 reading_ns 0\n";
+
+const PROVED: &str = "advice sources 1\nadvice reference 47505300\npieces 1\nverdict yes\n";
+
+const PIECE: &str = "0 192.0.2.1 -42949674 42953969\n\
+    0 1000000000 1000000000 -42949674 42953969\nbound_ns 10001001 piece 0\n";
 
 /// Each command that has a claim.
 pub(crate) const COMMANDS: [Worked; 7] = table! {
-    Command::Ask(Request::Samples), YES;
-    AT, YES;
-    Command::Check(K1), YES;
-    FIND, YES;
-    Command::Refute(REFUTATION), NO;
-    Command::Ask(Request::FindRefutation), NO;
-    SERVERS, YES;
+    Command::Ask(Request::Samples), YES, &[SAMPLE, COUNTS];
+    AT, YES, &[MOMENT];
+    Command::Check(K1), YES, &[CLAIM, COUNTS, PROVED];
+    FIND, YES, &[K1, "\n"];
+    Command::Refute(REFUTATION), NO, &["refuted no\n"];
+    Command::Ask(Request::FindRefutation), NO, &["nothing refutation\n"];
+    SERVERS, YES, &[PIECE];
 };
 
 /// The input of which a pull fails, and the number of that pull, the first being number 1.
@@ -136,50 +164,6 @@ pub(crate) fn run<'a>(
         claim,
         second,
         capture,
-    }
-}
-
-/// A run gives this answer and these lines, from feeds that give one byte with each pull, and one,
-/// two and so on. Over a sink whose `finish` alone fails a refusal stays, and an outcome becomes
-/// `Write`.
-fn gives(rt: &impl Abort, alloc: Global, asked: Asked<'_>, wanted: Answer, lines: &[&str]) {
-    for (cut, finish_fails) in table! {
-        Cut::Fixed(1), false;
-        Cut::Fixed(1), true;
-        Cut::Growing, false;
-        Cut::Growing, true;
-    } {
-        let mut out = assert_ok(rt, TestSink::new(alloc, 2000, 2000, None, finish_fails));
-        let ran = run(alloc, asked, cut, None, &mut out);
-        let answer = match wanted {
-            Ok(_) if finish_fails => Err(RunFault::Write(out.bytes().len() as u64)),
-            answer => answer,
-        };
-        let seen = (ran.answer, ran.faults(), out.faults());
-        let wanted = (answer, 0, u64::from(finish_fails));
-        assert_equal_at(rt, seen, wanted, (asked.command, lines, finish_fails));
-        assert_equal(rt, lines_of(rt, out.bytes(), lines), lines.len());
-    }
-}
-
-/// The lines of a text, each with its line feed.
-type Lines = &'static [&'static str];
-
-/// A command, the edits that make its claim of `C1`, its capture, its answer and its lines.
-pub(crate) type Row<'a> = (Command<'a>, &'a [Edit<'a>], Capture, Answer, Lines);
-
-/// The rows of a table hold, in this style.
-pub(crate) fn hold(rt: &impl Abort, alloc: Global, style: Style, rows: &[Row<'_>]) {
-    for (command, edits, capture, answer, lines) in rows {
-        let claim = claim_of(rt, alloc, edits);
-        let capture = capture_of(rt, alloc, *capture);
-        let asked = Asked {
-            command: *command,
-            style,
-            claim: claim.as_bytes(),
-            capture: capture.as_slice(),
-        };
-        gives(rt, alloc, asked, *answer, lines);
     }
 }
 

@@ -70,18 +70,3 @@ fn padding(rt: HostRuntime) {
     assert_equal(&rt, datagram(&frame[..90]), Ok(REQUEST));
     assert_equal(&rt, datagram(&frame), Ok(REQUEST));
 }
-
-/// The request of `V1` behind one VLAN tag, with 4 bytes of padding, and behind two.
-#[test]
-fn tags(rt: HostRuntime) {
-    let mut one = [0; 98];
-    one[..12].copy_from_slice(&V1[40..52]);
-    one[12..16].copy_from_slice(b"\x81\x00\x00\x05");
-    one[16..94].copy_from_slice(&V1[52..130]);
-    let mut two = one;
-    two[16..20].copy_from_slice(b"\x81\x00\x00\x05");
-    two[20..].copy_from_slice(&V1[52..130]);
-    assert_equal(&rt, datagram(&one), Ok(REQUEST));
-    assert_equal(&rt, datagram(&one[..16]), Err(Skip::Short));
-    assert_equal(&rt, datagram(&two), Err(Skip::OtherType));
-}

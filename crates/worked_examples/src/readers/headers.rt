@@ -21,19 +21,6 @@ const MIXED: [u8; 48] = [
 /// the reference identifier; and the reference, origin, receive and transmit timestamps.
 type Fields = ([u8; 4], [i8; 2], [u32; 2], [u8; 4], [u64; 4]);
 
-const REPLY_FIELDS: Fields = (
-    [0, 4, 4, 1],
-    [6, -32],
-    [0, 0],
-    [0x47, 0x50, 0x53, 0x00],
-    [
-        0xbf45_4880_0000_0000,
-        0x1122_3344_5566_7788,
-        0xbf45_4880_028f_5c29,
-        0xbf45_4880_028f_5c29,
-    ],
-);
-
 const MIXED_FIELDS: Fields = (
     [3, 3, 1, 147],
     [-106, -103],
@@ -59,10 +46,8 @@ fn fields_of(h: &NtpView<'_>) -> Fields {
 
 #[test]
 fn reads_every_field(rt: HostRuntime) {
-    for (bytes, want) in [(REPLY, REPLY_FIELDS), (MIXED, MIXED_FIELDS)] {
-        let got = view(&bytes).map(|header| fields_of(&header));
-        assert_equal(&rt, got, Some(want));
-    }
+    let got = view(&MIXED).map(|header| fields_of(&header));
+    assert_equal(&rt, got, Some(MIXED_FIELDS));
 }
 
 /// Root delay, root dispersion, precision (its byte), and the root distance that they make.

@@ -1,11 +1,5 @@
-use Rattle.std.proofs.Common.{Err, List, ℕ, sym, subst}
-use Rattle.std.specs.Prelude.{IfSome}
-use Rattle.pcap_reader.specs.Source.{TakesFrom-at_most, TakesFrom-trans}
+use Rattle.audit.proofs.Common.{Err, List, ℕ, sym, subst, IfSome, TakesFrom-at_most, TakesFrom-trans, compact_data, RunFault, Reads, capture_read}
 use Rattle.claim_file.specs.Claim.{data_of}
-use Rattle.pairing.specs.Compact.{compact_data}
-use Rattle.report.specs.declared.fault.RunFault.{RunFault}
-use Rattle.report.specs.Reading.{Reads}
-use Rattle.audit.specs.CaptureInput.{capture_read}
 use Rattle.audit.proofs.Capture.{capture_is_read, capture_unread, capture_refused}
 use Rattle.audit.proofs.capture_input.read_capture_from.Goals as goal
 

@@ -1,28 +1,29 @@
+use Rattle.std.proofs.Common.{refl}
 use Rattle.audit.specs.Question.{asked_of}
 use Rattle.audit.proofs.RunSteps.{told_twice}
 use Rattle.audit.proofs.engine.run_twice.Goals as goal
 
-pub returns : goal.returns
-returns g c =
-    let read = c.read_inputs-capture.ensures in
+pub returns-in-Ok : goal.returns-in-Ok
+returns-in-Ok g c =
     told_twice (record {
       nanoseconds = c.bounds_of_bytes_hold_in_nanoseconds.ensures;
       headline = c.yes_shows_the_headline.ensures;
       contested = c.course_beyond_the_bound_contests_the_claim.ensures;
     }) (asked_of (g.Q.Question.asks c.args.question) g.Q.Second.SecondInput.kind c.args.style)
-    g.Q.Second.SecondInput.said _ _ _ _ _ _ _ _ _ c.read_inputs-capture.result.1 (record {
-      of_bytes = read.of_bytes;
-      refused = read.refused;
-      unwritten = read.unwritten;
-      claim_faults = read.claim_faults;
-      second_faults = read.second_faults;
-      capture_faults = read.capture_faults;
-      second_untouched = read.second_untouched;
-      capture_untouched = read.capture_untouched;
-      claim_at_most = read.claim_at_most;
-      second_at_most = read.second_at_most;
-      capture_at_most = read.capture_at_most;
-      claim_memory = read.claim_memory;
-      second_memory = read.second_memory;
-      capture_memory = read.capture_memory;
-    }) c.tell_inputs_twice-answer.ensures
+    g.Q.Second.SecondInput.said _ _ _ _ _ _ _ _ _ c.read_inputs-capture.result.1
+    (c.read_inputs-capture.ensures.has_read _ _) (rw c.in-Ok.is c.tell_finding_twice-answer.ensures)
+
+pub publish-requires-clause-unwritten : goal.publish-requires-clause-unwritten
+publish-requires-clause-unwritten g c =
+    let sink = g.D.Sink.state c.args.draft.now in
+    rw c.in-Err.is at (c.read_inputs-capture.ensures.has_read sink sink).unwritten
+
+pub returns-in-Err : goal.returns-in-Err
+returns-in-Err g c =
+    told_twice (record {
+      nanoseconds = c.bounds_of_bytes_hold_in_nanoseconds.ensures;
+      headline = c.yes_shows_the_headline.ensures;
+      contested = c.course_beyond_the_bound_contests_the_claim.ensures;
+    }) (asked_of (g.Q.Question.asks c.args.question) g.Q.Second.SecondInput.kind c.args.style)
+    g.Q.Second.SecondInput.said _ _ _ _ _ _ _ _ _ c.read_inputs-capture.result.1
+    (c.read_inputs-capture.ensures.has_read _ _) (rw c.in-Err.is (c.publish.ensures, refl))

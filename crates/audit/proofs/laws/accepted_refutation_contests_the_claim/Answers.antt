@@ -1,6 +1,4 @@
-use Rattle.std.proofs.Common.{List, length, sym, subst}
-use Rattle.pairing.specs.Exchange.{AreLawful}
-use Rattle.pairing.specs.declared.exchange.Exchange.{Exchange}
+use Rattle.audit.proofs.Common.{List, length, sym, subst, AreLawful, Exchange}
 use Rattle.audit.proofs.Excess.{course_beyond, given_records}
 use Rattle.audit.proofs.Headline.{collected_of}
 use Rattle.audit.proofs.Nanosecond.{claim_of_read}

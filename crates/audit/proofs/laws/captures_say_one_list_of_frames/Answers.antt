@@ -1,6 +1,4 @@
-use Rattle.std.proofs.Common.{◌∙◌, map, sym, ap}
-use Rattle.pcap_reader.specs.declared.format.Format.{Format}
-use Rattle.audit.specs.Captured.{frame_of}
+use Rattle.audit.proofs.Common.{◌∙◌, map, sym, ap, Format, frame_of}
 use Rattle.audit.proofs.laws.captures_say_one_list_of_frames.Goals as goal
 
 pub returns : goal.returns

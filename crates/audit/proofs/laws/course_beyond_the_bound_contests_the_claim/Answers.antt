@@ -1,8 +1,4 @@
-use Rattle.std.proofs.Common.{List, map, subst}
-use Rattle.pairing.specs.declared.exchange.Exchange.{Exchange}
-use Rattle.pairing.specs.Pairing.{exchanges_of}
-use Rattle.audit.specs.Captured.{frame_of}
-use Rattle.audit.specs.Contested.{HasCourseBeyond}
+use Rattle.audit.proofs.Common.{List, map, subst, Exchange, exchanges_of, frame_of, HasCourseBeyond}
 use Rattle.audit.proofs.ClaimLimits.{within_limits}
 use Rattle.audit.proofs.Excess.{beyond_in_ticks, beyond_in_nanoseconds}
 use Rattle.audit.proofs.Headline.{collected_of}

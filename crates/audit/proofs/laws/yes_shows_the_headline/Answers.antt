@@ -1,13 +1,5 @@
-use Rattle.std.proofs.Common.{◌≡◌, List, map, ℤ, refl, sym, subst}
-use Rattle.sample_interval.specs.Moment.{IsInWindow}
-use Rattle.checker.proofs.Exchange.{are_samples}
-use Rattle.checker.specs.Stretch.{stretch_of}
-use Rattle.checker.specs.Traceability.{samples_of}
-use Rattle.checker.specs.Verdict.{verdict_of}
+use Rattle.audit.proofs.Common.{◌≡◌, List, map, ℤ, refl, sym, subst, IsInWindow, are_samples, stretch_of, samples_of, verdict_of, Exchange, exchanges_of, frame_of}
 use Rattle.checker.specs.declared.verdict.Verdict.TheVariants.{Yes}
-use Rattle.pairing.specs.declared.exchange.Exchange.{Exchange}
-use Rattle.pairing.specs.Pairing.{exchanges_of}
-use Rattle.audit.specs.Captured.{frame_of}
 use Rattle.audit.proofs.Admission.{some_admitted, none_beyond}
 use Rattle.audit.proofs.ClaimLimits.{within_limits}
 use Rattle.audit.proofs.Excess.{given_records}

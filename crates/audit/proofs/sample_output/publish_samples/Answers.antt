@@ -1,5 +1,4 @@
-use Rattle.std.proofs.Common.{◌∙◌, sym}
-use Rattle.report.proofs.PartedText.{publishes_over}
+use Rattle.audit.proofs.Common.{◌∙◌, sym, publishes_over}
 use Rattle.audit.proofs.sample_output.publish_samples.Goals as goal
 
 pub returns : goal.returns

@@ -1,16 +1,7 @@
-use Rattle.std.proofs.Common.{◌≡◌, ◌≤◌, ◌<◌, ◌∙◌, ◌+◌, ◌++◌, List, ℕ, ap, append-nil, arith, get_or, length, length-append, map, refl, subst, sym, []}
-use Rattle.std.proofs.lemmas.List.{length-map}
-use Rattle.line_writer.specs.declared.field.Style.TheVariants.{Plain}
+use Rattle.std.proofs.Common.{length-append}
+use Rattle.audit.proofs.Common.{◌≡◌, ◌≤◌, ◌<◌, ◌∙◌, ◌+◌, ◌++◌, List, ℕ, ap, append-nil, arith, get_or, length, map, refl, subst, sym, [], length-map, Plain, exchange_shown, Yes, put_count, output_state, IsGoing, going_start, going_more, going_short, going_done, sample_line, samples_text, evidence_data}
 use Rattle.pairing.specs.declared.compact.CompactExchange.{CompactExchange}
-use Rattle.pairing.specs.Compact.{exchange_shown}
-use Rattle.report.specs.declared.fault.Outcome.TheVariants.{Yes}
-use Rattle.report.specs.Output.{put_count}
-use Rattle.report.specs.State.{output_state}
-use Rattle.report.proofs.PartedText.{IsGoing, going_start, going_more, going_short, going_done}
-use Rattle.audit_text.specs.SampleLine.{sample_line}
-use Rattle.audit_text.specs.Samples.{samples_text}
 use Rattle.audit_text.proofs.Shown.{keeps_limits, stands_at}
-use Rattle.audit.specs.Evidence.{evidence_data}
 use Rattle.audit.proofs.SampleLines.{all_left, counts_left, left_after, next_line}
 use Rattle.audit.proofs.sample_output.put_samples.Goals as goal
 

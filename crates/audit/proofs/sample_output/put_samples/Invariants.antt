@@ -1,10 +1,4 @@
-use Rattle.std.proofs.Common.{◌≡◌, ◌≤◌, ◌*◌}
-use Rattle.line_writer.specs.declared.field.Style.TheVariants.{Plain}
-use Rattle.report.specs.Output.{put_count}
-use Rattle.report.specs.State.{output_state, sink_name}
-use Rattle.report.proofs.PartedText.{IsGoing}
-use Rattle.audit_text.specs.Samples.{samples_text}
-use Rattle.audit.specs.Evidence.{evidence_data}
+use Rattle.audit.proofs.Common.{◌≡◌, ◌≤◌, ◌*◌, Plain, put_count, output_state, sink_name, IsGoing, samples_text, evidence_data}
 use Rattle.audit.proofs.SampleLines.{left_after}
 use Rattle.audit.proofs.sample_output.put_samples.Given as goal
 

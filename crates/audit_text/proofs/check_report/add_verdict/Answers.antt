@@ -1,7 +1,4 @@
-use Rattle.std.proofs.Common.{◌≡◌, ◌++◌, [], ◌∷◌, codes, sym}
-use Rattle.std.specs.Result.{IfOk}
-use Rattle.line_writer.specs.Field.{line_of, Word, Named}
-use Rattle.audit_text.specs.CheckReport.{verdict_line}
+use Rattle.audit_text.proofs.Common.{◌≡◌, ◌++◌, [], ◌∷◌, codes, sym, IfOk, line_of, Word, Named, verdict_line}
 use Rattle.audit_text.proofs.check_report.add_verdict.Goals as goal
 
 pub returns-in-No : goal.returns-in-No

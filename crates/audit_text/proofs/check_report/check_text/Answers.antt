@@ -1,5 +1,4 @@
-use Rattle.std.proofs.Common.{append_assoc, refl}
-use Rattle.audit_text.specs.CheckReport.{check_text}
+use Rattle.audit_text.proofs.Common.{append_assoc, refl, check_text}
 use Rattle.audit_text.proofs.check_report.check_text.Goals as goal
 
 pub returns : goal.returns

@@ -1,6 +1,4 @@
-use Rattle.std.proofs.Common.{◌≡◌, length, refl, rules}
-use Rattle.std.proofs.lemmas.List.{length-map}
-use Rattle.pairing.specs.Compact.{exchange_shown}
+use Rattle.audit_text.proofs.Common.{◌≡◌, length, refl, rules, length-map, exchange_shown}
 use Rattle.audit_text.specs.CountsLine.{counts_line}
 use Rattle.audit_text.proofs.counts_line.write_counts_line.Goals as goal
 

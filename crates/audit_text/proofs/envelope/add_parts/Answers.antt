@@ -1,6 +1,4 @@
-use Rattle.claim_file.specs.Claim.{data_of}
-use Rattle.finder.specs.Envelope.{piece_data}
-use Rattle.audit_text.specs.Envelope.{server_line}
+use Rattle.audit_text.proofs.Common.{data_of, piece_data, server_line}
 use Rattle.audit_text.proofs.Lines.{listed_more, listed_all}
 use Rattle.audit_text.proofs.envelope.add_parts.Goals as goal
 

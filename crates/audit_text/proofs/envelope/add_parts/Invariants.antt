@@ -1,8 +1,4 @@
-use Rattle.std.proofs.Common.{◌≡◌, ◌++◌, take}
-use Rattle.std.specs.Prelude.{flat_map}
-use Rattle.claim_file.specs.Claim.{data_of}
-use Rattle.finder.specs.Envelope.{piece_data}
-use Rattle.audit_text.specs.Envelope.{server_line}
+use Rattle.audit_text.proofs.Common.{◌≡◌, ◌++◌, take, flat_map, data_of, piece_data, server_line}
 use Rattle.audit_text.proofs.envelope.add_parts.Given as goal
 
 abbrev pub invariant-loop-part : goal.invariant-loop-part

@@ -1,9 +1,5 @@
-use Rattle.std.proofs.Common.{◌∙◌, ◌<◌, ◌≤◌, ◌++◌, length, map, subst, sym, ap}
-use Rattle.std.proofs.lemmas.List.{length-map}
-use Rattle.claim_file.specs.Claim.{data_of}
-use Rattle.finder.specs.Envelope.{IsLawfulPiece, piece_data}
+use Rattle.audit_text.proofs.Common.{◌∙◌, ◌<◌, ◌≤◌, ◌++◌, length, map, subst, sym, ap, length-map, data_of, IsLawfulPiece, piece_data, piece_lines}
 use Rattle.finder.specs.declared.piece_hull.PieceHull.{PieceHull}
-use Rattle.audit_text.specs.Envelope.{piece_lines}
 use Rattle.audit_text.proofs.Rows.{row_added, rows_done}
 use Rattle.audit_text.proofs.Shown.{stands_at}
 use Rattle.audit_text.proofs.envelope.add_pieces.Goals as goal

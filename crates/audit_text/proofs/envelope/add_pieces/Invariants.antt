@@ -1,8 +1,4 @@
-use Rattle.std.proofs.Common.{◌≡◌, ◌++◌, drop, map}
-use Rattle.claim_file.specs.Claim.{data_of}
-use Rattle.finder.specs.Envelope.{piece_data}
-use Rattle.audit_text.specs.Envelope.{piece_lines}
-use Rattle.audit_text.specs.Table.{rows_from}
+use Rattle.audit_text.proofs.Common.{◌≡◌, ◌++◌, drop, map, data_of, piece_data, piece_lines, rows_from}
 use Rattle.audit_text.proofs.envelope.add_pieces.Given as goal
 
 abbrev pub invariant-loop-number : goal.invariant-loop-number

@@ -1,5 +1,4 @@
-use Rattle.std.proofs.Common.{append_assoc, refl}
-use Rattle.audit_text.specs.Envelope.{envelope_text}
+use Rattle.audit_text.proofs.Common.{append_assoc, refl, envelope_text}
 use Rattle.audit_text.proofs.envelope.envelope_text.Goals as goal
 
 pub returns : goal.returns

@@ -1,8 +1,6 @@
-use Rattle.std.proofs.Common.{refl}
+use Rattle.audit_text.proofs.Common.{refl, hull_fields, part_columns, IsUnder}
 use Rattle.intersection.specs.declared.kinds.Hull.{Hull}
 use Rattle.intersection.specs.declared.kinds.Hull.TheVariants.{Unbounded, Empty, Bounded}
-use Rattle.audit_text.specs.Parts.{hull_fields, part_columns}
-use Rattle.audit_text.specs.Table.{IsUnder}
 use Rattle.audit_text.proofs.laws.rows_stand_under_their_headings.Goals as goal
 
 hull_under : (hull : Hull) → IsUnder part_columns (hull_fields hull)

@@ -1,5 +1,4 @@
-use Rattle.claim_file.specs.Claim.{data_of}
-use Rattle.audit_text.specs.Parts.{part_row}
+use Rattle.audit_text.proofs.Common.{data_of, part_row}
 use Rattle.audit_text.proofs.Lines.{listed_more, listed_all}
 use Rattle.audit_text.proofs.parts.add_parts.Goals as goal
 

@@ -1,7 +1,4 @@
-use Rattle.std.proofs.Common.{◌≡◌, ◌++◌, take}
-use Rattle.std.specs.Prelude.{flat_map}
-use Rattle.claim_file.specs.Claim.{data_of}
-use Rattle.audit_text.specs.Parts.{part_row}
+use Rattle.audit_text.proofs.Common.{◌≡◌, ◌++◌, take, flat_map, data_of, part_row}
 use Rattle.audit_text.proofs.parts.add_parts.Given as goal
 
 abbrev pub invariant-loop-part : goal.invariant-loop-part

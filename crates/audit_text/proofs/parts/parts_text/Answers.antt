@@ -1,5 +1,4 @@
-use Rattle.std.proofs.Common.{append_assoc, refl}
-use Rattle.audit_text.specs.Parts.{parts_text}
+use Rattle.audit_text.proofs.Common.{append_assoc, refl, parts_text}
 use Rattle.audit_text.proofs.parts.parts_text.Goals as goal
 
 pub returns : goal.returns

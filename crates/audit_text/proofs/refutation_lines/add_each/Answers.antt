@@ -1,5 +1,4 @@
-use Rattle.claim_file.specs.Claim.{data_of}
-use Rattle.audit_text.specs.RefutationLines.{liar_line}
+use Rattle.audit_text.proofs.Common.{data_of, liar_line}
 use Rattle.audit_text.proofs.Lines.{listed_more, listed_all}
 use Rattle.audit_text.proofs.refutation_lines.add_each.Goals as goal
 

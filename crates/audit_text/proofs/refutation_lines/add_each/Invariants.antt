@@ -1,7 +1,4 @@
-use Rattle.std.proofs.Common.{◌≡◌, ◌++◌, take}
-use Rattle.std.specs.Prelude.{flat_map}
-use Rattle.claim_file.specs.Claim.{data_of}
-use Rattle.audit_text.specs.RefutationLines.{liar_line}
+use Rattle.audit_text.proofs.Common.{◌≡◌, ◌++◌, take, flat_map, data_of, liar_line}
 use Rattle.audit_text.proofs.refutation_lines.add_each.Given as goal
 
 abbrev pub invariant-loop-liar : goal.invariant-loop-liar

@@ -1,13 +1,4 @@
-use Rattle.std.proofs.Common.{◌≡◌, ◌∙◌, ◌++◌, ◌^◌, ◌<◌, ℤ, [], ◌∷◌, ap, sym, arith, codes, rules, to_z, of_z, unsigned_abs}
-use Rattle.std.proofs.lemmas.Int.{ints, to_z-of_z, fits_signed_from_abs}
-use Rattle.std.specs.Result.{IfOk}
-use mir.Syntax.{w128}
-use Rattle.line_writer.specs.Field.{Number, Address, Label, Low, High}
-use Rattle.sample_interval.specs.OnWire.{offset_from, offset_to, delay_from, delay_to}
-use Rattle.sample_interval.specs.Sample.{sample_of}
-use Rattle.sample_interval.specs.declared.kinds.Sample.{Sample}
-use Rattle.audit_text.specs.SampleLine.{sample_line}
-use Rattle.audit_text.specs.Table.{row_of}
+use Rattle.audit_text.proofs.Common.{◌≡◌, ◌∙◌, ◌++◌, ◌^◌, ◌<◌, ℤ, [], ◌∷◌, ap, sym, arith, codes, rules, to_z, of_z, unsigned_abs, ints, to_z-of_z, fits_signed_from_abs, IfOk, w128, Number, Address, Label, Low, High, offset_from, offset_to, delay_from, delay_to, sample_of, Sample, sample_line, row_of}
 use Rattle.audit_text.proofs.sample_line.add_sample.Goals as goal
 
 fits : (a : ℤ) → unsigned_abs a < 2 ^ 127 → to_z w128 (of_z w128 a) ≡ a

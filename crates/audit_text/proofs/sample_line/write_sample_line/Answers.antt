@@ -1,15 +1,4 @@
-use Rattle.std.proofs.Common.{◌≡◌, ◌∙◌, ◌^◌, ◌<◌, ℕ, ℤ, [], ◌∷◌, ap, arith, codes, refl, unsigned_abs, to_z, of_z}
-use Rattle.std.proofs.lemmas.Int.{ints, to_z-of_z, fits_signed_from_abs}
-use mir.Syntax.{w128}
-use Rattle.line_writer.specs.Field.{line_of, Number, Address, Label, Low, High}
-use Rattle.line_writer.specs.declared.field.Style.TheVariants.{Plain}
-use Rattle.claim_file.specs.Claim.{ClaimData, data_of}
-use Rattle.pairing.specs.declared.exchange.Exchange.{Exchange}
-use Rattle.sample_interval.specs.OnWire.{offset_from, offset_to, delay_from, delay_to}
-use Rattle.sample_interval.specs.Sample.{least_error, greatest_error, sample_of}
-use Rattle.sample_interval.specs.declared.kinds.Sample.{Sample}
-use Rattle.audit_text.specs.SampleLine.{sample_fields, sample_line, server_of}
-use Rattle.audit_text.specs.Table.{row_of}
+use Rattle.audit_text.proofs.Common.{◌≡◌, ◌∙◌, ◌^◌, ◌<◌, ℕ, ℤ, [], ◌∷◌, ap, arith, codes, refl, unsigned_abs, to_z, of_z, ints, to_z-of_z, fits_signed_from_abs, w128, line_of, Number, Address, Label, Low, High, Plain, ClaimData, data_of, Exchange, offset_from, offset_to, delay_from, delay_to, least_error, greatest_error, sample_of, Sample, sample_fields, sample_line, server_of, row_of}
 use Rattle.audit_text.proofs.PlainLines.{groups_written}
 use Rattle.audit_text.proofs.sample_line.write_sample_line.Goals as goal
 

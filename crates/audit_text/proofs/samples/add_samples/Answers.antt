@@ -1,8 +1,4 @@
-use Rattle.std.proofs.Common.{◌∙◌, ◌<◌, ◌≤◌, ◌++◌, length, map, ap}
-use Rattle.std.proofs.lemmas.List.{length-map}
-use Rattle.claim_file.specs.Claim.{data_of}
-use Rattle.pairing.specs.Compact.{exchange_shown}
-use Rattle.audit_text.specs.SampleLine.{sample_line}
+use Rattle.audit_text.proofs.Common.{◌∙◌, ◌<◌, ◌≤◌, ◌++◌, length, map, ap, length-map, data_of, exchange_shown, sample_line}
 use Rattle.audit_text.proofs.Rows.{row_added, rows_done}
 use Rattle.audit_text.proofs.Shown.{keeps_limits, stands_at}
 use Rattle.audit_text.proofs.samples.add_samples.Goals as goal

@@ -1,8 +1,4 @@
-use Rattle.std.proofs.Common.{◌≡◌, ◌++◌, drop, map}
-use Rattle.pairing.specs.Compact.{exchange_shown}
-use Rattle.claim_file.specs.Claim.{data_of}
-use Rattle.audit_text.specs.SampleLine.{sample_line}
-use Rattle.audit_text.specs.Table.{rows_from}
+use Rattle.audit_text.proofs.Common.{◌≡◌, ◌++◌, drop, map, exchange_shown, data_of, sample_line, rows_from}
 use Rattle.audit_text.proofs.samples.add_samples.Given as goal
 
 abbrev pub invariant-loop-number : goal.invariant-loop-number

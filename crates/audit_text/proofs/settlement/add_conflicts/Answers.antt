@@ -1,7 +1,4 @@
-use Rattle.std.proofs.Common.{map}
-use Rattle.claim_file.specs.Claim.{data_of}
-use Rattle.courses.specs.PairMarks.{conflict_data}
-use Rattle.audit_text.specs.Settlement.{conflict_line}
+use Rattle.audit_text.proofs.Common.{map, data_of, conflict_data, conflict_line}
 use Rattle.audit_text.proofs.Lines.{listed_more, listed_all}
 use Rattle.audit_text.proofs.settlement.add_conflicts.Goals as goal
 

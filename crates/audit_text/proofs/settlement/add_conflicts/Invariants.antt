@@ -1,8 +1,4 @@
-use Rattle.std.proofs.Common.{◌≡◌, ◌++◌, map, take}
-use Rattle.std.specs.Prelude.{flat_map}
-use Rattle.claim_file.specs.Claim.{data_of}
-use Rattle.courses.specs.PairMarks.{conflict_data}
-use Rattle.audit_text.specs.Settlement.{conflict_line}
+use Rattle.audit_text.proofs.Common.{◌≡◌, ◌++◌, map, take, flat_map, data_of, conflict_data, conflict_line}
 use Rattle.audit_text.proofs.settlement.add_conflicts.Given as goal
 
 abbrev pub invariant-loop-conflict : goal.invariant-loop-conflict

@@ -1,10 +1,4 @@
-use Rattle.std.proofs.Common.{◌≡◌, ◌∙◌, ℤ, ap, arith, to_z, of_z}
-use Rattle.std.proofs.lemmas.Int.{ints, to_z-of_z, fits_signed_from_abs}
-use mir.Syntax.{w128}
-use Rattle.line_writer.specs.Field.{TimeAbove}
-use Rattle.pairing.specs.Exchange.{IsInRange}
-use Rattle.audit_text.specs.Table.{for_person}
-use Rattle.audit_text.specs.Settlement.{pair_line}
+use Rattle.audit_text.proofs.Common.{◌≡◌, ◌∙◌, ℤ, ap, arith, to_z, of_z, ints, to_z-of_z, fits_signed_from_abs, w128, TimeAbove, IsInRange, for_person, pair_line}
 use Rattle.audit_text.proofs.settlement.add_pair.Goals as goal
 
 kept : (tick : ℤ) → IsInRange tick → to_z w128 (of_z w128 tick) ≡ tick

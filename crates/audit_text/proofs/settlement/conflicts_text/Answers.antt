@@ -1,8 +1,5 @@
-use Rattle.std.proofs.Common.{append_assoc, refl, map}
+use Rattle.audit_text.proofs.Common.{append_assoc, refl, map, data_of, conflict_data, conflict_line, conflicts_text}
 use Rattle.std.proofs.lemmas.List.Folds.{flat_map-map}
-use Rattle.claim_file.specs.Claim.{data_of}
-use Rattle.courses.specs.PairMarks.{conflict_data}
-use Rattle.audit_text.specs.Settlement.{conflict_line, conflicts_text}
 use Rattle.audit_text.proofs.settlement.conflicts_text.Goals as goal
 
 pub returns : goal.returns

@@ -1,5 +1,4 @@
-use Rattle.std.proofs.Common.{◌∙◌, append-nil, refl, sym}
-use Rattle.audit_text.specs.SilentLines.{silent_line}
+use Rattle.audit_text.proofs.Common.{◌∙◌, append-nil, refl, sym, silent_line}
 use Rattle.audit_text.proofs.Sources.{source_shown}
 use Rattle.audit_text.proofs.silent_lines.add_silent.Goals as goal
 

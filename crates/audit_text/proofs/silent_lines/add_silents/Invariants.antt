@@ -1,6 +1,4 @@
-use Rattle.std.proofs.Common.{◌≡◌, ◌++◌, map}
-use Rattle.claim_file.specs.Claim.{data_of}
-use Rattle.audit_text.specs.SilentLines.{silent_to}
+use Rattle.audit_text.proofs.Common.{◌≡◌, ◌++◌, map, data_of, silent_to}
 use Rattle.audit_text.proofs.silent_lines.add_silents.Given as goal
 
 abbrev pub invariant-loop-number : goal.invariant-loop-number

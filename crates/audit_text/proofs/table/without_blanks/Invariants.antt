@@ -1,6 +1,4 @@
-use Rattle.std.proofs.Common.{◌≡◌, ◌≤◌, length, map, reverse}
-use Rattle.line_writer.specs.Field.{field_data}
-use Rattle.audit_text.specs.Table.{from_field}
+use Rattle.audit_text.proofs.Common.{◌≡◌, ◌≤◌, length, map, reverse, field_data, from_field}
 use Rattle.audit_text.proofs.table.without_blanks.Given as goal
 
 abbrev pub invariant-loop-fields : goal.invariant-loop-fields

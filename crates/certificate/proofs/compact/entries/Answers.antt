@@ -1,8 +1,4 @@
-use Rattle.std.proofs.Common.{◌+◌, sym, subst}
-use Rattle.std.proofs.lemmas.List.Elements.{All-push}
-use Rattle.std.specs.Prelude.{All}
-use Rattle.certificate.specs.Certificate.{NamesSamples}
-use Rattle.certificate.specs.Writing.{entry_text}
+use Rattle.certificate.proofs.Common.{◌+◌, sym, subst, All-push, All, NamesSamples, entry_text}
 use Rattle.certificate.proofs.CommaList.{IsReadUpTo, joined_read}
 use Rattle.certificate.proofs.compact.entries.Goals as goal
 

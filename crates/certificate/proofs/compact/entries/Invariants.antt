@@ -1,6 +1,4 @@
-use Rattle.std.specs.Prelude.{All}
-use Rattle.certificate.specs.Certificate.{NamesSamples}
-use Rattle.certificate.specs.Writing.{entry_text}
+use Rattle.certificate.proofs.Common.{All, NamesSamples, entry_text}
 use Rattle.certificate.proofs.CommaList.{IsReadUpTo}
 use Rattle.certificate.proofs.compact.entries.Given as goal
 

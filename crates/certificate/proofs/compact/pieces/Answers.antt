@@ -1,9 +1,4 @@
-use Rattle.std.proofs.Common.{◌≡◌, ◌+◌, ◌∷◌, ◌++◌, [], map, sym, ap, ◌∙◌, subst}
-use Rattle.std.proofs.lemmas.List.{map-append}
-use Rattle.std.proofs.lemmas.List.Elements.{All-push}
-use Rattle.std.specs.Prelude.{All}
-use Rattle.certificate.specs.Certificate.{IsHeld, piece_data}
-use Rattle.certificate.specs.Writing.{piece_text}
+use Rattle.certificate.proofs.Common.{◌≡◌, ◌+◌, ◌∷◌, ◌++◌, [], map, sym, ap, ◌∙◌, subst, map-append, All-push, All, IsHeld, piece_data, piece_text}
 use Rattle.certificate.proofs.CommaList.{IsReadUpTo, joined_read}
 use Rattle.certificate.proofs.compact.pieces.Goals as goal
 

@@ -1,7 +1,4 @@
-use Rattle.std.proofs.Common.{map}
-use Rattle.std.specs.Prelude.{All}
-use Rattle.certificate.specs.Certificate.{IsHeld, piece_data}
-use Rattle.certificate.specs.Writing.{piece_text}
+use Rattle.certificate.proofs.Common.{map, All, IsHeld, piece_data, piece_text}
 use Rattle.certificate.proofs.CommaList.{IsReadUpTo}
 use Rattle.certificate.proofs.compact.pieces.Given as goal
 

@@ -1,10 +1,4 @@
-use Rattle.std.proofs.Common.{◌≡◌, ◌++◌, ◌≤◌, length, map, ap, ◌∙◌, sym, subst, append_assoc}
-use Rattle.std.proofs.lemmas.List.{length-map}
-use Rattle.std.specs.List.{join_with_byte}
-use Rattle.std.specs.Prelude.{All, IfSome, codes}
-use Rattle.certificate.specs.Certificate.{IsHeld, data_of, piece_data, max_pieces}
-use Rattle.certificate.specs.Compact.{IsEnding}
-use Rattle.certificate.specs.Writing.{comma, piece_text}
+use Rattle.certificate.proofs.Common.{◌≡◌, ◌++◌, ◌≤◌, length, map, ap, ◌∙◌, sym, subst, append_assoc, length-map, join_with_byte, All, IfSome, codes, IsHeld, data_of, piece_data, max_pieces, IsEnding, comma, piece_text}
 use Rattle.certificate.proofs.CompactRead.{certificate_of-compact}
 use Rattle.certificate.proofs.compact.read_compact.Goals as goal
 

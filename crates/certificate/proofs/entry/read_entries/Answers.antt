@@ -1,10 +1,4 @@
-use Rattle.std.proofs.Common.{◌≡◌, ◌+◌, ◌≤◌, length, Some, None, Ok, sym, ap, ◌∙◌, arith, length-append}
-use Rattle.json.specs.Json.{parse_map, after_end_array}
-use Rattle.json_text.proofs.NextToken.{mapped-shorter, element_refused}
-use Rattle.json_text.specs.Next.{next_items}
-use Rattle.json_text.specs.Step.{given}
-use Rattle.certificate.specs.Reading.{entry_of}
-use Rattle.certificate.specs.declared.fault.CertificateFault.TheVariants.{Shape}
+use Rattle.certificate.proofs.Common.{◌≡◌, ◌+◌, ◌≤◌, length, Some, None, Ok, sym, ap, ◌∙◌, arith, length-append, parse_map, after_end_array, mapped-shorter, element_refused, next_items, given, entry_of, Shape}
 use Rattle.certificate.proofs.EntriesRead.{so_far, and_one, entries_after, too_many_there, one_more_there, none_there, pushed_one, pushed_none}
 use Rattle.certificate.proofs.entry.read_entries.Goals as goal
 use Rattle.certificate.proofs.entry.read_entries.Goals.{Joined-branch-3, in-Some, in-None}

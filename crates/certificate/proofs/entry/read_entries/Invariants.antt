@@ -1,8 +1,4 @@
-use Rattle.std.proofs.Common.{◌≡◌, ◌≤◌, length}
-use Rattle.json.specs.Json.{parse_map}
-use Rattle.json_text.specs.Next.{next_items}
-use Rattle.certificate.specs.Certificate.{max_entries}
-use Rattle.certificate.specs.Parts.{entries_in}
+use Rattle.certificate.proofs.Common.{◌≡◌, ◌≤◌, length, parse_map, next_items, max_entries, entries_in}
 use Rattle.certificate.proofs.EntriesRead.{so_far, entries_after}
 use Rattle.certificate.proofs.entry.read_entries.Given as goal
 

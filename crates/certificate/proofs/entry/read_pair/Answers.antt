@@ -1,6 +1,4 @@
-use Rattle.std.proofs.Common.{Some, sym, ap, ◌∙◌, arith}
-use Rattle.json_text.proofs.NextToken.{array_ends, element_refused}
-use Rattle.certificate.specs.Reading.{sample_of, pair_of}
+use Rattle.certificate.proofs.Common.{Some, sym, ap, ◌∙◌, arith, array_ends, element_refused, sample_of, pair_of}
 use Rattle.certificate.proofs.PairRead.{GoesOn, one_alone, high_refused, pair_read, third_refused, three}
 use Rattle.certificate.proofs.entry.read_pair.Goals as goal
 

@@ -1,5 +1,4 @@
-use Rattle.std.proofs.Common.{rules}
-use Rattle.serde_json.proofs.Views.{items_len-items_view}
+use Rattle.certificate.proofs.Common.{rules, items_len-items_view}
 use Rattle.certificate.proofs.items.is_at_most.Goals as goal
 
 pub returns : goal.returns

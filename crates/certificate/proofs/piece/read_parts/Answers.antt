@@ -1,9 +1,4 @@
-use Rattle.std.proofs.Common.{◌≡◌, Some, None, refl, sym, ap, ◌∙◌, arith}
-use Rattle.json.proofs.Grammar.{read_key-shorter}
-use Rattle.json.specs.Json.{parse_map, read_key}
-use Rattle.json_text.proofs.NextTokens.{key_refused, member_read, member_refused, members_over, value-shorter}
-use Rattle.serde_json.specs.Data.{no_members, put}
-use Rattle.certificate.specs.Parts.{parts_of}
+use Rattle.certificate.proofs.Common.{◌≡◌, Some, None, refl, sym, ap, ◌∙◌, arith, read_key-shorter, parse_map, read_key, key_refused, member_read, member_refused, members_over, value-shorter, no_members, put, parts_of}
 use Rattle.certificate.proofs.piece.read_parts.Goals as goal
 
 pub members-init : goal.members-init

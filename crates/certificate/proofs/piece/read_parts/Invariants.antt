@@ -1,8 +1,4 @@
-use Rattle.std.proofs.Common.{◌≡◌, length}
-use Rattle.serde_json.specs.Data.{Members, no_members}
-use Rattle.json_text.specs.Next.{next_members}
-use Rattle.certificate.specs.PartsData.{parts_data}
-use Rattle.certificate.specs.Parts.{parts_of}
+use Rattle.certificate.proofs.Common.{◌≡◌, length, Members, no_members, next_members, parts_data, parts_of}
 use Rattle.certificate.proofs.piece.read_parts.Given as goal
 
 abbrev pub invariant-members : goal.invariant-members

@@ -1,11 +1,4 @@
-use Rattle.std.proofs.Common.{◌≡◌, ◌-◌, ◌<◌, Some, sym, ap, ◌∙◌, arith}
-use Rattle.json.specs.Json.{parse_map}
-use Rattle.json_text.proofs.NextToken.{mapped_some}
-use Rattle.json_text.specs.Next.{next_value, next_members}
-use Rattle.serde_json.specs.Data.{object, no_members}
-use Rattle.certificate.specs.PartsData.{parts_data}
-use Rattle.certificate.specs.Parts.{parts_of, piece_from}
-use Rattle.certificate.specs.Reading.{piece_of}
+use Rattle.certificate.proofs.Common.{◌≡◌, ◌-◌, ◌<◌, Some, sym, ap, ◌∙◌, arith, parse_map, mapped_some, next_value, next_members, object, no_members, parts_data, parts_of, piece_from, piece_of}
 use Rattle.certificate.proofs.PartsRead.{piece_from-parts}
 use Rattle.certificate.proofs.piece.read_piece.Goals as goal
 

@@ -1,8 +1,4 @@
-use Rattle.std.proofs.Common.{◌≡◌, Some, None, inl, inr, ap, ◌∙◌, arith}
-use Rattle.json.specs.Json.{after_end_array}
-use Rattle.json_text.proofs.NextToken.{mapped-shorter, array_ends, element_refused}
-use Rattle.certificate.specs.PartsData.{pieces_data}
-use Rattle.certificate.specs.Parts.{judged, pieces_and}
+use Rattle.certificate.proofs.Common.{◌≡◌, Some, None, inl, inr, ap, ◌∙◌, arith, after_end_array, mapped-shorter, array_ends, element_refused, pieces_data, judged, pieces_and}
 use Rattle.certificate.proofs.PiecesRead.{pieces_after, pieces_last, too_many_there, one_more_there}
 use Rattle.certificate.proofs.pieces.read_pieces.Goals as goal
 

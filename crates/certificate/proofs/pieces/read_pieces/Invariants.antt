@@ -1,9 +1,4 @@
-use Rattle.std.proofs.Common.{◌≡◌, ◌≤◌, length}
-use Rattle.json.specs.Json.{parse_map}
-use Rattle.json_text.specs.Next.{next_items}
-use Rattle.certificate.specs.Certificate.{max_pieces}
-use Rattle.certificate.specs.PartsData.{pieces_data}
-use Rattle.certificate.specs.Parts.{judged, pieces_in}
+use Rattle.certificate.proofs.Common.{◌≡◌, ◌≤◌, length, parse_map, next_items, max_pieces, pieces_data, judged, pieces_in}
 use Rattle.certificate.proofs.PiecesRead.{pieces_after}
 use Rattle.certificate.proofs.pieces.read_pieces.Given as goal
 

@@ -1,16 +1,6 @@
-use Rattle.std.proofs.Common.{◌≡◌, ◌≤◌, ℕ, List, length, Bool, true, false, None, Result, Ok, Err, IfOk, if◌then◌else◌, inr, refl, sym, ap, ◌∙◌, subst}
-use Rattle.std.proofs.lemmas.List.{length-map}
-use Rattle.std.proofs.lemmas.Str.{is_utf8-from_IsUtf8, IsUtf8-from_is_utf8}
+use Rattle.std.proofs.Common.{IfOk}
+use Rattle.certificate.proofs.Common.{◌≡◌, ◌≤◌, ℕ, List, length, Bool, true, false, None, Result, Ok, Err, if◌then◌else◌, inr, refl, sym, ap, ◌∙◌, subst, length-map, is_utf8-from_IsUtf8, IsUtf8-from_is_utf8, is_utf8, given, read, data_of, piece_data, max_pieces, Certificate, CertificateFault, Json, Answers, certificate_from, certificate_of}
 use Rattle.std.specs.Prelude.{IsUtf8}
-use Rattle.std.specs.Str.{is_utf8}
-use Rattle.json_text.specs.Step.{given}
-use Rattle.serde_json.specs.Read.{read}
-use Rattle.certificate.specs.Certificate.{data_of, piece_data, max_pieces}
-use Rattle.certificate.specs.declared.certificate.Certificate.{Certificate}
-use Rattle.certificate.specs.declared.fault.CertificateFault.{CertificateFault}
-use Rattle.certificate.specs.declared.fault.CertificateFault.TheVariants.{Json}
-use Rattle.certificate.specs.Fault.{Answers}
-use Rattle.certificate.specs.Reading.{certificate_from, certificate_of}
 use Rattle.certificate.proofs.Limits.{certificate_of-readable}
 use Rattle.certificate.proofs.reading.read_certificate.Goals as goal
 

@@ -1,20 +1,7 @@
-use Rattle.std.proofs.Common.{◌≡◌, [], ◌∷◌, List, true, false, Option, Some, None, Result, Ok, Err, inl, inr, is_some, sym, ap, ◌∙◌, arith}
+use Rattle.certificate.proofs.Common.{◌≡◌, [], ◌∷◌, List, true, false, Option, Some, None, Result, Ok, Err, inl, inr, is_some, sym, ap, ◌∙◌, arith, mapped_some, mapped_none, whole_read, whole_and_more, whole_refused, next_value, given, Data, read, max_depth, data_of, Certificate, CertificateFault, Json, Answers, judged, certificate_from}
 use Rattle.json.specs.Reads.{Yields}
 use Rattle.json.specs.Token as spec
 use Rattle.json.specs.declared.token.Token.{Token}
-use Rattle.json_text.proofs.NextToken.{mapped_some, mapped_none}
-use Rattle.json_text.proofs.NextTokens.{whole_read, whole_and_more, whole_refused}
-use Rattle.json_text.specs.Next.{next_value}
-use Rattle.json_text.specs.Step.{given}
-use Rattle.serde_json.specs.Data.{Data}
-use Rattle.serde_json.specs.Read.{read, max_depth}
-use Rattle.certificate.specs.Certificate.{data_of}
-use Rattle.certificate.specs.declared.certificate.Certificate.{Certificate}
-use Rattle.certificate.specs.declared.fault.CertificateFault.{CertificateFault}
-use Rattle.certificate.specs.declared.fault.CertificateFault.TheVariants.{Json}
-use Rattle.certificate.specs.Fault.{Answers}
-use Rattle.certificate.specs.Parts.{judged}
-use Rattle.certificate.specs.Reading.{certificate_from}
 use Rattle.certificate.proofs.reading.read_text.Goals as goal
 
 token_left : (next : Option Token) (old new : List spec.Token) → Yields old next new → is_some next ≡ true →

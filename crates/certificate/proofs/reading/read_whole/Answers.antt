@@ -1,9 +1,4 @@
-use Rattle.std.proofs.Common.{◌≡◌, Some, None, inl, inr, refl, sym, ap, ◌∙◌, arith}
-use Rattle.json.proofs.Grammar.{read_key-shorter}
-use Rattle.json.specs.Json.{parse_map, read_key}
-use Rattle.json_text.proofs.NextTokens.{key_refused, member_read, member_refused, members_over, value-shorter}
-use Rattle.serde_json.specs.Data.{no_members, put}
-use Rattle.certificate.specs.Parts.{top_parts_of}
+use Rattle.certificate.proofs.Common.{◌≡◌, Some, None, inl, inr, refl, sym, ap, ◌∙◌, arith, read_key-shorter, parse_map, read_key, key_refused, member_read, member_refused, members_over, value-shorter, no_members, put, top_parts_of}
 use Rattle.certificate.proofs.reading.read_whole.Goals as goal
 
 pub members-init : goal.members-init

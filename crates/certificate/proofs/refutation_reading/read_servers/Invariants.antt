@@ -1,6 +1,4 @@
-use Rattle.std.proofs.Common.{◌≡◌, ◌++◌, drop, length, option_map}
-use Rattle.serde_json.specs.View.{items_view}
-use Rattle.certificate.specs.RefutationReading.{servers_of}
+use Rattle.certificate.proofs.Common.{◌≡◌, ◌++◌, drop, length, option_map, items_view, servers_of}
 use Rattle.certificate.proofs.refutation_reading.read_servers.Given as goal
 
 abbrev pub invariant-loop-item : goal.invariant-loop-item

@@ -1,6 +1,4 @@
-use Rattle.std.proofs.Common.{◌≡◌, ◌<◌, ◌^◌, ℕ, get_or, map, take}
-use Rattle.serde_json.specs.View.{view}
-use Rattle.certificate.specs.Writing.{number_value}
+use Rattle.certificate.proofs.Common.{◌≡◌, ◌<◌, ◌^◌, ℕ, get_or, map, take, view, number_value}
 use Rattle.certificate.proofs.refutation_writing.servers_of.Given as goal
 
 abbrev pub invariant-loop-server : goal.invariant-loop-server

@@ -1,11 +1,7 @@
-use Rattle.std.proofs.Common.{◌≡◌, ◌∙◌, Ok, ap, string_bytes}
+use Rattle.certificate.proofs.Common.{◌≡◌, ◌∙◌, Ok, ap, string_bytes, IfOk, view, compact_text, has_float, refutation_of, refutation_text}
 use Rattle.std.proofs.lemmas.Result.{IfOk-weaker}
-use Rattle.std.specs.Prelude.{IfOk, false}
-use Rattle.serde_json.specs.View.{view}
-use Rattle.serde_json.specs.Written.{compact_text, has_float}
+use Rattle.std.specs.Prelude.{false}
 use Rattle.certificate.specs.Refutation.{data_of}
-use Rattle.certificate.specs.RefutationReading.{refutation_of}
-use Rattle.certificate.specs.RefutationWriting.{refutation_text}
 use Rattle.certificate.proofs.RefutationText.{refutation-no_float, refutation_of-text, text-value}
 use Rattle.certificate.proofs.refutation_writing.write_refutation.Goals as goal
 

@@ -1,6 +1,4 @@
-use Rattle.std.proofs.Common.{◌<◌, length, arith, ◌∙◌, append_assoc}
-use Rattle.std.proofs.lemmas.Grind.{common_steps}
-use Rattle.certificate.specs.Writing.{entry_text}
+use Rattle.certificate.proofs.Common.{◌<◌, length, arith, ◌∙◌, append_assoc, common_steps, entry_text}
 use Rattle.certificate.proofs.CommaList.{joined_more}
 use Rattle.certificate.proofs.writing.push_entries.Goals as goal
 

@@ -1,7 +1,4 @@
-use Rattle.std.proofs.Common.{◌≡◌, ◌<◌, ℕ, ◌++◌, map, take, get_or}
-use Rattle.std.specs.List.{join_with_byte}
-use Rattle.certificate.specs.Certificate.{NamesSamples}
-use Rattle.certificate.specs.Writing.{comma, entry_text}
+use Rattle.certificate.proofs.Common.{◌≡◌, ◌<◌, ℕ, ◌++◌, map, take, get_or, join_with_byte, NamesSamples, comma, entry_text}
 use Rattle.certificate.proofs.writing.push_entries.Given as goal
 
 abbrev pub invariant-loop-index : goal.invariant-loop-index

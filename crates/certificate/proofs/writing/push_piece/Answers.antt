@@ -1,6 +1,4 @@
-use Rattle.std.proofs.Common.{◌≡◌, ◌++◌, ◌∙◌, ap, map, append_assoc}
-use Rattle.std.specs.List.{join_with_byte}
-use Rattle.certificate.specs.Writing.{comma, entry_text}
+use Rattle.certificate.proofs.Common.{◌≡◌, ◌++◌, ◌∙◌, ap, map, append_assoc, join_with_byte, comma, entry_text}
 use Rattle.certificate.proofs.writing.push_piece.Goals as goal
 
 pub returns-clause-text : goal.returns-clause-text

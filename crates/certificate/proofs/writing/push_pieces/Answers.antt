@@ -1,8 +1,5 @@
-use Rattle.std.proofs.Common.{◌≡◌, ◌<◌, ◌+◌, ◌++◌, length, take, get_or, arith, ap, ◌∙◌, append_assoc}
-use Rattle.std.proofs.lemmas.Grind.{common_steps}
+use Rattle.certificate.proofs.Common.{◌≡◌, ◌<◌, ◌+◌, ◌++◌, length, take, get_or, arith, ap, ◌∙◌, append_assoc, common_steps, piece_data, comma_before, piece_text}
 use Rattle.std.proofs.lemmas.Simd.{map-map}
-use Rattle.certificate.specs.Certificate.{piece_data}
-use Rattle.certificate.specs.Writing.{comma_before, piece_text}
 use Rattle.certificate.proofs.CommaList.{joined_more}
 use Rattle.certificate.proofs.ReadBack.{held_pieces}
 use Rattle.certificate.proofs.writing.push_pieces.Goals as goal

@@ -1,8 +1,4 @@
-use Rattle.std.proofs.Common.{◌≡◌, ◌<◌, ℕ, ◌++◌, map, take, get_or}
-use Rattle.std.specs.List.{join_with_byte}
-use Rattle.certificate.specs.declared.certificate.Piece.{Piece}
-use Rattle.certificate.specs.Certificate.{IsHeld, piece_data}
-use Rattle.certificate.specs.Writing.{comma, piece_text}
+use Rattle.certificate.proofs.Common.{◌≡◌, ◌<◌, ℕ, ◌++◌, map, take, get_or, join_with_byte, Piece, IsHeld, piece_data, comma, piece_text}
 use Rattle.certificate.proofs.writing.push_pieces.Given as goal
 
 abbrev pub invariant-loop-index : goal.invariant-loop-index

@@ -1,12 +1,5 @@
-use Rattle.std.proofs.Common.{◌≡◌, ap, ◌∙◌, subst, sym, string_bytes}
-use Rattle.std.proofs.lemmas.List.{length-map}
-use Rattle.std.proofs.lemmas.Str.{IsUtf8-from_ascii}
-use Rattle.std.specs.Prelude.{IfOk}
-use Rattle.std.specs.Str.{IsUtf8}
+use Rattle.certificate.proofs.Common.{◌≡◌, ap, ◌∙◌, subst, sym, string_bytes, length-map, IsUtf8-from_ascii, IfOk, IsUtf8, data_of, piece_data, certificate_of, certificate_text}
 use Rattle.std.specs.String.{string_vec}
-use Rattle.certificate.specs.Certificate.{data_of, piece_data}
-use Rattle.certificate.specs.Reading.{certificate_of}
-use Rattle.certificate.specs.Writing.{certificate_text}
 use Rattle.certificate.proofs.Ascii.{ascii_certificate}
 use Rattle.certificate.proofs.CompactRead.{certificate_of-text}
 use Rattle.certificate.proofs.writing.write_certificate.Goals as goal

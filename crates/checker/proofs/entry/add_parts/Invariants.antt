@@ -1,5 +1,4 @@
-use Rattle.std.proofs.Common.{◌≡◌, ◌≤◌, [], length, drop}
-use Rattle.checker.specs.Verdict.{parts_after}
+use Rattle.checker.proofs.Common.{◌≡◌, ◌≤◌, [], length, drop, parts_after}
 use Rattle.checker.proofs.entry.add_parts.Given as goal
 
 abbrev pub invariant-loop-entry : goal.invariant-loop-entry

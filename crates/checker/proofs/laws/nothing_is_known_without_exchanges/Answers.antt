@@ -1,5 +1,4 @@
-use Rattle.std.proofs.Common.{[]}
-use Rattle.std.proofs.lemmas.List.Elements.{All-nil}
+use Rattle.checker.proofs.Common.{[], All-nil}
 use Rattle.checker.proofs.Course.{lone_fits, untraceable}
 use Rattle.checker.proofs.laws.nothing_is_known_without_exchanges.Goals as goal
 

@@ -1,5 +1,4 @@
-use Rattle.std.proofs.Common.{arith}
-use Rattle.std.proofs.lemmas.Option.{slice_get_within}
+use Rattle.checker.proofs.Common.{arith, slice_get_within}
 use Rattle.checker.proofs.PieceVerdict.{all_pass, each_passes, one_fails}
 use Rattle.checker.proofs.VerdictPieces.{yes_end}
 use Rattle.checker.proofs.laws.pieces_give_the_verdict.Goals as goal

@@ -1,6 +1,4 @@
-use Rattle.std.proofs.Common.{◌+◌, ◌-◌, pos, neg_ℤ, arith}
-use Rattle.std.proofs.lemmas.Int.{ints}
-use Rattle.claim_file.specs.Worked.{worked_second}
+use Rattle.checker.proofs.Common.{◌+◌, ◌-◌, pos, neg_ℤ, arith, ints, worked_second}
 use Rattle.checker.proofs.Course.{stamped_fits, stamped_out_of_windows, late_at_request, early_at_reply}
 use Rattle.checker.proofs.laws.stamps_err_on_one_side.Goals as goal
 

@@ -1,6 +1,4 @@
-use Rattle.std.proofs.Common.{◌+◌, pos, neg_ℤ, arith}
-use Rattle.std.proofs.lemmas.Int.{ints}
-use Rattle.claim_file.specs.Worked.{worked_second}
+use Rattle.checker.proofs.Common.{◌+◌, pos, neg_ℤ, arith, ints, worked_second}
 use Rattle.checker.proofs.Course.{worked_fits, slow_fits}
 use Rattle.checker.proofs.laws.worked_courses_fit.Goals as goal
 

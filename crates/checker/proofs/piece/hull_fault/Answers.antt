@@ -1,12 +1,4 @@
-use Rattle.std.proofs.Common.{◌≡◌, ℤ, true, false, Some, None, sym, ap, ◌∙◌, subst}
-use Rattle.std.proofs.lemmas.Bool.{cond-true, cond-false}
-use Rattle.std.proofs.lemmas.Int.{to_z-of_z}
-use mir.Syntax.{w128}
-use Rattle.intersection.specs.declared.kinds.Hull.{Hull}
-use Rattle.intersection.specs.declared.kinds.Hull.TheVariants.{Bounded}
-use Rattle.span_cover.specs.Group.{is_inside}
-use Rattle.checker.specs.Verdict.{hull_fault}
-use Rattle.checker.specs.declared.verdict.Why.TheVariants.{Exceeds}
+use Rattle.checker.proofs.Common.{◌≡◌, ℤ, true, false, Some, None, sym, ap, ◌∙◌, subst, cond-true, cond-false, to_z-of_z, w128, Hull, Bounded, is_inside, hull_fault, Exceeds}
 use Rattle.checker.proofs.piece.hull_fault.Goals as goal
 
 module _ (bound lo hi : ℤ) (hull : Hull) (is : hull ≡ Bounded lo hi) where

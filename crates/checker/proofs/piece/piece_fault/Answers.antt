@@ -1,10 +1,4 @@
-use Rattle.std.proofs.Common.{length, Ok, Err, ap, ap₂, ◌∙◌}
-use Rattle.std.proofs.lemmas.Int.{to_z-of_z}
-use mir.Syntax.{w128}
-use Rattle.claim_file.specs.Claim.{data_of}
-use Rattle.certificate.specs.Certificate.{piece_data}
-use Rattle.span_cover.specs.Group.{piece_hull}
-use Rattle.checker.specs.Verdict.{hull_fault}
+use Rattle.checker.proofs.Common.{length, Ok, Err, ap, ap₂, ◌∙◌, to_z-of_z, w128, data_of, piece_data, piece_hull, hull_fault}
 use Rattle.checker.proofs.FirstFault.{cut_before, cut_after, uncut, uncut_piece}
 use Rattle.checker.proofs.NoOverflow.{last_kept, bound_kept}
 use Rattle.checker.proofs.Part.{listed_parts, listed_again}

@@ -1,5 +1,4 @@
-use Rattle.std.proofs.Common.{length, sym, ap, ◌∙◌, subst, Some}
-use Rattle.std.proofs.lemmas.Option.{slice_get-get_or}
+use Rattle.checker.proofs.Common.{length, sym, ap, ◌∙◌, subst, Some, slice_get-get_or}
 use Rattle.pairing.specs.Exchange.{IsLawful as IsLawfulExchange}
 use Rattle.checker.proofs.Exchange.{lawful_at}
 use Rattle.checker.proofs.refutation.all_admit.Goals as goal

@@ -1,7 +1,5 @@
-use Rattle.std.proofs.Common.{◌≡◌, drop, map}
-use Rattle.std.specs.List.{list_all}
+use Rattle.checker.proofs.Common.{◌≡◌, drop, map, list_all, allows}
 use Rattle.certificate.specs.Refutation.{data_of}
-use Rattle.checker.specs.RefutationTest.{allows}
 use Rattle.checker.proofs.refutation.all_admit.Given as goal
 
 abbrev pub invariant-loop-exchange : goal.invariant-loop-exchange

@@ -1,8 +1,5 @@
-use Rattle.std.proofs.Common.{map, sym, ◌∙◌}
-use Rattle.std.specs.Prelude.{IsTrue}
+use Rattle.checker.proofs.Common.{map, sym, ◌∙◌, IsTrue, data_of as claim_data, IsRefuted}
 use Rattle.certificate.specs.Refutation.{data_of as refutation_data}
-use Rattle.claim_file.specs.Claim.{data_of as claim_data}
-use Rattle.checker.specs.Refutation.{IsRefuted}
 use Rattle.checker.proofs.RefutationTests.{refuted_from, refuted_to}
 use Rattle.checker.proofs.refutation.check_refutation.Goals as goal
 

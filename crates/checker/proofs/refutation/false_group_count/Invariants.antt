@@ -1,7 +1,4 @@
-use Rattle.std.proofs.Common.{◌≡◌, ◌≤◌, count_by}
-use Rattle.checker.specs.Groups.{holds_false}
-use Rattle.span_cover.specs.Group.{numbers_below}
-use Rattle.checker.specs.Refutation.{is_liar}
+use Rattle.checker.proofs.Common.{◌≡◌, ◌≤◌, count_by, holds_false, numbers_below, is_liar}
 use Rattle.checker.proofs.refutation.false_group_count.Given as goal
 
 abbrev pub invariant-loop-group : goal.invariant-loop-group

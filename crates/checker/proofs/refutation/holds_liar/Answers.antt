@@ -1,6 +1,5 @@
-use Rattle.std.proofs.Common.{sym, length, ◌==◌, ◌&&◌, ◌∙◌}
-use Rattle.std.specs.Prelude.{slice_index}
-use Rattle.checker.specs.Refutation.{is_liar}
+use Rattle.std.proofs.Common.{◌==◌}
+use Rattle.checker.proofs.Common.{sym, length, ◌&&◌, ◌∙◌, slice_index, is_liar}
 use Rattle.checker.proofs.RefutationTests.{found_below, both_pass}
 use Rattle.checker.proofs.refutation.holds_liar.Goals as goal
 

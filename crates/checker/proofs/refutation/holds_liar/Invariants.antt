@@ -1,8 +1,5 @@
-use Rattle.std.proofs.Common.{◌≡◌, ◌==◌, ◌&&◌, false}
-use Rattle.std.specs.List.{list_any}
-use Rattle.std.specs.Prelude.{slice_index}
-use Rattle.span_cover.specs.Group.{numbers_below}
-use Rattle.checker.specs.Refutation.{is_liar}
+use Rattle.std.proofs.Common.{◌==◌}
+use Rattle.checker.proofs.Common.{◌≡◌, ◌&&◌, false, list_any, slice_index, numbers_below, is_liar}
 use Rattle.checker.proofs.refutation.holds_liar.Given as goal
 
 abbrev pub invariant-loop-server : goal.invariant-loop-server

@@ -1,6 +1,5 @@
-use Rattle.std.proofs.Common.{sym, ◌∙◌}
+use Rattle.checker.proofs.Common.{sym, ◌∙◌, data_of as claim_data}
 use Rattle.certificate.specs.Refutation.{data_of as refutation_data}
-use Rattle.claim_file.specs.Claim.{data_of as claim_data}
 use Rattle.checker.proofs.RefutationTests.{against_from, against_to}
 use Rattle.checker.proofs.refutation.is_against.Goals as goal
 

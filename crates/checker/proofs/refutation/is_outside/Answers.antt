@@ -1,8 +1,4 @@
-use Rattle.std.proofs.Common.{◌≡◌, pos, true, false, true≢false, ◌&&◌, int_le, int_lt, rules, sym, ap, ap₂, ◌∙◌, to_z}
-use Rattle.std.proofs.Common.{of_z, unsigned_abs}
-use Rattle.std.proofs.lemmas.Int.{to_z-of_z}
-use mir.Syntax.{w64, w128}
-use Rattle.claim_file.specs.Claim.{data_of}
+use Rattle.checker.proofs.Common.{◌≡◌, pos, true, false, true≢false, ◌&&◌, int_le, int_lt, rules, sym, ap, ap₂, ◌∙◌, to_z, of_z, unsigned_abs, to_z-of_z, w64, w128, data_of}
 use Rattle.checker.proofs.Test.{third_decides, fails_before}
 use Rattle.checker.proofs.refutation.is_outside.Goals as goal
 use Rattle.checker.proofs.refutation.is_outside.Goals.{then-from-claim, else-from-claim}

@@ -1,10 +1,5 @@
-use Rattle.std.proofs.Common.{◌≡◌, true, false, true≢false, ◌&&◌, length, sym, ap, ap₂, ◌∙◌, arith}
-use Rattle.std.specs.Prelude.{nat_le, nat_lt}
-use Rattle.std.specs.List.{list_all}
-use Rattle.claim_file.specs.Claim.{data_of}
-use Rattle.checker.specs.Groups.{false_group_count}
-use Rattle.checker.specs.Refutation.{is_liar}
-use Rattle.checker.specs.RefutationTest.{are_different}
+use Rattle.checker.proofs.Common.{◌≡◌, true, false, true≢false, ◌&&◌, length, sym, ap, ap₂, ◌∙◌, arith, nat_le, list_all, data_of, false_group_count, is_liar, are_different}
+use Rattle.std.specs.Prelude.{nat_lt}
 use Rattle.checker.proofs.Test.{third_decides, fails_before}
 use Rattle.checker.proofs.refutation.may_be_false.Goals as goal
 use Rattle.checker.proofs.refutation.may_be_false.Goals.{then-are_listed, else-are_listed}

@@ -1,7 +1,4 @@
-use Rattle.std.proofs.Common.{◌+◌, pos, neg_ℤ, [], ◌∷◌, refl}
-use Rattle.claim_file.specs.Worked.{worked_second}
-use Rattle.checker.specs.WorkedCourse.{worked_exchange}
-use Rattle.checker.specs.WorkedRefutation.{claim_with, refutation_with}
+use Rattle.checker.proofs.Common.{◌+◌, pos, neg_ℤ, [], ◌∷◌, refl, worked_second, worked_exchange, claim_with, refutation_with}
 use Rattle.checker.proofs.RefutationTests.{refused_by_test}
 use Rattle.checker.proofs.refutation_laws.other_worked_refutations_fall.Goals as goal
 

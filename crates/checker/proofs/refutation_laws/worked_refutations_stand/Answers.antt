@@ -1,6 +1,4 @@
-use Rattle.std.proofs.Common.{pos, neg_ℤ, [], ◌∷◌, refl}
-use Rattle.checker.specs.WorkedCourse.{worked_exchange}
-use Rattle.checker.specs.WorkedRefutation.{claim_with, refutation_with}
+use Rattle.checker.proofs.Common.{pos, neg_ℤ, [], ◌∷◌, refl, worked_exchange, claim_with, refutation_with}
 use Rattle.checker.proofs.RefutationTests.{refuted_from}
 use Rattle.checker.proofs.refutation_laws.worked_refutations_stand.Goals as goal
 

@@ -1,5 +1,4 @@
-use Rattle.std.proofs.Common.{length}
-use Rattle.checker.specs.Traceability.{samples_of}
+use Rattle.checker.proofs.Common.{length, samples_of}
 use Rattle.checker.proofs.RefutationCourse.{not_traceable}
 use Rattle.checker.proofs.Exchange.{are_samples}
 use Rattle.checker.proofs.refutation_laws.yes_and_refutation_never_meet.Goals as goal

@@ -1,7 +1,5 @@
-use Rattle.std.proofs.Common.{sym, subst}
-use Rattle.claim_file.specs.Claim.{data_of as claim_data}
+use Rattle.checker.proofs.Common.{sym, subst, data_of as claim_data, IsVerdictOn}
 use Rattle.certificate.specs.Certificate.{data_of as certificate_data}
-use Rattle.checker.specs.Traceability.{IsVerdictOn}
 use Rattle.checker.proofs.verdict.check.Goals as goal
 
 pub returns : goal.returns

@@ -1,11 +1,6 @@
-use Rattle.std.proofs.Common.{◌<◌, List, length, map, sym, ap, ◌∙◌, subst}
+use Rattle.checker.proofs.Common.{◌<◌, List, length, map, sym, ap, ◌∙◌, subst, data_of as claim_data, IsLawfulSample, Sample, samples_of, IsVerdictOn, verdict_of}
 use Rattle.std.specs.List.{All}
-use Rattle.claim_file.specs.Claim.{data_of as claim_data}
 use Rattle.certificate.specs.Certificate.{data_of as certificate_data}
-use Rattle.sample_interval.specs.Sample.{IsLawfulSample}
-use Rattle.sample_interval.specs.declared.kinds.Sample.{Sample}
-use Rattle.checker.specs.Traceability.{samples_of, IsVerdictOn}
-use Rattle.checker.specs.Verdict.{verdict_of}
 use Rattle.checker.proofs.Exchange.{are_samples, listed_samples, lawful_samples, same_samples}
 use Rattle.checker.proofs.NoOverflow.{reading_kept}
 use Rattle.checker.proofs.verdict.check_exchanges.Goals as goal

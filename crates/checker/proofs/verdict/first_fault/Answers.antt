@@ -1,10 +1,5 @@
-use Rattle.std.proofs.Common.{◌≡◌, ◌≤◌, length, map, sym, ap, ◌∙◌, arith, to_z, of_z}
-use Rattle.std.proofs.lemmas.Int.{ints, to_z-of_z}
+use Rattle.checker.proofs.Common.{◌≡◌, ◌≤◌, length, map, sym, ap, ◌∙◌, arith, to_z, of_z, ints, to_z-of_z, w128, data_of as claim_data, piece_data, verdict_from}
 use Rattle.std.proofs.Math.Facts.{of_z-to_z}
-use mir.Syntax.{w128}
-use Rattle.claim_file.specs.Claim.{data_of as claim_data}
-use Rattle.certificate.specs.Certificate.{piece_data}
-use Rattle.checker.specs.Verdict.{verdict_from}
 use Rattle.checker.proofs.FirstFault.{none_read, ends_elsewhere, stops_at, passes_to, covered, uncovered}
 use Rattle.checker.proofs.NoOverflow.{first_kept, last_kept}
 use Rattle.checker.proofs.verdict.first_fault.Goals as goal

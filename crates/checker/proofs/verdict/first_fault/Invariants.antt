@@ -1,7 +1,5 @@
-use Rattle.std.proofs.Common.{◌≡◌, ◌^◌, pos, ◌≤ℤ◌, ◌<ℤ◌, map, drop}
-use Rattle.claim_file.specs.Claim.{data_of as claim_data}
-use Rattle.certificate.specs.Certificate.{data_of as certificate_data, piece_data}
-use Rattle.checker.specs.Verdict.{verdict_of, verdict_from}
+use Rattle.checker.proofs.Common.{◌≡◌, ◌^◌, pos, ◌≤ℤ◌, ◌<ℤ◌, map, drop, data_of as claim_data, piece_data, verdict_of, verdict_from}
+use Rattle.certificate.specs.Certificate.{data_of as certificate_data}
 use Rattle.checker.proofs.verdict.first_fault.Given as goal
 
 abbrev pub invariant-loop-number : goal.invariant-loop-number

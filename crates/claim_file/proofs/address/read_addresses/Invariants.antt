@@ -1,5 +1,4 @@
-use Rattle.std.proofs.Common.{◌≡◌, ◌++◌, drop, map, option_map}
-use Rattle.claim_file.specs.Address.{addresses_of}
+use Rattle.claim_file.proofs.Common.{◌≡◌, ◌++◌, drop, map, option_map, addresses_of}
 use Rattle.claim_file.proofs.address.read_addresses.Given as goal
 
 abbrev pub invariant-loop-text : goal.invariant-loop-text

@@ -1,6 +1,4 @@
-use Rattle.std.proofs.Common.{◌≡◌, ◌++◌, drop, map, option_map}
-use Rattle.serde_json.specs.View.{items_view}
-use Rattle.claim_file.specs.Fields.{all_of, numbers_of}
+use Rattle.claim_file.proofs.Common.{◌≡◌, ◌++◌, drop, map, option_map, items_view, all_of, numbers_of}
 use Rattle.claim_file.proofs.elements.integer_lists.Given as goal
 
 abbrev pub invariant-loop-item : goal.invariant-loop-item

@@ -1,6 +1,4 @@
-use Rattle.std.proofs.Common.{◌≡◌, ◌++◌, drop, option_map}
-use Rattle.serde_json.specs.View.{items_view}
-use Rattle.claim_file.specs.Fields.{all_of}
+use Rattle.claim_file.proofs.Common.{◌≡◌, ◌++◌, drop, option_map, items_view, all_of}
 use Rattle.json_text.specs.Member.{unsigned_of}
 use Rattle.claim_file.proofs.elements.integers.Given as goal
 

@@ -1,6 +1,4 @@
-use Rattle.std.proofs.Common.{◌≡◌, ◌==◌, ◌-◌}
-use Rattle.std.specs.List.{list_all, range_with_len}
-use Rattle.claim_file.specs.Group.{servers_of, times_listed}
+use Rattle.claim_file.proofs.Common.{◌≡◌, ◌==◌, ◌-◌, list_all, range_with_len, servers_of, times_listed}
 use Rattle.claim_file.proofs.group.each_stands_once.Given as goal
 
 abbrev pub invariant-loop-server : goal.invariant-loop-server

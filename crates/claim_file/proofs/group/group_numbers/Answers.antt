@@ -1,5 +1,4 @@
-use Rattle.std.proofs.Common.{map, ap, ◌∙◌, ◌++◌, ◌∷◌, []}
-use Rattle.claim_file.specs.Group.{group_of}
+use Rattle.claim_file.proofs.Common.{map, ap, ◌∙◌, ◌++◌, ◌∷◌, [], group_of}
 use Rattle.claim_file.proofs.Groups.{range_front, found_more}
 use Rattle.claim_file.proofs.group.group_numbers.Goals as goal
 

@@ -1,6 +1,4 @@
-use Rattle.std.proofs.Common.{◌≡◌, ◌++◌, ◌-◌, map}
-use Rattle.std.specs.List.{range_with_len}
-use Rattle.claim_file.specs.Group.{servers_of, group_of}
+use Rattle.claim_file.proofs.Common.{◌≡◌, ◌++◌, ◌-◌, map, range_with_len, servers_of, group_of}
 use Rattle.claim_file.proofs.group.group_numbers.Given as goal
 
 abbrev pub invariant-loop-server : goal.invariant-loop-server

@@ -1,5 +1,4 @@
-use Rattle.std.proofs.Common.{◌≡◌, ◌∙◌, sym, ap, unwrap_or, true, false, ◌==◌}
-use Rattle.std.specs.List.{list_any}
+use Rattle.claim_file.proofs.Common.{◌≡◌, ◌∙◌, sym, ap, unwrap_or, true, false, ◌==◌, list_any}
 use Rattle.claim_file.proofs.Groups.{group_at}
 use Rattle.claim_file.proofs.group.group_of.Goals as goal
 

@@ -1,6 +1,4 @@
-use Rattle.std.proofs.Common.{◌≡◌, ◌==◌, map, drop, unwrap_or}
-use Rattle.std.specs.List.{list_any, position_from}
-use Rattle.claim_file.specs.Group.{group_of}
+use Rattle.claim_file.proofs.Common.{◌≡◌, ◌==◌, map, drop, unwrap_or, list_any, position_from, group_of}
 use Rattle.claim_file.proofs.group.group_of.Given as goal
 
 abbrev pub invariant-loop-number : goal.invariant-loop-number

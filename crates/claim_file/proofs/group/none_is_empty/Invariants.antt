@@ -1,5 +1,4 @@
-use Rattle.std.proofs.Common.{◌≡◌, ◌==◌, not, map, length, drop}
-use Rattle.std.specs.List.{list_all}
+use Rattle.claim_file.proofs.Common.{◌≡◌, ◌==◌, not, map, length, drop, list_all}
 use Rattle.claim_file.proofs.group.none_is_empty.Given as goal
 
 abbrev pub invariant-loop-group : goal.invariant-loop-group

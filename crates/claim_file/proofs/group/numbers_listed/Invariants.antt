@@ -1,5 +1,4 @@
-use Rattle.std.proofs.Common.{◌≡◌, ◌++◌, map, drop}
-use Rattle.std.specs.List.{concat}
+use Rattle.claim_file.proofs.Common.{◌≡◌, ◌++◌, map, drop, concat}
 use Rattle.claim_file.proofs.group.numbers_listed.Given as goal
 
 abbrev pub invariant-loop-group : goal.invariant-loop-group

@@ -1,5 +1,4 @@
-use Rattle.std.proofs.Common.{refl}
-use Rattle.jiff_core.specs.Calendar.{days_from_civil, day_count, days_of_years, days_of_months}
+use Rattle.claim_file.proofs.Common.{refl, days_from_civil, day_count, days_of_years, days_of_months}
 use Rattle.claim_file.proofs.laws.first_and_last_time.Goals as goal
 
 pub returns : goal.returns

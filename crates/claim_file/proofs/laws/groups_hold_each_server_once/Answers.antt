@@ -1,7 +1,4 @@
-use Rattle.std.proofs.lemmas.Bool.{ltb-true}
-use Rattle.std.proofs.lemmas.List.Sums.{AllPass-from_list_all}
-use Rattle.std.proofs.Common.{nat_lt}
-use Rattle.std.specs.List.{concat}
+use Rattle.claim_file.proofs.Common.{ltb-true, AllPass-from_list_all, nat_lt, concat}
 use Rattle.claim_file.proofs.Groupings.{given_grouping, grouping_parts, group_number, group_count-listed}
 use Rattle.claim_file.proofs.laws.groups_hold_each_server_once.Goals as goal
 

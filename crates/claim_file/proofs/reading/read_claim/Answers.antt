@@ -1,5 +1,4 @@
-use Rattle.claim_file.specs.Claim.{data_of}
-use Rattle.claim_file.specs.Fields.{fields_data}
+use Rattle.claim_file.proofs.Common.{data_of, fields_data}
 use Rattle.claim_file.proofs.FieldSteps.{stops_shown, answers_fault, answers_memory}
 use Rattle.claim_file.proofs.Lawful.{lawful_read, numbered_read}
 use Rattle.claim_file.proofs.reading.read_claim.Goals as goal

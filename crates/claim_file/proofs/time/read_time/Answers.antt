@@ -1,5 +1,4 @@
-use Rattle.std.proofs.Common.{true, false, sym, ◌∙◌, FitsSigned, w64, rules}
-use Rattle.std.proofs.lemmas.Int.{to_z-of_z}
+use Rattle.claim_file.proofs.Common.{true, false, sym, ◌∙◌, FitsSigned, w64, rules, to_z-of_z}
 use Rattle.claim_file.proofs.Times.{time_of-read, found_there, time_of-missing}
 use Rattle.claim_file.proofs.time.read_time.Goals as goal
 

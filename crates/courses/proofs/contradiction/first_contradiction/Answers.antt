@@ -1,7 +1,4 @@
-use Rattle.std.proofs.Common.{ℕ, refl, map, subst}
-use Rattle.std.proofs.lemmas.Result.{IfOk-weaker}
-use Rattle.claim_file.specs.Claim.{data_of as claim_data}
-use Rattle.courses.specs.NumberedMarks.{IsFirstIfAny}
+use Rattle.courses.proofs.Common.{ℕ, refl, map, subst, IfOk-weaker, data_of as claim_data, IsFirstIfAny}
 use Rattle.courses.proofs.contradiction.first_contradiction.Goals as goal
 
 pub returns-then-a-b : goal.returns-then-a-b

@@ -1,12 +1,4 @@
-use Rattle.std.proofs.Common.{◌≡◌, ℕ, ◌+◌, ◌<◌, ◌≤◌, ◌∷◌, List, drop, length, map, sym, ap, ◌∙◌, subst, Some, arith}
-use Rattle.std.proofs.lemmas.List.{length-map}
-use Rattle.std.proofs.lemmas.Option.{slice_get-get_or}
-use Rattle.std.proofs.Math.ListN.{drop_of_length-le}
-use Rattle.claim_file.specs.Claim.{data_of as claim_data}
-use Rattle.courses.specs.Evidence.{has_exchange}
-use Rattle.courses.specs.Groups.{holds}
-use Rattle.pairing.specs.declared.exchange.Exchange.{Exchange}
-use Rattle.span_cover.specs.Group.{numbers_below}
+use Rattle.courses.proofs.Common.{◌≡◌, ℕ, ◌+◌, ◌<◌, ◌≤◌, ◌∷◌, List, drop, length, map, sym, ap, ◌∙◌, subst, Some, arith, length-map, slice_get-get_or, drop_of_length-le, data_of as claim_data, has_exchange, holds, Exchange, numbers_below}
 use Rattle.courses.proofs.CoverMembers.{count_same}
 use Rattle.courses.proofs.HeardGroups.{AreHeardTo, one_more_heard, all_heard}
 use Rattle.courses.proofs.KeptMarkLists.{first_left, lawful_shown, read_is, within_groups}

@@ -1,6 +1,4 @@
-use Rattle.std.proofs.Common.{map, drop}
-use Rattle.claim_file.specs.Claim.{data_of as claim_data}
-use Rattle.courses.specs.Groups.{holds}
+use Rattle.courses.proofs.Common.{map, drop, data_of as claim_data, holds}
 use Rattle.courses.proofs.HeardGroups.{AreHeardTo}
 use Rattle.courses.proofs.evidence.groups_with_exchanges.Given as goal
 

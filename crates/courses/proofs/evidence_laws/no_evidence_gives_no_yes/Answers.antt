@@ -1,5 +1,4 @@
-use Rattle.checker.proofs.Exchange.{are_samples}
-use Rattle.checker.specs.Traceability.{samples_of}
+use Rattle.courses.proofs.Common.{are_samples, samples_of}
 use Rattle.courses.proofs.HeardGroups.{untraceable}
 use Rattle.courses.proofs.evidence_laws.no_evidence_gives_no_yes.Goals as goal
 

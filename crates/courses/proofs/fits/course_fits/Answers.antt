@@ -1,5 +1,4 @@
-use Rattle.std.proofs.Common.{map}
-use Rattle.claim_file.specs.Claim.{data_of as claim_data}
+use Rattle.courses.proofs.Common.{map, data_of as claim_data}
 use Rattle.courses.proofs.fits.course_fits.Goals as goal
 
 pub returns : goal.returns

@@ -1,8 +1,6 @@
-use Rattle.std.proofs.Common.{map}
+use Rattle.courses.proofs.Common.{map, data_of as claim_data, holds}
 use Rattle.certificate.specs.Refutation.{data_of as refutation_data}
-use Rattle.claim_file.specs.Claim.{data_of as claim_data}
 use Rattle.courses.specs.ConflictsView.{data_of}
-use Rattle.courses.specs.Groups.{holds}
 use Rattle.courses.proofs.GroupRefutation.{settled}
 use Rattle.courses.proofs.group_refutation.check_refutation_by_conflicts.Goals as goal
 

@@ -1,7 +1,4 @@
-use Rattle.std.proofs.Common.{◌≡◌, rules, subst, sym, ap, ◌∙◌, of_z, to_z}
-use mir.Syntax.{w128}
-use Rattle.marks.specs.Mark.{low_mark, high_mark, AreCompatible}
-use Rattle.marks.specs.declared.mark.Mark.{Mark}
+use Rattle.courses.proofs.Common.{◌≡◌, rules, subst, sym, ap, ◌∙◌, of_z, to_z, w128, low_mark, high_mark, AreCompatible, Mark}
 use Rattle.courses.proofs.group_refutation.is_compatible.Goals as goal
 
 pub returns-then-are_compatible : goal.returns-then-are_compatible

@@ -1,10 +1,4 @@
-use Rattle.std.proofs.Common.{◌≡◌, ℕ, ◌≤◌, true≢false, length, map, refl, sym, ap, ◌∙◌, Some, slice_get, arith}
-use Rattle.std.proofs.lemmas.List.{length-map}
-use Rattle.std.proofs.lemmas.Option.{slice_get-get_or}
-use Rattle.claim_file.specs.Claim.{data_of as claim_data}
-use Rattle.courses.specs.Cover.{is_of}
-use Rattle.courses.specs.DriftRefutation.{IsCompatibleWith}
-use Rattle.courses.specs.Groups.{holds}
+use Rattle.courses.proofs.Common.{◌≡◌, ℕ, ◌≤◌, true≢false, length, map, refl, sym, ap, ◌∙◌, Some, slice_get, arith, length-map, slice_get-get_or, data_of as claim_data, is_of, IsCompatibleWith, holds}
 use Rattle.courses.proofs.KeptMarkLists.{lawful_shown, shown_at}
 use Rattle.courses.proofs.GroupRefutation.{all_held, one_more}
 use Rattle.courses.proofs.TrueExchanges.{true_at}

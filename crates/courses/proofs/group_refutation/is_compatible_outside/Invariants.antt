@@ -1,6 +1,4 @@
-use Rattle.std.proofs.Common.{map}
-use Rattle.claim_file.specs.Claim.{data_of as claim_data}
-use Rattle.courses.specs.Groups.{holds}
+use Rattle.courses.proofs.Common.{map, data_of as claim_data, holds}
 use Rattle.courses.proofs.GroupRefutation.{IsHeldTo}
 use Rattle.courses.proofs.group_refutation.is_compatible_outside.Given as goal
 

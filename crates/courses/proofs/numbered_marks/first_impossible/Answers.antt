@@ -1,9 +1,4 @@
-use Rattle.std.proofs.Common.{◌≡◌, Some, length, map, true≢false, sym, ap, ◌∙◌, subst, rules, of_z, to_z}
-use mir.Syntax.{w128}
-use Rattle.std.proofs.lemmas.Option.{slice_get-get_or}
-use Rattle.std.proofs.lemmas.List.{length-map}
-use Rattle.claim_file.specs.Claim.{data_of as claim_data}
-use Rattle.marks.specs.Mark.{IsPossible}
+use Rattle.courses.proofs.Common.{◌≡◌, Some, length, map, true≢false, sym, ap, ◌∙◌, subst, rules, of_z, to_z, w128, slice_get-get_or, length-map, data_of as claim_data, IsPossible}
 use Rattle.courses.proofs.FirstImpossible.{impossible_here, none_at_all, none_so_far, not_of_group, possible_here}
 use Rattle.courses.proofs.KeptMarkLists.{lawful_shown, shown_at}
 use Rattle.courses.proofs.numbered_marks.first_impossible.Goals as goal

@@ -1,6 +1,4 @@
-use Rattle.std.proofs.Common.{ℕ, ◌<◌, map}
-use Rattle.claim_file.specs.Claim.{data_of as claim_data}
-use Rattle.courses.specs.PairMarks.{IsImpossibleAt}
+use Rattle.courses.proofs.Common.{ℕ, ◌<◌, map, data_of as claim_data, IsImpossibleAt}
 use Rattle.courses.proofs.numbered_marks.first_impossible.Given as goal
 
 abbrev pub invariant-loop-number : goal.invariant-loop-number

@@ -1,6 +1,4 @@
-use Rattle.std.proofs.Common.{ℕ, sym, subst}
-use Rattle.std.proofs.lemmas.Result.{IfOk-weaker}
-use Rattle.courses.specs.NumberedMarks.{AreNumberedOf, IsFirstIfAny}
+use Rattle.courses.proofs.Common.{ℕ, sym, subst, IfOk-weaker, AreNumberedOf, IsFirstIfAny}
 use Rattle.courses.proofs.numbered_marks.first_of_groups.Goals as goal
 
 pub returns-then-a-b : goal.returns-then-a-b

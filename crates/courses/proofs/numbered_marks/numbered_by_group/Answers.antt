@@ -1,8 +1,4 @@
-use Rattle.std.proofs.Common.{◌∙◌, length, map, ap, sym, subst}
-use Rattle.std.specs.Prelude.{All}
-use Rattle.std.proofs.lemmas.List.Elements.{All-nil, All-push}
-use Rattle.claim_file.specs.Claim.{data_of as claim_data}
-use Rattle.courses.specs.NumberedMarks.{IsNumbered, AreNumberedOf}
+use Rattle.courses.proofs.Common.{◌∙◌, length, map, ap, sym, subst, All, All-nil, All-push, data_of as claim_data, IsNumbered, AreNumberedOf}
 use Rattle.courses.proofs.Numbering.{none_in_order, one_longer, one_more_in_order}
 use Rattle.courses.proofs.PartialTables.{up_to_end}
 use Rattle.courses.proofs.numbered_marks.numbered_by_group.Goals as goal

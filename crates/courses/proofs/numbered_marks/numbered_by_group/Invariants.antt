@@ -1,7 +1,4 @@
-use Rattle.std.proofs.Common.{◌≡◌, length, map}
-use Rattle.std.specs.Prelude.{All}
-use Rattle.claim_file.specs.Claim.{data_of as claim_data}
-use Rattle.courses.specs.NumberedMarks.{IsNumbered, AreNumberedInOrder}
+use Rattle.courses.proofs.Common.{◌≡◌, length, map, All, data_of as claim_data, IsNumbered, AreNumberedInOrder}
 use Rattle.courses.proofs.numbered_marks.numbered_by_group.Given as goal
 
 abbrev pub invariant-loop-group : goal.invariant-loop-group

@@ -1,9 +1,6 @@
-use Rattle.std.proofs.Common.{◌≡◌, map}
-use Rattle.std.proofs.lemmas.Result.{IfOk-weaker}
+use Rattle.courses.proofs.Common.{◌≡◌, map, IfOk-weaker, data_of as claim_data, do_agree}
 use Rattle.certificate.specs.Refutation.{data_of as refutation_data}
-use Rattle.claim_file.specs.Claim.{data_of as claim_data}
 use Rattle.courses.specs.DriftSettlement.{SettlesWithDrift}
-use Rattle.courses.specs.DriftTest.{do_agree}
 use Rattle.courses.proofs.DriftTest.{agreement}
 use Rattle.courses.proofs.refutation.check_refutation_with_drift.Goals as goal
 

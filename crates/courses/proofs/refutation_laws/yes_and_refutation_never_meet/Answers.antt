@@ -1,5 +1,4 @@
-use Rattle.checker.proofs.Exchange.{are_samples}
-use Rattle.checker.specs.Traceability.{samples_of}
+use Rattle.courses.proofs.Common.{are_samples, samples_of}
 use Rattle.courses.proofs.DriftCourse.{not_traceable}
 use Rattle.courses.proofs.refutation_laws.yes_and_refutation_never_meet.Goals as goal
 

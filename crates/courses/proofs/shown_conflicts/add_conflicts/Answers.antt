@@ -1,10 +1,5 @@
-use Rattle.std.proofs.Common.{ℕ, ◌+◌, ◌<◌, length, map, refl, sym, ◌∙◌, subst, Vec, Global}
-use Rattle.claim_file.specs.Claim.{data_of as claim_data}
+use Rattle.courses.proofs.Common.{ℕ, ◌+◌, ◌<◌, length, map, refl, sym, ◌∙◌, subst, Vec, Global, data_of as claim_data, IsFirstIfAny, conflict_data, AreListedUpto, Conflict}
 use Rattle.courses.specs.ConflictsView.{data_of}
-use Rattle.courses.specs.NumberedMarks.{IsFirstIfAny}
-use Rattle.courses.specs.PairMarks.{conflict_data}
-use Rattle.courses.specs.ShownConflicts.{AreListedUpto}
-use Rattle.courses.specs.declared.shown_conflicts.Conflict.{Conflict}
 use Rattle.courses.proofs.PartialTables.{within_end}
 use Rattle.courses.proofs.ConflictList.{has_pair, not_listed, pushed, row_listed, lists, lists_not, listed_in_range}
 use Rattle.courses.proofs.shown_conflicts.add_conflicts.Goals as goal

@@ -1,10 +1,5 @@
-use Rattle.std.proofs.Common.{List, map}
-use Rattle.claim_file.specs.Claim.{data_of as claim_data}
+use Rattle.courses.proofs.Common.{List, map, data_of as claim_data, AreGrounds, conflict_data, AreListedUpto, Exchange}
 use Rattle.courses.specs.ConflictsView.{data_of}
-use Rattle.courses.specs.NumberedMarks.{AreGrounds}
-use Rattle.courses.specs.PairMarks.{conflict_data}
-use Rattle.courses.specs.ShownConflicts.{AreListedUpto}
-use Rattle.pairing.specs.declared.exchange.Exchange.{Exchange}
 use Rattle.courses.proofs.shown_conflicts.add_conflicts.Given as goal
 
 abbrev pub invariant-loop-b : goal.invariant-loop-b

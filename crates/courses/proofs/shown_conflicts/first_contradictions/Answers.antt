@@ -1,9 +1,4 @@
-use Rattle.std.proofs.Common.{map, sym, ◌∙◌, subst, List}
-use Rattle.claim_file.specs.Claim.{data_of as claim_data}
-use Rattle.courses.specs.NumberedMarks.{AreNumberedInOrder}
-use Rattle.courses.specs.PairMarks.{conflict_data}
-use Rattle.courses.specs.ShownConflicts.{AreListedUpto}
-use Rattle.courses.specs.declared.shown_conflicts.Conflict.{Conflict}
+use Rattle.courses.proofs.Common.{map, sym, ◌∙◌, subst, List, data_of as claim_data, AreNumberedInOrder, conflict_data, AreListedUpto, Conflict}
 use Rattle.courses.proofs.PartialTables.{within_end}
 use Rattle.courses.proofs.ConflictList.{all_listed, nothing_listed, listed_in_range}
 use Rattle.courses.proofs.shown_conflicts.first_contradictions.Goals as goal

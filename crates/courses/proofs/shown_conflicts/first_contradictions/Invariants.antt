@@ -1,7 +1,4 @@
-use Rattle.std.proofs.Common.{map}
-use Rattle.claim_file.specs.Claim.{data_of as claim_data}
-use Rattle.courses.specs.PairMarks.{conflict_data}
-use Rattle.courses.specs.ShownConflicts.{AreListedUpto}
+use Rattle.courses.proofs.Common.{map, data_of as claim_data, conflict_data, AreListedUpto}
 use Rattle.courses.proofs.shown_conflicts.first_contradictions.Given as goal
 
 abbrev pub invariant-loop-a : goal.invariant-loop-a

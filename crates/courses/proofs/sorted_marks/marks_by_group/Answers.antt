@@ -1,5 +1,4 @@
-use Rattle.std.proofs.Common.{◌∙◌, length, map, ap}
-use Rattle.claim_file.specs.Claim.{data_of as claim_data}
+use Rattle.courses.proofs.Common.{◌∙◌, length, map, ap, data_of as claim_data}
 use Rattle.courses.proofs.PartialTables.{up_to_end}
 use Rattle.courses.proofs.SortedMarks.{none_yet, one_longer, one_more}
 use Rattle.courses.proofs.sorted_marks.marks_by_group.Goals as goal

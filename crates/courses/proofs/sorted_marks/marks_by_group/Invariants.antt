@@ -1,6 +1,4 @@
-use Rattle.std.proofs.Common.{◌≡◌, length, map}
-use Rattle.claim_file.specs.Claim.{data_of as claim_data}
-use Rattle.courses.specs.SortedMarks.{AreOfGroupsInOrder}
+use Rattle.courses.proofs.Common.{◌≡◌, length, map, data_of as claim_data, AreOfGroupsInOrder}
 use Rattle.courses.proofs.sorted_marks.marks_by_group.Given as goal
 
 abbrev pub invariant-loop-group : goal.invariant-loop-group

@@ -1,5 +1,4 @@
-use Rattle.std.proofs.Common.{◌∙◌, codes, subst, sym}
-use Rattle.fault_words.specs.Quote.{IsQuiet}
+use Rattle.fault_words.proofs.Common.{◌∙◌, codes, subst, sym, IsQuiet}
 use Rattle.fault_words.proofs.Quiet.{said}
 use Rattle.fault_words.proofs.claim_look.at_field.Goals as goal
 

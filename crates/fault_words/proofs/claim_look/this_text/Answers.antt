@@ -1,6 +1,4 @@
-use Rattle.std.proofs.Common.{◌∙◌, codes, ap, subst, sym}
-use Rattle.fault_words.specs.Explanation.{FoundData}
-use Rattle.fault_words.specs.Quote.{IsQuiet}
+use Rattle.fault_words.proofs.Common.{◌∙◌, codes, ap, subst, sym, FoundData, IsQuiet}
 use Rattle.fault_words.proofs.Quiet.{said_between}
 use Rattle.fault_words.proofs.claim_look.this_text.Goals as goal
 

@@ -1,5 +1,4 @@
-use Rattle.std.proofs.Common.{◌∙◌, codes, ap, refl}
-use Rattle.fault_words.specs.Explanation.{FoundData}
+use Rattle.fault_words.proofs.Common.{◌∙◌, codes, ap, refl, FoundData}
 use Rattle.fault_words.proofs.Quiet.{decimal_is_quiet, quiet_append, said}
 use Rattle.fault_words.proofs.input_look.no_json.Goals as goal
 

@@ -1,7 +1,4 @@
-use Rattle.std.proofs.Common.{◌≡◌}
-use Rattle.std.specs.Prelude.{string_bytes}
-use Rattle.std.specs.List.{flat_map}
-use Rattle.fault_words.specs.Quote.{shown_char}
+use Rattle.fault_words.proofs.Common.{◌≡◌, string_bytes, flat_map, shown_char}
 use Rattle.fault_words.proofs.quote.front.Given as goal
 
 abbrev pub invariant-loop-c : goal.invariant-loop-c

@@ -1,5 +1,4 @@
-use Rattle.std.proofs.Common.{codes, sym, subst}
-use Rattle.fault_words.specs.Quote.{IsQuiet}
+use Rattle.fault_words.proofs.Common.{codes, sym, subst, IsQuiet}
 use Rattle.fault_words.proofs.Quiet.{quiet_append, visible_is_quiet}
 use Rattle.fault_words.proofs.quote.quoted.Goals as goal
 use Rattle.fault_words.proofs.quote.quoted.Goals.{then-count-gt-MOST_SHOWN+in_ok-push_str, else-count-gt-MOST_SHOWN}

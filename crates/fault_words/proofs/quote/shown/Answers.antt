@@ -1,10 +1,4 @@
-use Rattle.std.proofs.Common.{◌∙◌, ap, subst, sym}
-use Rattle.std.specs.List.{flat_map}
-use Rattle.std.specs.Prelude.{chars}
-use Rattle.std.proofs.lemmas.Iterator.{YieldsList-from_chars}
-use Rattle.std.proofs.lemmas.List.{map-id}
-use Rattle.std.proofs.lemmas.Iterator.Consumers.{YieldsList-end}
-use Rattle.fault_words.specs.Quote.{IsQuiet, shown_char}
+use Rattle.fault_words.proofs.Common.{◌∙◌, ap, subst, sym, flat_map, chars, YieldsList-from_chars, map-id, YieldsList-end, IsQuiet, shown_char}
 use Rattle.fault_words.proofs.Quiet.{shown_is_quiet}
 use Rattle.fault_words.proofs.quote.shown.Goals as goal
 

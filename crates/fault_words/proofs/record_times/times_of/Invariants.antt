@@ -1,5 +1,4 @@
-use Rattle.std.proofs.Common.{◌≡◌, ◌≤◌}
-use Rattle.std.specs.Prelude.{IfSome}
+use Rattle.fault_words.proofs.Common.{◌≡◌, ◌≤◌, IfSome}
 use Rattle.fault_words.proofs.record_times.times_of.Given as goal
 
 abbrev pub invariant-loop-call : goal.invariant-loop-call

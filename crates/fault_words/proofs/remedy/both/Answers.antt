@@ -1,5 +1,4 @@
-use Rattle.std.proofs.Common.{codes, refl, subst, sym}
-use Rattle.fault_words.specs.Quote.{IsQuiet}
+use Rattle.fault_words.proofs.Common.{codes, refl, subst, sym, IsQuiet}
 use Rattle.fault_words.proofs.Quiet.{quiet_append, said}
 use Rattle.fault_words.proofs.remedy.both.Goals as goal
 

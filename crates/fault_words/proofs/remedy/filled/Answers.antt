@@ -1,9 +1,4 @@
-use Rattle.std.proofs.Common.{◌∙◌, ap, sym}
-use Rattle.std.specs.List.{flat_map}
-use Rattle.std.proofs.lemmas.Iterator.{YieldsList-from_chars}
-use Rattle.std.proofs.lemmas.List.{map-id}
-use Rattle.std.proofs.lemmas.Iterator.Consumers.{YieldsList-end}
-use Rattle.fault_words.specs.Sentence.{filling, known_data}
+use Rattle.fault_words.proofs.Common.{◌∙◌, ap, sym, flat_map, YieldsList-from_chars, map-id, YieldsList-end, filling, known_data}
 use Rattle.fault_words.proofs.remedy.filled.Goals as goal
 
 pub returns : goal.returns

@@ -1,5 +1,4 @@
-use Rattle.std.proofs.Common.{subst, sym}
-use Rattle.fault_words.specs.Quote.{IsQuiet}
+use Rattle.fault_words.proofs.Common.{subst, sym, IsQuiet}
 use Rattle.fault_words.proofs.Quiet.{decimal_is_quiet}
 use Rattle.fault_words.proofs.remedy.place_of.Goals as goal
 

@@ -1,6 +1,4 @@
-use Rattle.std.proofs.Common.{◌∙◌, refl, arith}
-use Rattle.std.proofs.lemmas.Int.{ints}
-use Rattle.claim_file.specs.Claim.{data_of}
+use Rattle.finder.proofs.Common.{◌∙◌, refl, arith, ints, data_of}
 use Rattle.finder.proofs.Claim.{first_kept, last_kept, reading_kept}
 use Rattle.finder.proofs.NoOverflow.{kept}
 use Rattle.finder.proofs.carried.claim_with.Goals as goal

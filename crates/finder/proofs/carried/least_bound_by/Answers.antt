@@ -1,6 +1,4 @@
-use Rattle.std.proofs.Common.{ℕ, pos, ◌≡◌, sym, subst, ◌∙◌, arith}
-use Rattle.claim_file.specs.Claim.{data_of}
-use Rattle.finder.specs.Carried.{IsFirst}
+use Rattle.finder.proofs.Common.{ℕ, pos, ◌≡◌, sym, subst, ◌∙◌, arith, data_of, IsFirst}
 use Rattle.finder.proofs.CarriedBound.{finds_least, none_of}
 use Rattle.finder.proofs.carried.least_bound_by.Goals as goal
 

@@ -1,8 +1,4 @@
-use Rattle.std.proofs.Common.{◌≤◌, ◌-◌, pos}
-use Rattle.claim_file.specs.Claim.{data_of, max_bound_ns}
-use Rattle.finder.specs.Carried.{IsCarried, IsFirst}
-use Rattle.finder.specs.Envelope.{with_bound}
-use Rattle.finder.specs.Reach.{OfTables}
+use Rattle.finder.proofs.Common.{◌≤◌, ◌-◌, pos, data_of, max_bound_ns, IsCarried, IsFirst, with_bound, OfTables}
 use Rattle.finder.proofs.carried.least_bound_by.Given as goal
 
 abbrev pub invariant-loop-least : goal.invariant-loop-least

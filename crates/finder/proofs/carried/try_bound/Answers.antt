@@ -1,6 +1,4 @@
-use Rattle.std.proofs.Common.{inl, inr}
-use Rattle.claim_file.specs.Claim.{data_of}
-use Rattle.finder.specs.Envelope.{with_bound}
+use Rattle.finder.proofs.Common.{inl, inr, data_of, with_bound}
 use Rattle.finder.proofs.CarriedBound.{carried_by_ends, lawful_with, reached_by, samples_of_other, tables_for_other}
 use Rattle.finder.proofs.carried.try_bound.Goals as goal
 

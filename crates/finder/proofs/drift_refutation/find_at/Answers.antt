@@ -1,7 +1,4 @@
-use Rattle.std.proofs.Common.{map}
-use Rattle.claim_file.specs.Claim.{data_of as claim_data}
-use Rattle.courses.specs.Groups.{holds}
-use Rattle.finder.specs.Leeway.{IsHeld}
+use Rattle.finder.proofs.Common.{map, data_of as claim_data, holds, IsHeld}
 use Rattle.finder.proofs.HeldError.{both_sides}
 use Rattle.finder.proofs.drift_refutation.find_at.Goals as goal
 

@@ -1,9 +1,5 @@
-use Rattle.std.proofs.Common.{ℕ, pos, true≢false, inl, inr, map, sym, subst, ◌∙◌}
-use Rattle.std.proofs.lemmas.List.{length-map}
+use Rattle.finder.proofs.Common.{ℕ, pos, true≢false, inl, inr, map, sym, subst, ◌∙◌, length-map, data_of as claim_data, holds, AreLeeways}
 use Rattle.certificate.specs.Refutation.{data_of as refutation_data}
-use Rattle.claim_file.specs.Claim.{data_of as claim_data}
-use Rattle.courses.specs.Groups.{holds}
-use Rattle.finder.specs.Leeway.{AreLeeways}
 use Rattle.finder.proofs.HeldError.{held_if_bounded, if_none, rounded}
 use Rattle.finder.proofs.drift_refutation.find_on.Goals as goal
 

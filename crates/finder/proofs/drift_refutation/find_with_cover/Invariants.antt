@@ -1,5 +1,4 @@
-use Rattle.std.proofs.Common.{map}
-use Rattle.claim_file.specs.Claim.{data_of as claim_data}
+use Rattle.finder.proofs.Common.{map, data_of as claim_data}
 use Rattle.finder.proofs.HeldError.{AreTriedTo, IsHeldReading}
 use Rattle.finder.proofs.drift_refutation.find_with_cover.Given as goal
 

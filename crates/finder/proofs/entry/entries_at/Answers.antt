@@ -1,7 +1,4 @@
-use Rattle.std.proofs.Common.{refl, sym, ap, ◌∙◌, arith}
-use Rattle.std.specs.Prelude.{slice_get}
-use Rattle.std.proofs.lemmas.Grind.{common_steps}
-use Rattle.std.proofs.lemmas.Option.{slice_get_read}
+use Rattle.finder.proofs.Common.{refl, sym, ap, ◌∙◌, arith, slice_get, common_steps, slice_get_read}
 use Rattle.finder.proofs.List.{filter_map_more}
 use Rattle.finder.proofs.entry.entries_at.Goals as goal
 

@@ -1,8 +1,5 @@
-use Rattle.std.proofs.Common.{◌≡◌, length, map, ap, ◌∙◌, falls, arith}
-use Rattle.std.specs.Prelude.{All}
-use Rattle.std.proofs.lemmas.List.{map-append}
-use Rattle.claim_file.specs.Claim.{data_of as claim_data}
-use Rattle.finder.specs.Envelope.{IsLawfulPiece, PieceHullData, piece_data}
+use Rattle.finder.proofs.Common.{◌≡◌, length, map, ap, ◌∙◌, falls, arith, All, map-append, data_of as claim_data, IsLawfulPiece, PieceHullData}
+use Rattle.finder.specs.Envelope.{piece_data}
 use Rattle.finder.proofs.EnvelopePieces.{All-from_map, envelope_is, lawful_pieces, least_more, piece_hulls_more}
 use Rattle.finder.proofs.TablePieces.{best_tables, few_tables, long_tables}
 use Rattle.finder.proofs.envelope.envelope_to.Goals as goal

@@ -1,7 +1,5 @@
-use Rattle.std.proofs.Common.{◌≡◌, map}
-use Rattle.claim_file.specs.Claim.{data_of as claim_data}
-use Rattle.finder.specs.Envelope.{IsBelowLimit, least_of, piece_data, piece_hulls}
-use Rattle.finder.specs.Found.{hull_at}
+use Rattle.finder.proofs.Common.{◌≡◌, map, data_of as claim_data, IsBelowLimit, least_of, piece_hulls, hull_at}
+use Rattle.finder.specs.Envelope.{piece_data}
 use Rattle.finder.proofs.envelope.envelope_to.Given as goal
 
 abbrev pub invariant-loop-number : goal.invariant-loop-number

@@ -1,6 +1,4 @@
-use Rattle.claim_file.specs.Claim.{data_of as claim_data}
-use Rattle.finder.specs.Found.{hull_at}
-use Rattle.finder.specs.Piece.{count_of}
+use Rattle.finder.proofs.Common.{data_of as claim_data, hull_at, count_of}
 use Rattle.finder.proofs.EnvelopePieces.{envelope_few, envelope_many, envelope_without_memory}
 use Rattle.finder.proofs.envelope.find_envelope_over.Goals as goal
 

@@ -1,9 +1,4 @@
-use Rattle.std.proofs.Common.{pos, map, take, get_or, unsigned_abs, ap, ◌∙◌}
-use Rattle.std.proofs.lemmas.List.{map-append, take_all}
-use Rattle.certificate.specs.Certificate.{piece_data}
-use Rattle.claim_file.specs.Claim.{data_of}
-use Rattle.sweep.specs.Pieces.{IsPieceAt}
-use Rattle.finder.specs.Fewest.{end_after, pieces_over}
+use Rattle.finder.proofs.Common.{pos, map, take, get_or, unsigned_abs, ap, ◌∙◌, map-append, take_all, piece_data, data_of, IsPieceAt, end_after, pieces_over}
 use Rattle.finder.proofs.Claim.{first_kept}
 use Rattle.finder.proofs.LongestPiece.{end_fits, end_kept, piece_at_take, taken_more}
 use Rattle.finder.proofs.TablePieces.{best_tables}

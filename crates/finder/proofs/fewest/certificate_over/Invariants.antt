@@ -1,7 +1,4 @@
-use Rattle.std.proofs.Common.{◌≡◌, map, take}
-use Rattle.certificate.specs.Certificate.{piece_data}
-use Rattle.claim_file.specs.Claim.{data_of}
-use Rattle.finder.specs.Fewest.{pieces_over}
+use Rattle.finder.proofs.Common.{◌≡◌, map, take, piece_data, data_of, pieces_over}
 use Rattle.finder.proofs.fewest.certificate_over.Given as goal
 
 abbrev pub invariant-loop-number : goal.invariant-loop-number

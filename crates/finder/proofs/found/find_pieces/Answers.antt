@@ -1,10 +1,4 @@
-use Rattle.std.proofs.Common.{◌≡◌, ◌<◌, map, false, true, sym, ap, ◌∙◌, falls, arith}
-use Rattle.std.proofs.lemmas.List.{map-append}
-use Rattle.certificate.specs.Certificate.{piece_data}
-use Rattle.claim_file.specs.Claim.{data_of as claim_data}
-use Rattle.span_cover.specs.Group.{is_inside}
-use Rattle.finder.specs.Envelope.{PieceHullData}
-use Rattle.finder.specs.Piece.{count_of}
+use Rattle.finder.proofs.Common.{◌≡◌, ◌<◌, map, false, true, sym, ap, ◌∙◌, falls, arith, map-append, piece_data, data_of as claim_data, is_inside, PieceHullData, count_of}
 use Rattle.finder.proofs.Claim.{bound_kept}
 use Rattle.finder.proofs.Finding.{found_all, found_failing, passed_more, pieces_more}
 use Rattle.finder.proofs.SpanPieces.{end_fits, end_kept}

@@ -1,7 +1,4 @@
-use Rattle.std.proofs.Common.{◌≡◌, ℕ, ◌<◌, true, map}
-use Rattle.certificate.specs.Certificate.{piece_data}
-use Rattle.claim_file.specs.Claim.{data_of as claim_data}
-use Rattle.finder.specs.Found.{pieces_from, passes}
+use Rattle.finder.proofs.Common.{◌≡◌, ℕ, ◌<◌, true, map, piece_data, data_of as claim_data, pieces_from, passes}
 use Rattle.finder.proofs.found.find_pieces.Given as goal
 
 abbrev pub invariant-loop-number : goal.invariant-loop-number

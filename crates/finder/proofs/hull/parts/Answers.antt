@@ -1,9 +1,4 @@
-use Rattle.std.proofs.Common.{◌<◌, ◌≤◌, length, get_or, ap, ◌∙◌, falls, arith}
-use Rattle.std.proofs.lemmas.Grind.{common_steps}
-use Rattle.std.proofs.lemmas.List.{take_all}
-use Rattle.claim_file.specs.Claim.{data_of}
-use Rattle.sample_interval.specs.Sample.{IsLawfulSample}
-use Rattle.finder.specs.Entry.{part_named, parts_named}
+use Rattle.finder.proofs.Common.{◌<◌, ◌≤◌, length, get_or, ap, ◌∙◌, falls, arith, common_steps, take_all, data_of, IsLawfulSample, part_named, parts_named}
 use Rattle.finder.proofs.EntryList.{listed_parts, part_computed}
 use Rattle.finder.proofs.List.{All-slice_get, filter_map_more}
 use Rattle.finder.proofs.hull.parts.Goals as goal

@@ -1,6 +1,4 @@
-use Rattle.std.proofs.Common.{◌≡◌, ◌≤◌, length, take}
-use Rattle.claim_file.specs.Claim.{data_of}
-use Rattle.finder.specs.Entry.{parts_named}
+use Rattle.finder.proofs.Common.{◌≡◌, ◌≤◌, length, take, data_of, parts_named}
 use Rattle.finder.proofs.hull.parts.Given as goal
 
 abbrev pub invariant-loop-entry : goal.invariant-loop-entry

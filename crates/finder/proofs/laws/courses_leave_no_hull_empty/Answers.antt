@@ -1,6 +1,4 @@
-use Rattle.std.proofs.Common.{refl, subst}
-use Rattle.checker.specs.Traceability.{IsInHull, samples_of}
-use Rattle.finder.specs.Fewest.{next_tick, stretch_over}
+use Rattle.finder.proofs.Common.{refl, subst, IsInHull, samples_of, next_tick, stretch_over}
 use Rattle.finder.proofs.CarriedBound.{tick_forward}
 use Rattle.finder.proofs.SettlementAnswer.{observed}
 use Rattle.finder.proofs.laws.courses_leave_no_hull_empty.Goals as goal

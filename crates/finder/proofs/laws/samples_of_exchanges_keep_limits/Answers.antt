@@ -1,5 +1,4 @@
-use Rattle.std.proofs.lemmas.List.{length-map}
-use Rattle.sample_interval.specs.Sample.{sample_of}
+use Rattle.finder.proofs.Common.{length-map, sample_of}
 use Rattle.checker.proofs.Exchange.{are_samples}
 use Rattle.finder.proofs.laws.samples_of_exchanges_keep_limits.Goals as goal
 

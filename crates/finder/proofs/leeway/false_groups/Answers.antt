@@ -1,6 +1,4 @@
-use Rattle.std.proofs.Common.{◌≡◌, ℕ, ◌-◌, ◌≤◌, subst, ap, ◌∙◌, arith}
-use Rattle.courses.specs.Groups.{holds}
-use Rattle.finder.specs.Leeway.{IsNarrowed}
+use Rattle.finder.proofs.Common.{◌≡◌, ℕ, ◌-◌, ◌≤◌, subst, ap, ◌∙◌, arith, holds, IsNarrowed}
 use Rattle.finder.proofs.GroupLeeway.{all_limited, none_added, one_added}
 use Rattle.finder.proofs.leeway.false_groups.Goals as goal
 use Rattle.finder.proofs.leeway.false_groups.Goals.{in-Some, in_default}

@@ -1,5 +1,4 @@
-use Rattle.courses.specs.Groups.{holds}
-use Rattle.finder.specs.Leeway.{IsNarrowed}
+use Rattle.finder.proofs.Common.{holds, IsNarrowed}
 use Rattle.finder.proofs.leeway.false_groups.Given as goal
 
 abbrev pub invariant-loop-added : goal.invariant-loop-added

@@ -1,13 +1,4 @@
-use Rattle.std.proofs.Common.{◌≡◌, ℕ, ◌+◌, ◌<◌, ℤ, pos, ◌≤ℤ◌, length, map, get_or, set, refl, sym, ap, ap₂, ◌∙◌, subst, to_z, of_z, arith}
-use Rattle.std.proofs.lemmas.List.{length-set}
-use Rattle.std.specs.Int.{int_min}
-use Rattle.std.specs.Prelude.{◌↔◌}
-use Rattle.std.proofs.lemmas.Int.{to_z-of_z}
-use mir.Syntax.{w128}
-use Rattle.claim_file.specs.Claim.{data_of as claim_data}
-use Rattle.courses.specs.Cover.{group_of}
-use Rattle.marks.specs.Mark.{AreCompatible}
-use Rattle.finder.specs.Leeway.{AreLeeways, Lets, leeway_in, mark_at, no_limit, turned}
+use Rattle.finder.proofs.Common.{◌≡◌, ℕ, ◌+◌, ◌<◌, ℤ, pos, ◌≤ℤ◌, length, map, get_or, set, refl, sym, ap, ap₂, ◌∙◌, subst, to_z, of_z, arith, length-set, int_min, ◌↔◌, to_z-of_z, w128, data_of as claim_data, group_of, AreCompatible, AreLeeways, Lets, leeway_in, mark_at, no_limit, turned}
 use Rattle.finder.proofs.Claim.{reading_kept}
 use Rattle.finder.proofs.CompactExchange.{lawful_of, stands_at}
 use Rattle.finder.proofs.GroupLeeway.{none_yet, one_more_leeway, replicated, replicated_kept, same_default, still_kept}

@@ -1,6 +1,4 @@
-use Rattle.std.proofs.Common.{◌≡◌, length, map, pos}
-use Rattle.claim_file.specs.Claim.{data_of as claim_data}
-use Rattle.finder.specs.Leeway.{AreLeeways}
+use Rattle.finder.proofs.Common.{◌≡◌, length, map, pos, data_of as claim_data, AreLeeways}
 use Rattle.finder.proofs.GroupLeeway.{AreKept}
 use Rattle.finder.proofs.leeway.leeways_at.Given as goal
 

@@ -1,7 +1,4 @@
-use Rattle.std.proofs.Common.{◌≡◌, ℕ, ◌+◌, ◌-◌, pos, ◌+ℤ◌, arith, unsigned_abs, to_z, of_z, rules, ap, ◌∙◌}
-use mir.Syntax.{w128}
-use Rattle.std.proofs.lemmas.Int.{ints}
-use Rattle.sample_interval.specs.Widening.{billion}
+use Rattle.finder.proofs.Common.{◌≡◌, ℕ, ◌+◌, ◌-◌, pos, ◌+ℤ◌, arith, unsigned_abs, to_z, of_z, rules, ap, ◌∙◌, w128, ints, billion}
 use Rattle.finder.proofs.NoOverflow.{kept, kept_difference}
 use Rattle.finder.proofs.GroupLeeway.{most_later, most_earlier}
 use Rattle.finder.proofs.leeway.most_under.Goals as goal

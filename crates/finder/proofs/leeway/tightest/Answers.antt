@@ -1,8 +1,4 @@
-use Rattle.std.proofs.Common.{◌≡◌, true≢false, pos, get_or, length, rules, sym, ap, ◌∙◌, to_z, of_z, arith}
-use mir.Syntax.{w128}
-use Rattle.std.proofs.lemmas.Int.{ints}
-use Rattle.courses.specs.Groups.{holds}
-use Rattle.finder.specs.Leeway.{leeway_in, no_limit}
+use Rattle.finder.proofs.Common.{◌≡◌, true≢false, pos, get_or, length, rules, sym, ap, ◌∙◌, to_z, of_z, arith, w128, ints, holds, leeway_in, no_limit}
 use Rattle.finder.proofs.GroupLeeway.{no_tighter, same_default, tighter}
 use Rattle.finder.proofs.leeway.tightest.Goals as goal
 use Rattle.finder.proofs.leeway.tightest.Goals.{then-not-contains+then-most-least, else-not-contains, else-not-contains-via-then-not-contains+else-most-least, else-not-contains-via-else-not-contains}

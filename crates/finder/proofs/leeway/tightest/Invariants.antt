@@ -1,5 +1,4 @@
-use Rattle.std.proofs.Common.{◌<◌}
-use Rattle.courses.specs.Groups.{holds}
+use Rattle.finder.proofs.Common.{◌<◌, holds}
 use Rattle.finder.proofs.GroupLeeway.{IsTightestTo}
 use Rattle.finder.proofs.leeway.tightest.Given as goal
 

@@ -1,5 +1,4 @@
-use Rattle.std.proofs.Common.{length, ap, ◌∙◌, sym}
-use Rattle.claim_file.specs.Claim.{data_of}
+use Rattle.finder.proofs.Common.{length, ap, ◌∙◌, sym, data_of}
 use Rattle.finder.proofs.LongestPiece.{tick_kept}
 use Rattle.finder.proofs.Part.{hull_said, listed_said}
 use Rattle.finder.proofs.longest.hull_over.Goals as goal

@@ -1,5 +1,4 @@
-use Rattle.std.proofs.Common.{◌+◌, ◌∙◌, sym, arith}
-use Rattle.claim_file.specs.Claim.{data_of}
+use Rattle.finder.proofs.Common.{◌+◌, ◌∙◌, sym, arith, data_of}
 use Rattle.finder.proofs.LongestPiece.{halved_down, halved_end, halved_first, halved_up, last_is, next_not_before}
 use Rattle.finder.proofs.longest.longest_end.Goals as goal
 

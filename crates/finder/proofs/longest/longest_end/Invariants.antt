@@ -1,7 +1,4 @@
-use Rattle.std.proofs.Common.{◌-◌, List}
-use Rattle.claim_file.specs.Claim.{data_of}
-use Rattle.sample_interval.specs.declared.kinds.Sample.{Sample}
-use Rattle.finder.specs.Reach.{AreTablesFor}
+use Rattle.finder.proofs.Common.{◌-◌, List, data_of, Sample, AreTablesFor}
 use Rattle.finder.proofs.LongestPiece.{IsHalved}
 use Rattle.finder.proofs.longest.longest_end.Given as goal
 

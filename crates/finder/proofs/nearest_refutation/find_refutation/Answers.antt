@@ -1,9 +1,5 @@
-use Rattle.std.proofs.Common.{rules, subst, true≢false, ◌≡◌, ◌∙◌, Some, length, sym, ap, arith, unsigned_abs, w64}
-use Rattle.std.specs.Prelude.{map, option_map}
-use Rattle.std.proofs.lemmas.Int.{ints, to_z-of_z}
-use mir.Val.{SFits}
-use Rattle.claim_file.specs.Claim.{data_of as claim_data}
-use Rattle.finder.specs.NearestRefutation.{IsNearestRefutation, refutation_at}
+use Rattle.finder.proofs.Common.{rules, subst, true≢false, ◌≡◌, ◌∙◌, Some, length, sym, ap, arith, unsigned_abs, w64, option_map, ints, to_z-of_z, SFits, data_of as claim_data, IsNearestRefutation, refutation_at}
+use Rattle.std.specs.Prelude.{map}
 use Rattle.finder.proofs.RefutationFinding.{refutation_is, says_none, says_some}
 use Rattle.finder.proofs.Claim.{first_kept, reading_kept}
 use Rattle.finder.proofs.NoOverflow.{kept}

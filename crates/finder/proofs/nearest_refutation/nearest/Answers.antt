@@ -1,8 +1,4 @@
-use Rattle.std.proofs.Common.{◌≡◌, ◌∙◌, refl, ◌+ℤ◌, pos, true, false, true≢false, sym, arith, to_z, of_z}
-use Rattle.std.proofs.lemmas.Int.{ints, to_z-of_z}
-use mir.Syntax.{w128}
-use Rattle.claim_file.specs.Claim.{ClaimData, IsLawful, data_of as claim_data}
-use Rattle.finder.specs.Room.{possible_by, room_at}
+use Rattle.finder.proofs.Common.{◌≡◌, ◌∙◌, refl, ◌+ℤ◌, pos, true, false, true≢false, sym, arith, to_z, of_z, ints, to_z-of_z, w128, ClaimData, IsLawful, data_of as claim_data, possible_by, room_at}
 use Rattle.finder.proofs.Claim.{bound_kept, few_groups}
 use Rattle.finder.proofs.NoOverflow.{kept}
 use Rattle.finder.proofs.Nearest.{first_is_nearest, next_is_nearest, nothing_so_far, none_is_nearest, passed, taken}

@@ -1,9 +1,4 @@
-use Rattle.std.proofs.Common.{◌≡◌, ℤ, List, None, pos, neg_ℤ, sym, arith, ◌-ℤ◌}
-use Rattle.std.proofs.lemmas.Int.{ints}
-use Rattle.claim_file.specs.Claim.{data_of as claim_data}
-use Rattle.pairing.specs.declared.exchange.Exchange.{Exchange}
-use Rattle.finder.specs.Room.{AreRooms}
-use Rattle.finder.specs.NearestRefutation.{greatest_error, is_possible, least_error_below, nearest}
+use Rattle.finder.proofs.Common.{◌≡◌, ℤ, List, None, pos, neg_ℤ, sym, arith, ◌-ℤ◌, ints, data_of as claim_data, Exchange, AreRooms, greatest_error, is_possible, least_error_below, nearest}
 use Rattle.finder.proofs.NoOverflow.{kept}
 use Rattle.finder.proofs.RefutationSearch.{found_is, none_found, none_nearest, possible_is, possible_turned, nearest_above, nearest_below}
 use Rattle.finder.proofs.nearest_refutation.nearest_error.Goals as goal

@@ -1,5 +1,4 @@
-use Rattle.std.proofs.Common.{length}
-use Rattle.claim_file.specs.Claim.{data_of}
+use Rattle.finder.proofs.Common.{length, data_of}
 use Rattle.finder.proofs.Part.{listed_said}
 use Rattle.finder.proofs.neediest.hull_without.Goals as goal
 

@@ -1,5 +1,4 @@
-use Rattle.std.proofs.Common.{ap, subst, sym, ◌<◌, ◌^◌, ℕ, unsigned_abs}
-use Rattle.claim_file.specs.Claim.{data_of}
+use Rattle.finder.proofs.Common.{ap, subst, sym, ◌<◌, ◌^◌, ℕ, unsigned_abs, data_of}
 use Rattle.finder.proofs.Claim.{length_kept, length_fits, length_below, length_from_zero, length_fits_unsigned}
 use Rattle.finder.proofs.SpanPieces.{count_from, count_fits, some_ticks, ticks_fit}
 use Rattle.finder.proofs.piece.piece_count.Goals as goal

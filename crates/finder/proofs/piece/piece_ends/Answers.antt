@@ -1,6 +1,4 @@
-use Rattle.std.proofs.Common.{rules, falls, le_antisymm, ◌≡◌, [], ◌∷◌, ◌++◌, to_z, of_z}
-use mir.Syntax.{w128}
-use Rattle.std.proofs.lemmas.Int.{to_z-of_z}
+use Rattle.finder.proofs.Common.{rules, falls, le_antisymm, ◌≡◌, [], ◌∷◌, ◌++◌, to_z, of_z, w128, to_z-of_z}
 use Rattle.finder.proofs.SpanPieces.{ends_more}
 use Rattle.finder.proofs.piece.piece_ends.Goals as goal
 

@@ -1,5 +1,4 @@
-use Rattle.std.proofs.Common.{◌≡◌}
-use Rattle.finder.specs.Piece.{ends_of}
+use Rattle.finder.proofs.Common.{◌≡◌, ends_of}
 use Rattle.finder.proofs.piece.piece_ends.Given as goal
 
 abbrev pub invariant-loop-number : goal.invariant-loop-number

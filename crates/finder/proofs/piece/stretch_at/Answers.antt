@@ -1,7 +1,4 @@
-use Rattle.std.proofs.Common.{◌≡◌, ◌-◌, ◌∙◌, sym, ap, arith, to_z}
-use mir.Syntax.{w128}
-use Rattle.claim_file.specs.Claim.{data_of}
-use Rattle.finder.specs.Piece.{piece_begin_of}
+use Rattle.finder.proofs.Common.{◌≡◌, ◌-◌, ◌∙◌, sym, ap, arith, to_z, w128, data_of, piece_begin_of}
 use Rattle.finder.proofs.Claim.{first_kept}
 use Rattle.finder.proofs.SpanPieces.{begin_later, end_computed, stretch_is}
 use Rattle.finder.proofs.piece.stretch_at.Goals as goal

@@ -1,6 +1,4 @@
-use Rattle.std.proofs.Common.{◌∙◌}
-use Rattle.claim_file.specs.Claim.{data_of as claim_data}
-use Rattle.finder.specs.Piece.{stretch_at}
+use Rattle.finder.proofs.Common.{◌∙◌, data_of as claim_data, stretch_at}
 use Rattle.finder.proofs.EntryList.{entries_there}
 use Rattle.finder.proofs.Finding.{hull_is}
 use Rattle.finder.proofs.SpanPieces.{piece_of_claim}

@@ -1,9 +1,4 @@
-use Rattle.std.proofs.Common.{◌≡◌, ◌-◌, ◌≤◌, pos, ◌≤ℤ◌, length, List}
-use Rattle.certificate.specs.Certificate.{max_pieces}
-use Rattle.claim_file.specs.Claim.{data_of}
-use Rattle.sample_interval.specs.declared.kinds.Sample.{Sample}
-use Rattle.finder.specs.Fewest.{AreLongest, end_after}
-use Rattle.finder.specs.Reach.{AreTablesFor}
+use Rattle.finder.proofs.Common.{◌≡◌, ◌-◌, ◌≤◌, pos, ◌≤ℤ◌, length, List, max_pieces, data_of, Sample, AreLongest, end_after, AreTablesFor}
 use Rattle.finder.proofs.reach.longest_ends.Given as goal
 
 abbrev pub invariant-loop-pace : goal.invariant-loop-pace

@@ -1,8 +1,4 @@
-use Rattle.std.proofs.Common.{◌≡◌, ◌∙◌, length, refl, rules}
-use Rattle.std.proofs.lemmas.Int.{to_z-of_z}
-use mir.Syntax.{w128}
-use Rattle.claim_file.specs.Claim.{data_of as claim_data}
-use Rattle.finder.specs.Room.{refused_by}
+use Rattle.finder.proofs.Common.{◌≡◌, ◌∙◌, length, refl, rules, to_z-of_z, w128, data_of as claim_data, refused_by}
 use Rattle.finder.proofs.Liar.{as_many_named}
 use Rattle.finder.proofs.room.is_possible.Goals as goal
 

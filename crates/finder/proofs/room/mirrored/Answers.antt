@@ -1,7 +1,4 @@
-use Rattle.std.proofs.Common.{◌<◌, ℕ, ◌∙◌, arith, length, neg_ℤ}
-use Rattle.std.proofs.lemmas.List.{length-set}
-use Rattle.intersection.specs.declared.kinds.Interval.{Interval}
-use Rattle.finder.specs.Room.{room_at}
+use Rattle.finder.proofs.Common.{◌<◌, ℕ, ◌∙◌, arith, length, neg_ℤ, length-set, Interval, room_at}
 use Rattle.finder.proofs.Rooms.{mirrored_more, negative_kept}
 use Rattle.finder.proofs.room.mirrored.Goals as goal
 

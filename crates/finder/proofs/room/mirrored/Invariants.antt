@@ -1,5 +1,4 @@
-use Rattle.std.proofs.Common.{◌≡◌, ◌<◌, ℕ, neg_ℤ, length}
-use Rattle.finder.specs.Room.{room_at}
+use Rattle.finder.proofs.Common.{◌≡◌, ◌<◌, ℕ, neg_ℤ, length, room_at}
 use Rattle.finder.proofs.room.mirrored.Given as goal
 
 abbrev pub invariant-loop-server : goal.invariant-loop-server

@@ -1,7 +1,4 @@
-use Rattle.std.proofs.Common.{◌≡◌, ◌≤◌, length}
-use Rattle.std.specs.Prelude.{filter}
-use Rattle.span_cover.specs.Group.{numbers_below}
-use Rattle.finder.specs.Room.{refused_by}
+use Rattle.finder.proofs.Common.{◌≡◌, ◌≤◌, length, filter, numbers_below, refused_by}
 use Rattle.finder.proofs.room.refusing.Given as goal
 
 abbrev pub invariant-loop-server : goal.invariant-loop-server

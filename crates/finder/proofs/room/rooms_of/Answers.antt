@@ -1,10 +1,5 @@
-use Rattle.std.proofs.Common.{◌∙◌, ◌||◌, refl, ap, take, arith}
+use Rattle.finder.proofs.Common.{◌∙◌, ◌||◌, refl, ap, take, arith, ints, clamps, to_z-of_z, length-set, w128, leaves_out, AreRooms, room_at}
 use Rattle.std.specs.Prelude.{map}
-use Rattle.std.proofs.lemmas.Int.{ints, clamps, to_z-of_z}
-use Rattle.std.proofs.lemmas.List.{length-set}
-use mir.Syntax.{w128}
-use Rattle.intersection.specs.Interval.{leaves_out}
-use Rattle.finder.specs.Room.{AreRooms, room_at}
 use Rattle.finder.proofs.ErrorRoom.{left_out_of_either}
 use Rattle.finder.proofs.Rooms.{lawful_here, shown_here, within_shown, rooms_of_none, rooms_step}
 use Rattle.finder.proofs.room.rooms_of.Goals as goal

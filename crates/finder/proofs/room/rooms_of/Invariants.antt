@@ -1,6 +1,5 @@
-use Rattle.std.proofs.Common.{◌≡◌, length, take}
+use Rattle.finder.proofs.Common.{◌≡◌, length, take, AreRooms}
 use Rattle.std.specs.Prelude.{map}
-use Rattle.finder.specs.Room.{AreRooms}
 use Rattle.finder.proofs.room.rooms_of.Given as goal
 
 abbrev pub invariant-loop-held : goal.invariant-loop-held

@@ -1,7 +1,4 @@
-use Rattle.std.proofs.Common.{ap, sym, ◌∙◌}
-use Rattle.std.specs.Prelude.{count_by}
-use Rattle.courses.specs.Groups.{holds}
-use Rattle.span_cover.specs.Group.{numbers_below}
+use Rattle.finder.proofs.Common.{ap, sym, ◌∙◌, count_by, holds, numbers_below}
 use Rattle.finder.proofs.settlement.groups_heard.Goals as goal
 
 pub returns : goal.returns

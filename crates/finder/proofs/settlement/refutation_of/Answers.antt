@@ -1,9 +1,6 @@
-use Rattle.std.proofs.Common.{true, length, map, refl, ap, subst}
-use Rattle.std.specs.Prelude.{All}
+use Rattle.finder.proofs.Common.{true, length, map, refl, ap, subst, All, data_of as claim_data, IsHeldAtAll}
 use Rattle.certificate.specs.Refutation.{data_of as refutation_data}
-use Rattle.claim_file.specs.Claim.{data_of as claim_data}
 use Rattle.courses.specs.ConflictsView.{data_of}
-use Rattle.finder.specs.Leeway.{IsHeldAtAll}
 use Rattle.finder.proofs.HeldError.{all_tried, are_held, least_covers, one_more_tried}
 use Rattle.finder.proofs.settlement.refutation_of.Goals as goal
 

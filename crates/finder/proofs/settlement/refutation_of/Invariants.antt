@@ -1,6 +1,4 @@
-use Rattle.std.proofs.Common.{map}
-use Rattle.claim_file.specs.Claim.{data_of as claim_data}
-use Rattle.finder.specs.Leeway.{IsHeldAtAll}
+use Rattle.finder.proofs.Common.{map, data_of as claim_data, IsHeldAtAll}
 use Rattle.finder.proofs.HeldError.{AreTriedTo}
 use Rattle.finder.proofs.settlement.refutation_of.Given as goal
 

@@ -1,8 +1,4 @@
-use Rattle.std.proofs.Common.{◌≤◌, Err, Ok, List, inr, ⊎_elim, map, refl, subst, arith}
-use Rattle.claim_file.specs.Claim.{data_of as claim_data}
-use Rattle.sample_interval.specs.declared.kinds.Sample.{Sample}
-use Rattle.finder.specs.FewestAnswer.{FindsFewest}
-use Rattle.finder.specs.declared.fault.FindFault.TheVariants.{TooManyPieces}
+use Rattle.finder.proofs.Common.{◌≤◌, Err, Ok, List, inr, ⊎_elim, map, refl, subst, arith, data_of as claim_data, Sample, FindsFewest, TooManyPieces}
 use Rattle.finder.specs.declared.fewest.Fewest.TheVariants as found
 use Rattle.finder.proofs.SettlementAnswer.{contested_by, fits_if, fits_not, heard, left_open, none_fits, shown_by, stuck_within, unheard}
 use Rattle.finder.proofs.settlement.settle.Goals as goal

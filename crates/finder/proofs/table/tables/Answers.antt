@@ -1,8 +1,6 @@
-use Rattle.claim_file.specs.Claim.{data_of}
+use Rattle.finder.proofs.Common.{data_of, piece_begin_of, piece_end_of}
 use Rattle.finder.proofs.Claim.{first_from_zero, first_kept, last_in_range, last_kept, span_in_order}
 use Rattle.finder.proofs.TablePieces.{are_pieces_of, as_many_long, piece_of}
-use Rattle.finder.specs.Piece.{piece_begin_of}
-use Rattle.span_cover.specs.Step.{piece_end_of}
 use Rattle.finder.proofs.table.tables.Goals as goal
 
 pub piece_ends-requires-clause-from_zero : goal.piece_ends-requires-clause-from_zero

@@ -1,13 +1,4 @@
-use Rattle.std.proofs.Common.{ℕ, ℤ, ◌≤◌, length, ap, subst, le_trans, falls, ◌∙◌, arith, rules, ◌≡◌, [], ◌∷◌, ◌++◌}
-use Rattle.std.specs.Prelude.{slice_get}
-use Rattle.std.specs.List.{filter_map, range_with_len}
-use Rattle.std.proofs.lemmas.Grind.{common_steps}
-use Rattle.std.proofs.lemmas.Int.{to_z-of_z}
-use Rattle.std.proofs.lemmas.List.Elements.{All-push}
-use mir.Syntax.{w128}
-use Rattle.claim_file.specs.Claim.{data_of}
-use Rattle.finder.specs.Entry.{best_over}
-use Rattle.finder.specs.Fewest.{stretch_over}
+use Rattle.finder.proofs.Common.{ℕ, ℤ, ◌≤◌, length, ap, subst, le_trans, falls, ◌∙◌, arith, rules, ◌≡◌, [], ◌∷◌, ◌++◌, slice_get, filter_map, range_with_len, common_steps, to_z-of_z, All-push, w128, data_of, best_over, stretch_over}
 use Rattle.finder.proofs.Claim.{server_fits}
 use Rattle.finder.proofs.List.{without}
 use Rattle.finder.proofs.TablePieces.{table_more}

@@ -1,10 +1,4 @@
-use Rattle.std.proofs.Common.{◌≡◌, ℕ, ℤ, ◌≤◌, length}
-use Rattle.std.specs.Prelude.{All, slice_get}
-use Rattle.std.specs.List.{filter_map, range_with_len}
-use Rattle.claim_file.specs.Claim.{data_of}
-use Rattle.sweep.specs.Pieces.{IsPieceAt}
-use Rattle.finder.specs.Entry.{best_over}
-use Rattle.finder.specs.Fewest.{stretch_over}
+use Rattle.finder.proofs.Common.{◌≡◌, ℕ, ℤ, ◌≤◌, length, All, slice_get, filter_map, range_with_len, data_of, IsPieceAt, best_over, stretch_over}
 use Rattle.finder.proofs.table.tables_over.Given as goal
 
 abbrev pub invariant-loop-server : goal.invariant-loop-server

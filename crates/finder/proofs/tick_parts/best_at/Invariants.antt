@@ -1,5 +1,4 @@
-use Rattle.std.proofs.Common.{take}
-use Rattle.span_cover.specs.Gathering.{Gathered}
+use Rattle.finder.proofs.Common.{take, Gathered}
 use Rattle.finder.proofs.tick_parts.best_at.Given as goal
 
 abbrev pub invariant-loop-number : goal.invariant-loop-number

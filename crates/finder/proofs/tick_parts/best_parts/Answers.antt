@@ -1,6 +1,4 @@
-use Rattle.std.proofs.Common.{◌≡◌, ◌∙◌, ◌<◌, length, sym, ap, arith, to_z, of_z}
-use mir.Syntax.{w128}
-use Rattle.finder.specs.TickParts.{best_part}
+use Rattle.finder.proofs.Common.{◌≡◌, ◌∙◌, ◌<◌, length, sym, ap, arith, to_z, of_z, w128, best_part}
 use Rattle.finder.proofs.PartList.{one_stands, none_stands}
 use Rattle.finder.proofs.tick_parts.best_parts.Goals as goal
 use Rattle.finder.proofs.tick_parts.best_parts.Goals.{in-Some, in_default}

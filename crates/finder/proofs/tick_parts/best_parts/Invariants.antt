@@ -1,5 +1,4 @@
-use Rattle.std.proofs.Common.{length}
-use Rattle.finder.specs.TickParts.{best_part}
+use Rattle.finder.proofs.Common.{length, best_part}
 use Rattle.finder.proofs.PartList.{StandsFor}
 use Rattle.finder.proofs.tick_parts.best_parts.Given as goal
 

@@ -1,5 +1,4 @@
-use Rattle.std.proofs.Common.{rules}
-use Rattle.arrayvec.proofs.ArrayVecLemmas.{items-with_items}
+use Rattle.intersection.proofs.Common.{rules, items-with_items}
 use Rattle.intersection.proofs.SortedEnds.{in_order}
 use Rattle.intersection.proofs.ends.sorted_ends.Goals as goal
 

@@ -1,6 +1,4 @@
-use Rattle.std.proofs.Common.{◌≡◌, ◌≤◌, ◌+◌, ◌++◌, length, take}
-use Rattle.std.specs.List.{flat_map}
-use Rattle.intersection.specs.Ends.{low_end, high_end}
+use Rattle.intersection.proofs.Common.{◌≡◌, ◌≤◌, ◌+◌, ◌++◌, length, take, flat_map, low_end, high_end}
 use Rattle.intersection.proofs.ends.sorted_ends.Given as goal
 
 abbrev pub invariant-loop-interval : goal.invariant-loop-interval

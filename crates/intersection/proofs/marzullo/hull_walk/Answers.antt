@@ -1,5 +1,4 @@
-use Rattle.std.proofs.Common.{arith}
-use Rattle.intersection.specs.declared.kinds.Hull.TheVariants.{Unbounded}
+use Rattle.intersection.proofs.Common.{arith, Unbounded}
 use Rattle.intersection.proofs.Hulls.{described}
 use Rattle.intersection.proofs.marzullo.hull_walk.Goals as goal
 

@@ -1,5 +1,4 @@
-use Rattle.std.proofs.Common.{◌≡◌, ◌+◌, drop}
-use Rattle.intersection.specs.Marzullo.{first_reached}
+use Rattle.intersection.proofs.Common.{◌≡◌, ◌+◌, drop, first_reached}
 use Rattle.intersection.proofs.marzullo.walk.Given as goal
 
 abbrev pub invariant-loop-end : goal.invariant-loop-end

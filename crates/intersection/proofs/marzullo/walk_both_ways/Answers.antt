@@ -1,9 +1,4 @@
-use Rattle.std.proofs.Common.{ℤ, ◌∙◌, sym, ap, Some, rules, arith, to_z, of_z, FitsSigned, reverse}
-use Rattle.std.specs.Int.{w128}
-use Rattle.std.proofs.lemmas.Int.{to_z-of_z}
-use Rattle.arrayvec.proofs.ArrayVecLemmas.{items-with_items}
-use Rattle.intersection.specs.Hull.{IsHull}
-use Rattle.intersection.specs.declared.kinds.Hull.TheVariants.{Empty, Bounded}
+use Rattle.intersection.proofs.Common.{ℤ, ◌∙◌, sym, ap, Some, rules, arith, to_z, of_z, FitsSigned, reverse, w128, to_z-of_z, items-with_items, IsHull, Empty, Bounded}
 use Rattle.intersection.proofs.Hulls.{described}
 use Rattle.intersection.proofs.Soundness.{walk_up, walk_down, found_none, found_both, found_one}
 use Rattle.intersection.proofs.marzullo.walk_both_ways.Goals as goal

@@ -1,8 +1,4 @@
-use Rattle.std.proofs.Common.{◌≡◌, ◌-◌, ◌<◌, length, Some, None, refl, ap, ◌∙◌, arith}
-use Rattle.json.proofs.Grammar.{left_some, left_none, read_key-shorter}
-use Rattle.json.specs.Json.{after_end_array, read_key}
-use Rattle.serde_json.specs.Data.{no_members, put}
-use Rattle.json_text.specs.Next.{next_value, next_items, next_members, rest_after}
+use Rattle.json_text.proofs.Common.{◌≡◌, ◌-◌, ◌<◌, length, Some, None, refl, ap, ◌∙◌, arith, left_some, left_none, read_key-shorter, after_end_array, read_key, no_members, put, next_value, next_items, next_members, rest_after}
 use Rattle.json_text.proofs.NextTokens.{items_over, item_refused, item_passed, members_over, key_refused, member_refused, member_read}
 use Rattle.json_text.proofs.next.+pass.Goals as goal
 

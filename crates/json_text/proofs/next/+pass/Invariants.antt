@@ -1,6 +1,4 @@
-use Rattle.std.proofs.Common.{◌≡◌, ◌+◌, ◌*◌, ◌≤◌, length}
-use Rattle.serde_json.specs.Data.{Members, no_members}
-use Rattle.json_text.specs.Next.{next_items, next_members, rest_after}
+use Rattle.json_text.proofs.Common.{◌≡◌, ◌+◌, ◌*◌, ◌≤◌, length, Members, no_members, next_items, next_members, rest_after}
 use Rattle.json_text.proofs.next.+pass.Given as goal
 
 abbrev pub decreases-pass_value : goal.decreases-pass_value

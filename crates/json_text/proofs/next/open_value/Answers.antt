@@ -1,8 +1,5 @@
-use Rattle.std.proofs.Common.{◌≡◌, ◌<◌, [], ◌∷◌, None, Some, refl, sym, ap, ◌∙◌, arith}
+use Rattle.json_text.proofs.Common.{◌≡◌, ◌<◌, [], ◌∷◌, None, Some, refl, sym, ap, ◌∙◌, arith, number, unsigned, string, boolean, null, number_of, next_value}
 use Rattle.json.specs.Reads.{token_of}
-use Rattle.serde_json.specs.Data.{number, unsigned, string, boolean, null}
-use Rattle.serde_json.specs.Read.{number_of}
-use Rattle.json_text.specs.Next.{next_value}
 use Rattle.json_text.proofs.NextTokens.{unsigned_known, other_known, none_known, next_none, next_end_object, next_end_array, next_key, next_bad, next_string, next_boolean, next_null, next_number, next_number-none, next_array, next_object, next_array-deep, next_object-deep}
 use Rattle.json_text.proofs.next.open_value.Goals as goal
 

@@ -1,7 +1,4 @@
-use Rattle.std.proofs.Common.{◌≡◌, drop, get_or, true, false, ◌==◌, option_map, sym, ap, ◌∙◌, arith, take_all, length-drop}
-use Rattle.fast_float.specs.Text.{scan}
-use Rattle.serde_json.specs.Find.{as_u64}
-use Rattle.serde_json.specs.Read.{number_of, number_from}
+use Rattle.json_text.proofs.Common.{◌≡◌, drop, get_or, true, false, ◌==◌, option_map, sym, ap, ◌∙◌, arith, take_all, length-drop, scan, as_u64, number_of, number_from}
 use Rattle.json_text.proofs.number.other_in.Goals as goal
 
 pub returns-then-has_minus : goal.returns-then-has_minus

@@ -1,8 +1,4 @@
-use Rattle.std.proofs.Common.{◌≡◌, ◌<◌, ◌^◌, Some, option_map, sym, ap, ◌∙◌, arith}
-use Rattle.std.specs.Str.Parse.{digits_value}
-use Rattle.serde_json.specs.Data.{unsigned}
-use Rattle.serde_json.specs.Find.{as_u64}
-use Rattle.serde_json.specs.Read.{number_of}
+use Rattle.json_text.proofs.Common.{◌≡◌, ◌<◌, ◌^◌, Some, option_map, sym, ap, ◌∙◌, arith, digits_value, unsigned, as_u64, number_of}
 use Rattle.json_text.proofs.Digits.{number_of-digits}
 use Rattle.json_text.proofs.number.unsigned_in.Goals as goal
 

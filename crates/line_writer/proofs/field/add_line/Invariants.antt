@@ -1,5 +1,4 @@
-use Rattle.std.proofs.Common.{◌≡◌, ◌++◌, map, take}
-use Rattle.line_writer.specs.Field.{field_data, rest_text}
+use Rattle.line_writer.proofs.Common.{◌≡◌, ◌++◌, map, take, field_data, rest_text}
 use Rattle.line_writer.proofs.field.add_line.Given as goal
 
 abbrev pub invariant-loop-field : goal.invariant-loop-field

@@ -1,5 +1,4 @@
-use Rattle.std.proofs.Common.{◌≡◌, ◌++◌}
-use Rattle.std.specs.Prelude.{replicate}
+use Rattle.line_writer.proofs.Common.{◌≡◌, ◌++◌, replicate}
 use Rattle.line_writer.proofs.field.put_blanks.Given as goal
 
 abbrev pub invariant-loop-done : goal.invariant-loop-done

@@ -1,5 +1,4 @@
-use Rattle.std.proofs.Common.{◌∙◌, ◌+◌, refl, sym, ap, arith}
-use Rattle.pcap_reader.specs.Source.{TakesFrom-none}
+use Rattle.listing.proofs.Common.{◌∙◌, ◌+◌, refl, sym, ap, arith, TakesFrom-none}
 use Rattle.listing.proofs.Endings.{listed_short, listed_whole, listed_refused}
 use Rattle.listing.proofs.UnderWay.{under_way_start, under_way_flushed, under_way_more}
 use Rattle.listing.proofs.list.list_records.Goals as goal

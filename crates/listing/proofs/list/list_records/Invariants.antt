@@ -1,7 +1,5 @@
-use Rattle.std.proofs.Common.{◌≡◌, ◌-◌}
-use Rattle.pcap_reader.specs.Capture.{most_records}
+use Rattle.listing.proofs.Common.{◌≡◌, ◌-◌, most_records, IsUnderWay, progress}
 use Rattle.report.specs.State.{output_state, sink_name}
-use Rattle.listing.specs.Progress.{IsUnderWay, progress}
 use Rattle.listing.proofs.list.list_records.Given as goal
 
 abbrev pub invariant-records : goal.invariant-records

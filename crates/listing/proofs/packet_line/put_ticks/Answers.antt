@@ -1,7 +1,6 @@
-use Rattle.std.proofs.Common.{◌∙◌}
+use Rattle.listing.proofs.Common.{◌∙◌, tick_fields}
 use Rattle.std.proofs.lemmas.Int.{to_z-of_z}
 use mir.Syntax.{w128}
-use Rattle.listing.specs.PacketLine.{tick_fields}
 use Rattle.listing.proofs.packet_line.put_ticks.Goals as goal
 
 pub returns-clause-text : goal.returns-clause-text

@@ -1,7 +1,4 @@
-use Rattle.std.proofs.Common.{ℤ, ◌+ℤ◌, ◌-ℤ◌, to_z, of_z, ap, ◌∙◌, sym, subst}
-use mir.Syntax.{w128}
-use Rattle.sample_interval.proofs.NoOverflow.{rest_fits, more_fits, more_is}
-use Rattle.marks.specs.Range.{IsWithinRange}
+use Rattle.marks.proofs.Common.{ℤ, ◌+ℤ◌, ◌-ℤ◌, to_z, of_z, ap, ◌∙◌, sym, subst, w128, rest_fits, more_fits, more_is, IsWithinRange}
 use Rattle.marks.proofs.Bound.{same_mark, end_small, end_is, greater, greater_in_range, high_range, kept_place}
 use Rattle.marks.proofs.bounds.high_mark.Goals as goal
 

@@ -1,7 +1,4 @@
-use Rattle.std.proofs.Common.{ℤ, ◌-ℤ◌, to_z, of_z, ap, ◌∙◌, sym, subst}
-use mir.Syntax.{w128}
-use Rattle.sample_interval.proofs.NoOverflow.{rest_fits, less_fits, less_is}
-use Rattle.marks.specs.Range.{IsWithinRange}
+use Rattle.marks.proofs.Common.{ℤ, ◌-ℤ◌, to_z, of_z, ap, ◌∙◌, sym, subst, w128, rest_fits, less_fits, less_is, IsWithinRange}
 use Rattle.marks.proofs.Bound.{same_mark, start_small, start_is, lesser, lesser_in_range, low_range, kept_place}
 use Rattle.marks.proofs.bounds.low_mark.Goals as goal
 

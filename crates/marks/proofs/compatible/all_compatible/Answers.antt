@@ -1,5 +1,4 @@
-use Rattle.std.proofs.lemmas.List.Sorted.{All-permutation}
-use Rattle.marks.specs.Range.{IsWithinRange}
+use Rattle.marks.proofs.Common.{All-permutation, IsWithinRange}
 use Rattle.marks.proofs.Compatibility.{of_sorted}
 use Rattle.marks.proofs.compatible.all_compatible.Goals as goal
 

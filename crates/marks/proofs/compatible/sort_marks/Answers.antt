@@ -1,5 +1,4 @@
-use Rattle.std.proofs.Common.{rules}
-use Rattle.std.proofs.lemmas.List.Sorted.{answers_always}
+use Rattle.marks.proofs.Common.{rules, answers_always}
 use Rattle.marks.proofs.Order.{in_order}
 use Rattle.marks.proofs.compatible.sort_marks.Goals as goal
 

@@ -1,6 +1,4 @@
-use Rattle.std.proofs.Common.{refl, arith}
-use Rattle.std.proofs.lemmas.List.Elements.{AllWithin-more}
-use Rattle.marks.specs.Mark.{AreCompatible}
+use Rattle.marks.proofs.Common.{refl, arith, AllWithin-more, AreCompatible}
 use Rattle.marks.proofs.Passage.{at_any}
 use Rattle.marks.proofs.conflict.first_against.Goals as goal
 

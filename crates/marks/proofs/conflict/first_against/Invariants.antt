@@ -1,5 +1,4 @@
-use Rattle.std.specs.List.{AllWithin}
-use Rattle.marks.specs.Mark.{AreCompatible}
+use Rattle.marks.proofs.Common.{AllWithin, AreCompatible}
 use Rattle.marks.proofs.conflict.first_against.Given as goal
 
 abbrev pub invariant-loop-j : goal.invariant-loop-j

@@ -1,5 +1,4 @@
-use Rattle.std.proofs.Common.{◌<◌, pos, length, arith}
-use Rattle.marks.specs.declared.mark.Mark.{Mark}
+use Rattle.marks.proofs.Common.{◌<◌, pos, length, arith, Mark}
 use Rattle.marks.proofs.conflict.first_conflict.Goals as goal
 
 pub unreachable-requires : goal.unreachable-requires

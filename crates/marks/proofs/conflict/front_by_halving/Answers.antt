@@ -1,6 +1,4 @@
-use Rattle.std.proofs.Common.{ℕ, ◌+◌, ◌-◌, ◌/◌, ◌<◌, ◌≤◌, ◌≡◌, length, take, drop, refl, sym, subst, IsPermutation, arith}
-use Rattle.std.specs.List.{AllWithin}
-use Rattle.marks.specs.Conflict.{FitsAll}
+use Rattle.marks.proofs.Common.{ℕ, ◌+◌, ◌-◌, ◌/◌, ◌<◌, ◌≤◌, ◌≡◌, length, take, drop, refl, sym, subst, IsPermutation, arith, AllWithin, FitsAll}
 use Rattle.marks.proofs.Compatibility.{no_truth}
 use Rattle.marks.proofs.FrontMarks.{in_front, more_fit, part_compatible}
 use Rattle.marks.proofs.conflict.front_by_halving.Goals as goal

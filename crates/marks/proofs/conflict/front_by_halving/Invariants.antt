@@ -1,6 +1,4 @@
-use Rattle.std.proofs.Common.{◌+◌, ◌-◌, ◌<◌, ◌≤◌, length}
-use Rattle.std.specs.List.{AllWithin}
-use Rattle.marks.specs.Conflict.{FitsAll}
+use Rattle.marks.proofs.Common.{◌+◌, ◌-◌, ◌<◌, ◌≤◌, length, AllWithin, FitsAll}
 use Rattle.marks.proofs.conflict.front_by_halving.Given as goal
 
 abbrev pub invariant-loop-least : goal.invariant-loop-least

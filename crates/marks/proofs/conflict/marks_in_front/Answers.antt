@@ -1,6 +1,4 @@
-use Rattle.std.proofs.Common.{List, subst}
-use Rattle.marks.specs.Conflict.{AreInFront}
-use Rattle.marks.specs.declared.mark.Mark.{Mark}
+use Rattle.marks.proofs.Common.{List, subst, AreInFront, Mark}
 use Rattle.marks.proofs.FrontMarks.{in_front_in_any_order}
 use Rattle.marks.proofs.conflict.marks_in_front.Goals as goal
 

@@ -1,7 +1,4 @@
-use Rattle.std.proofs.Common.{ℕ, ◌+◌, refl, arith, sym, subst}
-use Rattle.std.proofs.lemmas.List.Elements.{AllWithin-more}
-use Rattle.marks.specs.Direction.{Precedes}
-use Rattle.marks.specs.Passage.{IsHighest}
+use Rattle.marks.proofs.Common.{ℕ, ◌+◌, refl, arith, sym, subst, AllWithin-more, Precedes, IsHighest}
 use Rattle.marks.proofs.Passage.{at_any, next_is_highest, highest_stays}
 use Rattle.marks.proofs.sweep.advance.Goals as goal
 use Rattle.marks.proofs.sweep.advance.Goals.{then-is_below, else-is_below}

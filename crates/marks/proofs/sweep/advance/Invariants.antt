@@ -1,7 +1,4 @@
-use Rattle.std.proofs.Common.{◌-◌, ◌≤◌, length}
-use Rattle.std.specs.List.{AllWithin}
-use Rattle.marks.specs.Direction.{Precedes}
-use Rattle.marks.specs.Passage.{IsHighest}
+use Rattle.marks.proofs.Common.{◌-◌, ◌≤◌, length, AllWithin, Precedes, IsHighest}
 use Rattle.marks.proofs.sweep.advance.Given as goal
 
 abbrev pub invariant-loop-passed : goal.invariant-loop-passed

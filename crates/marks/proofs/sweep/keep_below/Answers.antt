@@ -1,7 +1,4 @@
-use Rattle.std.proofs.Common.{pos, get_or, refl, arith}
-use Rattle.std.specs.List.{All}
-use Rattle.std.proofs.lemmas.List.Elements.{AllWithin-more}
-use Rattle.marks.specs.Direction.{IsBelow, KeepsBelow}
+use Rattle.marks.proofs.Common.{pos, get_or, refl, arith, All, AllWithin-more, IsBelow, KeepsBelow}
 use Rattle.marks.proofs.Passage.{at_any, all_kept, precede_later}
 use Rattle.marks.proofs.sweep.keep_below.Goals as goal
 use Rattle.marks.proofs.sweep.keep_below.Goals.{else-passage-gt0-via-then-passage-gt0+else-not-is_below, else-passage-gt0-via-else-passage-gt0}

@@ -1,8 +1,4 @@
-use Rattle.std.proofs.Common.{ℕ, ◌≤◌, ◌<◌, length, get_or}
-use Rattle.std.specs.List.{All, AllWithin}
-use Rattle.marks.specs.Direction.{Precedes, KeepsBelow}
-use Rattle.marks.specs.Passage.{IsHighest}
-use Rattle.marks.specs.declared.mark.Mark.{Mark}
+use Rattle.marks.proofs.Common.{ℕ, ◌≤◌, ◌<◌, length, get_or, All, AllWithin, Precedes, KeepsBelow, IsHighest, Mark}
 use Rattle.marks.proofs.sweep.keep_below.Given as goal
 
 abbrev pub invariant-loop-high : goal.invariant-loop-high

@@ -1,11 +1,4 @@
-use Rattle.std.proofs.Common.{◌≡◌, ◌∙◌, ap, subst, Option, Ok, Some, None, refl, ℕ, List, [], ◌∷◌, ◌++◌, arith}
-use Rattle.std.proofs.lemmas.Result.{err_from_is_err_and}
-use Rattle.pcap_reader.specs.declared.format.RecordHead.{RecordHead}
-use Rattle.pcap_reader.specs.Capture.{most_records}
-use Rattle.pcap_reader.specs.Source.{IsStep}
-use Rattle.byte_stream.specs.Bytes.{IsBytes}
-use Rattle.claim_file.specs.Claim.{data_of}
-use Rattle.pairing.specs.Statement.{message_of}
+use Rattle.pairing.proofs.Common.{◌≡◌, ◌∙◌, ap, subst, Option, Ok, Some, None, refl, ℕ, List, [], ◌∷◌, ◌++◌, arith, err_from_is_err_and, RecordHead, most_records, IsStep, IsBytes, data_of, message_of}
 use Rattle.pairing.proofs.ReadingSteps.{read-push, leaves-unfailed, leaves-failed, refused-exact, gathered-room, HasRoom-weaker}
 use Rattle.pairing.proofs.GatheringSteps.{gathered-push}
 use Rattle.pairing.proofs.collection.gather.Goals as goal

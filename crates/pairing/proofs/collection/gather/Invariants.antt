@@ -1,7 +1,4 @@
-use Rattle.std.proofs.Common.{◌-◌}
-use Rattle.pcap_reader.specs.Capture.{most_records}
-use Rattle.claim_file.specs.Claim.{data_of}
-use Rattle.pairing.specs.Reading.{Gathers}
+use Rattle.pairing.proofs.Common.{◌-◌, most_records, data_of, Gathers}
 use Rattle.pairing.proofs.collection.gather.Given as goal
 
 abbrev pub invariant-records : goal.invariant-records

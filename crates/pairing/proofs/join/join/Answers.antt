@@ -1,9 +1,4 @@
-use Rattle.std.proofs.Common.{◌<◌, ◌+◌, arith, refl}
-use Rattle.std.proofs.lemmas.Grind.{drop_more_same}
-use Rattle.std.proofs.lemmas.List.{drop-set-lt}
-use Rattle.indexmap.specs.IndexMap.{get}
-use Rattle.pairing.specs.Exchange.{most_exchanges}
-use Rattle.pairing.specs.Index.{same_key}
+use Rattle.pairing.proofs.Common.{◌<◌, ◌+◌, arith, refl, drop_more_same, drop-set-lt, get, most_exchanges, same_key}
 use Rattle.pairing.proofs.JoinInPlace.{found_beyond, joined-found, joined-refused}
 use Rattle.pairing.proofs.join.join.Goals as goal
 use Rattle.pairing.proofs.join.join.Goals.{in-Ok+else-kept-eq-MOST_EXCHANGES, in-Err}

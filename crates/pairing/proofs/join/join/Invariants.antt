@@ -1,10 +1,4 @@
-use Rattle.std.proofs.Common.{◌≡◌, ◌≤◌, drop, map, take}
-use Rattle.pairing.specs.Counts.{IsJoined}
-use Rattle.indexmap.specs.IndexMap.{get}
-use Rattle.pairing.specs.Exchange.{most_exchanges}
-use Rattle.pairing.specs.Compact.{exchange_shown}
-use Rattle.pairing.specs.Index.{same_key}
-use Rattle.pairing.specs.Join.{outcomes_by}
+use Rattle.pairing.proofs.Common.{◌≡◌, ◌≤◌, drop, map, take, IsJoined, get, most_exchanges, exchange_shown, same_key, outcomes_by}
 use Rattle.pairing.proofs.join.join.Given as goal
 
 abbrev pub invariant-loop-number : goal.invariant-loop-number

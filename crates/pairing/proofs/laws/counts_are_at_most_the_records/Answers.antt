@@ -1,6 +1,4 @@
-use Rattle.std.proofs.Common.{refl}
-use Rattle.std.proofs.lemmas.List.Sums.{count_by-le-length}
-use Rattle.pairing.specs.Pairing.{counts_of, exchanges_of, is_warning}
+use Rattle.pairing.proofs.Common.{refl, count_by-le-length, counts_of, exchanges_of, is_warning}
 use Rattle.pairing.proofs.Order.{messages-le}
 use Rattle.pairing.proofs.laws.counts_are_at_most_the_records.Goals as goal
 

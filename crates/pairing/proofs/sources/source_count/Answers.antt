@@ -1,6 +1,4 @@
-use Rattle.std.proofs.Common.{◌∙◌, ℕ, false, ap, arith, get_or, map}
-use Rattle.pairing.specs.Compact.{exchange_shown}
-use Rattle.pairing.specs.Sources.{is_source}
+use Rattle.pairing.proofs.Common.{◌∙◌, ℕ, false, ap, arith, get_or, map, exchange_shown, is_source}
 use Rattle.pairing.proofs.SourceSteps.{counted_more}
 use Rattle.pairing.proofs.sources.source_count.Goals as goal
 

@@ -1,6 +1,4 @@
-use Rattle.std.proofs.Common.{◌≡◌, ◌≤◌, map}
-use Rattle.pairing.specs.Compact.{exchange_shown}
-use Rattle.pairing.specs.Sources.{source_count}
+use Rattle.pairing.proofs.Common.{◌≡◌, ◌≤◌, map, exchange_shown, source_count}
 use Rattle.pairing.proofs.sources.source_count.Given as goal
 
 abbrev pub invariant-loop-server : goal.invariant-loop-server

@@ -1,5 +1,4 @@
-use Rattle.std.proofs.Common.{false, rules}
-use Rattle.std.proofs.lemmas.List.{get_or-replicate}
+use Rattle.pairing.proofs.Common.{false, rules, get_or-replicate}
 use Rattle.pairing.proofs.sources.sources.Goals as goal
 
 pub loop-held-init : goal.loop-held-init

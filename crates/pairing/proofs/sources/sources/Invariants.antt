@@ -1,6 +1,4 @@
-use Rattle.std.proofs.Common.{◌≡◌, ◌<◌, ℕ, false, get_or, length, map, take}
-use Rattle.pairing.specs.Compact.{exchange_shown}
-use Rattle.pairing.specs.Sources.{is_source}
+use Rattle.pairing.proofs.Common.{◌≡◌, ◌<◌, ℕ, false, get_or, length, map, take, exchange_shown, is_source}
 use Rattle.pairing.proofs.sources.sources.Given as goal
 
 abbrev pub invariant-loop-held : goal.invariant-loop-held

@@ -1,10 +1,4 @@
-use Rattle.std.proofs.Common.{◌+◌, ◌-◌, ◌<◌, ◌≤◌, ◌∙◌, ap, sym, subst, length, arith, length-append}
-use Rattle.std.proofs.lemmas.Result.{err_from_is_err_and}
-use Rattle.std.specs.Io.KnownBytes.{Keeps, prepend_known}
-use Rattle.pcap_reader.specs.Buffered.{held_bytes, supply_of}
-use Rattle.pcap_reader.specs.Header.{header_of}
-use Rattle.pcap_reader.specs.Limit.{buffer_size}
-use Rattle.pcap_reader.specs.Source.{TakesFrom}
+use Rattle.pcap_reader.proofs.Common.{◌+◌, ◌-◌, ◌<◌, ◌≤◌, ◌∙◌, ap, sym, subst, length, arith, length-append, err_from_is_err_and, Keeps, prepend_known, held_bytes, supply_of, header_of, buffer_size, TakesFrom}
 use Rattle.pcap_reader.proofs.Beginning.{held-none, Keeps-first, header_refused, header_begun, header_fault_counts, header_fault_most, not_memory}
 use Rattle.pcap_reader.proofs.Intake.{refilled, Refills-takes, length-held}
 use Rattle.pcap_reader.proofs.Prefix.{header_fault}

@@ -1,5 +1,4 @@
-use Rattle.std.proofs.Common.{refl}
-use Rattle.pcap_reader.specs.Remaining.{capture_of}
+use Rattle.pcap_reader.proofs.Common.{refl, capture_of}
 use Rattle.pcap_reader.proofs.File.{capture_or_fault, capture_faultless, one_fault}
 use Rattle.pcap_reader.proofs.laws.capture_or_one_fault.Goals as goal
 

@@ -1,6 +1,4 @@
-use Rattle.std.proofs.Common.{◌<◌, ◌≤◌, ◌++◌, length, ap, ◌∙◌, arith, length-append}
-use Rattle.std.proofs.lemmas.Result.{MatchResult-weaker}
-use Rattle.pcap_reader.specs.Capture.{most_records}
+use Rattle.pcap_reader.proofs.Common.{◌<◌, ◌≤◌, ◌++◌, length, ap, ◌∙◌, arith, length-append, MatchResult-weaker, most_records}
 use Rattle.pcap_reader.proofs.RecordFault.{fault_at_most, fault_at_short, fault_at_head}
 use Rattle.pcap_reader.proofs.Prefix.{head_fault_front}
 use Rattle.pcap_reader.proofs.record.first_head.Goals as goal

@@ -1,6 +1,4 @@
-use Rattle.std.proofs.Common.{◌∙◌, ap, sym, drop, drop-drop, Some}
-use Rattle.std.proofs.lemmas.Result.{err_from_is_err_and}
-use Rattle.pcap_reader.specs.declared.fault.CaptureFault.TheVariants.{TornRecord}
+use Rattle.pcap_reader.proofs.Common.{◌∙◌, ap, sym, drop, drop-drop, Some, err_from_is_err_and, TornRecord}
 use Rattle.pcap_reader.proofs.Prefix.{head_shown, fault_shown, record_whole, record_torn}
 use Rattle.pcap_reader.proofs.record.first_record.Goals as goal
 

@@ -1,6 +1,4 @@
-use Rattle.std.proofs.Common.{◌≤◌, ◌∙◌, length, arith, refl}
-use Rattle.std.proofs.lemmas.Result.{err_from_is_err_and}
-use Rattle.byte_stream.specs.Intake.{CountsBytes-front}
+use Rattle.pcap_reader.proofs.Common.{◌≤◌, ◌∙◌, length, arith, refl, err_from_is_err_and, CountsBytes-front}
 use Rattle.pcap_reader.proofs.Intake.{Pulls-none, Pulls-more}
 use Rattle.pcap_reader.proofs.Ranges.{front_pulled}
 use Rattle.pcap_reader.proofs.refill.pull_until.Goals as goal

@@ -1,6 +1,5 @@
 -- The bytes that stand at the front grow by what was pulled, and nothing of them is lost.
-use Rattle.std.proofs.Common.{◌≡◌, ◌-◌, ◌≤◌, take}
-use Rattle.pcap_reader.specs.Buffered.{Pulls}
+use Rattle.pcap_reader.proofs.Common.{◌≡◌, ◌-◌, ◌≤◌, take, Pulls}
 use Rattle.pcap_reader.proofs.refill.pull_until.Given as goal
 
 abbrev pub invariant-loop-held : goal.invariant-loop-held

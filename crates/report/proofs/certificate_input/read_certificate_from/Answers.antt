@@ -1,13 +1,8 @@
-use Rattle.std.proofs.Common.{◌≡◌, ◌⊎◌, List, ℕ, Err, sym, ap, subst, inl, inr, rules}
-use Rattle.std.specs.Prelude.{IfSome}
-use Rattle.certificate.specs.declared.fault.CertificateFault.{CertificateFault}
+use Rattle.report.proofs.Common.{◌≡◌, ◌⊎◌, List, ℕ, Err, sym, ap, subst, inl, inr, rules, IfSome, CertificateFault, RunFault, certificate_run_fault_of, IsFromOutside, Reads}
 use Rattle.certificate.specs.declared.fault.CertificateFault.TheVariants as certificates
 use Rattle.certificate.specs.Certificate.{data_of}
 use Rattle.certificate.specs.Reading.{certificate_of}
 use Rattle.report.specs.declared.fault.Input.TheVariants as inputs
-use Rattle.report.specs.declared.fault.RunFault.{RunFault}
-use Rattle.report.specs.Fault.{certificate_run_fault_of}
-use Rattle.report.specs.Reading.{IsFromOutside, Reads}
 use Rattle.report.specs.CertificateInput.{certificate_or_fault, certificate_read}
 use Rattle.report.proofs.Reading.{input_is_read, input_refused, input_unread}
 use Rattle.report.proofs.certificate_input.read_certificate_from.Goals as goal

@@ -1,14 +1,9 @@
-use Rattle.std.proofs.Common.{◌≡◌, ◌⊎◌, List, ℕ, Err, sym, ap, subst, inl, inr}
-use Rattle.std.specs.Prelude.{IfSome}
+use Rattle.report.proofs.Common.{◌≡◌, ◌⊎◌, List, ℕ, Err, sym, ap, subst, inl, inr, IfSome, ClaimFault, RunFault, claim_run_fault_of, IsFromOutside, Reads}
 use Rattle.claim_file.specs.declared.claim.Claim.{Claim}
-use Rattle.claim_file.specs.declared.fault.ClaimFault.{ClaimFault}
 use Rattle.claim_file.specs.declared.fault.ClaimFault.TheVariants as claims
 use Rattle.claim_file.specs.Claim.{data_of}
 use Rattle.claim_file.specs.Reading.{claim_of}
 use Rattle.report.specs.declared.fault.Input.TheVariants as inputs
-use Rattle.report.specs.declared.fault.RunFault.{RunFault}
-use Rattle.report.specs.Fault.{claim_run_fault_of}
-use Rattle.report.specs.Reading.{IsFromOutside, Reads}
 use Rattle.report.specs.ClaimInput.{claim_or_fault, claim_read}
 use Rattle.report.proofs.InputIntake.{takes_within}
 use Rattle.report.proofs.Reading.{input_is_read, input_refused, input_unread}

@@ -1,5 +1,4 @@
-use Rattle.std.proofs.Common.{◌≡◌, ◌≤◌, ◌-◌, length, take, IsTrue}
-use Rattle.std.specs.Io.KnownBytes.{Appends}
+use Rattle.report.proofs.Common.{◌≡◌, ◌≤◌, ◌-◌, length, take, IsTrue, Appends}
 use Rattle.report.proofs.delivery.push_all.Given as goal
 
 abbrev pub invariant-loop-gone : goal.invariant-loop-gone

@@ -1,7 +1,4 @@
-use Rattle.std.proofs.Common.{◌≡◌, ◌∙◌, subst, sym, rules}
-use Rattle.std.proofs.lemmas.List.{append-nil}
-use Rattle.std.specs.Str.{IsUtf8}
-use Rattle.report.specs.FaultText.{fault_text}
+use Rattle.report.proofs.Common.{◌≡◌, ◌∙◌, subst, sym, rules, append-nil, IsUtf8, fault_text}
 use Rattle.report.proofs.FaultText.{fault_is_utf8}
 use Rattle.report.proofs.fault_text.fault_line.Goals as goal
 

@@ -1,5 +1,4 @@
-use Rattle.std.proofs.Common.{◌≡◌, ◌+◌, ◌-◌, ◌≤◌, length}
-use Rattle.std.specs.Io.KnownBytes.{Consumes}
+use Rattle.report.proofs.Common.{◌≡◌, ◌+◌, ◌-◌, ◌≤◌, length, Consumes}
 use Rattle.report.proofs.input.read_onto.Given as goal
 
 abbrev pub invariant-pulls : goal.invariant-pulls

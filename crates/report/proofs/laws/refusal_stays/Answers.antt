@@ -1,7 +1,4 @@
-use Rattle.std.proofs.Common.{Result, Some, subst}
-use Rattle.report.specs.declared.fault.Outcome.{Outcome}
-use Rattle.report.specs.declared.fault.RunFault.{RunFault}
-use Rattle.report.specs.Reports.{Reports, refused}
+use Rattle.report.proofs.Common.{Result, Some, subst, Outcome, RunFault, Reports, refused}
 use Rattle.report.proofs.LinelessRefusal.{never_stops, writes_nothing}
 use Rattle.report.proofs.laws.refusal_stays.Goals as goal
 

@@ -1,13 +1,8 @@
-use Rattle.std.proofs.Common.{◌≡◌, ◌⊎◌, List, ℕ, Err, sym, ap, subst, inl, inr}
-use Rattle.std.specs.Prelude.{IfSome}
-use Rattle.certificate.specs.declared.refutation_fault.RefutationFault.{RefutationFault}
+use Rattle.report.proofs.Common.{◌≡◌, ◌⊎◌, List, ℕ, Err, sym, ap, subst, inl, inr, IfSome, RefutationFault, RunFault, refutation_run_fault_of, IsFromOutside, Reads}
 use Rattle.certificate.specs.declared.refutation_fault.RefutationFault.TheVariants as refutations
 use Rattle.certificate.specs.Refutation.{data_of}
 use Rattle.certificate.specs.RefutationReading.{refutation_of}
 use Rattle.report.specs.declared.fault.Input.TheVariants as inputs
-use Rattle.report.specs.declared.fault.RunFault.{RunFault}
-use Rattle.report.specs.Fault.{refutation_run_fault_of}
-use Rattle.report.specs.Reading.{IsFromOutside, Reads}
 use Rattle.report.specs.RefutationInput.{refutation_or_fault, refutation_read}
 use Rattle.report.proofs.Reading.{input_is_read, input_refused, input_unread}
 use Rattle.report.proofs.refutation_input.read_refutation_from.Goals as goal

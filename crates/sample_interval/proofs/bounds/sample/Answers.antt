@@ -1,8 +1,4 @@
-use Rattle.std.proofs.Common.{◌+ℤ◌, ◌-ℤ◌, ◌∙◌, ap, sym, subst}
-use Rattle.std.proofs.lemmas.Int.{to_z-of_z}
-use mir.Syntax.{w128}
-use Rattle.sample_interval.specs.Sample.{IsLawfulSample}
-use Rattle.sample_interval.specs.Window.{request_start, request_end, reply_start, reply_end}
+use Rattle.sample_interval.proofs.Common.{◌+ℤ◌, ◌-ℤ◌, ◌∙◌, ap, sym, subst, to_z-of_z, w128, IsLawfulSample, request_start, request_end, reply_start, reply_end}
 use Rattle.sample_interval.proofs.NoOverflow.{end_is, rest_fits, less_fits, more_fits, less_is, more_is}
 use Rattle.sample_interval.proofs.ExchangeSample.{same_sample, lawful}
 use Rattle.sample_interval.proofs.bounds.sample.Goals as goal

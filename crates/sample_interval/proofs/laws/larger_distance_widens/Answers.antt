@@ -1,5 +1,4 @@
-use Rattle.std.proofs.Common.{arith, refl}
-use Rattle.std.proofs.lemmas.Int.{ints}
+use Rattle.sample_interval.proofs.Common.{arith, refl, ints}
 use Rattle.sample_interval.proofs.ExchangeSample.{same_sample}
 use Rattle.sample_interval.proofs.laws.larger_distance_widens.Goals as goal
 

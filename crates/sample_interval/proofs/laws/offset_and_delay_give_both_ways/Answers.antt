@@ -1,5 +1,4 @@
-use Rattle.std.proofs.Common.{arith}
-use Rattle.std.proofs.lemmas.Int.{ints}
+use Rattle.sample_interval.proofs.Common.{arith, ints}
 use Rattle.sample_interval.proofs.laws.offset_and_delay_give_both_ways.Goals as goal
 
 pub returns-clause-out : goal.returns-clause-out

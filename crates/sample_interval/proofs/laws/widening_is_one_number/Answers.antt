@@ -1,5 +1,4 @@
-use Rattle.std.proofs.Common.{◌-◌, ◌*◌, arith}
-use Rattle.sample_interval.specs.Widening.{widening, billion}
+use Rattle.sample_interval.proofs.Common.{◌-◌, ◌*◌, arith, widening, billion}
 use Rattle.sample_interval.proofs.LeastWidening.{HaveWidenings, IsWidening-one_number}
 use Rattle.sample_interval.proofs.laws.widening_is_one_number.Goals as goal
 

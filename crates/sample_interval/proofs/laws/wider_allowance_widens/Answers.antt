@@ -1,5 +1,4 @@
-use Rattle.std.proofs.Common.{arith}
-use Rattle.std.proofs.lemmas.Int.{ints}
+use Rattle.sample_interval.proofs.Common.{arith, ints}
 use Rattle.sample_interval.proofs.ExchangeSample.{same_sample}
 use Rattle.sample_interval.proofs.laws.wider_allowance_widens.Goals as goal
 

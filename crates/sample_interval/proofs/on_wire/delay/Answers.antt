@@ -1,5 +1,4 @@
-use Rattle.std.proofs.lemmas.Int.{to_z-of_z}
-use mir.Syntax.{w128}
+use Rattle.sample_interval.proofs.Common.{to_z-of_z, w128}
 use Rattle.sample_interval.proofs.NoOverflow.{kept_tick, kept_stamp}
 use Rattle.sample_interval.proofs.on_wire.delay.Goals as goal
 

@@ -1,5 +1,4 @@
-use Rattle.std.proofs.Common.{arith, ◌≡◌, ◌+ℤ◌, ◌-ℤ◌, ◌∙◌}
-use Rattle.std.proofs.lemmas.Int.{ints}
+use Rattle.sample_interval.proofs.Common.{arith, ◌≡◌, ◌+ℤ◌, ◌-ℤ◌, ◌∙◌, ints}
 use Rattle.sample_interval.proofs.OnWire.{offset_doubled-is}
 use Rattle.sample_interval.proofs.NoOverflow.{kept_sum}
 use Rattle.sample_interval.proofs.on_wire.doubled_offset.Goals as goal

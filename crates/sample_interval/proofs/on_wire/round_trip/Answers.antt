@@ -1,5 +1,4 @@
-use Rattle.std.proofs.Common.{arith, ◌≡◌, ◌-ℤ◌, ◌∙◌}
-use Rattle.std.proofs.lemmas.Int.{ints}
+use Rattle.sample_interval.proofs.Common.{arith, ◌≡◌, ◌-ℤ◌, ◌∙◌, ints}
 use Rattle.sample_interval.proofs.OnWire.{delay_of-is}
 use Rattle.sample_interval.proofs.NoOverflow.{kept_difference}
 use Rattle.sample_interval.proofs.on_wire.round_trip.Goals as goal

@@ -1,7 +1,4 @@
-use Rattle.std.proofs.Common.{arith, ◌≡◌, ◌<◌, ◌≤◌, ◌≤ℤ◌, ◌^◌, ◌∙◌, ap, pos, subst, sym, unsigned_abs}
-use Rattle.std.proofs.lemmas.Int.{to_z_pos, to_z-of_z, fits_signed_from_abs}
-use mir.Syntax.{w128}
-use Rattle.sample_interval.specs.Widening.{IsWidening, widening}
+use Rattle.sample_interval.proofs.Common.{arith, ◌≡◌, ◌<◌, ◌≤◌, ◌≤ℤ◌, ◌^◌, ◌∙◌, ap, pos, subst, sym, unsigned_abs, to_z_pos, to_z-of_z, fits_signed_from_abs, w128, IsWidening, widening}
 use Rattle.sample_interval.proofs.LeastWidening.{IsWidening-div_ceil, IsWidening-le_distance}
 use Rattle.sample_interval.proofs.LeastWidening.{rate_below, parts_left, within_a_word, at_most}
 use Rattle.sample_interval.proofs.widening.widen.Goals as goal

@@ -1,5 +1,4 @@
-use Rattle.std.proofs.Common.{◌≡◌, drop}
-use Rattle.span_cover.specs.Best.{best_from, merit}
+use Rattle.span_cover.proofs.Common.{◌≡◌, drop, best_from, merit}
 use Rattle.span_cover.proofs.choice.first_best.Given as goal
 
 abbrev pub invariant-loop-number : goal.invariant-loop-number

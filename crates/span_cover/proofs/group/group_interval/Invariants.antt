@@ -1,5 +1,4 @@
-use Rattle.std.proofs.Common.{◌≡◌, take}
-use Rattle.span_cover.specs.Group.{group_interval}
+use Rattle.span_cover.proofs.Common.{◌≡◌, take, group_interval}
 use Rattle.span_cover.proofs.group.group_interval.Given as goal
 
 abbrev pub invariant-loop-part : goal.invariant-loop-part

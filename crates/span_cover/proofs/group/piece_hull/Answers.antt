@@ -1,6 +1,5 @@
-use Rattle.std.proofs.Common.{◌∙◌, sym, arith}
+use Rattle.span_cover.proofs.Common.{◌∙◌, sym, arith, group_interval}
 use Rattle.std.proofs.lemmas.Grind.{common_steps}
-use Rattle.span_cover.specs.Group.{group_interval}
 use Rattle.span_cover.proofs.GroupIntervals.{with_interval, without_interval}
 use Rattle.span_cover.proofs.group.piece_hull.Goals as goal
 use Rattle.span_cover.proofs.group.piece_hull.Goals.{in-Some, in_default}

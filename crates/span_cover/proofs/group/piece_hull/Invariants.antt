@@ -1,7 +1,4 @@
-use Rattle.std.proofs.Common.{◌≡◌, ◌≤◌, length}
-use Rattle.std.specs.Prelude.{filter_map}
-use Rattle.span_cover.specs.Group.{numbers_below}
-use Rattle.span_cover.specs.Group.{group_interval}
+use Rattle.span_cover.proofs.Common.{◌≡◌, ◌≤◌, length, filter_map, numbers_below, group_interval}
 use Rattle.span_cover.proofs.group.piece_hull.Given as goal
 
 abbrev pub invariant-loop-group : goal.invariant-loop-group

@@ -1,5 +1,4 @@
-use Rattle.std.proofs.Common.{arith, ◌^◌, pos, ◌≤ℤ◌, sym, subst}
-use Rattle.std.proofs.lemmas.Int.{ints, clamps}
+use Rattle.span_cover.proofs.Common.{arith, ◌^◌, pos, ◌≤ℤ◌, sym, subst, ints, clamps}
 use Rattle.span_cover.proofs.PieceDistance.{farthest-bounds}
 use Rattle.span_cover.proofs.piece.greatest_distance.Goals as goal
 

@@ -1,9 +1,5 @@
-use Rattle.std.proofs.Common.{arith, ℤ, pos, ◌+ℤ◌, ◌≡◌, ◌∙◌, ap, unsigned_abs, to_z, of_z}
-use mir.Syntax.{w128}
-use Rattle.std.proofs.lemmas.Int.{ints}
-use Rattle.sample_interval.specs.Widening.{widening}
+use Rattle.span_cover.proofs.Common.{arith, ℤ, pos, ◌+ℤ◌, ◌≡◌, ◌∙◌, ap, unsigned_abs, to_z, of_z, w128, ints, widening, moved_high}
 use Rattle.span_cover.proofs.PieceDistance.{farthest-kept}
-use Rattle.span_cover.specs.Piece.{moved_high}
 use Rattle.span_cover.proofs.piece.raised.Goals as goal
 
 pub returns-clause-value : goal.returns-clause-value

@@ -1,14 +1,6 @@
-use Rattle.std.proofs.Common.{◌≡◌, ◌+◌, Err, ◌==◌, ◌++◌, ◌∷◌, [], Some, None, option_map, map, ap, sym, ◌∙◌, rules, tests, inr}
-use Rattle.std.proofs.lemmas.Iterator.{YieldsList-from_slice}
-use Rattle.std.proofs.lemmas.Iterator.Search.{all_from_yields_List}
+use Rattle.sum_file.proofs.Common.{◌≡◌, ◌+◌, Err, ◌==◌, ◌++◌, ◌∷◌, [], Some, None, option_map, map, ap, sym, ◌∙◌, rules, tests, inr, YieldsList-from_slice, all_from_yields_List, map-append, Form, line_of, carriage_return, line_feed, agreed, without_last, agree, data_of}
 use Rattle.std.proofs.lemmas.Iterator.Splits.{YieldsList-from_slice_split}
 use Rattle.std.proofs.lemmas.Iterator.Consumers.{YieldsList-so_far, YieldsList-turn, YieldsList-end}
-use Rattle.std.proofs.lemmas.List.{map-append}
-use Rattle.sum_file.specs.declared.fault.SumFault.TheVariants.{Form}
-use Rattle.sum_file.specs.Line.{line_of}
-use Rattle.sum_file.specs.Name.{carriage_return, line_feed}
-use Rattle.sum_file.specs.Reading.{agreed, without_last}
-use Rattle.sum_file.specs.Sum.{agree, data_of}
 use Rattle.sum_file.proofs.Turns.{line_added, line_without_sum, line_that_disagrees, lines_yielded, lines_are_good, line_is_bad}
 use Rattle.sum_file.proofs.reading.read_sums.Goals as goal
 use Rattle.sum_file.proofs.reading.read_sums.Goals.{in_default-via-in-Some-2+else-all, in_default-via-in_default}

@@ -1,6 +1,4 @@
-use Rattle.std.proofs.Common.{◌≡◌, Some, map}
-use Rattle.sum_file.specs.Reading.{agreed}
-use Rattle.sum_file.specs.Sum.{data_of}
+use Rattle.sum_file.proofs.Common.{◌≡◌, Some, map, agreed, data_of}
 use Rattle.sum_file.proofs.Turns.{lines_yielded}
 use Rattle.sum_file.proofs.reading.read_sums.Given as goal
 

@@ -1,8 +1,4 @@
-use Rattle.std.proofs.Common.{option_map, ap, sym, ◌∙◌, rules, tests}
-use Rattle.std.specs.Str.{bytes_eq}
-use Rattle.std.proofs.lemmas.Iterator.{YieldsList-from_slice}
-use Rattle.std.proofs.lemmas.Iterator.Search.{find_from_yields_List}
-use Rattle.sum_file.specs.Sum.{SumData, data_of}
+use Rattle.sum_file.proofs.Common.{option_map, ap, sym, ◌∙◌, rules, tests, bytes_eq, YieldsList-from_slice, find_from_yields_List, SumData, data_of}
 use Rattle.sum_file.proofs.Lookups.{digest_found}
 use Rattle.sum_file.proofs.sum.digest_of.Goals as goal
 

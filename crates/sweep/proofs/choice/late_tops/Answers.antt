@@ -1,30 +1,17 @@
-use Rattle.std.proofs.Common.{subst, sym, ◌∙◌, List, map}
-use Rattle.std.specs.List.{All}
+use Rattle.sweep.proofs.Common.{subst, sym, ◌∙◌, List, map, All, mirrored_extreme, AreEarlyTops, AreLateTops, IsLawfulStretch, MiddlesRise, UnsignedStretch}
 use Rattle.std.proofs.lemmas.Result.{IfOk-weaker}
-use Rattle.sweep.specs.Extreme.{IsLawfulExtreme, mirrored_extreme}
-use Rattle.sweep.specs.Top.{AreEarlyTops, AreLateTops}
-use Rattle.sweep.specs.UnsignedStretch.{IsLawfulStretch, MiddlesRise}
-use Rattle.sweep.specs.declared.extreme.Extreme.{Extreme}
-use Rattle.sweep.specs.declared.unsigned_stretch.UnsignedStretch.{UnsignedStretch}
-use Rattle.sweep.proofs.Mirror.{lawful-mirrored_extremes, lawful-mirrored_stretches, MiddlesRise-mirrored}
-use Rattle.sweep.proofs.Mirror.{AreLateTops-mirrored}
+use Rattle.sweep.proofs.Mirror.{lawful-mirrored_stretches, MiddlesRise-mirrored, AreLateTops-mirrored}
 use Rattle.sweep.proofs.choice.late_tops.Goals as goal
-
-pub early_tops-requires-clause-extremes : goal.early_tops-requires-clause-extremes
-early_tops-requires-clause-extremes c =
-    let P : List Extreme → Type 0 = All IsLawfulExtreme in
-    subst P (sym (c.as_slice.ensures.value ∙ c.in_ok-extremes.ensures))
-    (lawful-mirrored_extremes c.args.extremes.now c.requires.extremes)
 
 pub early_tops-requires-clause-stretches : goal.early_tops-requires-clause-stretches
 early_tops-requires-clause-stretches c =
     let P : List UnsignedStretch → Type 0 = All IsLawfulStretch in
-    subst P (sym (c.as_slice-2.ensures.value ∙ c.in_ok-stretches.ensures))
+    subst P (sym (c.as_slice.ensures.value ∙ c.in_ok-stretches.ensures))
     (lawful-mirrored_stretches c.args.stretches.now c.requires.stretches)
 
 pub early_tops-requires-clause-in_order : goal.early_tops-requires-clause-in_order
 early_tops-requires-clause-in_order c =
-    subst MiddlesRise (sym (c.as_slice-2.ensures.value ∙ c.in_ok-stretches.ensures))
+    subst MiddlesRise (sym (c.as_slice.ensures.value ∙ c.in_ok-stretches.ensures))
     (MiddlesRise-mirrored c.args.stretches.now c.requires.stretches c.requires.in_order)
 
 pub returns : goal.returns
@@ -34,8 +21,5 @@ returns c =
     (λ tops early.
     AreLateTops-mirrored c.args.drift_ppb c.args.extremes.now c.args.stretches.now tops.items
     (subst (λ (s : List UnsignedStretch). AreEarlyTops c.args.drift_ppb (map mirrored_extreme c.args.extremes.now) s
-    tops.items)
-    (c.as_slice-2.ensures.value ∙ c.in_ok-stretches.ensures)
-    (subst (λ (b : List Extreme). AreEarlyTops c.args.drift_ppb b c.as_slice-2.result.now tops.items)
-    (c.as_slice.ensures.value ∙ c.in_ok-extremes.ensures) early)))
+    tops.items) (c.as_slice.ensures.value ∙ c.in_ok-stretches.ensures) early))
     c.early_tops.ensures

@@ -1,8 +1,4 @@
-use Rattle.std.proofs.Common.{◌<◌, pos, length, arith, subst, sym, ap, ◌∙◌, Vec, Global}
-use Rattle.std.proofs.lemmas.Option.{slice_get-get_or}
-use Rattle.sample_interval.specs.declared.kinds.Sample.{Sample}
-use Rattle.sweep.specs.declared.extreme.Extreme.{Extreme}
-use Rattle.intersection.specs.declared.ends.Side.TheVariants.{Low, High}
+use Rattle.sweep.proofs.Common.{◌<◌, pos, length, arith, subst, sym, ap, ◌∙◌, Vec, Global, slice_get-get_or, Sample, Extreme, Low, High}
 use Rattle.sweep.proofs.ExtremeList.{as_many_servers, lawful_at, server_at}
 use Rattle.sweep.proofs.ExtremeList.{ExtremesSoFar, ExtremesSoFar-more, ExtremesSoFar-other, ExtremesSoFar-all}
 use Rattle.sweep.proofs.extreme.extremes_of.Goals as goal

@@ -1,8 +1,4 @@
-use Rattle.std.proofs.Common.{◌≡◌, ◌≤◌, get_or, Some, arith, subst, sym, ◌∙◌, ap, ⊎_elim}
-use Rattle.std.specs.List.{slice_get}
-use Rattle.std.proofs.lemmas.Bool.{cases_lt}
-use Rattle.std.proofs.lemmas.Option.{slice_get-get_or, slice_get_within, same_Some}
-use Rattle.sweep.specs.declared.queue.Arrival.{Arrival}
+use Rattle.sweep.proofs.Common.{◌≡◌, ◌≤◌, get_or, Some, arith, subst, sym, ◌∙◌, ap, ⊎_elim, slice_get, cases_lt, slice_get-get_or, slice_get_within, same_Some, Arrival}
 use Rattle.sweep.proofs.PassageLevels.{IsLead-more}
 use Rattle.sweep.proofs.lead.lead_upto.Goals as goal
 
@@ -17,6 +13,7 @@ loop-next-preserved c =
     let a : Arrival = get_or queue next none in
     let here : slice_get queue next ≡ Some a = slice_get-get_or queue next none c.loop-next-test.true in
     record {
+      no_fewer = omega arith;
       within = omega arith;
       upto = λ i x less at. ⊎_elim
           (λ old. c.loop-next.invariant.upto i x old at)

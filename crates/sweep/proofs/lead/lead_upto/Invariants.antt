@@ -1,11 +1,9 @@
-use Rattle.std.proofs.Common.{◌≡◌, ◌-◌, ℕ, ◌<◌, ◌≤◌, length, Some}
-use Rattle.std.specs.List.{slice_get}
-use Rattle.sweep.specs.Lead.{IsLead}
-use Rattle.sweep.specs.declared.queue.Arrival.{Arrival}
+use Rattle.sweep.proofs.Common.{◌≡◌, ◌-◌, ℕ, ◌<◌, ◌≤◌, length, Some, slice_get, IsLead, Arrival}
 use Rattle.sweep.proofs.lead.lead_upto.Given as goal
 
 abbrev pub invariant-loop-next : goal.invariant-loop-next
 invariant-loop-next l = record {
+  no_fewer : l.fn.next ≤ l.next;
   within : l.next ≤ length l.queue;
   upto : (i : ℕ) (a : Arrival) → i < l.next → slice_get l.queue i ≡ Some a → a.at ≤ l.fn.place;
   leads : IsLead l.queue l.next l.lead;

@@ -1,15 +1,6 @@
-use Rattle.std.proofs.Common.{rules, ℤ, List, length, ◌<◌, subst, sym}
-use Rattle.std.specs.List.{All}
-use Rattle.std.proofs.lemmas.Int.{to_z-of_z}
-use mir.Syntax.{w128}
-use Rattle.sweep.specs.Extreme.{IsLawfulExtreme}
-use Rattle.sweep.specs.Pieces.{ArePieces}
-use Rattle.sweep.specs.UnsignedStretch.{AreStretchesOf, MiddlesRise}
-use Rattle.sweep.specs.declared.extreme.Extreme.{Extreme}
-use Rattle.intersection.specs.declared.ends.Side.TheVariants.{Low, High}
-use Rattle.sweep.proofs.ExtremeList.{lawful_extremes, some_sample, some_extreme}
+use Rattle.sweep.proofs.Common.{rules, ℤ, List, length, ◌<◌, subst, sym, to_z-of_z, w128, ArePieces, AreStretchesOf, MiddlesRise, Extreme, Low, High}
+use Rattle.sweep.proofs.ExtremeList.{lawful_lent, some_sample, some_extreme}
 use Rattle.sweep.proofs.Piece.{AreBestOfPieces-tops, AreTopNumbers-lent, ArePairsOf-lent}
-use Rattle.sweep.proofs.StretchList.{MiddlesRise-adjoin}
 use Rattle.sweep.proofs.pieces.best_of_pieces.Goals as goal
 
 pub stretches_of-requires : goal.stretches_of-requires
@@ -19,23 +10,17 @@ stretches_of-requires g c =
 
 pub top_numbers-requires-clause-extremes : goal.top_numbers-requires-clause-extremes
 top_numbers-requires-clause-extremes g c =
-    let P : List Extreme → Type 0 = All IsLawfulExtreme in
-    subst P (sym c.as_slice.ensures.value)
-    (lawful_extremes Low (g.S.SampleSource.samples c.args.samples) c.args.server c.in_ok-lows.lows.items
-    c.in_ok-lows.ensures.lows)
+    lawful_lent Low (g.S.SampleSource.samples c.args.samples) c.args.server _ c.in_ok-lows.ensures.lows _
+    c.as_slice.ensures.value
 
 pub top_numbers-requires-clause-in_order : goal.top_numbers-requires-clause-in_order
 top_numbers-requires-clause-in_order g c =
-    subst MiddlesRise (sym c.as_slice-2.ensures.value)
-    (MiddlesRise-adjoin c.in_ok-stretches.stretches.items c.in_ok-stretches.ensures.lawful
-    c.in_ok-stretches.ensures.adjoin)
+    subst MiddlesRise (sym c.as_slice-2.ensures.value) c.in_ok-stretches.ensures.rise
 
 pub top_numbers-requires-2-clause-extremes : goal.top_numbers-requires-2-clause-extremes
 top_numbers-requires-2-clause-extremes g c =
-    let P : List Extreme → Type 0 = All IsLawfulExtreme in
-    subst P (sym c.as_slice-3.ensures.value)
-    (lawful_extremes High (g.S.SampleSource.samples c.args.samples) c.args.server c.in_ok-lows.highs.items
-    c.in_ok-lows.ensures.highs)
+    lawful_lent High (g.S.SampleSource.samples c.args.samples) c.args.server _ c.in_ok-lows.ensures.highs _
+    c.as_slice-3.ensures.value
 
 pub top_numbers-requires-2-clause-some : goal.top_numbers-requires-2-clause-some
 top_numbers-requires-2-clause-some g c =
@@ -48,9 +33,7 @@ top_numbers-requires-2-clause-some g c =
 
 pub top_numbers-requires-2-clause-in_order : goal.top_numbers-requires-2-clause-in_order
 top_numbers-requires-2-clause-in_order g c =
-    subst MiddlesRise (sym c.as_slice-4.ensures.value)
-    (MiddlesRise-adjoin c.in_ok-stretches.stretches.items c.in_ok-stretches.ensures.lawful
-    c.in_ok-stretches.ensures.adjoin)
+    subst MiddlesRise (sym c.as_slice-4.ensures.value) c.in_ok-stretches.ensures.rise
 
 pub returns-clause-none : goal.returns-clause-none
 returns-clause-none g c = (

@@ -1,5 +1,4 @@
-use Rattle.std.proofs.Common.{◌≡◌, ℕ, ◌<◌, length, Some}
-use Rattle.std.specs.List.{slice_get}
+use Rattle.sweep.proofs.Common.{◌≡◌, ℕ, ◌<◌, length, Some, slice_get}
 use Rattle.sweep.proofs.pieces.pairs_of.Given as goal
 
 abbrev pub invariant-loop-k : goal.invariant-loop-k

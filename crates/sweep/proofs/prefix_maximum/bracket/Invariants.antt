@@ -1,6 +1,4 @@
-use Rattle.std.proofs.Common.{◌≡◌, ◌-◌, ◌<◌, ◌≤◌, length, Some}
-use Rattle.std.specs.List.{slice_get}
-use Rattle.sweep.specs.declared.prefix_maximum.PrefixMaximum.{PrefixMaximum}
+use Rattle.sweep.proofs.Common.{◌≡◌, ◌-◌, ◌<◌, ◌≤◌, length, Some, slice_get, PrefixMaximum}
 use Rattle.sweep.proofs.prefix_maximum.bracket.Given as goal
 
 abbrev pub invariant-loop-high : goal.invariant-loop-high

@@ -1,5 +1,4 @@
-use Rattle.std.proofs.Common.{◌-◌}
-use Rattle.sweep.specs.PrefixMaximum.{IsBracket}
+use Rattle.sweep.proofs.Common.{◌-◌, IsBracket}
 use Rattle.sweep.proofs.prefix_maximum.count_upto.Given as goal
 
 abbrev pub invariant-loop-low : goal.invariant-loop-low

@@ -1,5 +1,4 @@
-use Rattle.std.proofs.Common.{ℕ, ◌-◌, ◌*◌, ◌/◌, ap, ◌∙◌}
-use Rattle.sample_interval.specs.Widening.{billion}
+use Rattle.sweep.proofs.Common.{ℕ, ◌-◌, ◌*◌, ◌/◌, ap, ◌∙◌, billion}
 use Rattle.sweep.proofs.MaximumList.{IsEarlyLevel-room}
 use Rattle.sweep.proofs.prefix_maximum.early_rise.Goals as goal
 

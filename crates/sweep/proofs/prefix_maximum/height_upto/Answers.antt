@@ -1,6 +1,4 @@
-use Rattle.std.proofs.Common.{ℕ, ◌≡◌, ◌-◌, Some, arith, subst, sym}
-use Rattle.std.specs.List.{slice_get}
-use Rattle.std.proofs.lemmas.Option.{slice_get-get_or}
+use Rattle.sweep.proofs.Common.{ℕ, ◌≡◌, ◌-◌, Some, arith, subst, sym, slice_get, slice_get-get_or}
 use Rattle.sweep.proofs.MaximumList.{IsHeightUpto-none, IsHeightUpto-last}
 use Rattle.sweep.proofs.prefix_maximum.height_upto.Goals as goal
 

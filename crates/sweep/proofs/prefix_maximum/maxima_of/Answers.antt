@@ -1,9 +1,4 @@
-use Rattle.std.proofs.Common.{◌≡◌, ◌<◌, ◌-◌, refl, List, Some, length, arith, subst, sym, ap, ◌∙◌}
-use Rattle.std.proofs.Common.{true≢false, Vec, Global}
-use Rattle.std.specs.List.{slice_get}
-use Rattle.std.proofs.lemmas.Option.{slice_get-get_or}
-use Rattle.sweep.specs.Extreme.{seen}
-use Rattle.sweep.specs.declared.prefix_maximum.PrefixMaximum.{PrefixMaximum}
+use Rattle.sweep.proofs.Common.{◌≡◌, ◌<◌, ◌-◌, refl, List, Some, length, arith, subst, sym, ap, ◌∙◌, true≢false, Vec, Global, slice_get, slice_get-get_or, seen, PrefixMaximum}
 use Rattle.sweep.proofs.MaximumList.{MaximaSoFar, MaximaSoFar-none, MaximaSoFar-kept, MaximaSoFar-more, AreMaximaOf-all}
 use Rattle.sweep.proofs.prefix_maximum.maxima_of.Goals as goal
 use Rattle.sweep.proofs.prefix_maximum.maxima_of.Goals.{then-is_higher+in_ok-push, else-is_higher}

@@ -1,7 +1,4 @@
-use Rattle.std.proofs.Common.{ℕ, Some, subst, sym, ◌∙◌, ap}
-use Rattle.std.proofs.lemmas.Option.{slice_get-get_or}
-use Rattle.sweep.specs.Extreme.{seen}
-use Rattle.sweep.specs.Queue.{index_at}
+use Rattle.sweep.proofs.Common.{ℕ, Some, subst, sym, ◌∙◌, ap, slice_get-get_or, seen, index_at}
 use Rattle.sweep.proofs.ArrivalOrder.{ArrivalsSoFar, ArrivalsSoFar-more, arrival_here, seen_at, length_seen}
 use Rattle.sweep.proofs.queue.arrivals_of.Goals as goal
 

@@ -1,6 +1,4 @@
-use Rattle.std.proofs.Common.{rules}
-use Rattle.std.proofs.lemmas.List.Sorted.{IsNonDecreasingBy-from_sort_by_key}
-use Rattle.sweep.specs.Extreme.{seen}
+use Rattle.sweep.proofs.Common.{rules, IsNonDecreasingBy-from_sort_by_key, seen}
 use Rattle.sweep.proofs.ArrivalOrder.{IsQueueOf-sorted}
 use Rattle.sweep.proofs.queue.queue_of.Goals as goal
 

@@ -1,6 +1,4 @@
-use Rattle.std.proofs.Common.{ℕ, ◌≡◌, ◌+◌, ◌-◌, ◌*◌, ◌/◌, ap, ◌∙◌, sym, arith}
-use Rattle.std.proofs.Math.Nat.{mul-add-div}
-use Rattle.sample_interval.specs.Widening.{billion}
+use Rattle.sweep.proofs.Common.{ℕ, ◌≡◌, ◌+◌, ◌-◌, ◌*◌, ◌/◌, ap, ◌∙◌, sym, arith, mul-add-div, billion}
 use Rattle.sweep.proofs.table.level_of.Goals as goal
 
 pub returns : goal.returns

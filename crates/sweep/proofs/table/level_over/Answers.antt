@@ -1,9 +1,4 @@
-use Rattle.std.proofs.Common.{ℕ, ◌-◌, ◌/◌, ap, ◌∙◌, ◌≡◌, map, subst, sym, arith}
-use Rattle.sample_interval.specs.Widening.{billion}
-use Rattle.sweep.specs.Extreme.{mirrored_extreme}
-use Rattle.sweep.specs.PrefixMaximum.{AreMaximaOf, IsEarlyLevel}
-use Rattle.sweep.specs.UnsignedStretch.{mirrored_stretch}
-use Rattle.sweep.specs.declared.unsigned_stretch.UnsignedStretch.{UnsignedStretch}
+use Rattle.sweep.proofs.Common.{ℕ, ◌-◌, ◌/◌, ap, ◌∙◌, ◌≡◌, map, subst, sym, arith, billion, mirrored_extreme, AreMaximaOf, IsEarlyLevel, mirrored_stretch, UnsignedStretch}
 use Rattle.sweep.proofs.Level.{IsLevelOver-higher, higher_quotient}
 use Rattle.sweep.proofs.table.level_over.Goals as goal
 

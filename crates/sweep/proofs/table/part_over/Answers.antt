@@ -1,11 +1,4 @@
-use Rattle.std.proofs.Common.{ℤ, refl, subst}
-use Rattle.std.proofs.lemmas.Int.{to_z-of_z}
-use mir.Syntax.{w128}
-use Rattle.intersection.specs.declared.ends.Side.TheVariants.{Low, High}
-use Rattle.span_cover.specs.declared.part.Part.{Part}
-use Rattle.sweep.specs.Extreme.{IsFromOrigin}
-use Rattle.sweep.specs.UnsignedStretch.{IsStretchOf}
-use Rattle.sweep.specs.declared.unsigned_stretch.UnsignedStretch.{UnsignedStretch}
+use Rattle.sweep.proofs.Common.{ℤ, refl, subst, to_z-of_z, w128, Low, High, Part, IsFromOrigin, IsStretchOf, UnsignedStretch}
 use Rattle.sweep.proofs.ExtremeList.{lawful_extremes}
 use Rattle.sweep.proofs.Level.{interval_is, part_is}
 use Rattle.sweep.proofs.StretchList.{lawful_stretch}

@@ -1,11 +1,4 @@
-use Rattle.std.proofs.Common.{◌≡◌, ◌<◌, ℤ, length, Some, ap, ◌∙◌, subst, sym, arith, to_z, of_z}
-use Rattle.std.specs.List.{filter_map}
-use Rattle.std.proofs.lemmas.Int.{to_z-of_z}
-use Rattle.std.proofs.lemmas.Grind.{common_steps}
-use Rattle.std.proofs.lemmas.List.{take_all}
-use mir.Syntax.{w128}
-use Rattle.sweep.specs.Table.{IsTableOf, best_part, best_parts}
-use Rattle.sweep.specs.declared.table.BestTable.{BestTable}
+use Rattle.sweep.proofs.Common.{◌≡◌, ◌<◌, ℤ, length, Some, ap, ◌∙◌, subst, sym, arith, to_z, of_z, filter_map, to_z-of_z, common_steps, take_all, w128, IsTableOf, best_part, best_parts, BestTable}
 use Rattle.sweep.proofs.TableList.{filter_map_more, parts_are}
 use Rattle.sweep.proofs.table.parts_near.Goals as goal
 

@@ -1,7 +1,4 @@
-use Rattle.std.proofs.Common.{◌≡◌, ◌≤◌, List, length, take}
-use Rattle.std.specs.List.{All, filter_map}
-use Rattle.sample_interval.specs.declared.kinds.Sample.{Sample}
-use Rattle.sweep.specs.Table.{IsTableOf, best_part}
+use Rattle.sweep.proofs.Common.{◌≡◌, ◌≤◌, List, length, take, All, filter_map, Sample, IsTableOf, best_part}
 use Rattle.sweep.proofs.table.parts_near.Given as goal
 
 abbrev pub invariant-loop-index : goal.invariant-loop-index

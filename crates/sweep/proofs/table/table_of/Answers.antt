@@ -1,25 +1,16 @@
-use Rattle.std.proofs.Common.{rules, List, length, ◌<◌, subst, sym}
-use Rattle.std.specs.List.{All}
-use Rattle.intersection.specs.declared.ends.Side.TheVariants.{Low, High}
-use Rattle.sweep.specs.Extreme.{IsLawfulExtreme}
-use Rattle.sweep.specs.Table.{AreMaximaBothWays}
-use Rattle.sweep.specs.declared.extreme.Extreme.{Extreme}
-use Rattle.sweep.proofs.ExtremeList.{lawful_extremes, some_sample, some_extreme}
+use Rattle.sweep.proofs.Common.{rules, List, length, ◌<◌, subst, Low, High, AreMaximaBothWays, Extreme}
+use Rattle.sweep.proofs.ExtremeList.{lawful_lent, some_sample, some_extreme}
 use Rattle.sweep.proofs.table.table_of.Goals as goal
 
 pub both_ways-requires-clause-extremes : goal.both_ways-requires-clause-extremes
 both_ways-requires-clause-extremes g c =
-    let P : List Extreme → Type 0 = All IsLawfulExtreme in
-    subst P (sym c.as_slice.ensures.value)
-    (lawful_extremes Low (g.S.SampleSource.samples c.args.samples) c.args.server c.in_ok-lows.lows.items
-    c.in_ok-lows.ensures.lows)
+    lawful_lent Low (g.S.SampleSource.samples c.args.samples) c.args.server _ c.in_ok-lows.ensures.lows _
+    c.as_slice.ensures.value
 
 pub both_ways-requires-2-clause-extremes : goal.both_ways-requires-2-clause-extremes
 both_ways-requires-2-clause-extremes g c =
-    let P : List Extreme → Type 0 = All IsLawfulExtreme in
-    subst P (sym c.as_slice-2.ensures.value)
-    (lawful_extremes High (g.S.SampleSource.samples c.args.samples) c.args.server c.in_ok-lows.highs.items
-    c.in_ok-lows.ensures.highs)
+    lawful_lent High (g.S.SampleSource.samples c.args.samples) c.args.server _ c.in_ok-lows.ensures.highs _
+    c.as_slice-2.ensures.value
 
 pub returns-clause-none : goal.returns-clause-none
 returns-clause-none g c = (

@@ -1,7 +1,4 @@
-use Rattle.std.proofs.Common.{ℕ, ◌≡◌, [], ◌∷◌, ◌++◌, ap, ◌∙◌, sym, subst, true, arith, rules}
-use Rattle.std.proofs.lemmas.Grind.{common_steps}
-use Rattle.std.proofs.lemmas.List.Elements.{All-push}
-use Rattle.sweep.specs.Table.{IsTableOf, AreTablesOf, has_sample}
+use Rattle.sweep.proofs.Common.{ℕ, ◌≡◌, [], ◌∷◌, ◌++◌, ap, ◌∙◌, sym, subst, true, arith, rules, common_steps, All-push, IsTableOf, AreTablesOf, has_sample}
 use Rattle.sweep.proofs.TableList.{none_has, table_has, servers_without, servers_more}
 use Rattle.sweep.proofs.table.tables_of.Goals as goal
 use Rattle.sweep.proofs.table.tables_of.Goals.{in-Some+in_ok-push, in_default}

@@ -1,6 +1,4 @@
-use Rattle.std.proofs.Common.{◌≡◌, ◌≤◌, length, map}
-use Rattle.std.specs.List.{All, filter, range_with_len}
-use Rattle.sweep.specs.Table.{IsTableOf, has_sample}
+use Rattle.sweep.proofs.Common.{◌≡◌, ◌≤◌, length, map, All, filter, range_with_len, IsTableOf, has_sample}
 use Rattle.sweep.proofs.table.tables_of.Given as goal
 
 abbrev pub invariant-loop-server : goal.invariant-loop-server

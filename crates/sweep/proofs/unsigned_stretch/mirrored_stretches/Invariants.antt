@@ -1,5 +1,4 @@
-use Rattle.std.proofs.Common.{◌≡◌, map, take}
-use Rattle.sweep.specs.UnsignedStretch.{mirrored_stretch}
+use Rattle.sweep.proofs.Common.{◌≡◌, map, take, mirrored_stretch}
 use Rattle.sweep.proofs.unsigned_stretch.mirrored_stretches.Given as goal
 
 abbrev pub invariant-loop-stretch : goal.invariant-loop-stretch

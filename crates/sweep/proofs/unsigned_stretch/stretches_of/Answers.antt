@@ -1,8 +1,5 @@
-use Rattle.std.proofs.Common.{arith, rules, get_or, ℤ, pos, subst, sym, FitsSigned, refl}
-use Rattle.std.proofs.lemmas.Int.{ints, to_z-of_z}
-use mir.Syntax.{w128}
-use Rattle.sweep.specs.UnsignedStretch.{AreStretchesOf}
-use Rattle.sweep.proofs.StretchList.{StretchesSoFar, piece_at, piece_here, StretchesSoFar-more, StretchesSoFar-all}
+use Rattle.sweep.proofs.Common.{arith, rules, get_or, ℤ, pos, subst, sym, FitsSigned, refl, ints, to_z-of_z, w128, AreStretchesOf}
+use Rattle.sweep.proofs.StretchList.{StretchesSoFar, piece_at, piece_here, StretchesSoFar-more}
 use Rattle.sweep.proofs.unsigned_stretch.stretches_of.Goals as goal
 
 pub from_origin-requires : goal.from_origin-requires
@@ -35,6 +32,10 @@ loop-reading-preserved c =
 pub returns : goal.returns
 returns c =
     let P : ℤ → Type 0 = λ first. AreStretchesOf first c.args.ends.now c.loop-reading.stretches.items in
-    subst P (to_z-of_z w128 c.args.first c.ranges.first)
-    (StretchesSoFar-all _ c.args.ends.now c.loop-reading.reading-index _ c.loop-reading.stretches.items
-    c.loop-reading.invariant (omega arith))
+    let so_far = c.loop-reading.invariant in
+    subst P (to_z-of_z w128 c.args.first c.ranges.first) (record {
+      as_many = omega (arith, so_far.as_many);
+      each = so_far.each;
+      lawful = so_far.lawful;
+      rise = so_far.rise;
+    })

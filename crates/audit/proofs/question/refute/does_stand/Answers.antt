@@ -1,10 +1,4 @@
-use Rattle.std.proofs.Common.{map, subst, sym}
-use Rattle.std.proofs.lemmas.Result.{IfOk-weaker}
-use Rattle.certificate.specs.Refutation.{data_of as refutation_data}
-use Rattle.pairing.specs.Compact.{exchange_shown}
-use Rattle.courses.specs.DriftSettlement.{SettlesWithDrift}
-use Rattle.audit.specs.Evidence.{evidence_data}
-use Rattle.audit.specs.Refute.{IsSettledFor, refuted_outcome}
+use Rattle.audit.proofs.Common.{map, subst, sym, IfOk-weaker, data_of as refutation_data, exchange_shown, SettlesWithDrift, evidence_data, IsSettledFor, refuted_outcome}
 use Rattle.audit.proofs.RefutationShowing.{drift_judgement_shows, judgement_shows}
 use Rattle.audit.proofs.question.refute.does_stand.Goals as goal
 

@@ -1,8 +1,4 @@
-use Rattle.std.proofs.Common.{◌∙◌, ℕ, Option, Some, ap, sym}
-use Rattle.std.proofs.lemmas.Result.{IfOk-weaker}
-use Rattle.finder.specs.Settlement.{settled_data}
-use Rattle.audit.specs.Evidence.{evidence_data}
-use Rattle.audit.specs.Settle.{settled_answer}
+use Rattle.audit.proofs.Common.{◌∙◌, ℕ, Option, Some, ap, sym, IfOk-weaker, settled_data, evidence_data, settled_answer}
 use Rattle.audit.proofs.SettlementText.{answered}
 use Rattle.audit.proofs.question.settle.answer_for.Goals as goal
 

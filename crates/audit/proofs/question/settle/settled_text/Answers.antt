@@ -1,6 +1,4 @@
-use Rattle.std.proofs.lemmas.List.{length-map}
-use Rattle.pairing.specs.Compact.{exchange_shown}
-use Rattle.audit.specs.Evidence.{evidence_data}
+use Rattle.audit.proofs.Common.{length-map, exchange_shown, evidence_data}
 use Rattle.audit.proofs.SettlementShowing.{numbers_within}
 use Rattle.audit.proofs.question.settle.settled_text.Goals as goal
 

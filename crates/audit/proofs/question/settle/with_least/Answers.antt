@@ -1,6 +1,4 @@
-use Rattle.std.proofs.Common.{◌∙◌, refl}
-use Rattle.finder.specs.Settlement.{settled_data}
-use Rattle.audit.specs.Evidence.{evidence_data}
+use Rattle.audit.proofs.Common.{◌∙◌, refl, settled_data, evidence_data}
 use Rattle.audit.proofs.SettlementText.{enough_with}
 use Rattle.audit.proofs.question.settle.with_least.Goals as goal
 

@@ -1,12 +1,4 @@
-use Rattle.std.proofs.Common.{option_map, sym, ap, ◌∙◌}
-use Rattle.json.proofs.Grammar.{left_some}
-use Rattle.json_text.proofs.NextToken.{mapped_some}
-use Rattle.json_text.specs.Member.{unsigned_of}
-use Rattle.json_text.specs.Next.{next_value}
-use Rattle.serde_json.specs.Data.{put}
-use Rattle.serde_json.specs.Find.{as_array}
-use Rattle.certificate.specs.PartsData.{parts_data}
-use Rattle.certificate.specs.Parts.{entries_in, parts_of, judged}
+use Rattle.certificate.proofs.Common.{option_map, sym, ap, ◌∙◌, left_some, mapped_some, unsigned_of, next_value, put, as_array, parts_data, entries_in, parts_of, judged}
 use Rattle.certificate.proofs.PartsRead.{parts_entries, parts_upto, parts_other}
 use Rattle.certificate.proofs.piece.Parts.read.Goals as goal
 

@@ -1,11 +1,4 @@
-use Rattle.std.proofs.Common.{option_map, sym, ap, ◌∙◌}
-use Rattle.json.proofs.Grammar.{left_some}
-use Rattle.json_text.proofs.NextToken.{mapped_some}
-use Rattle.json_text.specs.Next.{next_value}
-use Rattle.serde_json.specs.Data.{put}
-use Rattle.serde_json.specs.Find.{as_array}
-use Rattle.certificate.specs.PartsData.{pieces_data, whole_data}
-use Rattle.certificate.specs.Parts.{judged, pieces_in, top_parts_of}
+use Rattle.certificate.proofs.Common.{option_map, sym, ap, ◌∙◌, left_some, mapped_some, next_value, put, as_array, pieces_data, whole_data, judged, pieces_in, top_parts_of}
 use Rattle.certificate.proofs.WholeRead.{whole_pieces, whole_other}
 use Rattle.certificate.proofs.reading.Whole.read.Goals as goal
 

@@ -1,6 +1,4 @@
-use Rattle.std.proofs.Common.{Some, sym, ◌∙◌}
-use Rattle.std.proofs.lemmas.Bool.Decides.{Decides-eqb}
-use Rattle.std.proofs.lemmas.Slice.Eq.{strip_prefix_is}
+use Rattle.certificate.proofs.Common.{Some, sym, ◌∙◌, Decides-eqb, strip_prefix_is}
 use Rattle.certificate.proofs.scanner.Scanner.text.Goals as goal
 
 pub returns : goal.returns

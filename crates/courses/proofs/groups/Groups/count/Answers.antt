@@ -1,6 +1,4 @@
-use Rattle.std.proofs.Common.{Bool, ◌&&◌, ap, ◌∙◌}
-use Rattle.std.specs.Prelude.{nat_lt}
-use Rattle.courses.specs.Members.{has}
+use Rattle.courses.proofs.Common.{Bool, ◌&&◌, ap, ◌∙◌, nat_lt, has}
 use Rattle.courses.proofs.CoverCounts.{passing_same}
 use Rattle.courses.proofs.CoverWithin.{passing_below}
 use Rattle.courses.proofs.groups.Groups.count.Goals as goal

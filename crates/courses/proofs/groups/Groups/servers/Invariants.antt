@@ -1,9 +1,4 @@
-use Rattle.std.proofs.Common.{◌≡◌, ◌≤◌, length}
-use Rattle.std.specs.Prelude.{filter}
-use Rattle.claim_file.specs.Claim.{data_of as claim_data}
-use Rattle.courses.specs.Cover.{is_of}
-use Rattle.courses.specs.Groups.{holds}
-use Rattle.span_cover.specs.Group.{numbers_below}
+use Rattle.courses.proofs.Common.{◌≡◌, ◌≤◌, length, filter, data_of as claim_data, is_of, holds, numbers_below}
 use Rattle.courses.proofs.groups.Groups.servers.Given as goal
 
 abbrev pub invariant-loop-server : goal.invariant-loop-server

@@ -1,6 +1,4 @@
-use Rattle.std.proofs.Common.{◌≡◌, rules, subst, sym, of_z, to_z}
-use mir.Syntax.{w128}
-use Rattle.marks.specs.Mark.{IsPossible}
+use Rattle.courses.proofs.Common.{◌≡◌, rules, subst, sym, of_z, to_z, w128, IsPossible}
 use Rattle.courses.proofs.DriftTest.{possible_to}
 use Rattle.courses.proofs.KeptMarkLists.{with_last}
 use Rattle.courses.proofs.kept_marks.KeptMarks.add.Goals as goal

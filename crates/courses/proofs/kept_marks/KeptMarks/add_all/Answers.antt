@@ -1,7 +1,4 @@
-use Rattle.std.proofs.Common.{◌≡◌, ◌+◌, ◌∷◌, drop, length, map, sym, ap, ◌∙◌, subst, Some}
-use Rattle.std.proofs.lemmas.Option.{slice_get-get_or}
-use Rattle.checker.specs.Refutation.{is_liar}
-use Rattle.courses.specs.declared.kept_marks.KeptMarks.{KeptMarks}
+use Rattle.courses.proofs.Common.{◌≡◌, ◌+◌, ◌∷◌, drop, length, map, sym, ap, ◌∙◌, subst, Some, slice_get-get_or, is_liar, KeptMarks}
 use Rattle.courses.proofs.KeptMarkLists.{IsGathering, first_left, lawful_shown, past_kept, past_liar, stopped}
 use Rattle.courses.proofs.kept_marks.KeptMarks.add_all.Goals as goal
 use Rattle.courses.proofs.kept_marks.KeptMarks.add_all.Goals.{else-not-contains-via-then-not-contains+in_ok-add+else-not-branch, else-not-contains-via-else-not-contains}

@@ -1,5 +1,4 @@
-use Rattle.std.proofs.Common.{drop, map}
-use Rattle.checker.specs.Refutation.{is_liar}
+use Rattle.courses.proofs.Common.{drop, map, is_liar}
 use Rattle.courses.proofs.KeptMarkLists.{IsGathering}
 use Rattle.courses.proofs.kept_marks.KeptMarks.add_all.Given as goal
 

@@ -1,7 +1,4 @@
-use Rattle.std.proofs.Common.{◌≡◌, ◌+◌, ◌<◌, ◌∷◌, drop, length, map, sym, ap, ◌∙◌, subst, Some}
-use Rattle.std.proofs.lemmas.Option.{slice_get-get_or}
-use Rattle.courses.specs.GroupMarks.{is_outside}
-use Rattle.courses.specs.declared.kept_marks.KeptMarks.{KeptMarks}
+use Rattle.courses.proofs.Common.{◌≡◌, ◌+◌, ◌<◌, ◌∷◌, drop, length, map, sym, ap, ◌∙◌, subst, Some, slice_get-get_or, is_outside, KeptMarks}
 use Rattle.courses.proofs.KeptMarkLists.{IsGathering, first_left, is_inside, isnt_inside, lawful_shown, past_kept, past_liar, stopped, within_groups}
 use Rattle.courses.proofs.kept_marks.KeptMarks.add_group.Goals as goal
 use Rattle.courses.proofs.kept_marks.KeptMarks.add_group.Goals.{else-is_inside-via-then-is_inside+in_ok-add+else-not-branch, else-is_inside-via-else-is_inside}

@@ -1,5 +1,4 @@
-use Rattle.std.proofs.Common.{drop, map}
-use Rattle.courses.specs.GroupMarks.{is_outside}
+use Rattle.courses.proofs.Common.{drop, map, is_outside}
 use Rattle.courses.proofs.KeptMarkLists.{IsGathering}
 use Rattle.courses.proofs.kept_marks.KeptMarks.add_group.Given as goal
 

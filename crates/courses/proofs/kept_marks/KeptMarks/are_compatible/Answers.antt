@@ -1,5 +1,4 @@
-use Rattle.std.proofs.Common.{ap₂, ◌∙◌}
-use Rattle.courses.specs.DriftTest.{all_compatible}
+use Rattle.courses.proofs.Common.{ap₂, ◌∙◌, all_compatible}
 use Rattle.courses.proofs.DriftTest.{all_from, all_to, same_answer}
 use Rattle.courses.proofs.kept_marks.KeptMarks.are_compatible.Goals as goal
 

@@ -1,5 +1,4 @@
-use Rattle.std.proofs.Common.{sym, subst}
-use Rattle.courses.specs.NumberedMarks.{IsFirstIfAny}
+use Rattle.courses.proofs.Common.{sym, subst, IsFirstIfAny}
 use Rattle.courses.proofs.FirstPairs.{first_of_two}
 use Rattle.courses.proofs.numbered_marks.NumberedMarks.contradiction_with.Goals as goal
 

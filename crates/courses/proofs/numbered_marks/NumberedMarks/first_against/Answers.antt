@@ -1,5 +1,4 @@
-use Rattle.std.proofs.Common.{◌≡◌, ℕ, ◌<◌, length, ap, ◌∙◌, arith}
-use Rattle.std.proofs.lemmas.Grind.{get_or_default_zero}
+use Rattle.courses.proofs.Common.{◌≡◌, ℕ, ◌<◌, length, ap, ◌∙◌, arith, get_or_default_zero}
 use Rattle.courses.proofs.FirstPairs.{first_same, some_mark}
 use Rattle.courses.proofs.numbered_marks.NumberedMarks.first_against.Goals as goal
 

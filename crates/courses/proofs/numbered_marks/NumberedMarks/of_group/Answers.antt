@@ -1,10 +1,4 @@
-use Rattle.std.proofs.Common.{rules, ℤ, to_z, of_z, ◌≡◌, ℕ, ◌+◌, [], ◌∷◌, ◌++◌, Some, drop, length, map, sym, ap, ◌∙◌, subst, Vec, Global}
-use mir.Syntax.{w128}
-use Rattle.std.proofs.lemmas.Option.{slice_get-get_or}
-use Rattle.claim_file.specs.Claim.{data_of as claim_data}
-use Rattle.marks.specs.Mark.{low_mark, high_mark}
-use Rattle.marks.specs.Range.{IsWithinRange}
-use Rattle.marks.specs.declared.mark.Mark.{Mark}
+use Rattle.courses.proofs.Common.{rules, ℤ, to_z, of_z, ◌≡◌, ℕ, ◌+◌, [], ◌∷◌, ◌++◌, Some, drop, length, map, sym, ap, ◌∙◌, subst, Vec, Global, w128, slice_get-get_or, data_of as claim_data, low_mark, high_mark, IsWithinRange, Mark}
 use Rattle.courses.proofs.KeptMarkLists.{first_left, lawful_shown}
 use Rattle.courses.proofs.Numbering.{IsNumbering, past_other, past_own}
 use Rattle.courses.proofs.numbered_marks.NumberedMarks.of_group.Goals as goal

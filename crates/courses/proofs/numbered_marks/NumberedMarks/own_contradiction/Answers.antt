@@ -1,6 +1,4 @@
-use Rattle.std.proofs.Common.{sym, ap, ◌∙◌, subst}
-use Rattle.courses.specs.NumberedMarks.{IsFirstIfAny}
-use Rattle.courses.specs.PairMarks.{earlier}
+use Rattle.courses.proofs.Common.{sym, ap, ◌∙◌, subst, IsFirstIfAny, earlier}
 use Rattle.courses.proofs.FirstPairs.{first_of_own}
 use Rattle.courses.proofs.numbered_marks.NumberedMarks.own_contradiction.Goals as goal
 

@@ -1,10 +1,4 @@
-use Rattle.std.proofs.Common.{◌≡◌, Bool, false, List, ◌++◌, map, sym, ap, ◌∙◌, subst}
-use Rattle.claim_file.specs.Claim.{data_of as claim_data}
-use Rattle.courses.specs.GroupMarks.{is_outside}
-use Rattle.courses.specs.SortedMarks.{AreMarksOf}
-use Rattle.courses.specs.TrueMarks.{low_marks, high_marks}
-use Rattle.courses.specs.declared.kept_marks.KeptMarks.{KeptMarks}
-use Rattle.marks.specs.declared.mark.Mark.{Mark}
+use Rattle.courses.proofs.Common.{◌≡◌, Bool, false, List, ◌++◌, map, sym, ap, ◌∙◌, subst, data_of as claim_data, is_outside, AreMarksOf, low_marks, high_marks, KeptMarks, Mark}
 use Rattle.courses.proofs.SortedMarks.{gathered_marks, unsound_marks}
 use Rattle.courses.proofs.sorted_marks.SortedMarks.of_group.Goals as goal
 use Rattle.courses.proofs.sorted_marks.SortedMarks.of_group.Goals.{then-is_possible, else-is_possible}

@@ -1,9 +1,4 @@
-use Rattle.std.proofs.Common.{◌≡◌, neg_ℤ, sym, ap, ap₂, ◌∙◌}
-use mir.Syntax.{w128}
-use Rattle.std.proofs.lemmas.Int.{to_z-of_z}
-use Rattle.marks.specs.Mark.{low_mark}
-use Rattle.marks.specs.declared.mark.Mark.{Mark}
-use Rattle.finder.specs.Leeway.{mark_at}
+use Rattle.finder.proofs.Common.{◌≡◌, neg_ℤ, sym, ap, ap₂, ◌∙◌, w128, to_z-of_z, low_mark, Mark, mark_at}
 use Rattle.finder.proofs.GroupLeeway.{let_below, negative_kept}
 use Rattle.finder.proofs.side.Side.mark_of.Goals as goal
 

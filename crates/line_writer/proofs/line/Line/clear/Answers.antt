@@ -1,5 +1,4 @@
-use Rattle.std.proofs.Common.{arith}
-use Rattle.std.proofs.lemmas.List.{drop_all}
+use Rattle.line_writer.proofs.Common.{arith, drop_all}
 use Rattle.line_writer.proofs.line.Line.clear.Goals as goal
 
 pub returns : goal.returns

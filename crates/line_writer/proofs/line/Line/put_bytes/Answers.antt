@@ -1,5 +1,4 @@
-use Rattle.std.proofs.Common.{arith, length}
-use Rattle.std.proofs.lemmas.Grind.{common_steps}
+use Rattle.line_writer.proofs.Common.{arith, length, common_steps}
 use Rattle.line_writer.proofs.Last.{room_left, starts_within, grown}
 use Rattle.line_writer.proofs.line.Line.put_bytes.Goals as goal
 

@@ -1,6 +1,4 @@
-use Rattle.std.proofs.Common.{◌/◌, ◌%◌, ◌^◌, arith}
-use Rattle.std.specs.Fmt.{decimal}
-use Rattle.line_writer.specs.Text.{zero_padded}
+use Rattle.line_writer.proofs.Common.{◌/◌, ◌%◌, ◌^◌, arith, decimal, zero_padded}
 use Rattle.line_writer.proofs.Threes.{decimal_nine_more, nine_more, written}
 use Rattle.line_writer.proofs.line.Line.put_digits.Goals as goal
 

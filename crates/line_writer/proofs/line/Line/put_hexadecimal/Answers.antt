@@ -1,5 +1,4 @@
-use Rattle.std.proofs.Common.{◌≡◌, ◌+◌, ◌-◌, length, get_or, ◌∙◌, arith, refl}
-use Rattle.std.proofs.lemmas.List.{drop_all}
+use Rattle.line_writer.proofs.Common.{◌≡◌, ◌+◌, ◌-◌, length, get_or, ◌∙◌, arith, refl, drop_all}
 use Rattle.line_writer.proofs.Pairs.{pair_at, encode_at, encode_none}
 use Rattle.line_writer.proofs.line.Line.put_hexadecimal.Goals as goal
 

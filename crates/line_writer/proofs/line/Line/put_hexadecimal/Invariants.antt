@@ -1,5 +1,4 @@
-use Rattle.std.proofs.Common.{◌≡◌, ◌+◌, ◌*◌, ◌++◌, ◌≤◌, length, drop}
-use Rattle.hex.specs.Hex.{encode_lower}
+use Rattle.line_writer.proofs.Common.{◌≡◌, ◌+◌, ◌*◌, ◌++◌, ◌≤◌, length, drop, encode_lower}
 use Rattle.line_writer.proofs.line.Line.put_hexadecimal.Given as goal
 
 abbrev pub invariant-loop-left : goal.invariant-loop-left

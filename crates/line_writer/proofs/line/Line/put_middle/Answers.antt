@@ -1,6 +1,4 @@
-use Rattle.std.proofs.Common.{◌∙◌, ◌++◌, ◌/◌, ◌%◌, ℕ, List, ap, sym, arith}
-use Rattle.std.specs.Fmt.{decimal}
-use Rattle.line_writer.specs.Text.{zero_padded}
+use Rattle.line_writer.proofs.Common.{◌∙◌, ◌++◌, ◌/◌, ◌%◌, ℕ, List, ap, sym, arith, decimal, zero_padded}
 use Rattle.line_writer.proofs.Threes.{decimal_more, padded_three, three_more, written}
 use Rattle.line_writer.proofs.line.Line.put_middle.Goals as goal
 

@@ -1,5 +1,4 @@
-use Rattle.std.proofs.Common.{◌≡◌, ◌+◌, ◌^◌, ◌<◌, ◌++◌, length}
-use Rattle.std.specs.Fmt.{decimal}
+use Rattle.line_writer.proofs.Common.{◌≡◌, ◌+◌, ◌^◌, ◌<◌, ◌++◌, length, decimal}
 use Rattle.line_writer.proofs.line.Line.put_middle.Given as goal
 
 abbrev pub invariant-loop-left : goal.invariant-loop-left

@@ -1,5 +1,4 @@
-use Rattle.std.proofs.Common.{◌∙◌, ◌++◌, ◌/◌, ◌%◌, ap, List, ℕ, arith, sym}
-use Rattle.line_writer.specs.Text.{zero_padded}
+use Rattle.line_writer.proofs.Common.{◌∙◌, ◌++◌, ◌/◌, ◌%◌, ap, List, ℕ, arith, sym, zero_padded}
 use Rattle.line_writer.proofs.Threes.{joined, padded_more, padded_three}
 use Rattle.line_writer.proofs.line.Line.put_nine_digits.Goals as goal
 

@@ -1,5 +1,4 @@
-use Rattle.std.proofs.Common.{◌≡◌, map, take}
-use Rattle.pairing.specs.Compact.{exchange_shown}
+use Rattle.pairing.proofs.Common.{◌≡◌, map, take, exchange_shown}
 use Rattle.pairing.proofs.collected.Collected.new.Given as goal
 
 abbrev pub invariant-loop-exchange : goal.invariant-loop-exchange

@@ -1,5 +1,4 @@
-use Rattle.std.proofs.Common.{arith}
-use Rattle.std.proofs.lemmas.Grind.{common_steps}
+use Rattle.pairing.proofs.Common.{arith, common_steps}
 use Rattle.pairing.proofs.Windows.{window_high-near}
 use Rattle.pairing.proofs.compact_window.CompactWindow.new.Goals as goal
 

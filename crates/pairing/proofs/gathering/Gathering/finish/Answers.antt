@@ -1,20 +1,5 @@
-use Rattle.std.proofs.Common.{◌≡◌, ◌∙◌, ◌++◌, ◌<◌, List, Option, ap, arith, inr, length, length-take, map, subst, sym, take, ℕ}
-use Rattle.std.specs.List.{filter_map}
-use Rattle.std.specs.Result.{result_ok}
+use Rattle.pairing.proofs.Common.{◌≡◌, ◌∙◌, ◌++◌, ◌<◌, List, Option, ap, arith, inr, length, length-take, map, subst, sym, take, ℕ, filter_map, result_ok, length-map, err_from_is_err_and, get, CompactExchange, Key, IndexedRequest, Place, IsJoined, most_exchanges, IsGatheredFrom, exchange_shown, Finds, found_in, same_key, outcomes_by}
 use Rattle.std.proofs.Math.Seq.{take-append_seam}
-use Rattle.std.proofs.lemmas.List.{length-map}
-use Rattle.std.proofs.lemmas.Result.{err_from_is_err_and}
-use Rattle.indexmap.specs.IndexMap.{get}
-use Rattle.pairing.specs.declared.compact.CompactExchange.{CompactExchange}
-use Rattle.pairing.specs.declared.index.Key.{Key}
-use Rattle.pairing.specs.declared.index.IndexedRequest.{IndexedRequest}
-use Rattle.pairing.specs.declared.index.Place.{Place}
-use Rattle.pairing.specs.Counts.{IsJoined}
-use Rattle.pairing.specs.Exchange.{most_exchanges}
-use Rattle.pairing.specs.Gathering.{IsGatheredFrom}
-use Rattle.pairing.specs.Compact.{exchange_shown}
-use Rattle.pairing.specs.Index.{Finds, found_in, same_key}
-use Rattle.pairing.specs.Join.{outcomes_by}
 use Rattle.pairing.proofs.Exactness.{collection-few, collection-many}
 use Rattle.pairing.proofs.gathering.Gathering.finish.Goals as goal
 

@@ -1,5 +1,4 @@
-use Rattle.std.proofs.Common.{◌≡◌, ◌∙◌, ◌%◌, ℕ, sym, bit_or}
-use Rattle.std.proofs.lemmas.Nat.{and_mask, and_or_self}
+use Rattle.pairing.proofs.Common.{◌≡◌, ◌∙◌, ◌%◌, ℕ, sym, bit_or, and_mask, and_or_self}
 use Rattle.pairing.proofs.hashing.KeyHasher.keyed_by.Goals as goal
 
 odd : (n : ℕ) → bit_or n 1 % 2 ≡ 1

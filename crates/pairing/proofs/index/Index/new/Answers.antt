@@ -1,7 +1,4 @@
-use Rattle.std.proofs.Common.{subst, sym, take}
-use Rattle.std.proofs.lemmas.List.{take_all, take_more}
-use Rattle.indexmap.specs.IndexMap.{get}
-use Rattle.pairing.specs.Index.{Finds, same_key}
+use Rattle.pairing.proofs.Common.{subst, sym, take, take_all, take_more, get, Finds, same_key}
 use Rattle.pairing.proofs.index.Index.new.Goals as goal
 
 pub loop-request-preserved : goal.loop-request-preserved

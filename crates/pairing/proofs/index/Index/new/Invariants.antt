@@ -1,6 +1,4 @@
-use Rattle.std.proofs.Common.{take}
-use Rattle.indexmap.specs.IndexMap.{get}
-use Rattle.pairing.specs.Index.{Finds, same_key}
+use Rattle.pairing.proofs.Common.{take, get, Finds, same_key}
 use Rattle.pairing.proofs.index.Index.new.Given as goal
 
 abbrev pub invariant-loop-request : goal.invariant-loop-request

@@ -1,14 +1,4 @@
-use Rattle.std.proofs.Common.{◌≡◌, ◌+◌, ◌-◌, ◌<◌, ◌≤◌, ◌∙◌, ap, sym, subst, refl, length, take, drop, Ok, Some, arith}
-use Rattle.std.proofs.lemmas.Bool.{eqb-true, eqb-false}
-use Rattle.std.proofs.lemmas.Result.{err_from_is_err_and}
-use Rattle.std.specs.Io.KnownBytes.{prepend_known}
-use Rattle.std.specs.Option.{option_map}
-use Rattle.pcap_reader.specs.Buffered.{held_bytes, last_bytes, still_has, supply_of}
-use Rattle.pcap_reader.specs.Capture.{most_records}
-use Rattle.pcap_reader.specs.Prefix.{ShowsHead, ShowsFault}
-use Rattle.pcap_reader.specs.Remaining.{coming_from}
-use Rattle.pcap_reader.specs.Source.{TakesFrom, TakesFrom-trans}
-use Rattle.pcap_reader.specs.declared.fault.CaptureFault.TheVariants.{TornRecord}
+use Rattle.pcap_reader.proofs.Common.{◌≡◌, ◌+◌, ◌-◌, ◌<◌, ◌≤◌, ◌∙◌, ap, sym, subst, refl, length, take, drop, Ok, Some, arith, eqb-true, eqb-false, err_from_is_err_and, prepend_known, option_map, held_bytes, last_bytes, still_has, supply_of, most_records, ShowsHead, ShowsFault, coming_from, TakesFrom, TakesFrom-trans, TornRecord}
 use Rattle.pcap_reader.proofs.Intake.{refilled, refilled_twice, Refills-takes, length-held, last-none}
 use Rattle.pcap_reader.proofs.NextRecord.{head_held, IsNext-same, says_nothing, next_end, next_fault, next_torn, next_whole}
 use Rattle.pcap_reader.proofs.Ranges.{length-range}

@@ -1,7 +1,4 @@
-use Rattle.std.proofs.Common.{◌≡◌, ◌+◌, ◌-◌, ◌≤◌, false, inr, rules, sym}
-use Rattle.std.specs.Prelude.{IsTrue, IfOk, MatchResult}
-use Rattle.pcap_reader.specs.Buffered.{held_bytes}
-use Rattle.pcap_reader.specs.Prefix.{ShowsHead}
+use Rattle.pcap_reader.proofs.Common.{◌≡◌, ◌+◌, ◌-◌, ◌≤◌, false, inr, rules, sym, IsTrue, IfOk, MatchResult, held_bytes, ShowsHead}
 use Rattle.pcap_reader.proofs.Intake.{length-held}
 use Rattle.pcap_reader.proofs.Shown.{shown_by_test}
 use Rattle.pcap_reader.proofs.capture.CaptureRecordSource.is_ready.Goals as goal

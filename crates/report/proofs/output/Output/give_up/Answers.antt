@@ -1,9 +1,4 @@
-use Rattle.std.proofs.Common.{Err, sym, subst}
-use Rattle.std.specs.Prelude.{is_err}
-use Rattle.report.specs.declared.fault.RunFault.{RunFault}
-use Rattle.report.specs.declared.fault.RunFault.TheVariants.{Memory}
-use Rattle.report.specs.State.{output_state}
-use Rattle.report.specs.Closing.{Closes}
+use Rattle.report.proofs.Common.{Err, sym, subst, is_err, RunFault, Memory, output_state, Closes}
 use Rattle.report.proofs.Closing.{closes_memory}
 use Rattle.report.proofs.output.Output.give_up.Goals as goal
 

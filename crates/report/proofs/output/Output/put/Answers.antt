@@ -1,6 +1,4 @@
-use Rattle.std.proofs.Common.{◌∷◌, [], Ok, sym, subst}
-use Rattle.report.specs.Output.{OutputState, Puts}
-use Rattle.report.specs.State.{output_state}
+use Rattle.report.proofs.Common.{◌∷◌, [], Ok, sym, subst, OutputState, Puts, output_state}
 use Rattle.report.proofs.OutputSteps.{puts_one, puts_none}
 use Rattle.report.proofs.output.Output.put.Goals as goal
 

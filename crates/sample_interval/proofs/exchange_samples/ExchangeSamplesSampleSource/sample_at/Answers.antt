@@ -1,7 +1,5 @@
-use Rattle.std.proofs.Common.{rules}
-use Rattle.std.proofs.lemmas.Int.{to_z-of_z}
+use Rattle.sample_interval.proofs.Common.{rules, to_z-of_z, w128}
 use Rattle.std.proofs.lemmas.List.{length-map}
-use mir.Syntax.{w128}
 use mir.Val.{SFits}
 use Rattle.sample_interval.proofs.HeldSamples.{of_some_claim, sample_made}
 use Rattle.sample_interval.proofs.exchange_samples.ExchangeSamplesSampleSource.sample_at.Goals as goal

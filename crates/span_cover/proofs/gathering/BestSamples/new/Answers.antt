@@ -1,5 +1,4 @@
-use Rattle.std.proofs.Common.{refl, arith}
-use Rattle.std.proofs.lemmas.Int.{ints}
+use Rattle.span_cover.proofs.Common.{refl, arith, ints}
 use Rattle.span_cover.proofs.GatheringSteps.{none_taken}
 use Rattle.span_cover.proofs.gathering.BestSamples.new.Goals as goal
 

@@ -1,8 +1,4 @@
-use Rattle.std.proofs.Common.{◌≡◌, ◌∙◌, ◌++◌, ◌∷◌, [], None, Some, refl, sym, ap, subst, to_z, of_z, arith}
-use mir.Syntax.{w128}
-use Rattle.std.proofs.lemmas.Int.{ints}
-use Rattle.intersection.specs.declared.kinds.Interval.{Interval}
-use Rattle.span_cover.specs.Gathering.{Gathered, best_interval}
+use Rattle.span_cover.proofs.Common.{◌≡◌, ◌∙◌, ◌++◌, ◌∷◌, [], None, Some, refl, sym, ap, subst, to_z, of_z, arith, w128, ints, Interval, Gathered, best_interval}
 use Rattle.span_cover.proofs.GatheringSteps.{one_taken, entry_known, same_server, first_sample}
 use Rattle.span_cover.proofs.Worth.{piece_kept, entry_fits}
 use Rattle.span_cover.proofs.gathering.BestSamples.take.Goals as goal

@@ -1,5 +1,4 @@
-use Rattle.audit.specs.Evidence.{evidence_data}
-use Rattle.audit.specs.Question.{no_finding}
+use Rattle.audit.proofs.Common.{evidence_data, no_finding}
 use Rattle.audit.proofs.EnvelopeShowing.{envelope_refused}
 use Rattle.audit.proofs.Showing.{making_fault, memory_unfound, nothing_found}
 use Rattle.audit.proofs.question.envelope.EnvelopeQuestion.find.Goals as goal

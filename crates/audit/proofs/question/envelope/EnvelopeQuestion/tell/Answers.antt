@@ -1,7 +1,4 @@
-use Rattle.std.proofs.Common.{◌∙◌, Bool, sym, ap, refl}
-use Rattle.audit.specs.Envelope.{IsEnvelopeOf}
-use Rattle.audit.specs.Evidence.{evidence_data}
-use Rattle.audit.specs.Least.{least_line_of}
+use Rattle.audit.proofs.Common.{◌∙◌, Bool, sym, ap, refl, IsEnvelopeOf, evidence_data, least_line_of}
 use Rattle.audit.proofs.EnvelopeShowing.{count_is_few, envelope_shows, few_pieces}
 use Rattle.audit.proofs.Showing.{of_evidence, told_whole}
 use Rattle.audit.proofs.question.envelope.EnvelopeQuestion.tell.Goals as goal

@@ -1,9 +1,5 @@
-use Rattle.std.proofs.Common.{◌∙◌, List, sym, ap, refl}
-use Rattle.sample_interval.specs.declared.kinds.Sample.{Sample}
-use Rattle.finder.specs.Found.{data_of, found_of}
-use Rattle.audit.specs.Evidence.{evidence_data}
-use Rattle.audit.specs.Find.{IsFoundBy, found_outcome}
-use Rattle.audit.specs.Question.{no_finding}
+use Rattle.audit.proofs.Common.{◌∙◌, List, sym, ap, refl, Sample, found_of, evidence_data, IsFoundBy, found_outcome, no_finding}
+use Rattle.finder.specs.Found.{data_of}
 use Rattle.audit.proofs.SearchShowing.{found_shows, search_refused}
 use Rattle.audit.proofs.Showing.{making_fault, nothing_found}
 use Rattle.audit.proofs.question.find.FindQuestion.find.Goals as goal

@@ -1,5 +1,4 @@
-use Rattle.std.proofs.Common.{refl}
-use Rattle.audit.specs.Evidence.{evidence_data}
+use Rattle.audit.proofs.Common.{refl, evidence_data}
 use Rattle.audit.proofs.SearchShowing.{search_shown}
 use Rattle.audit.proofs.Showing.{told_whole}
 use Rattle.audit.proofs.question.find.FindQuestion.tell.Goals as goal

@@ -1,6 +1,4 @@
-use Rattle.std.proofs.Common.{refl}
-use Rattle.certificate.specs.Refutation.{data_of as refutation_data}
-use Rattle.audit.specs.Evidence.{evidence_data}
+use Rattle.audit.proofs.Common.{refl, data_of as refutation_data, evidence_data}
 use Rattle.audit.proofs.Showing.{told_fault, told_whole}
 use Rattle.audit.proofs.RefutationShowing.{refutation_shown}
 use Rattle.audit.proofs.question.refute.RefuteQuestion.tell.Goals as goal

@@ -1,7 +1,4 @@
-use Rattle.std.proofs.Common.{Err, None, refl}
-use Rattle.finder.specs.Settlement.{settled_data}
-use Rattle.audit.specs.Evidence.{evidence_data, samples_in}
-use Rattle.audit.specs.Settle.{IsSettledOf}
+use Rattle.audit.proofs.Common.{Err, None, refl, settled_data, evidence_data, samples_in, IsSettledOf}
 use Rattle.audit.proofs.SettlementShowing.{fault_found, refused_made, settled_of}
 use Rattle.audit.proofs.Showing.{making_fault, memory_unfound}
 use Rattle.audit.proofs.question.settle.SettleQuestion.find.Goals as goal

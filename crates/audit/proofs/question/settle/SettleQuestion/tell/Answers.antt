@@ -1,6 +1,4 @@
-use Rattle.finder.specs.Settlement.{settled_data}
-use Rattle.audit.specs.Evidence.{evidence_data}
-use Rattle.audit.specs.Settle.{IsSettledBy, text_for}
+use Rattle.audit.proofs.Common.{settled_data, evidence_data, IsSettledBy, text_for}
 use Rattle.audit.proofs.Showing.{BytesLaws, of_inputs, settled_from, told_whole}
 use Rattle.audit.proofs.SettlementText.{items_known, report_is}
 use Rattle.audit.proofs.question.settle.SettleQuestion.tell.Goals as goal

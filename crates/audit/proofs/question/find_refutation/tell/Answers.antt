@@ -1,0 +1,24 @@
+use Rattle.audit.proofs.Common.{refl, evidence_data}
+use Rattle.audit.proofs.Showing.{told_whole}
+use Rattle.audit.proofs.FindRefutationShowing.{search_shows, search_shown}
+use Rattle.audit.proofs.question.find_refutation.tell.Goals as goal
+
+pub returns : goal.returns
+returns g c =
+    let found = c.find_refutation-found in
+    let lawful = c.requires.evidence in
+    let e = evidence_data c.args.evidence.now in
+    let exact = rw c.deref.ensures.value at found.ensures.exact in
+    told_whole (rw (c.outcome_of.ensures, exact) refl)
+    (search_shown c.course_beyond_the_bound_contests_the_claim.ensures e c.outcome_of.result (search_shows (record {
+      course = c.accepted_refutations_have_a_course.ensures;
+      never_meet = c.yes_and_refutation_never_meet.ensures;
+    }) e (record {
+      lawful = lawful.claim;
+      each = lawful.exchanges.each;
+      agree = lawful.exchanges.agree;
+    }) found.result c.outcome_of.result c.outcome_of.ensures (record {
+      exact = exact;
+      nearest = rw c.deref.ensures.value at found.ensures.found;
+      none = rw c.deref.ensures.value at found.ensures.none;
+    }))) (c.publish_text.ensures _ c.found_refutation_text-text.ensures)

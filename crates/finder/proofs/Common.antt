@@ -1,0 +1,114 @@
+-- What the proofs of this crate name from elsewhere.
+pub use Rattle.std.proofs.Common.{Bool, Err, Fits, Global, List, None, Ok, Option, Result, Some, Vec, [], add-one}
+pub use Rattle.std.proofs.Common.{add-zero, ap, append_assoc, ap₂, arith, cond, falls, false, get_or, inl, inr, int_le}
+pub use Rattle.std.proofs.Common.{int_lt, is_some, le_antisymm, le_trans, length, length-append, map, max, min, nat_le}
+pub use Rattle.std.proofs.Common.{nat_lt, neg_ℤ, negsuc, not, of_z, pos, refl, replicate, rules, set, subst, suc, sym}
+pub use Rattle.std.proofs.Common.{take, to_z, true, true≢false, unsigned_abs, vec_len, w32, w64, w8, zero, ℕ, ℤ, ⊎_elim}
+pub use Rattle.std.proofs.Common.{◌%◌, ◌&&◌, ◌*ℤ◌, ◌*◌, ◌++◌, ◌+ℤ◌, ◌+◌, ◌-ℤ◌, ◌-◌, ◌/◌, ◌<ℤ◌, ◌<◌, ◌^◌, ◌||◌, ◌∙◌, ◌∷◌}
+pub use Rattle.std.proofs.Common.{◌≡◌, ◌≢◌, ◌≤ℤ◌, ◌≤◌, ◌⊎◌}
+pub use Rattle.std.proofs.Math.Dec.{T}
+pub use Rattle.std.proofs.Math.Nat.{le-div_iff_mul-le, mod-lt, mul-le-mul_right}
+pub use Rattle.std.proofs.lemmas.Bool.{and_from, and_parts, cases_lt, cond-false, cond-true, lt-ltb, or_cases, or_from}
+pub use Rattle.std.proofs.lemmas.Bool.{or_left, or_right}
+pub use Rattle.std.proofs.lemmas.Bool.Decides.{nat_tests}
+pub use Rattle.std.proofs.lemmas.Grind.{common_steps, div_ceil_times}
+pub use Rattle.std.proofs.lemmas.Int.{clamps, fits_signed_from_abs, ints, to_z-of_z}
+pub use Rattle.std.proofs.lemmas.List.{append-nil, get_or-map, get_or-replicate, get_or-set_other, get_or-set_same}
+pub use Rattle.std.proofs.lemmas.List.{length-map, length-set, map-append, take_all, take_more}
+pub use Rattle.std.proofs.lemmas.List.Elements.{All-append, All-cons, All-filter, All-get_or, All-head, All-nil}
+pub use Rattle.std.proofs.lemmas.List.Elements.{All-push, All-tail, filter-append, filter_map-append}
+pub use Rattle.std.proofs.lemmas.List.Folds.{Any-from_list_any, list_any-append, list_any-from_Any}
+pub use Rattle.std.proofs.lemmas.List.FromFn.{get_or-map-range_with_len, length-map-range_with_len}
+pub use Rattle.std.proofs.lemmas.List.FromFn.{map-range_with_len_more}
+pub use Rattle.std.proofs.lemmas.List.Sums.{sum_by-append, sum_by-cons, sum_by-le-sum_by}
+pub use Rattle.std.proofs.lemmas.Nat.{div-add-mod', div-mul-add}
+pub use Rattle.std.proofs.lemmas.Option.{get_or_from_slice_get, slice_get-get_or, slice_get_read, slice_get_within}
+pub use Rattle.std.specs.Int.{div_ceil, int_max, int_min}
+pub use Rattle.std.specs.Int.Signed.{non_neg, yes_non_neg}
+pub use Rattle.std.specs.List.{cons_option, filter_map, find, list_any, range_with_len}
+pub use Rattle.std.specs.Ordering.{int_eq}
+pub use Rattle.std.specs.Prelude.{All, AllPairs, Any, IfNone, IsErrAnd, IsSomeAnd, IsTrue, MatchOption, count_by}
+pub use Rattle.std.specs.Prelude.{filter, fold, option_map, slice_get, slice_index, ◌==◌, ◌↔◌}
+pub use Rattle.certificate.specs.Certificate.{CertificateData, PieceData, max_pieces, piece_data}
+pub use Rattle.certificate.specs.Refutation.{RefutationData}
+pub use Rattle.certificate.specs.declared.certificate.Certificate.{Certificate}
+pub use Rattle.checker.specs.Comparison.{AreNarrower, IsNarrower, IsOfSamples}
+pub use Rattle.checker.specs.Course.{Course}
+pub use Rattle.checker.specs.Groups.{false_group_count, holds_false}
+pub use Rattle.checker.specs.Refutation.{Admits, IsRefuted, is_liar}
+pub use Rattle.checker.specs.RefutationTest.{admits, are_different}
+pub use Rattle.checker.specs.Samples.{AreSamplesOf}
+pub use Rattle.checker.specs.Stretch.{begin_of, last_end, stretches_from, stretches_of}
+pub use Rattle.checker.specs.Traceability.{HoldsError, IsContradicted, IsInHull, IsObservedIn, IsVerdictOn, samples_of}
+pub use Rattle.checker.specs.Verdict.{PassBelow, hull_fault, part_from, parts_after, parts_fault, piece_fault}
+pub use Rattle.checker.specs.Verdict.{unless_refused, verdict_after, verdict_from, verdict_of}
+pub use Rattle.checker.specs.declared.verdict.Verdict.{Verdict}
+pub use Rattle.checker.specs.declared.verdict.Verdict.TheVariants.{No, Yes}
+pub use Rattle.checker.specs.declared.verdict.Why.{Why}
+pub use Rattle.checker.specs.declared.verdict.Why.TheVariants.{Contradiction, Cut, Exceeds, Uncovered}
+pub use Rattle.claim_file.specs.Claim.{ClaimData, IsLawful, data_of, max_bound, max_bound_ns, max_drift_ppb}
+pub use Rattle.claim_file.specs.Group.{servers_of}
+pub use Rattle.courses.specs.Cover.{HasSmallCover, IsCover, SomeCourse, group_of, size_of}
+pub use Rattle.courses.specs.Groups.{AreApart, HoldsOne, HoldsOneOr64, holds}
+pub use Rattle.era_unfold.specs.Nanoseconds.{nanoseconds_per_second, ticks_down}
+pub use Rattle.era_unfold.specs.Ratio.{IsCeiling}
+unfoldable pub use Rattle.era_unfold.specs.Ratio.{ceiling_of}
+pub use Rattle.era_unfold.specs.Window.{ticks_per_second}
+pub use Rattle.intersection.specs.Interval.{leaves_out}
+pub use Rattle.intersection.specs.declared.kinds.Hull.{Hull}
+pub use Rattle.intersection.specs.declared.kinds.Hull.TheVariants.{Bounded, Empty, Unbounded}
+pub use Rattle.intersection.specs.declared.kinds.Interval.{Interval}
+pub use Rattle.marks.specs.Mark.{AreCompatible, high_mark, low_mark}
+pub use Rattle.marks.specs.declared.mark.Mark.{Mark}
+pub use Rattle.pairing.specs.Exchange.{IsInRange}
+pub use Rattle.pairing.specs.declared.exchange.Exchange.{Exchange}
+pub use Rattle.sample_interval.specs.Sample.{IsLawfulSample, sample_of}
+pub use Rattle.sample_interval.specs.Widening.{billion}
+pub use Rattle.sample_interval.specs.declared.kinds.Sample.{Sample}
+pub use Rattle.span_cover.specs.Gathering.{Gathered, Gathering}
+pub use Rattle.span_cover.specs.Group.{group_interval, group_intervals, is_inside, meet_of, narrowed, numbers_below}
+pub use Rattle.span_cover.specs.Group.{piece_hull}
+pub use Rattle.span_cover.specs.Part.{part_of}
+pub use Rattle.span_cover.specs.Piece.{IsPiece, moved_high, moved_low, piece_interval_of}
+pub use Rattle.span_cover.specs.Step.{piece_end_of}
+pub use Rattle.span_cover.specs.declared.part.Part.{Part}
+pub use Rattle.span_cover.specs.declared.stretch.Stretch.{Stretch}
+pub use Rattle.sweep.specs.Pieces.{ArePieces, IsPieceAt}
+pub use mir.Syntax.{w128}
+pub use mir.Val.{SFits}
+pub use Rattle.finder.specs.Answer.{Finds, FindsEnvelope}
+pub use Rattle.finder.specs.Carried.{FindsLeastBound, GetStuck, HoldsTick, IsCarried, IsFirst, IsNeverEmpty, IsTick}
+pub use Rattle.finder.specs.Carried.{StopsAt, piece_holding}
+pub use Rattle.finder.specs.Entry.{AreNamed, best_entries, best_over, part_between, part_named, parts_named}
+unfoldable pub use Rattle.finder.specs.Entry.{best_hull}
+pub use Rattle.finder.specs.Envelope.{AreInside, EnvelopeData, HasNoEnds, IsBelowLimit, IsCertified, IsFirstInNeed}
+pub use Rattle.finder.specs.Envelope.{IsFirstWithout, IsInside, IsLawfulEnvelope, IsLawfulPiece, IsLeast, IsLeastBound}
+pub use Rattle.finder.specs.Envelope.{IsNotCertified, PieceHullData, envelope_to, least_of, nanoseconds_of}
+pub use Rattle.finder.specs.Envelope.{piece_hull_at, piece_hulls, reach_of, with_bound, with_need, with_piece}
+unfoldable pub use Rattle.finder.specs.Envelope.{envelope_of}
+pub use Rattle.finder.specs.Fewest.{AreLongest, IsLongest, IsNoWider, IsOfLongest, IsStuck, IsTooLong}
+pub use Rattle.finder.specs.Fewest.{NoneOfFewIsAccepted, end_after, hull_over, next_tick, piece_over, pieces_over}
+pub use Rattle.finder.specs.Fewest.{shows, stretch_over}
+pub use Rattle.finder.specs.FewestAnswer.{FindsFewest}
+pub use Rattle.finder.specs.Found.{IsFirstFailing, certificate, first_failing, found_without, hull_at, nothing, passes}
+pub use Rattle.finder.specs.Found.{piece_at, pieces_from}
+unfoldable pub use Rattle.finder.specs.Found.{found_of}
+pub use Rattle.finder.specs.Leeway.{AreHeld, AreLeeways, DoLet, HasFalse, HoldsFor, IsBounded, IsCandidate, IsHeld}
+pub use Rattle.finder.specs.Leeway.{IsHeldAtAll, IsMade, IsNarrowed, IsOff, IsRounded, IsTightest, IsUnlimited, Lets}
+pub use Rattle.finder.specs.Leeway.{greatest_of, leeway_in, mark_at, no_limit, turned}
+pub use Rattle.finder.specs.NearestRefutation.{IsErrorOf64Bits, IsFirstBeyond, IsNearest, IsNearestRefutation}
+pub use Rattle.finder.specs.NearestRefutation.{NoneIsRefuted, after, greatest_error, is_possible, least_error_below}
+pub use Rattle.finder.specs.NearestRefutation.{nearest, refutation_at}
+unfoldable pub use Rattle.finder.specs.NearestRefutation.{nearest_error}
+pub use Rattle.finder.specs.Piece.{IsPieceCount, count_of, ends_of, piece_begin_of, stretch_at}
+unfoldable pub use Rattle.finder.specs.Piece.{piece_count_of}
+pub use Rattle.finder.specs.Reach.{AreEnds, AreTablesFor, IsReach, OfTables}
+pub use Rattle.finder.specs.Refusal.{HoldsWhole, NoneIsAcceptedOver}
+pub use Rattle.finder.specs.Room.{AreMirrored, AreRooms, IsNear, IsRoom, possible_by, refused_by, refuses, room_at}
+pub use Rattle.finder.specs.TickParts.{best_part, best_parts}
+pub use Rattle.finder.specs.declared.fault.FindFault.{FindFault}
+pub use Rattle.finder.specs.declared.fault.FindFault.TheVariants.{Memory, TooManyPieces}
+pub use Rattle.finder.specs.declared.least.LeastBound.{LeastBound}
+pub use Rattle.finder.specs.declared.least.LeastBound.TheVariants.{Holds, NoneHolds}
+pub use Rattle.finder.specs.declared.side.Side.{Side}
+pub use Rattle.finder.specs.declared.side.Side.TheVariants.{Above, Below}

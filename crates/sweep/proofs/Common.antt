@@ -1,0 +1,57 @@
+-- What the proofs of this crate name from elsewhere.
+pub use Rattle.std.proofs.Common.{Bool, FitsSigned, Global, IsSome, List, MatchOption, None, Option, Some, Vec}
+pub use Rattle.std.proofs.Common.{[], add-one, ap, arith, cond, false, get_or, inl, inr, le_trans, length}
+pub use Rattle.std.proofs.Common.{length-set, map, max, nat_eq, neg_ℤ, of_z, pos, refl, reverse, rules, set}
+pub use Rattle.std.proofs.Common.{subst, suc, sym, take, to_z, true, true≢false, unsigned_abs, zero, ℕ, ℤ}
+pub use Rattle.std.proofs.Common.{⊎_elim, ◌*◌, ◌++◌, ◌+ℤ◌, ◌+◌, ◌-ℤ◌, ◌-◌, ◌/◌, ◌<ℤ◌, ◌<◌, ◌^◌, ◌||◌, ◌∙◌, ◌∷◌, ◌≡◌}
+pub use Rattle.std.proofs.Common.{◌≢◌, ◌≤ℤ◌, ◌≤◌, ◌⊎◌}
+pub use Rattle.std.proofs.Math.Nat.{div-div-eq-div-mul, div-mul-le_self, div-one, le_of_mul-le-mul_left, mul-add-div}
+pub use Rattle.std.proofs.Math.Nat.{mul-le-mul_right}
+pub use Rattle.std.proofs.lemmas.Bool.{cases_eq, cases_lt}
+pub use Rattle.std.proofs.lemmas.Bool.Decides.{nat_tests}
+pub use Rattle.std.proofs.lemmas.Grind.{common_steps}
+pub use Rattle.std.proofs.lemmas.Int.{clamps, ints, to_z-of_z}
+pub use Rattle.std.proofs.lemmas.List.{append-nil, get_or-map, get_or-reverse, get_or-set_other}
+pub use Rattle.std.proofs.lemmas.List.{get_or-set_same, length-append, length-map, length-reverse}
+pub use Rattle.std.proofs.lemmas.List.{map-append, map_more, take_all, take_more}
+pub use Rattle.std.proofs.lemmas.List.Elements.{All-map, All-push, All-weaker, filter-append, filter_map-append}
+pub use Rattle.std.proofs.lemmas.List.Sorted.{All-permutation, Contains-permutation, IsNonDecreasingBy-from_sort_by_key}
+pub use Rattle.std.proofs.lemmas.List.Sorted.{IsPermutation-reverse, IsPermutation-sym}
+pub use Rattle.std.proofs.lemmas.Nat.{le-div}
+pub use Rattle.std.proofs.lemmas.Option.{get_or_from_slice_get, same_Some, slice_get-get_or, slice_get-map}
+pub use Rattle.std.proofs.lemmas.Option.{slice_get_read, slice_get_within}
+pub use Rattle.std.specs.List.{All, Contains, cons_option, filter, filter_map, range_with_len, slice_get}
+pub use Rattle.std.specs.Option.{option_map}
+pub use Rattle.intersection.specs.declared.ends.Side.{Side}
+pub use Rattle.intersection.specs.declared.ends.Side.TheVariants.{High, Low}
+pub use Rattle.sample_interval.specs.Widening.{IsRate, IsWidening, billion, widening}
+pub use Rattle.sample_interval.specs.declared.kinds.Sample.{Sample}
+pub use Rattle.span_cover.specs.Best.{HasNoSample, IsBestHigh, IsBestLow, IsFirstBest, best_of, merit}
+pub use Rattle.span_cover.specs.Piece.{IsPiece, farthest}
+unfoldable pub use Rattle.span_cover.specs.Piece.{moved_high, moved_low}
+pub use Rattle.span_cover.specs.declared.part.Part.{Part}
+pub use mir.Syntax.{w128}
+pub use Rattle.sweep.specs.Block.{AreBlocksOf, AreLimitsOf, AreUpto, IsFirstBlock, IsLimitOf, IsReached}
+pub use Rattle.sweep.specs.Extreme.{AreExtremesOf, IsEndAt, IsExtremeOf, IsFromOrigin, IsLawfulExtreme, IsOfServer}
+pub use Rattle.sweep.specs.Extreme.{mirrored_extreme, seen, seen_one}
+pub use Rattle.sweep.specs.Lead.{IsLead}
+pub use Rattle.sweep.specs.Passage.{IsWantedBelow, Reaches}
+pub use Rattle.sweep.specs.Pieces.{AreBestOfPieces, ArePairsOf, ArePieces, IsPieceAt}
+pub use Rattle.sweep.specs.PrefixMaximum.{AreMaximaOf, IsBracket, IsEarlyLevel, IsHeightUpto, IsMaximumOf, IsTopped}
+pub use Rattle.sweep.specs.PrefixMaximum.{MaximaRise}
+pub use Rattle.sweep.specs.Queue.{AreArrivalsOf, AreWithin, IsArrivalAt, IsArrivalOf, IsQueueOf, index_at}
+pub use Rattle.sweep.specs.Table.{AreMaximaBothWays, AreTablesOf, IsLevelOver, IsTableOf, best_part, best_parts}
+pub use Rattle.sweep.specs.Table.{has_sample, said_by}
+pub use Rattle.sweep.specs.Top.{AreEarlyTops, AreLateTops, AreOver, AreTopNumbers, AreTopsOver, IsAtLeast, IsEarly}
+pub use Rattle.sweep.specs.Top.{IsEarlyAtLeast, IsTop}
+pub use Rattle.sweep.specs.Top.{IsTopNumber, IsTopOf, distance, height, height_for, higher_of, is_above}
+pub use Rattle.sweep.specs.UnsignedStretch.{AreStretchesOf, IsLawfulStretch, IsStretchOf, MiddlesRise, mirrored_stretch}
+pub use Rattle.sweep.specs.declared.block.Blocks.{Blocks}
+pub use Rattle.sweep.specs.declared.extreme.Extreme.{Extreme}
+pub use Rattle.sweep.specs.declared.lead.Lead.{Lead}
+pub use Rattle.sweep.specs.declared.passage.Wanted.{Wanted}
+pub use Rattle.sweep.specs.declared.prefix_maximum.PrefixMaximum.{PrefixMaximum}
+pub use Rattle.sweep.specs.declared.queue.Arrival.{Arrival}
+pub use Rattle.sweep.specs.declared.table.BestTable.{BestTable}
+pub use Rattle.sweep.specs.declared.top.Top.{Top}
+pub use Rattle.sweep.specs.declared.unsigned_stretch.UnsignedStretch.{UnsignedStretch}

@@ -1,0 +1,1 @@
+"""Captures: what people have, made into one that the program takes, and what it holds besides the answers."""

@@ -1,0 +1,180 @@
+"""What people have: captures that are packed, in pcapng, cut off or in several files, made into one that the program
+takes. The copies are private ones in the current folder, and what was recorded stays the evidence.
+"""
+from __future__ import annotations
+
+import re
+import zlib
+from collections.abc import Callable, Iterator
+from functools import partial
+from itertools import islice
+from typing import NamedTuple
+
+from ..fault import fault
+from ..folder.claim import Claim, Part
+from ..folder.entry import Alert
+from ..folder.files import BLOCK, JOINED, MOST_OF_A_CAPTURE, mapped, own, size_of, too_big
+from ..folder.jobs import find_tool, stream
+from ..folder.placing import Copy, cut_off, move
+from ..folder.program import Program
+from ..units import SECOND
+from . import classic, pcapng
+from .classic import HEADER, Classic, Extent, Runs, join, runs_of, write
+
+GZIP, ZSTD = bytes.fromhex("1f8b"), bytes.fromhex("28b52ffd")
+MARGIN = 3600
+"""Seconds beside a span whose records speak about it too."""
+MANY = 1_000_000
+"""Records that are listed at once."""
+PART, THINNED, CUT = "part.pcap", "thinned.pcap", "cut.pcap"
+
+
+class Audited(NamedTuple):
+    """The capture that is audited; whether it was made, of captures that the program doesn't take as they are; warnings
+    if any of them was cut off, or records were left out; and its extent, if it is known."""
+
+    path: str
+    is_made: bool
+    alerts: list[Alert]
+    extent: Extent | None
+
+
+class Opened(NamedTuple):
+    """A classic capture: its path; where it was cut off, if it was, and ends now; and its extent."""
+
+    path: str
+    torn: int | None
+    extent: Extent
+
+
+def audited(copies: dict[str, str]) -> Audited:
+    """One capture of all, given by their names and their copies."""
+    return joined({name: open_capture(name, copy) for name, copy in copies.items()}, copies)
+
+
+def joined(opened: dict[str, Opened], copies: dict[str, str]) -> Audited:
+    """One capture of those that are opened, which may be fewer than all copies."""
+    torn = [(name, one.torn) for name, one in opened.items() if one.torn is not None]
+    alerts = [Alert("torn", len(torn), file=torn[0][0], place=torn[0][1])] if torn else []
+    (name, one), *others = opened.items()
+    extent: Extent | None = one.extent
+    whole = {name: Classic(each.path, each.extent) for name, each in opened.items() if size_of(each.path)} \
+        if others else {}
+    if whole:
+        extent = join(whole, JOINED)
+    elif one.path != copies[name] or one.torn is not None or len(opened) < len(copies):
+        move(one.path, JOINED)
+    else:
+        return Audited(one.path, False, alerts, extent)
+    return Audited(JOINED, True, alerts, extent)
+
+
+def thinned(whole: Audited, claim: Claim, program: Program) -> Audited:
+    """The capture without what isn't of the claim's client and servers, if it has more records than the program takes:
+    what comes from afar can't make a day too big. The program's own listing says whose a record is, some at a time,
+    and all that it has of these is kept as it was recorded."""
+    capture = Classic(whole.path, whole.extent)
+    if len(capture.extent.stamps) < classic.MOST_RECORDS:
+        return whole
+    servers = "|".join(map(re.escape, claim.servers))
+    own = re.compile(rf"(?m)^(\d+) \S+ (?:{re.escape(claim.client)}:\d+ (?:{servers}):\d|(?:{servers}):\d+ "
+                     rf"{re.escape(claim.client)}:\d)".encode())
+    dropped, end = 0, HEADER
+
+    def kept() -> Iterator[bytes]:
+        nonlocal dropped, end
+        yield capture.data[:HEADER]
+        rows = capture.rows()
+        while some := list(islice(rows, MANY)):
+            numbers: list[int] = []
+            write(PART, [capture.data[:HEADER], capture.data[some[0][1] : some[-1][2]]])
+            program.blocks(lambda block: numbers.extend(map(int, own.findall(block))), "list", PART)
+            dropped, end = dropped + len(some) - len(numbers), some[-1][2]
+            yield from (capture.data[some[number][1] : some[number][2]] for number in numbers)
+    write(THINNED, kept())
+    if end != capture.size:
+        raise fault(f"the capture is damaged from byte {end} on, so it can't be thinned out")
+    if not dropped:
+        return whole
+    move(THINNED, JOINED)
+    return Audited(JOINED, True, [*whole.alerts, Alert("flood", dropped)], None)
+
+
+def open_capture(name: str, copy: str) -> Opened:
+    """The classic capture that a copy holds."""
+    path, torn = unpacked(name, copy)
+    if begins(path, pcapng.MAGIC):
+        torn = pcapng.convert(name, mapped(path), f"{copy}.classic")
+        path = f"{copy}.classic"
+    capture = Classic(path)
+    end = capture.extent.end
+    if capture.is_one and capture.is_torn(end):
+        cut_off(path, end)
+        torn = end if torn is None else torn
+    return Opened(path, torn, capture.extent)
+
+
+def begins(path: str, magic: bytes) -> bool:
+    with own(path) as opened:
+        return opened.read(len(magic)) == magic
+
+
+def unpacked(name: str, copy: str) -> tuple[str, int | None]:
+    """What a copy holds, in a file beside it if it is packed; and its size if it was cut off."""
+    unpack = gunzip if begins(copy, GZIP) else unzstd if begins(copy, ZSTD) else None
+    if not unpack:
+        return copy, None
+    with Copy(f"{copy}.unpacked") as new:
+        def take(block: bytes) -> None:
+            if new.size + len(block) > MOST_OF_A_CAPTURE:
+                raise too_big(name, MOST_OF_A_CAPTURE)
+            new.take(block)
+        is_whole = unpack(name, copy, take)
+    return new.path, None if is_whole else new.size
+
+
+def gunzip(name: str, copy: str, take: Callable[[bytes], None]) -> bool:
+    """Unpacks the parts of a file, one after the other, and no more at once than a block. Whether the last is whole."""
+    packed, rest = zlib.decompressobj(wbits=31), b""
+    with own(copy) as opened:
+        while block := rest or opened.read(BLOCK):
+            if packed.eof:
+                packed = zlib.decompressobj(wbits=31)
+            try:
+                take(packed.decompress(block, BLOCK))
+            except zlib.error:
+                raise fault(f"{name} can't be unpacked: its gzip is damaged") from None
+            rest = packed.unused_data.lstrip(b"\0") if packed.eof else packed.unconsumed_tail
+    take(packed.flush())
+    return packed.eof
+
+
+def unzstd(name: str, copy: str, take: Callable[[bytes], None]) -> bool:
+    tool = find_tool("zstd", f"{name} is packed by zstd, which isn't installed to unpack it")
+    status, error = stream([tool, "-dcq", "--", copy], take)
+    if status:
+        said = error.decode("utf-8", "replace").splitlines() or [f"status {status}"]
+        raise fault(f"{name} can't be unpacked ({said[0].replace(copy, name)})")
+    return True
+
+
+def cut(path: str, parts: list[Part], extent: Extent | None, margin: int = MARGIN) -> Iterator[Callable[[str], bool]]:
+    """Of each part a way to write what was recorded in its span, and in so many seconds beside it, to a file; False if
+    that is all there is, and nothing is written."""
+    whole = Classic(path, extent)
+    spans = [(part.claim.first - margin, part.claim.last + margin) for part in parts]
+    if extent and extent.stamps and len(spans) == 1:
+        first, last = whole.nanoseconds([min(extent.stamps), max(extent.stamps)])
+        if spans[0][0] * SECOND <= first and last <= spans[0][1] * SECOND:
+            yield lambda _: False
+            return
+    for runs in runs_of(whole, spans):
+        yield partial(put, whole, runs)
+
+
+def put(whole: Classic, runs: Runs, path: str) -> bool:
+    if runs == [[HEADER, whole.size]] or whole.size <= HEADER or (not runs and path == JOINED):
+        return False  # (of a claim that isn't cut into days it is told when else packets were recorded)
+    write(CUT, (whole.data[begin:end] for begin, end in [[0, HEADER], *runs]))
+    move(CUT, path)  # (it may be the place of what it is cut of)
+    return True

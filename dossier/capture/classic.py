@@ -1,0 +1,198 @@
+"""Classic captures in the current folder, which is one's own: where their records lie, and captures made of them.
+
+A record is handed on as it was recorded. Where nanoseconds and microseconds come together, nanoseconds are cut, which
+only widens the windows of the records.
+"""
+from __future__ import annotations
+
+from array import array
+from bisect import bisect_left, bisect_right
+from collections.abc import Iterable, Iterator
+from heapq import merge
+from itertools import chain, pairwise, takewhile
+from operator import itemgetter
+from struct import Struct
+from typing import NamedTuple
+
+from ..fault import fault
+from ..folder.files import BLOCK, mapped
+from ..folder.placing import Copy
+from ..units import SECOND
+
+MAGICS = {bytes.fromhex(magic): form for magic, form in (
+    ("d4c3b2a1", ("<", 10**6)), ("a1b2c3d4", (">", 10**6)), ("4d3cb2a1", ("<", 10**9)), ("a1b23c4d", (">", 10**9)))}
+"""Of the first four bytes the order of all others, and the units to a second."""
+HEADER, HEAD = 24, 16
+"""Bytes of a capture's header, and of a record's."""
+MOST_RECORDS, MOST_CAPTURED = 4_000_000, 262_144
+"""Records of a capture, and bytes of each, that the program takes."""
+MOST_ALIKE = 4096
+"""Records of one length that are read at once."""
+MOST_RUNS = 1 << 19
+"""Of records that follow one another in time there are some for each day, however long a capture is."""
+NEW_HEADER, NEW_HEAD = Struct("<IHHIIII"), Struct("<IIII")
+NEW_MAGIC = {10**6: 0xA1B2C3D4, 10**9: 0xA1B23C4D}
+
+Row = tuple[int, int, int]
+"""A record: its time in units since 1970, and where it begins and ends."""
+Runs = list[list[int]]
+"""Where records that follow one another begin and end."""
+
+
+class Extent(NamedTuple):
+    """Where the whole records of a capture end, of which no more are looked for than the program takes; and the time of
+    each, its seconds in the upper 32 bits and its units in the lower, but none at all if one of them isn't one."""
+
+    end: int
+    stamps: array[int]
+
+
+class Classic:
+    """A capture in a file of one's own; nothing has to be one. Its extent may be known already."""
+
+    def __init__(self, path: str, extent: Extent | None = None):
+        self.found, self.data = extent, mapped(path)
+        self.size = len(self.data)
+        self.order, self.unit = MAGICS.get(self.data[:4], ("<", 0))
+        self.is_one = self.unit > 0 and self.size >= HEADER
+
+    @property
+    def kind(self) -> tuple[int, int, int]:
+        """Its version, and the kind of its frames."""
+        major, minor, link = Struct(f"{self.order}HH12xI").unpack_from(self.data, 4)
+        return major, minor, link
+
+    def rows(self) -> Iterator[Row]:
+        """Its records, as far as they can be told apart."""
+        head, size, at, unit = Struct(f"{self.order}III").unpack_from, self.size - HEAD, HEADER, self.unit
+        while at <= size:
+            seconds, part, captured = head(self.data, at)
+            end = at + HEAD + captured
+            if captured > MOST_CAPTURED or part >= unit or end > self.size:
+                return
+            yield seconds * unit + part, at, end
+            at = end
+
+    def blocks(self) -> Iterator[bytes]:
+        """Its records, many at once."""
+        yield from (self.data[at : at + BLOCK] for at in range(HEADER, self.size, BLOCK))
+
+    @property
+    def extent(self) -> Extent:
+        self.found = self.found or self.look()
+        return self.found
+
+    def look(self) -> Extent:
+        """Goes from record to record, and over those of one length that follow one another at once."""
+        head, at, stamps, alike = Struct(f"{self.order}8xI").unpack_from, HEADER, array("Q"), 1
+        while self.is_one and at + HEAD <= self.size and len(stamps) < MOST_RECORDS:
+            captured, = head(self.data, at)
+            if captured > MOST_CAPTURED or captured > self.size - at - HEAD:
+                break
+            length, before = HEAD + captured, len(stamps)
+            number = min(alike, (self.size - at) // length, MOST_RECORDS - before)
+            rows = Struct(f"{self.order}III{length - 12}x").iter_unpack(self.data[at : at + number * length])
+            stamps.extend(seconds << 32 | part for seconds, part, _ in takewhile(lambda row: row[2] == captured, rows))
+            at += (len(stamps) - before) * length
+            alike = min(MOST_ALIKE, 2 * alike) if len(stamps) - before == number else 1
+        are_times = all(stamp & 0xFFFF_FFFF < self.unit for stamp in stamps)
+        return Extent(at, stamps if are_times else array("Q"))
+
+    def nanoseconds(self, stamps: Iterable[int]) -> list[int]:
+        """Times since 1970."""
+        scale = SECOND // self.unit
+        return [(stamp >> 32) * SECOND + (stamp & 0xFFFF_FFFF) * scale for stamp in stamps]
+
+    def is_torn(self, end: int) -> bool:
+        """Whether it ends inside the record that begins there."""
+        head = self.data[end : end + HEAD]
+        captured = int.from_bytes(head[8:12], "little" if self.order == "<" else "big")
+        return 0 < len(head) < HEAD or (len(head) == HEAD and self.size - end - HEAD < captured <= MOST_CAPTURED)
+
+    def renewed(self, begin: int, end: int, unit: int) -> bytes:
+        """A record in the order and the unit of a new capture."""
+        if (self.order, self.unit) == ("<", unit):
+            return self.data[begin:end]
+        seconds, part, captured, length = Struct(f"{self.order}IIII").unpack_from(self.data, begin)
+        return NEW_HEAD.pack(seconds, part * unit // self.unit, captured, length) + self.data[begin + HEAD : end]
+
+
+def new_header(unit: int, kind: tuple[int, int, int]) -> bytes:
+    major, minor, link = kind
+    return NEW_HEADER.pack(NEW_MAGIC[unit], major, minor, 0, 0, MOST_CAPTURED, link)
+
+
+def write(path: str, blocks: Iterable[bytes]) -> None:
+    """Writes a file of one's own, many small blocks at once."""
+    with Copy(path) as copy:
+        held, size = [], 0
+        for block in blocks:
+            held.append(block)
+            size += len(block)
+            if size > BLOCK:
+                copy.take(b"".join(held))
+                held, size = [], 0
+        copy.take(b"".join(held))
+
+
+def join(captures: dict[str, Classic], path: str) -> Extent | None:
+    """Joins captures, by their names, in order of time. Of records of one time those of the first capture come first.
+    The extent of what is written, if it is known."""
+    first = next(iter(captures.values()))
+    for name, capture in captures.items():
+        if not capture.is_one:
+            raise fault(f"{name} is no classic capture, so it can't be joined with the others")
+        if capture.kind != first.kind:
+            raise fault(f"{name} has other frames than {next(iter(captures))}, so it can't be joined with it")
+    unit = min(capture.unit for capture in captures.values())
+    if (row := in_a_row(list(captures.values()))) is not None:
+        write(path, chain([new_header(unit, first.kind)], *map(Classic.blocks, row)))
+        return Extent(HEADER + sum(capture.size - HEADER for capture in row), merged(row))
+
+    def records(number: int, name: str, capture: Classic) -> Iterator[tuple[int, int, bytes]]:
+        of, end = SECOND // capture.unit, HEADER
+        for time, begin, end in capture.rows():
+            yield time * of, number, capture.renewed(begin, end, unit)
+        if end != capture.size:
+            raise fault(f"{name} is damaged from byte {end} on, so it can't be joined with the others")
+    rows = merge(*(records(number, *each) for number, each in enumerate(captures.items())), key=itemgetter(0, 1))
+    write(path, chain([new_header(unit, first.kind)], map(itemgetter(2), rows)))
+    return None
+
+
+def in_a_row(captures: list[Classic]) -> list[Classic] | None:
+    """Captures one after the other in time, if they are such: all of one form and whole, each earlier than the next."""
+    if len({(capture.order, capture.unit) for capture in captures}) > 1 or captures[0].order != "<":
+        return None
+    if any(capture.extent.end != capture.size or (capture.size > HEADER and not capture.extent.stamps)
+           for capture in captures):
+        return None
+    row = sorted((capture for capture in captures if capture.extent.stamps), key=lambda one: min(one.extent.stamps))
+    if any(max(one.extent.stamps) >= min(next_.extent.stamps) for one, next_ in pairwise(row)):
+        return None
+    return row if sum(len(capture.extent.stamps) for capture in row) < MOST_RECORDS else None
+
+
+def merged(row: list[Classic]) -> array[int]:
+    stamps = array("Q")
+    for capture in row:
+        stamps.extend(capture.extent.stamps)
+    return stamps
+
+
+def runs_of(capture: Classic, spans: list[tuple[int, int]]) -> list[Runs]:
+    """Of each span of Unix seconds the records whose times lie in it, or all, if they can't be told apart to the end.
+    The spans have to be in order, as their ends."""
+    begins, ends = ([second * capture.unit for second in side] for side in zip(*spans))
+    found: list[Runs] = [[] for _ in spans]
+    left, end = MOST_RUNS, HEADER
+    for time, begin, end in capture.rows():
+        for runs in found[bisect_left(ends, time) : bisect_right(begins, time)]:
+            if runs and runs[-1][1] == begin:
+                runs[-1][1] = end
+            else:
+                runs.append([begin, end])
+                left -= 1
+        if left < 0:
+            raise fault("the times of the capture go back and forth between days too often")
+    return found if end == capture.size else [[[HEADER, capture.size]] for _ in spans]

@@ -1,0 +1,191 @@
+"""The recorder: tcpdump on an interface. Beside its files it leaves what they are recorded by, and has evidence.json
+name it, so that a draft can know of what kind their stamps are.
+"""
+from __future__ import annotations
+
+import json
+import os
+import re
+import signal
+from collections.abc import Iterable, Iterator
+from dataclasses import dataclass, replace
+from typing import Annotated, Literal, NamedTuple, NoReturn
+
+from ..fault import DEVICE, USAGE, Fault, fault
+from ..folder.claim import Claim
+from ..folder.evidence import evidence, named_in
+from ..folder.files import EVIDENCE, Folder, data_named, is_capture
+from ..folder.jobs import ENVIRONMENT, find_tool, private_folder, run
+from ..folder.placing import make_folder, place
+from ..schema import Address, Text, Time, is_time, length, matching, read_typed, said
+from ..text import note, plain
+from ..units import now, seconds_of
+
+BEGUN = re.compile(r"(.*?)(\d{4}-\d\d-\d\dT\d\d)(\d\d)(\d\d)Z(.*)", re.DOTALL)
+"""Names of recorders' files: what stands around the time names the recorder."""
+INTERFACE = re.compile(r"[A-Za-z0-9][A-Za-z0-9_.:@-]{0,14}")
+HOUR, MEGABYTES = "3600", "1000"
+"""What a file of an hourly recording has at the most: seconds, and bytes by the million."""
+TRIES = 9
+"""How often evidence is written, where another recorder may write in between."""
+ENDING = ".recorder.json"
+OF_ROOT = "name one of root's own, such as /srv/web-1, since tcpdump needs root"
+
+
+@dataclass(frozen=True)
+class Recorder:
+    """What an interface is recorded by."""
+
+    kind: Literal["recorder"]
+    interface: Annotated[str, matching(INTERFACE.pattern)]
+    stamp: Literal["host"]
+    """tcpdump's word for who makes the stamps: here the kernel, by the system's clock."""
+    tool: Text
+    kernel: Annotated[str, matching(r"Linux \S{1,200}")]
+    machine: Text
+    addresses: Annotated[list[Address], length(0, 64)]
+    """The interface's own."""
+    since: Time
+    """Since when nothing of this has changed."""
+
+    def made(self, name: str) -> bool:
+        """Whether a capture has the name of one that it began."""
+        match = BEGUN.fullmatch(name)
+        return match is not None and match[1] == f"{self.interface}-" and match[5].startswith(".pcap") and \
+            self.since <= f"{match[2]}:{match[3]}:{match[4]}Z"
+
+    def sentence(self) -> str:
+        return (f"{self.tool} recorded {self.interface} ({', '.join(self.addresses) or 'without an address'}) on "
+                f"{self.machine}, since {self.since} under {self.kernel}, with the kernel's own stamps.")
+
+
+class Wanted(NamedTuple):
+    interface: str
+    folder: str
+    is_hourly: bool
+    claim: str | None
+
+
+def record(wanted: Wanted) -> NoReturn:
+    """Becomes tcpdump."""
+    if not INTERFACE.fullmatch(wanted.interface):
+        raise fault("--interface takes the name of one, such as eth0", USAGE)
+    tool = find_tool("tcpdump", "tcpdump isn't installed, which records")
+    make_folder(wanted.folder, OF_ROOT)
+    try:
+        keep(wanted.folder, recorder(tool, wanted.interface))
+    except Fault as found:  # (what is recorded counts without it too)
+        note(f"ntpaudit-dossier: no evidence of the recorder is left: {found.words}")
+    for number in (signal.SIGPIPE, signal.SIGXFSZ):  # (Python ignores them)
+        signal.signal(number, signal.SIG_DFL)
+    try:
+        os.execve(tool, [tool, *words_of(wanted)], {**ENVIRONMENT, "TZ": "UTC"})
+    except OSError as error:
+        raise fault(f"tcpdump can't be called ({error.strerror})", DEVICE) from None
+
+
+def words_of(wanted: Wanted) -> list[str]:
+    """tcpdump's words. A file has in its name when it was begun, and only whole records are in it."""
+    name, hourly = f"{wanted.interface}-{now().replace(':', '')}.pcap", []
+    path = os.path.abspath(wanted.folder)
+    if wanted.is_hourly:
+        name, path = f"{wanted.interface}-%Y-%m-%dT%H%M%SZ.pcap", path.replace("%", "%%")
+        hourly = ["-G", HOUR, "-C", MEGABYTES]
+        hourly += [] if os.geteuid() else ["-Z", "root"]  # (else tcpdump may not begin the next file)
+    return ["-i", wanted.interface, "-n", "-U", "-j", "host", "--time-stamp-precision=nano", *hourly, "-w",
+            os.path.join(path, name), "--", filter_of(wanted.claim)]
+
+
+def filter_of(path: str | None) -> str:
+    """What tcpdump takes of the packets, tagged or not: those of a claim's servers, if it is there."""
+    own = "udp port 123"
+    try:
+        if path is not None:
+            claim: Claim = read_typed(os.path.basename(path), Claim, data_named(path))
+            own += f" and ({' or '.join(f'host {server}' for server in claim.servers)})"
+    except Fault as found:
+        note(found.line)
+    return f"({own}) or (vlan and {own})"
+
+
+def recorder(tool: str, interface: str) -> Recorder:
+    system = os.uname()
+    with private_folder() as own:
+        return Recorder("recorder", interface, "host", version_of(tool, own), f"{system.sysname} {system.release}",
+                        plain(system.nodename), addresses_of(interface, own), now())
+
+
+def addresses_of(interface: str, own: str) -> list[str]:
+    tool = find_tool("ip", "ip isn't installed (iproute2), which knows the interface's addresses")
+    status, text, _ = run([tool, "-4", "-o", "addr", "show", "dev", interface], cwd=own)
+    if status:
+        raise fault(f"there is no interface {interface}", DEVICE)
+    return sorted(set(re.findall(r" inet ([0-9.]+)", text.decode("utf-8", "replace"))))
+
+
+def version_of(tool: str, own: str = ".") -> str:
+    """What tcpdump says of its version, and of libpcap's."""
+    _, text, _ = run([tool, "--version"], cwd=own)
+    return plain(", ".join(text.decode("utf-8", "replace").splitlines()[:2]))
+
+
+def keep(path: str, found: Recorder) -> None:
+    """Leaves it in a folder, if it isn't there, and has evidence.json name it. Another recorder may do so as well."""
+    name = f"{found.interface}{ENDING}"
+    for _ in range(TRIES):
+        with Folder(path) as folder:
+            told = evidence(folder)
+            made, reading = dict[str, Iterable[bytes]](), told.get("reading", "")
+            if not is_as(read_recorder(folder, name), found):
+                made[name] = [text_of(said(found))]
+            if name not in named_in(reading):
+                made[EVIDENCE] = [text_of({**told, "reading": f"{reading} {name}".strip()})]
+            if not made:
+                return
+            place(folder, made)
+    raise fault(f"{name} and {EVIDENCE} don't stay as they are written")
+
+
+def text_of(value: object) -> bytes:
+    return (json.dumps(value, indent=1) + "\n").encode()
+
+
+def is_as(old: Recorder | None, found: Recorder) -> bool:
+    """Whether nothing has changed since."""
+    return old is not None and old == replace(found, since=old.since) and old.since <= found.since
+
+
+def read_recorder(folder: Folder, name: str) -> Recorder | None:
+    """What a file of a folder says, if it is of this form."""
+    try:
+        found: Recorder = read_typed(name, Recorder, folder.data(name))
+        return found
+    except Fault:
+        return None
+
+
+def begun_files(folder: Folder) -> Iterator[tuple[str, str, int, str]]:
+    """Of each file that a recorder began what stands before the time in its name and behind it, the time, and the
+    name."""
+    for name in filter(is_capture, folder.names()):
+        match = BEGUN.fullmatch(name)
+        begun = f"{match[2]}:{match[3]}:{match[4]}Z" if match else ""
+        if match and is_time(begun):
+            yield match[1], match[5], seconds_of(begun), name
+
+
+def recorders_of(captures: list[str]) -> list[Recorder] | None:
+    """By what captures were recorded, as the evidence beside each says; None if it doesn't of one of them."""
+    found = [recorder_of(*os.path.split(capture)) for capture in captures]
+    known = [one for number, one in enumerate(found) if one and one not in found[:number]]
+    return None if None in found else known
+
+
+def recorder_of(path: str, name: str) -> Recorder | None:
+    try:
+        with Folder(path) as folder:
+            named = named_in(evidence(folder).get("reading", ""))
+            kept = (read_recorder(folder, each) for each in named if each.endswith(ENDING))
+            return next((one for one in kept if one and one.made(name)), None)
+    except Fault:
+        return None

@@ -1,0 +1,128 @@
+"""What a capture holds besides the answers: when it was recorded, where its times fall back, when samples were taken.
+
+Which records these are is read off `samples`, and off `list` if there are others than the claim's. Their times are as
+`list` prints them.
+"""
+from __future__ import annotations
+
+import re
+from array import array
+from bisect import bisect_left
+from collections import Counter
+from functools import cached_property
+
+from ..folder.answers import read_counts
+from ..folder.program import Program
+from ..units import SECOND
+from .classic import Classic, Extent
+
+SAMPLE = re.compile(rb"(?m)^[^ ]+ ([^ ]+ [^ ]+ [^ ]+) .*")
+"""A line of `samples`: its number, the server, the records of request and reply, and then its figures."""
+
+PACKET = re.compile(rb"(?m)^([^ ]+) (?s:.{120}).*")
+"""A line of `list`: the record's number, and then the packet, of 120 bytes at least, which are passed over at once."""
+
+AT_ONCE = 1 << 16
+"""Records whose times are compared together."""
+
+
+class Recording:
+    """Times are Unix nanoseconds of the client's clock, as the capture has them."""
+
+    def __init__(self, samples: Samples, capture: Classic, packets: array[int] | None):
+        """Of a capture the samples, and the records of all NTP packets, if they aren't all of its records."""
+        stamps, at = capture.extent.stamps, capture.nanoseconds
+        own = stamps if packets is None else array("Q", map(stamps.__getitem__, packets))
+        self.counts = samples.counts
+        self.by_server = {server.decode("ascii"): number for server, number in samples.by_server.items()}
+        self.first, self.last = at([min(own), max(own)]) if own else (None, None)
+        falls = [] if do_rise(own) else [k for k in range(1, len(own)) if own[k] < own[k - 1]]
+        self.falls = len(falls)
+        self.fall = next(((packets[k] if packets else k, *at(own[k - 1 : k + 1])) for k in falls), None)
+        """The first record whose time falls back: its number, the time before it, and its own."""
+        self.first_request = next(iter(at(stamps[k] for k in samples.first)), None)
+        """The time of the first request that has a sample."""
+        self.replies = at(map(stamps.__getitem__, samples.replies))
+        """When each sample's reply was recorded."""
+        self.at, self.packets = at, own
+
+    @cached_property
+    def times(self) -> list[int]:
+        """When each sample's reply was recorded, in rising order."""
+        return sorted(self.replies)
+
+    def exchanges(self) -> list[int]:
+        """The times between which all exchanges lie, if there are any: the first request and the last reply; or of all
+        packets, if their times fall back."""
+        if self.falls and self.first is not None and self.last is not None:
+            return [self.first, self.last]
+        ends = [*self.replies[:1], *self.replies[-1:]]
+        return ends if self.first_request is None else [*ends, self.first_request]
+
+    def around(self, first: int, last: int) -> tuple[int, int] | None:
+        """If no packet was recorded between two times, but some were: when the last before them was, and the first
+        after them; 0 if there is none."""
+        before = after = 0
+        for time in self.at(self.packets):
+            if first <= time <= last:
+                return None
+            if time < first:
+                before = max(before, time)
+            else:
+                after = min(after or time, time)
+        return (before, after) if before or after else None
+
+    def some_times(self) -> list[int]:
+        """The times of some hundred of these replies, the first and the last among them."""
+        return self.replies[:: 1 + len(self.replies) // 100] + self.replies[-1:]
+
+    def nearest(self, begin: int, end: int) -> int:
+        """How far the nearest sample is from a piece of Unix seconds, in nanoseconds; 0 if one lies in it. There has to
+        be one."""
+        first, last = begin * SECOND, end * SECOND
+        at = bisect_left(self.times, first)
+        return max(0, min([max(first - time, time - last) for time in self.times[max(0, at - 1) : at + 1]]))
+
+
+def read_recording(program: Program, claim: str, capture: str, extent: Extent | None = None) -> Recording:
+    samples, packets = Samples(), array("I")
+    program.blocks(samples.take, "samples", claim, capture)
+    whole, counts = Classic(capture, extent), samples.counts
+    if counts["requests"] + counts["replies"] == counts["records"]:
+        return Recording(samples, whole, None)
+
+    def take(block: bytes) -> None:
+        packets.extend(map(int, PACKET.findall(block, 0, closing_of(block))))
+    program.blocks(take, "list", capture)
+    return Recording(samples, whole, packets)
+
+
+def do_rise(stamps: array[int]) -> bool:
+    """Whether none is less than the one before it."""
+    parts = (stamps[k : k + AT_ONCE + 1].tolist() for k in range(0, len(stamps), AT_ONCE))
+    return all(part == sorted(part) for part in parts)
+
+
+def closing_of(block: bytes) -> int:
+    """Where the closing line begins, which has counts; the block's end if it isn't there yet."""
+    last = block.rfind(b"\n", 0, -1) + 1
+    return last if block.startswith(b"records ", last) else len(block)
+
+
+class Samples:
+    """What `samples` says: the counts, how many samples each server has, the record of the first request, and those of
+    all replies."""
+
+    def __init__(self) -> None:
+        self.by_server = Counter[bytes]()
+        self.first: list[int] = []
+        self.replies = array("I")
+        self.counts: dict[str, int] = {}
+
+    def take(self, block: bytes) -> None:
+        end = closing_of(block)
+        self.counts = read_counts(block[end:].decode("ascii"))
+        words = b" ".join(SAMPLE.findall(block, 0, end)).split()
+        self.by_server.update(words[::3])
+        self.replies.extend(map(int, words[2::3]))
+        self.first = sorted([*self.first, *map(int, words[1::3])])[:1]

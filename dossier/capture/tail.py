@@ -1,0 +1,105 @@
+"""The last minutes of a capture that is still being written, without what comes before them.
+
+A record begins where the one before it ends, so what stands in the middle of a capture can't be read by itself: the
+bytes of a packet may look like records. But the longest record is known. Of all places in a stretch as long as that,
+one is where a record begins; each is followed from one head to the next, and where all that can be followed have come
+together, a record begins whatever stands in the packets.
+"""
+from __future__ import annotations
+
+import re
+from collections.abc import Iterator
+from heapq import heapify, heappop, heappush
+from struct import Struct
+
+from ..fault import fault
+from ..folder.files import Folder
+from .classic import HEAD, HEADER, MAGICS, MOST_CAPTURED
+
+LONGEST = HEAD + MOST_CAPTURED
+FIRST = 1 << 20
+"""Bytes that are read of the end at first; and then twice as many each time."""
+MOST_PLACES = 1 << 19
+"""Places at which records are looked for in one file. Who makes more ways than that has all of the file read from its
+begin, where there is but one."""
+HEADS = {"<": re.compile(rb"(?s)(?=.{7}[\0-\x3b]..[\0-\4]\0)"), ">": re.compile(rb"(?s)(?=.{4}[\0-\x3b]...\0[\0-\4])")}
+"""What may be the head of a record, by the order of its bytes."""
+
+
+class Heads:
+    """How heads of records are read: a place leads to the next one."""
+
+    def __init__(self, order: str, unit: int):
+        self.unit, self.pattern, self.unpack = unit, HEADS[order], Struct(f"{order}IIII").unpack_from
+        self.left = MOST_PLACES
+
+    def after(self, data: bytes, at: int) -> int | None:
+        """Where the record that begins there ends; None if none can."""
+        _, part, captured, length = self.unpack(data, at)
+        return at + HEAD + captured if part < self.unit and captured <= min(length, MOST_CAPTURED) else None
+
+    def meeting(self, data: bytes) -> int | None:
+        """Where all ways that begin in the longest record's stretch have come together; None if they don't, or if too
+        many places would have to be looked at."""
+        ways = [match.start() for match in self.pattern.finditer(data, 0, LONGEST + HEAD) if match.start() < LONGEST]
+        heapify(ways)
+        while ways and self.left > 0:
+            self.left -= 1
+            at = heappop(ways)
+            while ways and ways[0] == at:
+                heappop(ways)
+            if not ways:
+                return at
+            if at + HEAD > len(data):
+                return None
+            if (end := self.after(data, at)) is not None:
+                heappush(ways, end)
+        return None
+
+    def walk(self, data: bytes, at: int) -> Iterator[tuple[int, int]]:
+        """Of each whole record from a place on its Unix second, and where it begins."""
+        while at + HEAD <= len(data):
+            end = self.after(data, at)
+            if end is None or end > len(data):
+                return
+            yield self.unpack(data, at)[0], at
+            at = end
+
+
+class Growing:
+    """A file that a recorder writes."""
+
+    def __init__(self, folder: Folder, name: str):
+        self.folder, self.name, self.size = folder, name, folder.size(name)
+        self.header = folder.part(name, 0, HEADER)
+        order, unit = MAGICS.get(self.header[:4], ("", 0))
+        if len(self.header) < HEADER or not order:
+            raise fault(f"{name} is no classic capture, as tcpdump writes it")
+        self.heads = Heads(order, unit)
+
+    def endings(self) -> Iterator[tuple[bytes, int, bool]]:
+        """Ends of the file, each longer than the one before, down to all of it: the bytes, where a record begins in
+        them, and whether no record lies before."""
+        length = FIRST
+        while HEADER + length < self.size and self.heads.left > 0:
+            data = self.folder.part(self.name, self.size - length, self.size)
+            if (begin := self.heads.meeting(data)) is not None:
+                yield data, begin, False
+            length *= 2
+        yield self.folder.part(self.name, HEADER, self.size), 0, True
+
+    @property
+    def last(self) -> int:
+        """The Unix second of its last whole record; 0 if it has none."""
+        data, begin, _ = next(self.endings())
+        return max((second for second, _ in self.heads.walk(data, begin)), default=0)
+
+    def since(self, second: int) -> tuple[bytes, bool]:
+        """A capture of its records since a Unix second, torn at its end if the file is; and whether the file begins
+        earlier than that."""
+        for data, begin, is_all in self.endings():
+            first = next(((time, at) for time, at in self.heads.walk(data, begin) if time >= second), None)
+            if is_all or first is None or first[1] > begin:
+                break
+        at = len(data) if first is None else first[1]
+        return self.header + data[at:], not is_all or at > begin

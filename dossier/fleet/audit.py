@@ -1,0 +1,142 @@
+"""The audit of folders: of each one reused if it was made or verified here and nothing has changed since, or made and
+put in place."""
+from __future__ import annotations
+
+from collections.abc import Iterable
+from dataclasses import dataclass
+from functools import partial
+
+from ..fault import NOT_SHOWN, USAGE, Fault, fault, summed
+from ..folder import files
+from ..folder.entry import DISPUTED, REFUSED, LeapList, Options, Record, read_record, record_text
+from ..folder.files import LEFT, Folder, sum_of
+from ..folder.jobs import run_all
+from ..folder.placing import blocks_of, is_ones_own, place
+from ..folder.program import Program
+from ..folder.progress import Progress
+from ..folder.registry import Known
+from ..folder.result import Result
+from ..premise.leap import record_by
+from ..text import plain
+from ..verdict.line import line_of, refusal_of
+from ..verdict.making import Making, sums_of_inputs
+from .metrics import Sample, of_record, of_verdict, write_metrics
+
+
+@dataclass(frozen=True)
+class Wanted:
+    """How folders are to be audited, and where it is recorded."""
+
+    options: Options
+    again: bool
+    leaps: LeapList
+    known: Known
+    program: Program
+
+
+SIGNED = ("signed, and not as it would be audited now. It is audited again only with --again, which takes the "
+          "signature away")
+
+
+def audit_all(folders: list[str], wanted: Wanted, jobs: int, seconds: int, metrics: str | None) -> int:
+    """Audits all folders and prints a line for each audit, in the order of the folders. Metrics are written at the end.
+    The status is that of all."""
+    shown, worst, samples = Progress(len(folders)), 0, list[Sample]()
+    jobs = max(1, min(jobs, len(folders)))
+    try:
+        for path, found in run_all(folders, partial(audit, wanted), seconds, jobs, shown):
+            worst = summed(worst, found.status)
+            samples += found.metrics or of_verdict(path, REFUSED)
+            shown.clear()
+            print("\n".join([refusal_of(path, found.refusal.line)] if found.refusal else found.lines), flush=True)
+    finally:
+        shown.clear()
+    if len(folders) > 1:
+        print(shown.summed(", "))
+    return summed(worst, write_metrics(metrics, samples)) if metrics else worst
+
+
+def audit(wanted: Wanted, path: str, _: int) -> Result:
+    """Audits a folder and leaves its files, audit.json last.
+
+    A refusal is an audit too, and is written down. A fault is raised only if that isn't possible, or if the folder is
+    signed and would have to be audited again.
+    """
+    with Folder(path) as folder:
+        is_ones_own(folder.place)
+        old = known_record(folder, wanted.known)
+        if old and not wanted.again and is_same(folder, old, wanted):
+            return result_of(path, old, wanted.known, " (unchanged)")
+    with Folder(path) as folder:
+        is_signed = folder.has(files.SIGNATURE)
+        if is_signed and not wanted.again:
+            raise fault(SIGNED, USAGE)
+        making = Making(folder, wanted.program, wanted.options, wanted.leaps)
+        try:
+            record = making.record()
+        except Fault as found:
+            record = making.refused(found)
+        text, stale = record_text(record), {*LEFT, *(old.outputs if old else ()), files.SIGNATURE}
+        made: dict[str, Iterable[bytes]] = {name: blocks_of(name) for name in record.outputs}
+        with wanted.known.alone(folder):
+            place(folder, {**made, files.AUDIT: [text]}, stale - record.outputs.keys())
+    wanted.known.add(sum_of(text), record)
+    removed = [f"{'':14}{plain(path)}: its signature was removed"] if is_signed else []
+    return result_of(path, record, wanted.known, "", removed)
+
+
+def result_of(path: str, record: Record, known: Known, more: str, others: Iterable[str] = ()) -> Result:
+    """A folder's lines, verdicts and metrics. What the second program disputes has no verdict."""
+    if words := known.dispute(record):
+        return Result(NOT_SHOWN, [refusal_of(path, words, DISPUTED), *others], [DISPUTED],
+                      list(of_verdict(path, DISPUTED)))
+    lines = [refusal_of(path, record.refusal.line)] if record.refusal else []
+    lines += [line_of(path, entry) + more for entry in record.entries]
+    return Result(record.status, [*lines, *others], record.verdicts, list(of_record(path, record)))
+
+
+def known_record(folder: Folder, known: Known) -> Record | None:
+    """The folder's record, if it was made or verified here."""
+    try:
+        data = folder.data(files.AUDIT)
+        return known.shown(sum_of(data), read_record(data))
+    except Fault:
+        return None
+
+
+def is_same(folder: Folder, old: Record, wanted: Wanted) -> bool:
+    """Whether a folder would be audited as it was, and all its files are there as they were left. What was refused is
+    tried again."""
+    if old.refusal or (old.program, old.options) != (wanted.program.made, wanted.options):
+        return False
+    if record_by(wanted.leaps, old).entries != old.entries:
+        return False
+    try:
+        return change_of(folder, old) == ""
+    except Fault:
+        return False
+
+
+def change_of(folder: Folder, record: Record) -> str:
+    """The first file that isn't there any more, or isn't what it was, or that came, if it is an input or has the name
+    of an output; nothing if there is none."""
+    now = sums_of_inputs(folder, record)
+    for name, sum_ in record.inputs.items():
+        if now.get(name) != sum_:
+            return f"{name} isn't the file that was audited ({short(now.get(name))}, {files.AUDIT} has {short(sum_)})"
+    new = sorted(now.keys() - record.inputs.keys())
+    if new:
+        return f"{new[0]} is new, and {files.AUDIT} has no sum of it"
+    for name, sum_ in record.outputs.items():
+        if record.is_left_out(name) and not folder.has(name):
+            continue
+        if not folder.has(name):
+            return f"{name} isn't there"
+        if folder.sum(name) != sum_:
+            return f"{name} was changed since the audit ({short(folder.sum(name))}, {files.AUDIT} has {short(sum_)})"
+    more = next(filter(folder.has, sorted(LEFT - record.outputs.keys())), None)
+    return f"{more} isn't of this audit: {files.AUDIT} has no sum of it" if more else ""
+
+
+def short(sum_: str | None) -> str:
+    return f"SHA-256 {sum_[:16]}.." if sum_ else "it isn't there"

@@ -1,0 +1,95 @@
+"""The band of the last hour, drawn with characters: the hull over time, and the bound."""
+from __future__ import annotations
+
+from ..folder.entry import Hull, Piece
+from ..folder.result import Moment
+from ..text import plain
+from ..units import TICKS, bound_ticks, civil
+from .moment import fields_of, line_of, whole
+
+ROWS, LEFT, HOUR = 9, 12, 3600
+"""Rows of the band, characters at its left, and seconds in it."""
+NARROW, WIDE = 60, 160
+"""Characters of a line at the least and at the most."""
+GREEN, RED, PLAIN = "\x1b[32m", "\x1b[31m", "\x1b[0m"
+UP, CLEAR = "\x1b[{}F", "\x1b[J"
+HELD, BEYOND, EMPTY, UNBOUNDED = "#", "!", "x", "?"
+"""What a column is drawn by: a hull, one that isn't within the bound, and two words for none."""
+
+
+class Band:
+    """Lines that stay in their place on a terminal. In a pipe there is a line each time."""
+
+    def __init__(self, is_shown: bool, has_colour: bool):
+        self.is_shown, self.has_colour, self.drawn = is_shown, has_colour, 0
+        self.hulls: dict[str, dict[int, Piece]] = {}
+        """Of each recorder the pieces of the last hour, by the Unix second in which they end."""
+
+    def add(self, found: list[Moment]) -> None:
+        for moment in found:
+            own = self.hulls.setdefault(moment.recorder, {})
+            own.update({piece.to: piece for piece in moment.pieces})
+            for second in [second for second in own if second <= moment.end - HOUR]:
+                del own[second]
+
+    def show(self, found: list[Moment], columns: int) -> None:
+        if not self.is_shown:
+            for moment in found:
+                print(line_of(moment), flush=True)
+            return
+        self.add(found)
+        width = min(max(NARROW, columns - 1), WIDE)
+        lines = [line for moment in found for line in self.head(moment, width)]
+        lines += self.band(found[0], width)
+        print(f"{UP.format(self.drawn) if self.drawn else ''}{CLEAR}" + "\n".join(lines), flush=True)
+        self.drawn = len(lines)
+
+    def head(self, moment: Moment, width: int) -> list[str]:
+        """A recorder's line, on more lines if it has to be, and its verdict in colour."""
+        lines = [""]
+        for words in map(plain, filter(None, fields_of(moment))):
+            if lines[-1] and len(lines[-1]) + 2 + len(words) > width:
+                lines.append("")
+            lines[-1] += ("  " if lines[-1] else "") + words
+        colour = GREEN if moment.verdict == "yes" else RED
+        return [self.coloured(colour, line) for line in lines]
+
+    def coloured(self, colour: str, words: str) -> str:
+        return f"{colour}{words}{PLAIN}" if self.has_colour else words
+
+    def band(self, moment: Moment, width: int) -> list[str]:
+        bound, end = bound_ticks(moment.bound_ns), moment.end
+        places = width - LEFT
+        columns = [self.cell(moment.recorder, end - HOUR + HOUR * k // places, end - HOUR + HOUR * (k + 1) // places)
+                   for k in range(places)]
+        most = max([bound, *(abs(end) for hull in columns if isinstance(hull, tuple) for end in hull)]) * 9 // 8 or 1
+        edges = [most - 2 * most * row // ROWS for row in range(ROWS + 1)]
+        rows = [label(high, low, bound) + "".join(drawn(hull, high, low, bound) for hull in columns)
+                for high, low in zip(edges, edges[1:])]
+        return [*rows, f"{'':{LEFT}}{civil(end - HOUR)[11:16]}{civil(end)[11:16]:>{places - 5}}"]
+
+    def cell(self, recorder: str, begin: int, end: int) -> Hull | None:
+        """The extremes of the pieces that end in a column, if any does."""
+        own = self.hulls.get(recorder, {})
+        return whole([own[second] for second in range(begin + 1, end + 1) if second in own])
+
+    def end(self) -> str:
+        """What comes before the last line."""
+        return "\n" if self.is_shown else ""
+
+
+def label(high: int, low: int, bound: int) -> str:
+    """What stands at the left of a row: the bound, or zero."""
+    for value, sign in ((bound, "+"), (-bound, "-"), (0, " ")):
+        if low <= value < high:
+            return f"{sign + f'{abs(value) * 1000 / TICKS:.3f}':>{LEFT - 4}} ms "
+    return " " * LEFT
+
+
+def drawn(hull: Hull | None, high: int, low: int, bound: int) -> str:
+    """A character: the hull where it meets the row, else the bound."""
+    if hull == "empty" or hull == "unbounded":
+        return EMPTY if hull == "empty" else UNBOUNDED
+    if hull is not None and hull[0] < high and low <= hull[1]:
+        return HELD if -bound <= hull[0] and hull[1] <= bound else BEYOND
+    return "-" if low <= bound < high or low <= -bound < high else " "

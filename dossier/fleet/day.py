@@ -1,0 +1,133 @@
+"""The folders of days: of each its claim, and what recorders left of the day and of the hours beside it.
+
+A recorder's file has in its name when it was begun (UTC). It ends with the last packet in it, at the latest where the
+next of the same recorder begins. What a day's folder has already isn't written again.
+"""
+from __future__ import annotations
+
+import os
+import time
+from collections.abc import Iterable
+from dataclasses import replace
+from typing import NamedTuple
+
+from ..capture.captures import MARGIN
+from ..capture.recorder import begun_files
+from ..fault import USAGE, Fault, fault
+from ..folder.claim import Claim
+from ..folder.evidence import evidence_files
+from ..folder.files import CLAIM, Folder
+from ..folder.jobs import answer, run_all
+from ..folder.placing import blocks_of, copy_of, make_in, place
+from ..folder.result import Result
+from ..schema import is_time, read_typed
+from ..text import note, plain
+from ..units import DAY, civil, day_of, seconds_of
+
+FOREVER, MOST_DAYS = 1 << 40, 31
+"""Later than any Unix second; and the days before today that are made if none is named."""
+QUIET = 3600
+"""Seconds without a packet after which the last file of a recorder counts as finished."""
+
+
+class Recorded(NamedTuple):
+    """A recorder's file, the Unix seconds in which it was begun and ends, and whether it is still being written."""
+
+    name: str
+    begin: int
+    end: int
+    grows: bool
+
+
+def recordings(folder: Folder) -> tuple[list[Recorded], list[str]]:
+    """What is in a folder of recordings, and the names of the files that are from the future."""
+    recorders: dict[str, list[tuple[int, str]]] = {}
+    for before, behind, begun, name in begun_files(folder):
+        recorders.setdefault(before + behind, []).append((begun, name))
+    found = []
+    for files in (sorted(files) for files in recorders.values()):
+        for (begin, name), (after, _) in zip(files, [*files[1:], (FOREVER, "")]):
+            written = folder.written(name)
+            end = min(max(begin, written), after)  # (a copy may have been written at any time)
+            found.append(Recorded(name, begin, end, after == FOREVER and time.time() < written + QUIET))
+    found.sort(key=lambda one: one.begin)
+    ahead = (int(time.time()) // DAY + 2) * DAY
+    return [one for one in found if one.begin < ahead], [one.name for one in found if one.begin >= ahead]
+
+
+def make_days(source: str, target: str, date: str | None, seconds: int) -> int:
+    """Makes the folder of a day; if none is named, that of each day after the one of the first file, of the last 31
+    before today. Their paths are printed, with those that were made earlier of these 31. The folder of days has the
+    claim of any day, and the evidence of all. The status is the worst of all days."""
+    planned, worst = answer(lambda *_: plan(source, target, date)), 0
+    for line in planned.lines:
+        note(line)
+    for path in planned.earlier:
+        print(plain(path))
+    for path, result in run_all(planned.days, lambda path, _: make_day(source, target, path), seconds):
+        for line in [result.refusal.line] if result.refusal else result.lines:
+            note(line)
+        if not result.refusal:
+            print(plain(path), flush=True)
+        worst = max(worst, result.status)
+    return worst
+
+
+def plan(source: str, target: str, date: str | None) -> Result:
+    """The folders of days that are to be made, and those that were made earlier. What is from the future is named."""
+    def folder_of(number: int) -> str:
+        return os.path.normpath(os.path.join(target, day_of(number * DAY)))
+    today = int(time.time()) // DAY
+    with Folder(source) as recorder, Folder(target) as days:
+        read_typed(CLAIM, Claim, days.data(CLAIM))
+        (found, later), made = recordings(recorder), [name for name in days.names() if is_time(f"{name}T00:00:00Z")]
+    later += [name for name in made if day_named(name) > today]
+    notes = [f"{name} is from the future: it is left out" for name in later]
+    if date:
+        return Result(lines=notes, days=[folder_of(day_named(date))])
+    oldest = today - MOST_DAYS
+    first = max(min((recorded.begin // DAY + 1 for recorded in found), default=today), oldest)
+    before = sorted(number for number in map(day_named, made) if number < today)
+    newest = max([*before, *(one.end // DAY for one in found)], default=today)
+    if first < today and max(today - newest, first - max(before, default=first)) > MOST_DAYS:
+        raise fault(f"more than {MOST_DAYS} days went by since the newest day or recording: is the clock right? "
+                    "--date makes a day of them", USAGE)
+    return Result(lines=notes, days=[folder_of(number) for number in range(first, today)],
+                  earlier=[folder_of(number) for number in before if oldest <= number < first])
+
+
+def day_named(date: str) -> int:
+    """The number of a day since 1970."""
+    if not is_time(f"{date}T00:00:00Z"):
+        raise fault("--date takes a day such as 2026-11-22", USAGE)
+    return seconds_of(f"{date}T00:00:00Z") // DAY
+
+
+def make_day(source: str, target: str, path: str) -> Result:
+    """Puts into a day's folder what it hasn't. A file that can't be read is named, and the others are put there."""
+    begin = day_named(os.path.basename(path)) * DAY
+    with Folder(source) as recorder, Folder(target) as days:
+        claim = replace(read_typed(CLAIM, Claim, days.data(CLAIM)), from_=civil(begin), to=civil(begin + DAY))
+        found, _ = recordings(recorder)
+        recorded = [one for one in found if one.begin <= begin + DAY + MARGIN and begin - MARGIN <= one.end]
+        notes = [f"{one.name} is still being written: call again when it is finished" for one in recorded if one.grows]
+        notes, status = notes if recorded else [f"{path}: nothing was recorded"], 0
+        make_in(days.place, os.path.basename(path))
+        with Folder(path) as day:
+            wanted = [(days, name) for name in evidence_files(days, days.names())]
+            wanted += [(recorder, one.name) for one in recorded if not one.grows]
+            made: dict[str, Iterable[bytes]] = {}
+            for of, name in wanted:
+                if day.has(name) or day.has(f"{name}.zst"):
+                    continue
+                try:
+                    copy_of(of, name, str(len(made)))
+                except Fault as wrong:
+                    notes, status = [*notes, wrong.line], max(status, wrong.status)
+                    continue
+                made[name] = blocks_of(str(len(made)))
+            if not day.has(CLAIM):
+                made[CLAIM] = [claim.text]
+            if made:
+                place(day, made)
+    return Result(status, notes)

@@ -1,0 +1,161 @@
+"""How audits are kept for years: their captures packed by zstd, without what may be made anew.
+
+A capture is taken away only after what was packed of it unpacked to the same bytes, and is in its place. How old a
+folder is counts from the newest recording among those that are kept, and not from the clock, which may be wrong for a
+night.
+"""
+from __future__ import annotations
+
+import hashlib
+import os
+import sys
+import time
+from collections import Counter
+from collections.abc import Iterable
+from dataclasses import replace
+from functools import partial
+
+from ..fault import DEVICE, NOT_SHOWN, USAGE, fault
+from ..folder import files
+from ..folder.entry import DISPUTED, Kept, Record, read_record, record_text
+from ..folder.files import Folder, is_capture, sum_of, sum_of_file
+from ..folder.jobs import find_tool, run_all, stream
+from ..folder.placing import Copy, blocks_of, copy_of, is_ones_own, place, remove_folder, take_away
+from ..folder.registry import Known
+from ..folder.result import Result
+from ..text import plain
+from ..units import DAY
+from .audit import change_of
+from .verify import audit_json
+
+YEAR = 365.25 * DAY
+PACKED = (".gz", ".zst")
+TENTH, JUMP = 10, 31 * DAY
+"""One call takes away no more than this part of the folders; and seconds after the newest recording, or the last call,
+from which on the clock isn't believed."""
+
+
+def keep_all(folders: list[str], years: int | None, force: bool, known: Known, seconds: int) -> int:
+    """Packs each folder, or takes it away if its span ended so many years ago, and prints a line for each. The status
+    is the worst."""
+    over, worst = set[str](), 0
+    if years is not None:
+        lasts = {path: found.last for path, found in run_all(folders, partial(ended, known), seconds) if found.last}
+        over, words = over_of(lasts, years, force, known)
+        if words:
+            print(f"ntpaudit-dossier: {words}", file=sys.stderr, flush=True)
+            worst = USAGE
+    for path, found in run_all(folders, lambda path, _: keep(path, path in over, known), seconds):
+        line = found.refusal.line if found.refusal else found.lines[0]
+        if line == GONE:
+            remove_folder(path)
+        print(f"{plain(path)}: {plain(line)}", flush=True)
+        worst = max(worst, found.status)
+    return worst
+
+
+GONE = "taken away"
+
+
+def ended(known: Known, path: str, _: int) -> Result:
+    """When the span of a folder ended, if it is known here."""
+    with Folder(path) as folder:
+        data = audit_json(folder)
+        record = known.shown(sum_of(data), read_record(data))
+        return Result(last=max(entry.claim.last for entry in record.entries) if record and record.entries else 0)
+
+
+def over_of(lasts: dict[str, int], years: int, force: bool, known: Known) -> tuple[set[str], str]:
+    """The folders that are taken away, the oldest first: of each machine no more than days have passed since the last
+    call, and of all no more than a tenth. None if the clock made a jump, which is said."""
+    now, before = int(time.time()), known.last_call()
+    newest = max((last for last in lasts.values() if last <= now + DAY), default=0)
+    over = sorted((path for path in lasts if lasts[path] < newest - years * YEAR), key=lambda path: lasts[path])
+    if force:
+        known.note_call(now)
+        return set(over), ""
+    gone_by = max(now - newest if newest else 0, abs(now - before) if before else 0)
+    if gone_by > JUMP or (before and now < before):
+        words = f"the clock is {gone_by // DAY:,} days from the newest recording, or from the last call: nothing is " \
+                "taken away (--force does)"
+        return set(), words if over else ""
+    known.note_call(now)
+    days, taken, found = max(1, (now - before) // DAY) if before else len(lasts), Counter[str](), set[str]()
+    for path in over:
+        machine = os.path.dirname(path)
+        if len(found) < len(lasts) // TENTH and taken[machine] < days:
+            taken[machine] += 1
+            found.add(path)
+    return found, ""
+
+
+def keep(path: str, is_over: bool, known: Known) -> Result:
+    """What was done with a folder whose audit was made or verified here. What is disputed is left as it is."""
+    with Folder(path) as folder, known.alone(folder):
+        is_ones_own(folder.place)
+        data = audit_json(folder)
+        record = read_record(data)
+        seen = known.shown(sum_of(data), record)
+        if not seen:
+            raise fault("neither made nor verified here: `ntpaudit-dossier verify` comes first", USAGE)
+        if words := known.dispute(record):
+            return Result(NOT_SHOWN, [f"{DISPUTED}: {words}"])
+        if record.refusal:
+            raise fault("the audit was refused, so there is nothing to keep", DEVICE)
+        if min(entry.claim.last for entry in record.entries) > time.time() + DAY:
+            raise fault("its span is in the future, so it is left as it is", DEVICE)
+        if changed := change_of(folder, record):
+            raise fault(changed)
+        if is_over:
+            take_all(folder, record)
+            return Result(lines=[GONE])
+        if not record.kept:
+            if folder.has(files.SIGNATURE):
+                raise fault("signed: a folder is kept before it is signed", USAGE)
+            record = packed(folder, record, seen, known)
+        take_rest(folder, record)
+        return Result(lines=["kept"])
+
+
+def packed(folder: Folder, record: Record, seen: Record, known: Known) -> Record:
+    """Packs the captures, and puts them into their places, the new record last."""
+    made: dict[str, Iterable[bytes]] = {}
+    sums = {}
+    for name in (name for name in record.inputs if is_capture(name) and not name.endswith(PACKED)):
+        if f"{name}.zst" not in record.inputs:
+            path = pack(folder, name, len(made))
+            sums[name], made[f"{name}.zst"] = sum_of_file(path), blocks_of(path)
+    record = replace(record, kept=Kept(sums))
+    text = record_text(record)
+    place(folder, {**made, files.AUDIT: [text]})
+    known.add(sum_of(text), seen)
+    return record
+
+
+def pack(folder: Folder, name: str, number: int) -> str:
+    """Packs a capture into a file of one's own, of which it is seen that it unpacks to the same."""
+    tool = find_tool("zstd", "zstd isn't installed to pack captures")
+    own, path, found = f"{number}.pcap", f"{number}.zst", hashlib.sha256()
+    sum_ = copy_of(folder, name, own)
+    with Copy(path) as copy:
+        status, _ = stream([tool, "-qc", "--", own], copy.take)
+    unpacked, _ = stream([tool, "-dqc", "--", path], found.update)
+    if status or unpacked or found.hexdigest() != sum_:
+        raise fault(f"{name} can't be packed by zstd", DEVICE)
+    return path
+
+
+def take_rest(folder: Folder, record: Record) -> None:
+    """Takes away what is packed, and what may be made anew."""
+    for name in record.kept.sums if record.kept else ():
+        if folder.has(f"{name}.zst"):
+            take_away(folder.place, name)
+    for name in filter(record.is_left_out, record.outputs):
+        take_away(folder.place, name)
+
+
+def take_all(folder: Folder, record: Record) -> None:
+    """Takes away what the record names, which is unchanged, itself last."""
+    packed_files = (f"{name}.zst" for name in (record.kept.sums if record.kept else ()))
+    for name in (*record.outputs, *record.inputs, *packed_files, files.SIGNATURE, files.AUDIT):
+        take_away(folder.place, name)

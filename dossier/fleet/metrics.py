@@ -1,0 +1,116 @@
+"""What audits come to as metrics, in Prometheus' text format, for the textfile collector of node_exporter."""
+from __future__ import annotations
+
+import os
+import re
+import sys
+from collections.abc import Iterable, Iterator
+
+from ..fault import Fault
+from ..folder.entry import ANSWERED, DISPUTED, NOT_VERIFIED, REFUSED, Entry, Record
+from ..folder.placing import write_named
+from ..text import plain
+from ..units import SECOND, seconds_of
+
+Sample = tuple[str, str, int]
+"""A metric's name without its prefix, its labels, and its value: nanoseconds, if the name ends in `_seconds`."""
+
+HELP = {
+    "verdict": "1 for the verdict of a folder, 0 for each other.",
+    "clock_off": "1 if the clock was off by more than the bound, if what the claim grants is true.",
+    "claimed_bound_seconds": "The bound that is claimed.",
+    "least_bound_seconds": "The least bound that a certificate carries, if there is one.",
+    "samples": "Exchanges of which an error follows.",
+    "servers_apart": "Servers whose range never meets the hull.",
+    "warnings": "Warnings beside the verdict.",
+    "span_end_timestamp_seconds": "When the claim's span ends.",
+    "leap_list_end_timestamp_seconds": "Until when the list of leap seconds is good.",
+    "audit_duration_seconds": "How long the audit took.",
+    "last_audit_timestamp_seconds": "When the audit was made.",
+    "now_verdict": "1 for the verdict of a recorder's last minutes, 0 for each other.",
+    "now_clock_off": "1 if the error lies beyond the bound at the end of them, if what the claim grants is true.",
+    "now_claimed_bound_seconds": "The bound that is claimed.",
+    "now_hull_low_seconds": "The least that the clock's error can be at their end.",
+    "now_hull_high_seconds": "The most that the clock's error can be at their end.",
+    "now_least_bound_seconds": "The least bound that a certificate of the last minutes carries, if there is one.",
+    "now_groups_heard": "Groups of servers that have a sample.",
+    "now_groups": "Groups of servers in the claim.",
+    "now_last_record_timestamp_seconds": "When the recorder's last record was made.",
+}
+DATE = re.compile(r"\d{4}-\d\d-\d\d")
+VERDICTS = (*ANSWERED, REFUSED, NOT_VERIFIED, DISPUTED)
+
+
+def labels_of(**labels: str) -> str:
+    """Labels as they stand in a line; one without a value is left out."""
+    return ",".join(f'{name}="{escaped(value)}"' for name, value in labels.items() if value)
+
+
+def escaped(value: str) -> str:
+    return plain(value).replace("\\", "\\\\").replace('"', '\\"')
+
+
+def labels_of_folder(folder: str, day: str = "", **others: str) -> str:
+    """A folder, and the machine of which it is a day, if it is one."""
+    above, name = os.path.split(folder)
+    return labels_of(machine=above if DATE.fullmatch(name) else folder, folder=folder, day=day, **others)
+
+
+def of_verdict(folder: str, verdict: str, day: str = "") -> Iterator[Sample]:
+    """One metric for each verdict, of which one is 1."""
+    for other in VERDICTS:
+        yield "verdict", labels_of_folder(folder, day, verdict=other), int(other == verdict)
+
+
+def of_entry(folder: str, entry: Entry) -> Iterator[Sample]:
+    day = "" if entry.part == "." else entry.part
+    labels = labels_of_folder(folder, day)
+    yield from of_verdict(folder, entry.verdict, day)
+    yield "clock_off", labels, int(entry.reason is not None and entry.reason.why == "off")
+    yield "claimed_bound_seconds", labels, entry.claim.bound_ns
+    if entry.least_ns is not None:
+        yield "least_bound_seconds", labels, entry.least_ns
+    yield "samples", labels, entry.counts["samples"]
+    yield "servers_apart", labels, sum(len(warning.servers) for warning in entry.warnings if warning.kind == "apart")
+    yield "warnings", labels, len(entry.warnings)
+    yield "span_end_timestamp_seconds", labels, entry.claim.last * SECOND
+
+
+def of_record(folder: str, record: Record) -> Iterator[Sample]:
+    """All of a folder's audit, which has to be known here."""
+    labels = labels_of_folder(folder)
+    for entry in record.entries:
+        yield from of_entry(folder, entry)
+    if record.refusal:
+        yield from of_verdict(folder, REFUSED)
+    if record.leap_seconds and not record.leap_seconds.fault:
+        yield "leap_list_end_timestamp_seconds", labels, record.leap_seconds.good_until * SECOND
+    yield "audit_duration_seconds", labels, round(record.seconds * SECOND)
+    yield "last_audit_timestamp_seconds", labels, seconds_of(record.made) * SECOND
+
+
+def metrics_text(samples: Iterable[Sample]) -> str:
+    """The text of a file of metrics. Of two folders of one name the greater value counts: none hides a verdict."""
+    found: dict[str, dict[str, int]] = {name: {} for name in HELP}
+    for name, labels, value in samples:
+        found[name][labels] = max(value, found[name].get(labels, value))
+    return "".join(line for name, values in found.items() if values for line in lines_of(name, values))
+
+
+def lines_of(name: str, values: dict[str, int]) -> Iterator[str]:
+    yield f"# HELP ntpaudit_{name} {HELP[name]}\n# TYPE ntpaudit_{name} gauge\n"
+    for labels, value in values.items():
+        seconds, rest = divmod(abs(value), SECOND)
+        number = f"{'-' if value < 0 else ''}{seconds}.{rest:09}" if name.endswith("_seconds") else f"{value}"
+        yield f"ntpaudit_{name}{{{labels}}} {number}\n"
+
+
+def write_metrics(path: str, samples: Iterable[Sample]) -> int:
+    """Writes a file of metrics, whole or not at all. The status is 0, or that of the fault, whose line is printed: it
+    takes nothing away from what was found."""
+    try:
+        write_named(path, metrics_text(samples).encode("utf-8", "backslashreplace"))
+    except Fault as found:
+        print(plain(found.line), file=sys.stderr, flush=True)
+        return found.status
+    return 0

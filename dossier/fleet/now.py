@@ -1,0 +1,160 @@
+"""The last minutes of what recorders are writing: is the clock within its bound now?
+
+It is asked as an audit asks it, of a span that begins no earlier than the records and ends with the last. What was
+recorded as long before speaks about it too. Nothing is left but metrics.
+"""
+from __future__ import annotations
+
+import os
+import shutil
+import sys
+import time
+from collections.abc import Iterator
+from dataclasses import replace
+from typing import NamedTuple
+
+from ..capture.captures import audited
+from ..capture.classic import HEADER, Classic
+from ..capture.recorder import begun_files
+from ..capture.tail import Growing
+from ..fault import Fault
+from ..folder.answers import read_envelope, read_settled
+from ..folder.claim import Claim
+from ..folder.entry import NO_EVIDENCE, OF_LEAPS, UNSUPPORTED, YES, LeapList
+from ..folder.files import CLAIM, Folder, data_named
+from ..folder.jobs import answer
+from ..folder.placing import keep
+from ..folder.program import Program
+from ..folder.result import Moment, Result
+from ..premise.leap import alerts_of, look_up
+from ..schema import read_typed
+from ..text import note
+from ..units import civil
+from ..verdict.judgement import piece_of
+from .band import Band
+from .metrics import write_metrics
+from .moment import line_of, metrics_of
+
+MINUTE, HOUR = 60, 60
+"""Seconds; and minutes of the band."""
+MOST_PIECES = 10_000
+AHEAD = 3600
+"""Seconds by which a file may have been begun later than now: a later one was begun under another clock."""
+
+
+class Wanted(NamedTuple):
+    source: str
+    claim: str
+    minutes: int
+    leaps: LeapList
+    program: Program
+
+
+def show_now(wanted: Wanted, metrics: str | None) -> int:
+    """Prints a line for each recorder, the worst first, and writes metrics. The status is 1 if any clock isn't shown,
+    or a fault's."""
+    found = moments(wanted)
+    for moment in found:
+        print(line_of(moment), flush=True)
+    return max(status_of(found), write_metrics(metrics, [one for each in found for one in metrics_of(each)])
+               if metrics else 0)
+
+
+def status_of(found: list[Moment]) -> int:
+    return int(any(moment.verdict != YES for moment in found))
+
+
+def follow(wanted: Wanted, metrics: str | None, seconds: int, has_colour: bool) -> int:
+    """Does so again and again until it is broken off: a line each time; on a terminal always the same lines, and below
+    them a band of the last hour, of the worst recorder."""
+    screen = Band(sys.stdout.isatty(), has_colour and not os.environ.get("NO_COLOR"))
+    looks, status = 0, 0
+    try:
+        if screen.is_shown:
+            screen.add(first_hour(wanted))
+        while True:
+            at = time.monotonic()
+            try:
+                found = moments(wanted)
+                status = status_of(found)
+                screen.show(found, shutil.get_terminal_size().columns)
+                if metrics:
+                    write_metrics(metrics, [one for each in found for one in metrics_of(each)])
+            except Fault as wrong:
+                status = wrong.status
+                note(wrong.line)
+            looks += 1
+            time.sleep(max(0.0, at + seconds - time.monotonic()))
+    except KeyboardInterrupt:
+        print(f"{screen.end()}ended after {looks} looks, the last with status {status}", flush=True)
+        return status
+
+
+def first_hour(wanted: Wanted) -> list[Moment]:
+    try:
+        return moments(wanted._replace(minutes=HOUR))
+    except Fault:
+        return []
+
+
+def moments(wanted: Wanted) -> list[Moment]:
+    """What the last minutes of each recorder say, the worst first."""
+    return sorted(answer(lambda *_: look(wanted)).moments, key=lambda moment: moment.badness)
+
+
+def look(wanted: Wanted) -> Result:
+    """In a process of its own: a folder of recordings is a stranger's as any other."""
+    claim: Claim = read_typed(os.path.basename(wanted.claim), Claim, data_named(wanted.claim))
+    recorders: dict[str, list[tuple[int, str, str]]] = {}
+    with Folder(wanted.source) as folder:
+        for recorder, behind, begun, name in begun_files(folder):
+            if begun < time.time() + AHEAD:
+                recorders.setdefault(recorder.removesuffix("-"), []).append((begun, behind.zfill(12), name))
+        found = [moment_of(wanted, claim, folder, recorder, [name for *_, name in sorted(files, reverse=True)])
+                 for recorder, files in recorders.items()]
+    return Result(moments=found or [silent(wanted, claim, "", 0)])
+
+
+def silent(wanted: Wanted, claim: Claim, recorder: str, last: int) -> Moment:
+    """Nothing was recorded in these minutes."""
+    end = int(time.time())
+    return Moment(recorder, end - MINUTE * wanted.minutes, end, NO_EVIDENCE, claim.bound_ns, len(claim.grouped), last)
+
+
+def moment_of(wanted: Wanted, claim: Claim, folder: Folder, recorder: str, names: list[str]) -> Moment:
+    """Of a recorder, by the names of its files, the newest first."""
+    span = MINUTE * wanted.minutes
+    last = next(filter(None, (file.last for file in growing(folder, names))), 0)
+    if last < time.time() - span:
+        return silent(wanted, claim, recorder, last)
+    capture = audited(dict(copies(growing(folder, names), last - 2 * span)))
+    first = min(Classic(capture.path, capture.extent).extent.stamps) >> 32
+    begin = max(last - span, first)
+    own = replace(claim, from_=civil(begin), to=civil(last))
+    keep(CLAIM, own.text)
+    settled = read_settled(wanted.program.run("settle", CLAIM, capture.path).text)
+    words = ("envelope", CLAIM, capture.path, "--servers", "--least", "--step",
+             str(1 + span // MOST_PIECES))
+    envelope = read_envelope(wanted.program.run(*words).text)
+    leaps = look_up(wanted.leaps, first, last)
+    against = next((OF_LEAPS[alert.kind] for alert in alerts_of(leaps, wanted.leaps)), "")
+    heard = sum(any(own.servers[k] in envelope.servers for k in group) for group in own.grouped)
+    verdict = UNSUPPORTED if settled.answer == YES and against else settled.answer
+    return Moment(recorder, begin, last, verdict, own.bound_ns, len(own.grouped), last, heard, envelope.least_ns,
+                  against if verdict == UNSUPPORTED else "",
+                  [piece_of(envelope, k) for k in range(len(envelope.hulls))])
+
+
+def growing(folder: Folder, names: list[str]) -> Iterator[Growing]:
+    """The files, but those that were only just begun."""
+    return (Growing(folder, name) for name in names if folder.size(name) >= HEADER)
+
+
+def copies(files: Iterator[Growing], second: int) -> Iterator[tuple[str, str]]:
+    """Private copies of the last records of files, of the newest first, down to a file that begins earlier."""
+    for number, file in enumerate(files):
+        data, begins_earlier = file.since(second)
+        keep(f"{number}.pcap", data)
+        yield file.name, f"{number}.pcap"
+        if begins_earlier:
+            return

@@ -1,0 +1,121 @@
+"""The signature of a folder: whether there is one, whether it fits audit.json, and who made it.
+
+It is one of ssh-keygen, beside audit.json. Who may sign stands in a file of allowed signers, as ssh-keygen has it.
+"""
+from __future__ import annotations
+
+import re
+from contextlib import suppress
+from datetime import datetime
+from typing import NamedTuple
+
+from ..fault import Fault
+from ..folder.files import AUDIT, SIGNATURE, YEAR, Folder, data_named
+from ..folder.jobs import find_tool, run
+from ..folder.older import read_any
+from ..folder.placing import keep
+from ..schema import is_time
+from .statements import read_statements
+
+NAMESPACE = "ntpaudit-dossier"
+"""What a signature is made for: one that was made for anything else doesn't count."""
+
+NONE, UNSEEN, GOOD, UNFIT, STRANGER = "none", "unseen", "good", "unfit", "stranger"
+KEY = re.compile(r"with (\S+) key (\S+)")
+NO_KEYGEN = "ssh-keygen isn't installed, which makes signatures and looks at them"
+SIGNED, SIGNERS = "signed", "signers"
+"""Private copies of what was signed, and of who may sign."""
+
+
+class Signature(NamedTuple):
+    """What was found."""
+
+    state: str
+    """`none`: there is none. `unseen`: there is one, and it wasn't looked at. `good`: it fits, and its key may sign.
+    `unfit`: it isn't one of this audit.json. `stranger`: it fits, and its key may not sign."""
+    at: str = ""
+    """When it was made, as audit.json says."""
+    signer: str = ""
+    key: str = ""
+    """The key's kind and its sum."""
+    why: str = ""
+    """What ssh-keygen says of a key that may not sign."""
+
+
+class Signers:
+    """Who may sign, as a file of allowed signers says, if one is named."""
+
+    def __init__(self, path: str | None):
+        try:
+            self.given = data_named(path) if path is not None else None
+        except Fault as found:
+            raise found.of("the file of signers") from None
+
+    def signature_of(self, folder: Folder) -> Signature:
+        """The signature of a folder, over the very bytes of audit.json that are read of it. It is looked at if there
+        are signers; whether a key may sign is asked of the time at which audit.json says that it was made."""
+        signed = signed_in(folder)
+        if not folder.has(f"{signed}.sig"):
+            return Signature(NONE)
+        signature, data = folder.data(f"{signed}.sig"), folder.data(signed) if folder.has(signed) else b""
+        at = time_of(data)
+        if self.given is None:
+            return Signature(UNSEEN, at)
+        for name, text in ((SIGNED, data), (SIGNATURE, signature), (SIGNERS, self.given)):
+            keep(name, text)
+        return self.looked_at(at)
+
+    def looked_at(self, at: str) -> Signature:
+        status, said, _ = self.keygen("check-novalidate", "-n", NAMESPACE)
+        key = KEY.search(said)
+        if status or not key:
+            return Signature(UNFIT, at)
+        found = Signature(STRANGER, at, key=f"{key[1]} {key[2]}")
+        on = ["-O", f"verify-time={local(at)}"] if is_time(at) else []
+        _, named, error = self.keygen("find-principals", *on, "-f", SIGNERS)
+        for signer in named.splitlines():
+            status, _, error = self.keygen("verify", *on, "-f", SIGNERS, "-I", signer, "-n", NAMESPACE)
+            if not status:
+                return found._replace(state=GOOD, signer=signer)
+        lines = [line for line in error.splitlines() if line]
+        return found._replace(why=lines[0] if lines else "")
+
+    def keygen(self, *words: str) -> tuple[int, str, str]:
+        tool = find_tool("ssh-keygen", NO_KEYGEN)
+        status, said, error = run([tool, "-Y", *words, "-s", SIGNATURE], SIGNED)
+        return status, said.decode("utf-8", "replace"), error.decode("utf-8", "replace")
+
+
+def signed_in(folder: Folder) -> str:
+    """What is signed of a folder: its audit.json, or a year's statements."""
+    return YEAR if folder.has(YEAR) and not folder.has(AUDIT) else AUDIT
+
+
+def time_of(data: bytes) -> str:
+    """When a record was signed, as it says, or a year; nothing if it is neither."""
+    with suppress(Fault):
+        return str(read_any(data).signed)
+    with suppress(Fault):
+        return str(read_statements(data).signed)
+    return ""
+
+
+def local(time: str) -> str:
+    """A time in local time, as ssh-keygen takes it; the time that is now if there is no such time."""
+    try:
+        return datetime.fromisoformat(time).astimezone().strftime("%Y%m%d%H%M%S")
+    except (ValueError, OverflowError):
+        return datetime.now().strftime("%Y%m%d%H%M%S")
+
+
+def in_words(found: Signature) -> str:
+    """What a signature comes to."""
+    at = f" at {found.at}" if found.at else ""
+    by = {
+        NONE: "nobody signed it",
+        UNSEEN: f"signed{at}, it says; the signature wasn't looked at (--signers FILE does)",
+        GOOD: f"signed{at} by {found.signer}, with the key {found.key}",
+        UNFIT: f"the signature doesn't fit: {SIGNATURE} isn't of this {AUDIT}, so one of them was changed",
+        STRANGER: f"signed{at} with a key that may not sign by the file of signers: {found.key}",
+    }[found.state]
+    return f"{by} ({found.why})" if found.why else by

@@ -1,0 +1,113 @@
+"""Signing: what an audit found is put under a person's key, by ssh-keygen."""
+from __future__ import annotations
+
+import os
+import sys
+from dataclasses import replace
+from functools import partial
+from typing import IO
+
+from ..capture.recorder import text_of
+from ..fault import DEVICE, NOT_SHOWN, USAGE, Fault, fault, summed
+from ..folder import files
+from ..folder.entry import DISPUTED, LeapList, read_record, record_text
+from ..folder.files import YEAR, Folder, own_data, sum_of
+from ..folder.jobs import DEVNULL, ENVIRONMENT, PIPE, begun, find_tool, private_folder, run_all, run_one
+from ..folder.placing import is_ones_own, keep, place
+from ..folder.registry import Known
+from ..folder.result import Result
+from ..schema import said
+from ..text import plain
+from ..units import now
+from .audit import change_of
+from .signature import NAMESPACE, NO_KEYGEN, signed_in
+from .statements import difference, read_statements
+from .verify import audit_json
+
+OF_A_PERSON = ("HOME", "TERM", "DISPLAY", "WAYLAND_DISPLAY", "XDG_RUNTIME_DIR", "SSH_AUTH_SOCK", "SSH_ASKPASS",
+               "SSH_ASKPASS_REQUIRE", "SSH_SK_PROVIDER", "SSH_SK_HELPER")
+"""What ssh-keygen needs to ask a person, an agent or a piece of hardware."""
+PROGRESS = (b"Signing file ", b"Write signature to ")
+
+
+def sign_all(folders: list[str], key: str, known: Known, seconds: int, leaps: LeapList) -> int:
+    """Signs each folder, and prints a line for each. The status is the worst. The key is asked for between two looks at
+    a folder, by the process that has the terminal."""
+    worst, key = 0, os.path.abspath(key)
+    for path, found in run_all(folders, partial(to_be_signed, known, leaps), seconds):
+        if found.text:
+            try:
+                signature = signature_by(key, found.text.encode())
+                found = run_one(path, partial(sign, known, found.text.encode(), signature), seconds)
+            except Fault as refused:
+                found = Result(refused.status, [refused.line])
+        lines = [found.refusal.line] if found.refusal else found.lines
+        print(f"{plain(path)}: {plain(lines[0])}", flush=True)
+        worst = summed(worst, found.status)
+    return worst
+
+
+def to_be_signed(known: Known, leaps: LeapList, path: str, _: int) -> Result:
+    """A folder's audit.json with the time in it, which is to be signed, if it was made or verified here. If a file
+    isn't what it says, that is said. A year's statements likewise, if they follow from days that are known here."""
+    with Folder(path) as folder:
+        is_ones_own(folder.place)
+        if signed_in(folder) == YEAR:
+            if wrong := difference(folder, known, leaps):
+                return Result(NOT_SHOWN, [wrong])
+            return Result(text=text_of(said(replace(read_statements(folder.data(YEAR)), signed=now()))).decode())
+        data = audit_json(folder)
+        record = read_record(data)
+        if folder.has(files.SIGNATURE):
+            raise fault(f"signed already; who wants another signature takes {files.SIGNATURE} away", DEVICE)
+        if record.refusal:
+            raise fault("the audit was refused, so there is nothing to sign", DEVICE)
+        if not known.shown(sum_of(data), record):
+            raise fault("neither made nor verified here, so it isn't signed: `ntpaudit-dossier verify` comes first",
+                        USAGE)
+        if words := known.dispute(record):
+            return Result(NOT_SHOWN, [f"{DISPUTED}: {words}"])
+        if changed := change_of(folder, record):
+            return Result(NOT_SHOWN, [changed])
+        return Result(text=record_text(replace(record, signed=now())).decode())
+
+
+def sign(known: Known, signed: bytes, signature: bytes, path: str, _: int) -> Result:
+    """Puts what was signed in its place, with the signature, if the folder's audit.json is still the same but for the
+    time."""
+    with Folder(path) as folder, known.alone(folder):
+        if signed_in(folder) == YEAR:
+            if replace(read_statements(folder.data(YEAR)), signed="") != replace(read_statements(signed), signed=""):
+                raise fault(f"{YEAR} has changed meanwhile")
+            place(folder, {YEAR: [signed], f"{YEAR}.sig": [signature]})
+            return Result(lines=["signed"])
+        data, record = audit_json(folder), read_record(signed)
+        seen = known.shown(sum_of(data), record)
+        if folder.has(files.SIGNATURE) or not seen or replace(read_record(data), signed=record.signed) != record:
+            raise fault(f"{files.AUDIT} has changed meanwhile")
+        place(folder, {files.AUDIT: [signed], files.SIGNATURE: [signature]})
+        known.add(sum_of(signed), seen)
+    return Result(lines=["signed"])
+
+
+def hand_on(said: IO[bytes] | None) -> None:
+    """Hands on what ssh-keygen says on standard error, but for the names of the files that it makes."""
+    for line in said or ():
+        if not line.startswith(PROGRESS):
+            sys.stderr.buffer.write(line)
+            sys.stderr.buffer.flush()
+
+
+def signature_by(key: str, data: bytes) -> bytes:
+    """The signature that ssh-keygen makes. It speaks for itself on the terminal: it may ask for a passphrase, for the
+    touch of a key, or for a PIN, so it has no limit of time."""
+    tool = find_tool("ssh-keygen", NO_KEYGEN)
+    environment = ENVIRONMENT | {name: os.environ[name] for name in OF_A_PERSON if name in os.environ}
+    with private_folder() as own:
+        keep(f"{own}/{files.AUDIT}", data)
+        with begun([tool, "-Y", "sign", "-f", key, "-n", NAMESPACE, files.AUDIT], env=environment, stdin=None, cwd=own,
+                   stdout=DEVNULL, stderr=PIPE) as call:
+            hand_on(call.stderr)
+        if call.returncode:
+            raise fault(f"ssh-keygen didn't sign it (status {call.returncode})", DEVICE)
+        return own_data(f"{own}/{files.SIGNATURE}")

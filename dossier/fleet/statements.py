@@ -1,0 +1,120 @@
+"""What year.json holds: the statements for a year, and on which sums each rests, so that somebody can sign them."""
+from __future__ import annotations
+
+import os
+from dataclasses import dataclass, field, replace
+from typing import Annotated
+
+from ..fault import fault
+from ..folder.entry import SKEW, YES, LeapList
+from ..folder.files import AUDIT, YEAR, Folder, sum_of
+from ..folder.registry import Known
+from ..folder.result import Year
+from ..schema import Count, Name, Sum, Text, Time, is_time, length, or_nothing, read_typed, within
+from ..text import plain
+from ..units import now, seconds_of
+from .days import Wanted, is_day, year_of
+from .year import statement
+
+
+@dataclass(frozen=True)
+class Stated:
+    """What is said of a machine, and the file with the sums of its days' audits, as `sha256sum` has it."""
+
+    machine: Text
+    statement: Text
+    shown: Count
+    days: Count
+    file: Name
+    sha256: Sum
+
+
+@dataclass(frozen=True)
+class Statements:
+    """The year of all machines."""
+
+    year: Annotated[int, within(1971, 9999)]
+    made: Time
+    signed: Annotated[str, or_nothing(is_time)]
+    machines: Annotated[list[Stated], length(1, 100_000)] = field(default_factory=list)
+
+
+def read_statements(data: bytes) -> Statements:
+    found: Statements = read_typed(YEAR, Statements, data)
+    if max(found.made, found.signed) > now(SKEW):
+        raise fault(f"{YEAR} is dated in the future")
+    return found
+
+
+def sums_of(place: str, year: Year) -> bytes:
+    """The sums of a machine's days, with paths as seen from a folder."""
+    machine = os.path.relpath(year.machine, place)
+    rows = (f"{day.sha256}  {machine}/{day.folder}/{AUDIT}\n" for day in year.days if day.sha256)
+    return "".join(rows).encode("utf-8", "surrogateescape")
+
+
+def stated_of(year: Year, file: str, sums: bytes) -> Stated:
+    """What is said of a machine's year, which rests on the sums in a file."""
+    return Stated(year.machine, statement(year), year.counts[YES], len(year.days), file, sum_of(sums))
+
+
+def audits_in(data: bytes) -> list[str]:
+    """The paths in a file of sums."""
+    try:
+        paths = [line.split("  ", 1)[1] for line in data.decode("utf-8", "surrogateescape").splitlines()]
+    except IndexError:
+        raise fault("a file of sums isn't one") from None
+    if not all(os.path.basename(path) == AUDIT and is_day(os.path.basename(path[: -len(AUDIT) - 1])) for path in paths):
+        raise fault("a file of sums names other files than audits of days")
+    return paths
+
+
+def days_of(folder: Folder, named: set[str]) -> list[str]:
+    """The folders of all days on which the statements rest. Each has to be in a folder that the command line names, and
+    stands for one machine."""
+    days = dict[str, None]()
+    for stated in read_statements(folder.data(YEAR)).machines:
+        for day in days_in(folder, stated):
+            if named.isdisjoint(folders_above(day)):
+                raise fault(f"{day} is in no folder that is named: if it may be read, name the folder of its machine "
+                            "too")
+            if day in days:
+                raise fault(f"{day} stands there twice: one of the statements is a copy")
+            days[day] = None
+    return list(days)
+
+
+def days_in(folder: Folder, stated: Stated) -> list[str]:
+    """The folders of the days of a machine."""
+    paths = audits_in(folder.data(stated.file))
+    return [os.path.normpath(os.path.join(folder.path, os.path.dirname(path))) for path in paths]
+
+
+def folders_above(path: str) -> set[str]:
+    """The absolute paths of a folder and of those in which it is."""
+    parts = os.path.abspath(path).split("/")
+    return {"/".join(parts[:k]) or "/" for k in range(1, len(parts) + 1)}
+
+
+def difference(folder: Folder, known: Known, leaps: LeapList) -> str:
+    """The first difference between what stands in a year and what its days come to, by what is known here; nothing if
+    there is none."""
+    found = read_statements(folder.data(YEAR))
+    for stated in found.machines:
+        data = folder.data(stated.file)
+        if sum_of(data) != stated.sha256:
+            return f"{stated.file} isn't the file that {YEAR} names"
+        days = days_in(folder, stated)
+        machines = {os.path.dirname(day) or "." for day in days}
+        if len(machines) > 1:
+            return f"{stated.file} has days of several machines"
+        for machine in machines:
+            wanted = Wanted(found.year, known, leaps, seconds_of(found.made))
+            year = year_of(wanted, machine, [os.path.basename(day) for day in days])
+            if sums_of(folder.path, year) != data:
+                return f"{stated.machine}: a day isn't the one that {stated.file} names"
+            if os.path.basename(stated.machine) != plain(os.path.basename(machine)):
+                return f"{stated.machine}: its days are in {machine}, which has another name"
+            if stated_of(replace(year, machine=stated.machine), stated.file, data) != stated:
+                return f"{stated.machine}: the statement doesn't follow from its days, as they are known here"
+    return ""

@@ -1,0 +1,344 @@
+"""What audit.json holds: a record of a folder, with an entry for each audit in it."""
+from __future__ import annotations
+
+import json
+from dataclasses import dataclass, field
+from typing import Annotated, Any, Final, Literal
+
+from .. import VERSION
+from ..fault import DEVICE, REFUSED as INPUT_REFUSED, fault
+from ..schema import (Address, Count, Mangled, Name, Nanoseconds, Seconds, Small, Sum, Text, Ticks, Time, is_name,
+                      is_time, length, mangled, matching, or_nothing, parsed, said, typed, within)
+from ..units import now
+from .claim import Claim
+from .files import AUDIT, CLAIM, JOINED, LEFT, LIMITS, is_capture
+
+Answer = Literal["yes", "refuted", "nothing fits", "no evidence", "open"]
+"""What the program says."""
+Verdict = Literal[Answer, "unsupported"]
+YES: Final = "yes"
+UNSUPPORTED: Final = "unsupported"
+"""A yes against which the folder's own evidence speaks."""
+REFUTED: Final = "refuted"
+NOTHING_FITS: Final = "nothing fits"
+NO_EVIDENCE: Final = "no evidence"
+OPEN: Final = "open"
+ANSWERED = (YES, UNSUPPORTED, REFUTED, NOTHING_FITS, NO_EVIDENCE, OPEN)
+REFUSED, NOT_VERIFIED, DISPUTED = "refused", "not verified", "disputed"
+"""There is no verdict; there is one that nobody made or verified here; and one that the second program disputes."""
+WORST_FIRST = (DISPUTED, REFUTED, NOTHING_FITS, UNSUPPORTED, NO_EVIDENCE, OPEN, REFUSED, NOT_VERIFIED, YES)
+
+Hull = tuple[Ticks, Ticks] | Literal["unbounded", "empty"]
+"""Two ends in ticks, or a word."""
+Day = Annotated[str, matching(r"\d{4}-\d\d-\d\d")]
+FEW = 8
+Few = Annotated[list[Address], length(0, FEW)]
+
+
+def side_of(hull: Hull, bound: int) -> int:
+    """On which side of the bound a hull lies as a whole: 1 where the clock is ahead, -1 where it is behind, else 0."""
+    if isinstance(hull, str):
+        return 0
+    return (hull[0] > bound) - (hull[1] < -bound)
+
+
+def is_left(name: str) -> bool:
+    """Whether an audit leaves a file of this name, seen from the record's folder."""
+    day, _, file = name.rpartition("/")
+    return file in LEFT | {CLAIM} and matching(r"\d{4}-\d\d-\d\d")(day) if day else file in LEFT
+
+
+Left = Annotated[str, is_left]
+
+
+@dataclass(frozen=True)
+class Piece:
+    """A piece of the envelope: its number, its ends in Unix seconds, and its hull."""
+
+    piece: Count
+    from_: Seconds
+    to: Seconds
+    hull: Hull
+
+
+Gap = tuple[Nanoseconds, Nanoseconds]
+"""Unix nanoseconds in which nothing was recorded that says something of the clock."""
+
+
+@dataclass(frozen=True)
+class Step:
+    """Two Unix nanoseconds between which a server, or several, contradict themselves."""
+
+    after: Nanoseconds
+    by: Nanoseconds
+    servers: list[Address]
+
+
+@dataclass(frozen=True)
+class Stretch:
+    """A stretch of the span without a step: its ends in Unix seconds, the outermost ends of the hull in it, and the
+    servers that stand apart in it."""
+
+    from_: Seconds
+    to: Seconds
+    hull: Hull
+    apart: list[Address] = field(default_factory=list)
+
+
+@dataclass(frozen=True)
+class Reason:
+    """Why it isn't a yes, and what shows it."""
+
+    why: Literal["exceeds", "unbounded", "off", "gap", "apart", "drift", "step", "many", "tick", "silent", "twice",
+                 "beside", "evidence"]
+    piece: Piece | None = None
+    """`off`: the longest run of pieces whose hulls lie beyond the bound as a whole, by the first of them, with the
+    outermost ends of all."""
+    tick: Ticks = 0
+    hull: Hull | None = None
+    """`tick`: that the claim stays open at a Unix tick, and its hull. `gap`: the outermost ends of the hull outside of
+    the gaps, if anything is."""
+    gaps: Annotated[list[Gap], length(0, FEW)] = field(default_factory=list)
+    count: Count = 0
+    """`gap`: the longest gaps, in order of time, and how many there are."""
+    drift_ppb: Count = 0
+    conflicts: list[tuple[Address, Count, Address, Count]] = field(default_factory=list)
+    apart: list[Address] = field(default_factory=list)
+    """Where nothing fits: the drift that was tried; each conflict, with the server and the record of a request and
+    those of a reply; and the servers that are apart."""
+    steps: Annotated[list[Step], length(0, FEW)] = field(default_factory=list)
+    stretches: Annotated[list[Stretch], length(0, FEW + 1)] = field(default_factory=list)
+    """When servers contradict themselves; and, if most of them do at these times, what holds before, between and
+    after."""
+    heard: Count = 0
+    asking: Few = field(default_factory=list)
+    asked: Few = field(default_factory=list)
+    """`silent`: how many groups have a sample; and if the client asked none of its servers, who asks in the capture,
+    and whom the client asks."""
+    recorded: Gap | None = None
+    """`beside`: when the last NTP packet before the span was recorded and the first after it; 0 if there is none."""
+    file: Annotated[str, or_nothing(is_name)] = ""
+    """`twice`: the capture in which each packet is there twice."""
+
+
+@dataclass(frozen=True)
+class Server:
+    address: Address
+    group: Small
+    samples: Count
+
+
+@dataclass(frozen=True)
+class Refutation:
+    """A course of events: its error at a reading of the clock, in ticks, and the servers that are wrong in it."""
+
+    error: Ticks
+    false: Annotated[list[Small], length(0, 32)]
+    reading: Ticks
+
+
+@dataclass(frozen=True)
+class Alert:
+    """A warning that stands beside a verdict."""
+
+    kind: Literal["outside", "no-drift", "falls", "silence", "far", "leap", "leap-second", "leap-ends", "sources",
+                  "reference", "apart", "apart-for-a-time", "drift", "reading", "step", "oscillator", "torn",
+                  "interleaved", "no-list", "flood", "slip", "twice", "contrary"]
+    count: Count = 0
+    record: Count = 0
+    before: Nanoseconds = 0
+    after: Nanoseconds = 0
+    distance: Nanoseconds = 0
+    piece: Piece | None = None
+    reference: Annotated[str, matching("[0-9a-f]{0,8}")] = ""
+    seconds: list[tuple[Seconds, Annotated[int, within(-9, 9)]]] = field(default_factory=list)
+    servers: list[Address] = field(default_factory=list)
+    file: Annotated[str, or_nothing(is_name)] = ""
+    place: Count = 0
+    beside: Annotated[str, or_nothing(is_name)] = ""
+    """`twice`: of the files that have the packets of others once more the first, and which has them too."""
+
+
+OF_LEAPS = {"leap-second": "a leap second", "leap-ends": "the list of leap seconds has ended",
+            "no-list": "no list of leap seconds"}
+AGAINST = {"drift": "more drift than is granted", "reading": "a greater allowance than is granted",
+           "step": "a logged step", **OF_LEAPS}
+"""The warnings that take a yes away, in short: by the folder's own evidence or by the list of leap seconds something
+that the claim grants isn't so, or isn't known."""
+
+
+@dataclass(frozen=True)
+class LeapList:
+    """What the list of leap seconds says that was looked up, or why there was none."""
+
+    file: Text
+    fault: Text = ""
+    sha256: Annotated[str, matching("[0-9a-f]{64}|")] = ""
+    good_until: Seconds = 0
+    seconds: list[tuple[Seconds, Annotated[int, within(-9, 9)]]] = field(default_factory=list)
+
+
+@dataclass(frozen=True)
+class Leap:
+    """What a list of leap seconds says of the span and all exchanges."""
+
+    says: Literal["none", "within", "expired", "no list"]
+    from_: Seconds
+    to: Seconds
+    seconds: list[tuple[Seconds, Annotated[int, within(-9, 9)]]] = field(default_factory=list)
+
+
+@dataclass(frozen=True)
+class Entry:
+    """One audit: of a whole claim, or of one day of it."""
+
+    part: Literal["."] | Day
+    """The folder of its files, seen from the record's: `.`, or a day such as `2026-11-22`."""
+    verdict: Verdict
+    claim: Claim
+    envelope_step: Annotated[int, within(1, 86_400)]
+    """Seconds of the envelope's pieces."""
+    least_ns: Nanoseconds | None
+    """The least bound that a certificate carries; None if no course of events fits, or too few groups have a
+    sample."""
+    worst: Piece
+    """The piece that needs the least bound, or the first that is unbounded or empty."""
+    counts: dict[Annotated[str, matching("[a-z]{1,20}")], Count]
+    servers: Annotated[list[Server], length(1, 32)]
+    leap: Leap
+    reason: Reason | None = None
+    refutation: Refutation | None = None
+    """That of the claim; or, at a yes, of the same claim with the bound 0."""
+    warnings: Annotated[list[Alert], length(0, 20)] = field(default_factory=list)
+    outputs: dict[Left, Sum] = field(default_factory=dict)
+    """The SHA-256 of each file that the audit left, by its name seen from the record's folder."""
+
+    def __post_init__(self) -> None:
+        if (self.reason is None) != (self.verdict == YES) or "samples" not in self.counts:
+            raise Mangled(f"entry {self.part}")
+
+    def within(self, name: str) -> str:
+        """A file of this audit, by its name seen from the record's folder."""
+        return name if self.part == "." else f"{self.part}/{name}"
+
+    @property
+    def answer(self) -> Answer:
+        """What the program says, of which the verdict was made."""
+        if self.verdict == UNSUPPORTED:
+            return YES
+        return REFUTED if self.reason and self.reason.why == "beside" else self.verdict
+
+
+@dataclass(frozen=True)
+class Refusal:
+    """Why there is no verdict: the fault's line and status, and the program's words about it."""
+
+    line: Text
+    status: Annotated[int, within(2, 70)]
+    why: Text = ""
+    what: Text = ""
+
+
+@dataclass(frozen=True)
+class Made:
+    """The program by which an audit was made."""
+
+    version: Text
+    sha256: Sum
+
+
+@dataclass(frozen=True)
+class Options:
+    """What decides what an audit leaves: with other options a folder is audited again."""
+
+    step: Annotated[int, within(1, 86_400)] | None = None
+    days: bool = False
+
+
+@dataclass(frozen=True)
+class Kept:
+    """How a folder is kept for years: its captures are packed by zstd, each in a file with `.zst` behind its name, and
+    what was made of them isn't there."""
+
+    sums: dict[Annotated[str, is_capture], Sum] = field(default_factory=dict)
+    """The SHA-256 of each packed file, by the name of the capture in it."""
+
+
+@dataclass(frozen=True)
+class Record:
+    """What audit.json says about a folder."""
+
+    dossier: Annotated[int, within(VERSION, VERSION)]
+    program: Made
+    options: Options
+    inputs: dict[Name, Sum]
+    """The SHA-256 of each input, by its name."""
+    capture: Annotated[str, or_nothing(is_name)]
+    """The capture that was read: the one input, or the file that was made of all."""
+    made: Time
+    seconds: Annotated[float, within(0, 10**9)]
+    signed: Annotated[str, or_nothing(is_time)]
+    """When this was signed, as the signer says; nothing if it wasn't."""
+    entries: Annotated[list[Entry], length(0, 40_000)]
+    refusal: Refusal | None = None
+    leap_seconds: LeapList | None = None
+    kept: Kept | None = None
+
+    def __post_init__(self) -> None:
+        if self.kept and not self.kept.sums.keys() <= self.inputs.keys():
+            raise Mangled("kept")
+        if bool(self.entries) == bool(self.refusal) or bool(self.entries) != bool(self.leap_seconds):
+            raise Mangled("entries")
+        if self.capture not in {"", JOINED, *self.inputs}:
+            raise Mangled("capture")
+
+    @property
+    def status(self) -> int:
+        return self.refusal.status if self.refusal else int(any(entry.verdict != YES for entry in self.entries))
+
+    def is_left_out(self, name: str) -> bool:
+        """Whether an output isn't there since the folder is kept: it may be made anew."""
+        return self.kept is not None and name.rpartition("/")[2] == JOINED
+
+    @property
+    def captures(self) -> frozenset[str]:
+        """The sums of the captures."""
+        return frozenset(sum_ for name, sum_ in self.inputs.items() if is_capture(name))
+
+    @property
+    def verdicts(self) -> list[str]:
+        return [entry.verdict for entry in self.entries] or [REFUSED]
+
+    @property
+    def outputs(self) -> dict[str, str]:
+        return {name: sum_ for entry in self.entries for name, sum_ in entry.outputs.items()}
+
+
+SKEW = 300
+"""Seconds by which another machine's clock may be ahead."""
+
+
+def record_text(record: Record) -> bytes:
+    """A record as JSON, a line for the folder and one for each entry."""
+    of_folder = said(record)
+    entries = ",\n".join(json.dumps(entry) for entry in of_folder.pop("entries"))
+    data = f'{json.dumps(of_folder)[:-1]}, "entries": [\n{entries}\n]}}\n'.encode()
+    if len(data) > LIMITS[AUDIT]:
+        raise fault(f"{AUDIT} would be too big: audit fewer days at once", INPUT_REFUSED)
+    return data
+
+
+def read_record(data: bytes) -> Record:
+    """The record that audit.json holds; a fault if it is none, or of another form."""
+    try:
+        found: Any = parsed(data)
+        if isinstance(found, dict) and type(found.get("dossier")) is int and found["dossier"] != VERSION:
+            raise fault("not audited", DEVICE)
+        record: Record = typed(Record, found)
+        if max(record.made, record.signed) > now(SKEW):
+            raise fault(f"{AUDIT} is dated in the future")
+        return record
+    except Mangled as error:
+        raise mangled(AUDIT, str(error)) from None
+    except ValueError:
+        raise mangled(AUDIT, "no JSON") from None

@@ -1,0 +1,304 @@
+"""How files are opened: by descriptor below the folder that is named, with no link in any part of a path, each a
+regular file and no larger than its kind may be. What is parsed, shown, summed or handed on is what was read: its bytes,
+or a private copy of them.
+"""
+from __future__ import annotations
+
+import hashlib
+import mmap
+import os
+import re
+import stat
+from collections.abc import Callable, Iterator
+from contextlib import contextmanager
+from itertools import islice
+from typing import BinaryIO
+
+from ..fault import DEVICE, Fault, fault
+
+CLAIM = "claim.json"
+EVIDENCE = "evidence.json"
+CERTIFICATE = "certificate.json"
+REPORT = "report.txt"
+ENVELOPE = "envelope.txt"
+REFUTATION = "refutation.json"
+CLAIM_OF_0 = "bound-0.claim.json"
+CLAIM_OF_DRIFT = "more-drift.claim.json"
+AUDIT = "audit.json"
+SIGNATURE = f"{AUDIT}.sig"
+YEAR = "year.json"
+JOINED = "joined.pcap"
+LEFT = frozenset({CERTIFICATE, REPORT, ENVELOPE, REFUTATION, CLAIM_OF_0, CLAIM_OF_DRIFT, JOINED})
+"""What an audit leaves of each claim."""
+OWN = LEFT | {AUDIT, SIGNATURE}
+"""What stands in a folder besides the inputs."""
+
+CAPTURE = re.compile(r"[^.].*\.(pcap|pcapng|cap)[0-9]*(\.(gz|zst))?", re.DOTALL)
+"""Names of captures: also `f.pcap1` and so on, as `tcpdump -C` writes them, and packed ones."""
+
+SMALL, JSON, LARGE = 1 << 16, 1 << 24, 1 << 30
+LIMITS = {CLAIM: SMALL, EVIDENCE: SMALL, CLAIM_OF_0: SMALL, CLAIM_OF_DRIFT: SMALL, REFUTATION: SMALL, SIGNATURE: SMALL,
+          REPORT: JSON, AUDIT: JSON, CERTIFICATE: 1 << 27, ENVELOPE: LARGE}
+"""Bytes that a file may have by its name."""
+MOST_OF_A_CAPTURE, MOST_NAMES = 1 << 32, 100_000
+"""The program holds a capture in memory for as long as it takes to hold it to its sum."""
+
+KINDS = {stat.S_IFIFO: "a FIFO", stat.S_IFLNK: "a link", stat.S_IFDIR: "a folder", stat.S_IFSOCK: "a socket",
+         stat.S_IFCHR: "a device", stat.S_IFBLK: "a block device"}
+FILE = "a file"
+BLOCK = 1 << 20
+"""Bytes of a file that are read at once."""
+OF_A_FOLDER = os.O_RDONLY | os.O_DIRECTORY | os.O_NOFOLLOW | os.O_CLOEXEC
+OF_A_FILE = os.O_RDONLY | os.O_NONBLOCK | os.O_NOCTTY | os.O_CLOEXEC
+
+HOME = os.open(".", os.O_PATH | os.O_DIRECTORY | os.O_CLOEXEC)
+"""The folder in which this was called. Names on the command line are seen from there."""
+
+
+def is_capture(name: str) -> bool:
+    return bool(CAPTURE.fullmatch(name)) and name != JOINED
+
+
+def limit_of(name: str) -> int:
+    """The bytes that a file of this name may have."""
+    file = name.rpartition("/")[2]
+    other = JSON if file.endswith(".json") else LARGE
+    return LIMITS.get(file, MOST_OF_A_CAPTURE if is_capture(file) or file == JOINED else other)
+
+
+def unreadable(name: str, error: OSError) -> Fault:
+    return fault(f"{name} can't be read ({error.strerror})", DEVICE)
+
+
+@contextmanager
+def held(name: str, place: int, flags: int) -> Iterator[int]:
+    """A descriptor, for a while."""
+    file = os.open(name, flags, dir_fd=place)
+    try:
+        yield file
+    finally:
+        os.close(file)
+
+
+@contextmanager
+def folder_at(path: str, make: Callable[[int, str], None] | None = None) -> Iterator[int]:
+    """The descriptor of a folder, for a while, which is opened part by part: none of them may be a link. What isn't
+    there is made first, if there is a way to."""
+    place = os.open("/" if path.startswith("/") else ".", OF_A_FOLDER, dir_fd=HOME)
+    try:
+        for part in filter(None, path.split("/")):
+            if make and not kind_of(place, part):
+                make(place, part)
+            if kind_of(place, part) == KINDS[stat.S_IFLNK]:
+                what = "the folder" if path.rstrip("/").endswith(part) else f"{part} in its path"
+                raise fault(f"{what} is a link: name the folder itself")
+            place, above = os.open(part, OF_A_FOLDER, dir_fd=place), place
+            os.close(above)
+        yield place
+    finally:
+        os.close(place)
+
+
+@contextmanager
+def parent_of(place: int, name: str) -> Iterator[tuple[int, str]]:
+    """The folder of a file, and the file's name in it. A day's folder is one and no link to one."""
+    day, _, file = name.rpartition("/")
+    if not day:
+        yield place, file
+        return
+    seen = os.stat(day, dir_fd=place, follow_symlinks=False)
+    if not stat.S_ISDIR(seen.st_mode):
+        raise fault(f"{day} is {KINDS.get(stat.S_IFMT(seen.st_mode), 'no folder')}")
+    with held(day, place, OF_A_FOLDER) as parent:
+        yield parent, file
+
+
+def has_kind(name: str, seen: os.stat_result, most: int) -> None:
+    """Refuses what is no regular file, or too big."""
+    if not stat.S_ISREG(seen.st_mode):
+        raise fault(f"{name} is {KINDS.get(stat.S_IFMT(seen.st_mode), 'no regular file')}")
+    if seen.st_size > most:
+        raise too_big(name, most)
+
+
+def too_big(name: str, most: int) -> Fault:
+    return fault(f"{name} is too big: it has more than {most:,} bytes")
+
+
+def read_once(place: int, file: str, name: str, take: Callable[[bytes], object], most: int,
+              follow: int = os.O_NOFOLLOW) -> str:
+    """Hands all bytes of a file on, a block at a time, and gives their SHA-256. A device isn't opened."""
+    found, size = hashlib.sha256(), 0
+    try:
+        has_kind(name, os.stat(file, dir_fd=place, follow_symlinks=not follow), most)
+        with held(file, place, OF_A_FILE | follow) as opened:
+            has_kind(name, os.fstat(opened), most)
+            while block := os.read(opened, BLOCK):
+                size += len(block)
+                if size > most:
+                    raise too_big(name, most)
+                found.update(block)
+                take(block)
+    except OSError as error:
+        raise unreadable(name, error) from None
+    return found.hexdigest()
+
+
+def kind_of(place: int, name: str) -> str:
+    """What stands there, such as `a file` or `a link`; nothing if there is nothing."""
+    try:
+        return KINDS.get(stat.S_IFMT(os.stat(name, dir_fd=place, follow_symlinks=False).st_mode), FILE)
+    except (OSError, ValueError):
+        return ""
+
+
+class Folder:
+    """A folder, held by its descriptor. What is read of a file is the same each time, or the folder is refused."""
+
+    def __init__(self, path: str):
+        self.path, self.sums, self.kept = path, dict[str, str](), dict[str, bytes]()
+
+    def __enter__(self) -> Folder:
+        try:
+            self.opened = folder_at(self.path)
+            self.place = self.opened.__enter__()
+        except FileNotFoundError:
+            raise fault("no such folder", DEVICE) from None
+        except NotADirectoryError:
+            raise fault("no such folder: a file is there. Name the folder in which it is, with its claim.json",
+                        DEVICE) from None
+        except OSError as error:
+            raise fault(f"the folder can't be read ({error.strerror})", DEVICE) from None
+        return self
+
+    def __exit__(self, *_: object) -> None:
+        self.opened.__exit__(None, None, None)
+
+    def names(self) -> list[str]:
+        """The names in the folder, sorted."""
+        try:
+            with os.scandir(self.place) as entries:
+                names = [entry.name for entry in islice(entries, MOST_NAMES + 1)]
+        except OSError as error:
+            raise fault(f"the folder can't be read ({error.strerror})", DEVICE) from None
+        if len(names) > MOST_NAMES:
+            raise fault(f"more than {MOST_NAMES:,} files are in the folder")
+        return sorted(names)
+
+    def has(self, name: str) -> bool:
+        """Whether there is something of this name, whatever it is."""
+        try:
+            with parent_of(self.place, name) as (parent, file):
+                return bool(kind_of(parent, file))
+        except (OSError, Fault):
+            return False
+
+    def is_folder(self, name: str) -> bool:
+        return kind_of(self.place, name) == KINDS[stat.S_IFDIR]
+
+    def written(self, name: str) -> int:
+        """When something was written last, in Unix seconds."""
+        return int(os.stat(name, dir_fd=self.place, follow_symlinks=False).st_mtime)
+
+    def part(self, name: str, begin: int, end: int) -> bytes:
+        """The bytes of a file between two places, as far as it has them: it may be growing."""
+        try:
+            with parent_of(self.place, name) as (parent, file):
+                has_kind(name, os.stat(file, dir_fd=parent, follow_symlinks=False), limit_of(name))
+                with held(file, parent, OF_A_FILE | os.O_NOFOLLOW) as opened:
+                    has_kind(name, os.fstat(opened), limit_of(name))
+                    return os.pread(opened, end - begin, begin)
+        except OSError as error:
+            raise unreadable(name, error) from None
+
+    def size(self, name: str) -> int:
+        return os.stat(name, dir_fd=self.place, follow_symlinks=False).st_size
+
+    def data(self, name: str) -> bytes:
+        """The bytes of a file."""
+        if name not in self.kept:
+            blocks: list[bytes] = []
+            self.read(name, blocks.append)
+            self.kept[name] = b"".join(blocks)
+        return self.kept[name]
+
+    def sum(self, name: str) -> str:
+        """The SHA-256 of a file, of any size that its kind may have."""
+        return self.sums[name] if name in self.sums else self.read(name, lambda _: None)
+
+    def read(self, name: str, take: Callable[[bytes], object]) -> str:
+        try:
+            with parent_of(self.place, name) as (parent, file):
+                sum_ = read_once(parent, file, name, take, limit_of(name))
+        except OSError as error:
+            raise unreadable(name, error) from None
+        if self.sums.setdefault(name, sum_) != sum_:
+            raise fault(f"{name} has changed meanwhile")
+        return sum_
+
+
+def read_named(path: str, take: Callable[[bytes], object], most: int) -> str:
+    """Reads a file that the command line names. A link is followed: it isn't a stranger's choice."""
+    return read_once(HOME, path, os.path.basename(path), take, most, follow=0)
+
+
+def data_named(path: str, most: int = JSON) -> bytes:
+    """The bytes of a file that the command line names."""
+    blocks: list[bytes] = []
+    read_named(path, blocks.append, most)
+    return b"".join(blocks)
+
+
+def piped_or_named(path: str, most: int) -> bytes:
+    """The bytes of a file that the command line names, or of a pipe that was handed over: the shell makes one of
+    `<(chronyd -p)`. Any other may have no end."""
+    try:
+        if os.path.dirname(path) != "/dev/fd" or not stat.S_ISFIFO(os.stat(path).st_mode):
+            return data_named(path, most)
+        with held(path, HOME, os.O_RDONLY | os.O_CLOEXEC) as opened:
+            blocks, size = list[bytes](), 0
+            while block := os.read(opened, BLOCK):
+                size += len(block)
+                if size > most:
+                    raise too_big(os.path.basename(path), most)
+                blocks.append(block)
+            return b"".join(blocks)
+    except OSError as error:
+        raise unreadable(os.path.basename(path), error) from None
+
+
+# ---- private copies, which nobody else may write
+
+Mapped = bytes | mmap.mmap
+
+
+def own(path: str) -> BinaryIO:
+    return open(path, "rb")
+
+
+def size_of(path: str) -> int:
+    return os.stat(path).st_size
+
+
+def own_data(path: str) -> bytes:
+    with own(path) as opened:
+        return opened.read()
+
+
+def sum_of(data: bytes) -> str:
+    return hashlib.sha256(data).hexdigest()
+
+
+def sum_of_file(path: str) -> str:
+    """The SHA-256 of a file of one's own."""
+    found = hashlib.sha256()
+    with own(path) as opened:
+        while block := opened.read(BLOCK):
+            found.update(block)
+    return found.hexdigest()
+
+
+def mapped(path: str) -> Mapped:
+    """The bytes of a file of one's own, without a copy of them."""
+    with own(path) as opened:
+        return mmap.mmap(opened.fileno(), 0, access=mmap.ACCESS_READ) if os.fstat(opened.fileno()).st_size else b""

@@ -1,0 +1,275 @@
+"""How folders are worked on: each in a process of its own, which hands back one typed result.
+
+Such a process has a limit of memory, of processor, of files and of time, a private folder (0700) for its copies, and
+a group of processes, in which all that it calls is too. Whatever becomes of it (it crashes, reads without an end, takes
+all memory) is that folder's result. None outlives the call that began it.
+"""
+from __future__ import annotations
+
+import gc
+import json
+import os
+import resource
+import select
+import shutil
+import signal
+import subprocess
+import sys
+import tempfile
+import time
+from collections.abc import Callable, Iterator, Sequence
+from contextlib import contextmanager, suppress
+from typing import NamedTuple
+
+from ..fault import DEVICE, MEMORY, MISSING, REFUSED, Fault, fault
+from ..schema import read_typed, said
+from .entry import Refusal
+from .files import BLOCK, own, own_data
+from .placing import ROOM, make_private, write
+from .progress import Progress
+from .result import Result
+
+SECONDS = 600
+MOST_ROOM, MOST_FILES, MOST_OF_A_RESULT = 1 << 34, 1 << 14, 1 << 27
+"""Bytes of copies and files that are open in one folder's process, and bytes of its result."""
+PART = 3, 4
+"""Of the machine's memory, and of what is free for copies, all folders together take no more than this part."""
+MOMENT = 0.5
+"""Seconds after which a bar is drawn again, and after which a process looks whether the one that began it is there."""
+PLACES = ("/tmp", "/var/tmp")
+"""Where copies are made if TMPDIR names no place. The current folder is none of them: it may be a stranger's."""
+FOLDERS = [place for place in os.environ.get("PATH", os.defpath).split(os.pathsep) if os.path.isabs(place)]
+"""Where programs are looked for: an entry of PATH that isn't absolute is somebody else's choice."""
+ENVIRONMENT = {name: os.environ[name] for name in ("TZ",) if name in os.environ} | {
+    "PATH": os.pathsep.join(FOLDERS), "LC_ALL": "C"}
+"""What programs get: what their local time needs, and nothing else."""
+LIBRARIES = [place for place in os.environ.get("LD_LIBRARY_PATH", "").split(":") if os.path.isabs(place)]
+if LIBRARIES:
+    ENVIRONMENT["LD_LIBRARY_PATH"] = ":".join(LIBRARIES)
+DEVNULL, PIPE = subprocess.DEVNULL, subprocess.PIPE
+Work = Callable[[str, int], Result]
+"""What is done with a folder, by its path and its number."""
+
+
+class Bounds(NamedTuple):
+    """What one folder may take: seconds, bytes of memory for each of its processes, and bytes of copies."""
+
+    seconds: int
+    memory: int
+    room: int
+
+
+def bounds_of(seconds: int, jobs: int, place: str = ".") -> Bounds:
+    """The part of one of so many folders that are worked on at once, with copies in some place. Two of its processes
+    run at a time."""
+    part, of = PART
+    memory = os.sysconf("SC_PAGE_SIZE") * os.sysconf("SC_PHYS_PAGES") * part // of
+    with suppress(OSError, ValueError):
+        memory = min(memory, int(own_data("/sys/fs/cgroup/memory.max")) * part // of)
+    free = os.statvfs(place)
+    room = min(MOST_ROOM, free.f_bavail * free.f_frsize * part // of)
+    return Bounds(seconds, memory // jobs // 2, room // jobs)
+
+
+# ---- programs
+
+
+def find_tool(name: str, why: str) -> str:
+    """The path of a program; a fault if it isn't there, with what it is for."""
+    found = shutil.which(name, path=ENVIRONMENT["PATH"]) if FOLDERS else None
+    if not found:
+        raise fault(why, MISSING)
+    return found
+
+
+def begun(words: Sequence[str], **how: object) -> subprocess.Popen[bytes]:
+    """A program that runs beside this one."""
+    return subprocess.Popen(words, **{"env": ENVIRONMENT, "stdin": subprocess.DEVNULL, **how})  # type: ignore
+
+
+def stream(words: Sequence[str], take: Callable[[bytes], object], given: str = os.devnull,
+           cwd: str = ".") -> tuple[int, bytes]:
+    """Calls a program with a file on its standard input, and hands on what it prints, as it comes. Its status, that of
+    a signal below zero, and what it printed on standard error."""
+    with tempfile.TemporaryFile(dir=cwd) as error, own(given) as opened:
+        with begun(words, stdin=opened, stdout=subprocess.PIPE, stderr=error, cwd=cwd) as call:
+            assert call.stdout
+            while block := os.read(call.stdout.fileno(), BLOCK):
+                take(block)
+        return call.returncode, os.pread(error.fileno(), BLOCK, 0)
+
+
+def run(words: Sequence[str], given: str = os.devnull, cwd: str = ".") -> tuple[int, bytes, bytes]:
+    """Calls a program: its status, and what it printed on standard output and standard error."""
+    blocks: list[bytes] = []
+    status, error = stream(words, blocks.append, given, cwd)
+    return status, b"".join(blocks), error
+
+
+# ---- folders
+
+
+class Process:
+    """A process that works on one folder, in a private folder of its own."""
+
+    def __init__(self, path: str, number: int, work: Work, bounds: Bounds, private: str):
+        self.private, self.bounds, self.data = private, bounds, bytearray()
+        self.end = time.monotonic() + bounds.seconds
+        make_private(private)
+        parent, (self.output, its_output) = os.getpid(), os.pipe()
+        sys.stdout.flush()
+        self.process = os.fork()
+        if not self.process:
+            try:
+                limit(parent, bounds)
+                os.chdir(private)
+                write(its_output, json.dumps(said(outcome(path, number, work))).encode())
+            finally:  # (whatever comes: nothing here is for this process any more)
+                os._exit(0)
+        os.close(its_output)
+        with suppress(OSError):  # (whichever of the two comes first)
+            os.setpgid(self.process, self.process)
+
+    def takes(self) -> bool:
+        """Takes what came of its result. Whether there is more to come."""
+        block = os.read(self.output, BLOCK)
+        self.data += block
+        return bool(block) and len(self.data) <= MOST_OF_A_RESULT
+
+    def result(self) -> Result:
+        """What it handed back, or why it handed nothing back. It is ended, and all that it called."""
+        status = self.ended()
+        with suppress(Fault):
+            found: Result = read_typed("the result", Result, bytes(self.data))
+            return found
+        if time.monotonic() >= self.end or status == -signal.SIGXCPU:
+            return failed(fault(f"not done within {self.bounds.seconds} s (--limit)"))
+        if len(self.data) > MOST_OF_A_RESULT:
+            return failed(fault("its result is too big"))
+        return failed(fault("the process of this folder was ended", MEMORY))
+
+    def ended(self) -> int:
+        """Its status. One that can't be ended, since it waits for a device that doesn't answer, is left to itself."""
+        os.close(self.output)
+        with suppress(ProcessLookupError):
+            os.killpg(self.process, signal.SIGKILL)
+        status, until = 0, time.monotonic() + 2
+        while time.monotonic() < until:
+            process, status = os.waitpid(self.process, os.WNOHANG)
+            if process:
+                shutil.rmtree(self.private, ignore_errors=True)
+                break
+            time.sleep(0.001)
+        return os.waitstatus_to_exitcode(status)
+
+
+def limit(parent: int, bounds: Bounds) -> None:
+    """Gives this process its own group, and its limits. It ends when the one that began it has ended, and has none of
+    its outputs: what reads these would wait for one that can't be ended."""
+    def look(*_: object) -> None:
+        if os.getppid() != parent:
+            os.killpg(0, signal.SIGKILL)
+    os.setpgid(0, 0)
+    with own(os.devnull) as nothing:
+        for output in filter(None, (sys.__stdout__, sys.__stderr__)):
+            os.dup2(nothing.fileno(), output.fileno())
+    signal.signal(signal.SIGINT, signal.SIG_IGN)
+    signal.signal(signal.SIGTERM, signal.SIG_DFL)
+    signal.signal(signal.SIGALRM, look)
+    signal.setitimer(signal.ITIMER_REAL, MOMENT, MOMENT)
+    gc.disable()
+    for kind, most in ((resource.RLIMIT_DATA, bounds.memory), (resource.RLIMIT_CPU, bounds.seconds),
+                       (resource.RLIMIT_FSIZE, bounds.room), (resource.RLIMIT_NOFILE, MOST_FILES),
+                       (resource.RLIMIT_CORE, 0)):
+        hard = resource.getrlimit(kind)[1]
+        most = most if hard == resource.RLIM_INFINITY else min(most, hard)
+        resource.setrlimit(kind, (most, most))
+    ROOM.left = bounds.room
+
+
+def outcome(path: str, number: int, work: Work) -> Result:
+    """What comes of a folder, whatever goes wrong with it."""
+    try:
+        return work(path, number)
+    except Fault as found:
+        return failed(found)
+    except MemoryError:
+        return failed(fault("out of memory", MEMORY))
+    except OSError as error:
+        return failed(fault(f"it can't be worked on ({error.strerror})", DEVICE))
+    except Exception as error:
+        return failed(fault(f"it can't be worked on ({type(error).__name__}: {str(error)[:200]})", REFUSED))
+
+
+def failed(found: Fault) -> Result:
+    return Result(status=found.status, refusal=Refusal(found.line, found.status, found.why, found.what))
+
+
+def run_all(paths: list[str], work: Work, seconds: int, jobs: int = 1,
+            shown: Progress | None = None) -> Iterator[tuple[str, Result]]:
+    """The result of each folder, in order."""
+    live, done, left = dict[int, tuple[int, Process]](), dict[int, Result](), iter(enumerate(paths))
+    with private_folder() as root:
+        bounds = bounds_of(seconds, jobs, root)
+        try:
+            for number, path in enumerate(paths):
+                while number not in done:
+                    while len(live) < jobs and (following := next(left, None)):
+                        begun_process = Process(following[1], following[0], work, bounds, f"{root}/{following[0]}")
+                        live[begun_process.output] = following[0], begun_process
+                    for at, process in ready(live, shown):
+                        del live[process.output]
+                        done[at] = process.result()
+                        if shown:
+                            shown.add(done[at])
+                yield path, done.pop(number)
+        finally:
+            for _, process in live.values():
+                process.ended()
+
+
+def ready(live: dict[int, tuple[int, Process]], shown: Progress | None) -> list[tuple[int, Process]]:
+    """Waits for a moment. The processes that are done, or whose time is over."""
+    if shown:
+        shown.show()
+    first = min(process.end for _, process in live.values()) - time.monotonic()
+    poll = select.poll()
+    for output in live:
+        poll.register(output, select.POLLIN)
+    came = [output for output, _ in poll.poll(max(0.0, min(MOMENT, first)) * 1000)]
+    over = {output for output in came if not live[output][1].takes()}
+    return [each for output, each in live.items() if output in over or time.monotonic() >= each[1].end]
+
+
+def run_one(path: str, work: Work, seconds: int = SECONDS) -> Result:
+    """The result of one folder."""
+    (_, found), = run_all([path], work, seconds)
+    return found
+
+
+def answer(work: Work) -> Result:
+    """What comes of work on files that are named, in a process of its own."""
+    found = run_one("", work)
+    if found.refusal:
+        raise Fault(found.refusal.line, found.refusal.status)
+    return found
+
+
+# ---- private folders
+
+
+def place_of_copies() -> str:
+    where = os.environ.get("TMPDIR", "") or next((place for place in PLACES if os.access(place, os.W_OK)), PLACES[0])
+    return os.path.abspath(where)
+
+
+@contextmanager
+def private_folder() -> Iterator[str]:
+    """A new folder (0700), which is taken away at the end."""
+    try:
+        own = tempfile.TemporaryDirectory(prefix="ntpaudit-", dir=place_of_copies(), ignore_cleanup_errors=True)
+    except OSError as error:
+        raise fault(f"no folder for private copies can be made ({error.strerror}): TMPDIR names another place",
+                    DEVICE) from None
+    with own as place:
+        yield place

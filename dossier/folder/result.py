@@ -1,0 +1,158 @@
+"""What the process of a folder hands back."""
+from __future__ import annotations
+
+from collections import Counter
+from dataclasses import dataclass, field
+from typing import Annotated
+
+from ..schema import Count, Sum, Text, length
+from ..units import bound_ticks
+from .claim import Claim
+from .entry import WORST_FIRST, YES, Day, Made, Piece, Refusal, side_of
+
+MISSING = "missing"
+"""There is no audit of a day."""
+MOST_DAYS = 4000
+"""Folders of a machine that are looked at."""
+
+
+@dataclass
+class Row:
+    machine: str
+    day: str
+    client: str = ""
+    begin: str = ""
+    end: str = ""
+    verdict: str = ""
+    bound_ns: int | None = None
+    least_bound_ns: int | None = None
+    worst_begin: str = ""
+    worst_end: str = ""
+    samples: int | None = None
+    servers: int | None = None
+    groups: int | None = None
+    false_max: int | None = None
+    reason: str = ""
+    to_do: str = ""
+    warnings: list[str] = field(default_factory=list)
+    leap_seconds: str = ""
+    signature: str = ""
+    signer: str = ""
+    signed_at: str = ""
+    judged_twice_at: str = ""
+    """When the second program said the same."""
+
+    def __post_init__(self) -> None:
+        self.twice = list[str]()
+        """Warnings of captures that other folders have too."""
+
+
+@dataclass(frozen=True)
+class Section:
+    """An audit on the page: its line in the table, the head of its article and the rest of it, the program that made
+    it, and the sums of its captures."""
+
+    row: Row
+    head: str
+    rest: str = ""
+    made: Made | None = None
+    captures: list[str] = field(default_factory=list)
+
+
+@dataclass(frozen=True)
+class Moment:
+    """Of a recorder's last minutes the span, the program's answer, and the envelope's pieces."""
+
+    recorder: str
+    begin: int
+    end: int
+    verdict: str
+    bound_ns: int
+    groups: int
+    last: int
+    """When the last record was made, in Unix seconds; 0 if there is none."""
+    heard: int = 0
+    """How many groups have a sample."""
+    least_ns: int | None = None
+    leap: str = ""
+    """What takes a yes away, if anything does."""
+    pieces: list[Piece] = field(default_factory=list)
+
+    @property
+    def is_off(self) -> bool:
+        """Whether the clock was beyond its bound at the end, wherever in the hull its error was."""
+        return bool(self.pieces) and side_of(self.pieces[-1].hull, bound_ticks(self.bound_ns)) != 0
+
+    @property
+    def badness(self) -> tuple[bool, int, int]:
+        """How bad it is, the worst least."""
+        return not self.is_off, WORST_FIRST.index(self.verdict), -(self.least_ns or 0)
+
+
+@dataclass(frozen=True)
+class Told:
+    """A day, and what is told of it: a verdict and its figures, and the folder in which it was found."""
+
+    date: Day
+    verdict: Text
+    folder: Text = ""
+    cause: Text = ""
+    least_ns: Count | None = None
+    sha256: Sum | None = None
+    """Of its audit.json."""
+
+
+@dataclass(frozen=True)
+class Year:
+    """A machine's year. What isn't counted is named."""
+
+    machine: Text
+    days: Annotated[list[Told], length(0, 366)]
+    """Each day of the year that has ended, in order."""
+    claim: Claim | None = None
+    """That of most days, whose span doesn't matter."""
+    others: Annotated[list[Text], length(0, 2 * MOST_DAYS)] = field(default_factory=list)
+    programs: list[Made] = field(default_factory=list)
+
+    @property
+    def counts(self) -> dict[str, int]:
+        """How many days there are of each verdict, those that are shown first."""
+        counts = Counter(day.verdict for day in self.days)
+        return {YES: counts[YES]} | {verdict: counts[verdict] for verdict in (*WORST_FIRST, MISSING) if counts[verdict]}
+
+    @property
+    def gap(self) -> tuple[int, str]:
+        """The most days in a row that aren't shown, and the first of them."""
+        longest, run = (0, ""), 0
+        for number, day in enumerate(self.days):
+            run = 0 if day.verdict == YES else run + 1
+            if run > longest[0]:
+                longest = run, self.days[number + 1 - run].date
+        return longest
+
+    @property
+    def worst(self) -> Told | None:
+        """The day with the greatest of the least bounds."""
+        known = [(day.least_ns, -number) for number, day in enumerate(self.days) if day.least_ns is not None]
+        return self.days[-max(known)[1]] if known else None
+
+
+@dataclass(frozen=True)
+class Result:
+    """A status, lines for a terminal, verdicts, metrics, sections of a page, sums of captures; what last minutes say; a
+    year; when the newest recording ends; the days that are to be made, and that were made earlier; a text, such as one
+    that is to be signed; and if nothing came of it, why."""
+
+    status: Count = 0
+    lines: list[str] = field(default_factory=list)
+    verdicts: list[str] = field(default_factory=list)
+    metrics: list[tuple[str, str, int]] = field(default_factory=list)
+    sections: list[Section] = field(default_factory=list)
+    captures: list[str] = field(default_factory=list)
+    moments: list[Moment] = field(default_factory=list)
+    year: Year | None = None
+    last: int = 0
+    days: list[str] = field(default_factory=list)
+    earlier: list[str] = field(default_factory=list)
+    text: str = ""
+    refusal: Refusal | None = None

@@ -1,0 +1,1 @@
+"""The pages: of folders, of a year, and their pictures."""

@@ -1,0 +1,113 @@
+"""One audit on the page: what it says, its picture, its servers, what it grants, its counts, and its files."""
+import shlex
+from typing import Any
+
+from ..fleet.signature import Signature, in_words
+from ..folder import files
+from ..folder.answers import read_envelope
+from ..folder.entry import NOTHING_FITS, OPEN, REFUTED, YES, Entry, Record
+from ..folder.evidence import evidence
+from ..folder.files import Folder
+from ..folder.registry import Judgement
+from ..folder.result import Row
+from ..premise.backing import backing
+from ..premise.premises import premises
+from ..premise.support import support
+from ..units import SECOND
+from ..verdict.ranges import ranges_of
+from ..verdict.sentences import fit, sentence, span, to_do, warned
+from .figure import legend, picture, stroke
+from .templates import templates
+
+COUNTS = {
+    "records": "records in the capture",
+    "requests": "requests of the client to the claim's servers",
+    "replies": "replies of these servers to the client",
+    "samples": "replies that make an exchange, and so say something of the clock",
+    "version": "replies in another version than 4",
+    "leap": "replies of a server that says that it isn't synchronized",
+    "stratum": "replies with a stratum that says so, or a kiss code",
+    "precision": "replies that announce no precision of use",
+    "zero": "replies with a timestamp of zero",
+    "norequest": "replies that no request in the capture asked for",
+    "ambiguous": "replies that two requests may have asked for",
+    "warnings": "samples that announce a leap second",
+}
+
+
+def parts() -> Any:
+    """The parts of an article, as its template has them."""
+    return templates().get_template("article.html").module
+
+
+def article(path: str, folder: Folder, record: Record, entry: Entry, signature: Signature,
+            judged: Judgement | None, name: str) -> tuple[str, str]:
+    """The head of an article, and the rest of it."""
+    day = "" if entry.part == "." else f", {entry.part}"
+    twice = judged if judged and entry.answer != OPEN else None
+    head = parts().whole(f"{path}{day}", entry, sentence(entry), signature, in_words(signature), twice)
+    return str(head), str(parts().rest(record, entry, seen(name, folder, record, entry)))
+
+
+def short_article(path: str, row: Row, line: str, signature: Signature) -> str:
+    """A folder that has no verdict here."""
+    return str(parts().short(path, row, line, signature, in_words(signature)))
+
+
+def seen(name: str, folder: Folder, record: Record, entry: Entry) -> dict[str, object]:
+    """What the rest of an article shows besides the entry's own figures."""
+    claim, reason = entry.claim, entry.reason
+    envelope = read_envelope(folder.data(entry.within(files.ENVELOPE)))
+    label = (f"The clock's error in ms, {span(claim)}, in pieces of {entry.envelope_step} s. Above 0 the clock "
+             "is ahead of UTC. The band is the hull: what is left if no more were wrong than granted.")
+    drawn, kept, backed = ranges_of(envelope), evidence(folder), backing(folder, record.inputs)
+    strokes = {address: stroke(place) for place, address in enumerate(drawn)}
+    apart = {server for warning in entry.warnings if warning.kind == "apart" for server in warning.servers}
+    packed = record.kept.sums if record.kept else {}
+    return {
+        "remarks": [to_do(entry), fit(entry)], "warnings": warned(entry),
+        "conflicts": reason.conflicts if entry.verdict == NOTHING_FITS and reason else [],
+        "label": label, "picture": picture(envelope, claim.bound_ns, name, label, steps_of(entry)),
+        "legend": legend(envelope, claim.bound_ns),
+        "servers": [(server, drawn.get(server.address), strokes.get(server.address, "")) for server in entry.servers],
+        "apart": apart | set(reason.apart) if reason and reason.stretches else apart,
+        "premises": [(premise, list(support(premise.name, backed, record, entry)), kept.get(premise.name, ""))
+                     for premise in premises(claim)],
+        "counts": [(what, f"{number:,}", COUNTS.get(what, "")) for what, number in entry.counts.items()],
+        "calls": list(map(shlex.join, calls(record, entry))),
+        "is_left_out": record.is_left_out(capture_of(record, entry)),
+        "sums": [*((file, "input", sum_) for file, sum_ in record.inputs.items()),
+                 *((f"{file}.zst", "the same, packed", sum_) for file, sum_ in packed.items()),
+                 *((file, "left by the audit", sum_) for file, sum_ in entry.outputs.items()),
+                 (record.program.version or "ntpaudit", "the program", record.program.sha256)]}
+
+
+def steps_of(entry: Entry) -> list[int]:
+    """When the clock was stepped, in Unix seconds: by what the capture shows, or by what the client logged."""
+    found = entry.reason
+    shown = [step.by // SECOND for step in found.steps] if found and found.stretches else []
+    return shown + [warning.before // SECOND for warning in entry.warnings if warning.kind == "step"]
+
+
+def capture_of(record: Record, entry: Entry) -> str:
+    """The capture that was read, seen from the entry's folder."""
+    if f"{entry.part}/{files.JOINED}" in entry.outputs:
+        return files.JOINED
+    capture = record.capture if entry.part == "." else f"../{record.capture}"
+    return f"./{capture}" if capture.startswith("-") else capture
+
+
+def calls(record: Record, entry: Entry) -> list[list[str]]:
+    """The calls that settle it, for whoever wants to make them by hand in the folder."""
+    capture, unpacks = capture_of(record, entry), list[list[str]]()
+    if capture != files.JOINED and record.kept and record.capture in record.kept.sums:
+        packed, capture = f"{capture}.zst", f"../{capture.rpartition('/')[2]}"
+        unpacks = [["zstd", "-d", packed, "-o", capture]]
+    found = [["settle", files.CLAIM, capture]]
+    found += [["check", files.CLAIM, capture, files.CERTIFICATE]] if entry.answer == YES else []
+    found += [["envelope", files.CLAIM, capture, "--servers", "--least", "--step", str(entry.envelope_step)]]
+    found += [["settle", files.CLAIM_OF_DRIFT, capture]] if entry.verdict == NOTHING_FITS else []
+    if entry.refutation:
+        claim = files.CLAIM if entry.answer == REFUTED else files.CLAIM_OF_0
+        found.append(["refute", claim, capture, files.REFUTATION, "--drift"])
+    return [*unpacks, *(["ntpaudit", *call] for call in found)]

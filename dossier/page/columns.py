@@ -1,0 +1,70 @@
+"""What a picture draws of an envelope: a cell for each piece, or for each column of it if the pieces are too many.
+
+A cell of several pieces has the extremes of what falls into it: the lowest low end and the highest high end, never an
+average.
+"""
+from collections.abc import Iterator
+from dataclasses import dataclass
+
+from ..folder.answers import Envelope
+from ..verdict.judgement import is_beyond
+
+COLUMNS = 1000
+MOST_STROKES = 10_000
+"""Strokes in a picture; with many servers the columns are fewer."""
+
+
+@dataclass
+class Cell:
+    """From and to in parts of the picture's width, 0 to 1; the hull's extremes, in ticks, if any of it is bounded; what
+    fails in it; and the extremes of each server's intervals."""
+
+    begin: float
+    end: float
+    hull: tuple[int, int] | None
+    empty: bool
+    unbounded: bool
+    beyond: bool
+    servers: list[tuple[int, int] | None]
+
+    @property
+    def mark(self) -> str | None:
+        """The worst that there is in it."""
+        return next((name for name in ("empty", "beyond", "unbounded") if getattr(self, name)), None)
+
+
+def cells_of(envelope: Envelope, bound: int) -> list[Cell]:
+    first, last = envelope.begins[0], envelope.ends[-1]
+    width = max(1, last - first)
+    columns = min(COLUMNS, MOST_STROKES // max(1, len(envelope.servers)))
+    if first == last:
+        edges = [(0, 1, 0.0, 1.0)]
+    elif len(envelope.hulls) <= columns:
+        edges = [(k, k + 1, (begin - first) / width, (end - first) / width)
+                 for k, (begin, end) in enumerate(zip(envelope.begins, envelope.ends))]
+    else:
+        edges = list(column_edges(len(envelope.hulls), columns))
+    return [cell_of(envelope, bound, *edge) for edge in edges]
+
+
+def column_edges(pieces: int, columns: int) -> Iterator[tuple[int, int, float, float]]:
+    """Each column with the pieces that it touches. The pieces are of one length, but for the last."""
+    for column in range(columns):
+        yield column * pieces // columns, -(-(column + 1) * pieces // columns), column / columns, (column + 1) / columns
+
+
+def cell_of(envelope: Envelope, bound: int, start: int, stop: int, begin: float, end: float) -> Cell:
+    hulls = envelope.hulls[start:stop]
+    bounded = [hull for hull in hulls if not isinstance(hull, str)]
+    lows, highs = [hull[0] for hull in bounded], [hull[1] for hull in bounded]
+    hull = (min(lows), max(highs)) if bounded else None
+    return Cell(begin, end, hull, "empty" in hulls, "unbounded" in hulls, hull is not None and is_beyond(hull, bound),
+                [extremes(low[start:stop], high[start:stop]) for low, high in envelope.servers.values()])
+
+
+def extremes(lows: list[int], highs: list[int]) -> tuple[int, int] | None:
+    """The outermost ends of the intervals that hold anything."""
+    if len(lows) == 1:
+        return (lows[0], highs[0]) if lows[0] <= highs[0] else None
+    held = [(low, high) for low, high in zip(lows, highs) if low <= high]
+    return (min(low for low, _ in held), max(high for _, high in held)) if held else None

@@ -1,0 +1,247 @@
+"""The page: one file that needs no network, to be read on a screen or on paper."""
+import argparse
+import os
+import sys
+import time
+from collections import Counter
+from collections.abc import Iterator, Sequence
+from contextlib import suppress
+from dataclasses import replace
+from typing import NamedTuple
+
+from ..fault import REFUSED as INPUT_REFUSED, Fault, fault
+from ..fleet.audit import change_of
+from ..fleet.metrics import Sample, of_record, of_verdict, write_metrics
+from ..fleet.signature import NONE, STRANGER, UNFIT, UNSEEN, Signature, Signers
+from ..fleet.verify import Verifier, audit_json
+from ..folder.entry import (DISPUTED, FEW, NO_EVIDENCE, NOT_VERIFIED, NOTHING_FITS, OPEN, REFUSED, REFUTED, UNSUPPORTED,
+                            YES, LeapList, Refusal)
+from ..folder.files import Folder, sum_of
+from ..folder.jobs import run_all
+from ..folder.older import read_any
+from ..folder.placing import write_named
+from ..folder.registry import Known
+from ..folder.result import Result, Row, Section
+from ..premise.leap import record_by
+from ..text import capital, count, plain
+from ..verdict.sentences import TWICE
+from . import templates
+from .article import article, parts, short_article
+from .remedies import remedy
+from .table import as_csv, as_json, badness_of, row_of, row_without_verdict
+
+MEANINGS = {
+    YES: "shown: in every course of events that fits the capture",
+    UNSUPPORTED: "a yes against which the folder's own evidence speaks",
+    REFUTED: "not shown, and by nothing in the capture: a course of events fits it that breaks the claim",
+    NOTHING_FITS: "no course of events fits: in this capture one of the premises fails",
+    NO_EVIDENCE: "the capture says nothing about the clock",
+    OPEN: "neither shown nor refuted",
+    NOT_VERIFIED: "an audit.json that was neither made nor verified here: it may say what it likes",
+    REFUSED: "no verdict: the audit couldn't be made",
+    DISPUTED: "the second program says something else, so neither is believed",
+}
+SIGNED = {NONE: "nobody", UNSEEN: "not looked at", UNFIT: "doesn\u2019t fit", STRANGER: "by a stranger"}
+INDEX = "index.html"
+UNKNOWN = "It was neither made nor verified here, so nothing that its audit.json says is shown"
+VERIFY = "`ntpaudit-dossier verify` the folder, or call `page --verify`."
+DIFFER = "Believe neither program, keep the folder, and report it. `verify --second` judges it again."
+
+
+class Shown(NamedTuple):
+    """A section on the page: the name of its place, and where the table leads, if that is another page."""
+
+    section: Section
+    name: str
+    file: str = ""
+
+    @property
+    def row(self) -> Row:
+        return self.section.row
+
+    @property
+    def link(self) -> str:
+        return self.file or f"#{self.name}"
+
+    @property
+    def why(self) -> list[tuple[str, list[str]]]:
+        """Why it isn't a yes and what to do, and the warnings, each with what leads to it; of a yes that has a page of
+        its own how many warnings these are."""
+        row = self.row
+        if self.file and row.verdict == YES and row.warnings:
+            return [("", [count(len(row.warnings), "warning")])]
+        said = [("", list(filter(None, [row.reason, row.to_do])))]
+        return [*said[:bool(said[0][1])], *(("Warning:", [words]) for words in row.warnings if words not in row.reason)]
+
+
+class Looking(NamedTuple):
+    """How folders are looked at: what is known here, who may sign, whether they are verified first, and whether more is
+    to be shown than the table."""
+
+    known: Known
+    signers: Signers
+    leaps: LeapList
+    verifier: Verifier | None
+    has_articles: bool
+
+    def look(self, path: str, number: int) -> Result:
+        """The sections of a folder, whatever stands in it. Its status is 2 if it was refused for that."""
+        signature = Signature(NONE)
+        try:
+            with Folder(path) as folder:
+                signature = self.signers.signature_of(folder)
+                return self.look_in(path, folder, signature, number)
+        except Fault as found:
+            return self.refused(path, found, signature)
+
+    def look_in(self, path: str, folder: Folder, signature: Signature, number: int) -> Result:
+        data = audit_json(folder)
+        written = read_any(data)
+        if self.verifier:
+            why, _, record = self.verifier.verify(folder)
+        else:
+            record = self.known.shown(sum_of(data), written)
+            why = UNKNOWN if not record else "" if record.refusal else change_of(folder, record)
+        if why or not record:
+            row = row_without_verdict(path, NOT_VERIFIED, f"{why}.", VERIFY, signature)
+            return self.short(path, row, "", signature)
+        if record.refusal:
+            return self.refused(path, record.refusal, signature, list(of_record(path, record)))
+        if words := self.known.dispute(record):
+            row = row_without_verdict(path, DISPUTED, f"{words}.", DIFFER, signature)
+            return self.short(path, row, "", signature)
+        record, judged, found = record_by(self.leaps, record), self.known.judgement(record), []
+        for part, entry in enumerate(record.entries):
+            name, said = name_of(number, part), ("", "")
+            if self.has_articles:
+                said = article(path, folder, record, entry, signature, judged, name)
+            row = row_of(path, entry, signature, judged)
+            found.append(Section(row, *said, record.program, sorted(record.captures)))
+        return Result(sections=found, metrics=list(of_record(path, record)), verdicts=record.verdicts)
+
+    def refused(self, path: str, found: Fault | Refusal, signature: Signature,
+                metrics: Sequence[Sample] = ()) -> Result:
+        why, what = (f"{found.why}.", capital(found.what)) if found.why else remedy(found.line, path)
+        row = row_without_verdict(path, REFUSED, f"{found.line}. {why}", what, signature)
+        is_for_input = found.status == INPUT_REFUSED and not metrics
+        short = self.short(path, row, found.line, signature, metrics)
+        return replace(short, status=INPUT_REFUSED if is_for_input else 0)
+
+    def short(self, path: str, row: Row, line: str, signature: Signature, metrics: Sequence[Sample] = ()) -> Result:
+        """A folder without a verdict. It has an audit, unless there is no other reason why nothing is shown."""
+        section = Section(row, short_article(path, row, line, signature) if self.has_articles else "")
+        is_audit = row.verdict in (NOT_VERIFIED, DISPUTED) or bool(metrics)
+        return Result(sections=[section], metrics=[*metrics, *of_verdict(path, row.verdict)],
+                      verdicts=[row.verdict] if is_audit else [])
+
+
+def name_of(number: int, part: int) -> str:
+    return f"a{number}-{part}" if part else f"a{number}"
+
+
+def mark_twins(found: list[Shown]) -> set[str]:
+    """Warns of a capture that is in several folders, which are given by the names of their lines."""
+    where: dict[str, dict[str, None]] = {}
+    for one in found:
+        for sum_ in one.section.captures:
+            where.setdefault(sum_, {})[one.row.machine] = None
+    for one in found:
+        for sum_ in one.section.captures:
+            if others := [other for other in where[sum_] if other != one.row.machine]:
+                one.row.twice.append(f"{TWICE} {', '.join(others[:FEW])}{' ..' if others[FEW:] else ''}.")
+        one.row.warnings[:0] = one.row.twice
+    return {one.row.machine for one in found if one.row.twice}
+
+
+def write_page(folders: list[str], given: argparse.Namespace, known: Known, leaps: LeapList,
+               verifier: Verifier | None = None) -> int:
+    """Prints the page or the table, or writes it whole. The status is 2 if a folder was refused for what stands in
+    it, or if none has an audit."""
+    looking = Looking(known, Signers(given.signers), leaps, verifier, not (given.json or given.csv))
+    if looking.has_articles:
+        parts()  # (which the processes of all folders have then, or none is begun)
+    worst, has_audit, found, metrics = 0, False, list[Shown](), list[Sample]()
+    for number, (path, result) in enumerate(run_all(folders, looking.look, given.limit)):
+        if result.refusal:
+            result = looking.refused(path, result.refusal, Signature(NONE))
+        worst, has_audit = max(worst, result.status), has_audit or bool(result.verdicts)
+        metrics += result.metrics
+        shown = [Shown(section, name_of(number, part), f"{number + 1:05}.html" if given.split else "")
+                 for part, section in enumerate(result.sections)]
+        found += list(written(shown, given)) if given.split else shown
+    twins = mark_twins(found)
+    if given.split:
+        again = [number for number, path in enumerate(folders) if plain(path) in twins]
+        looked_at = run_all([folders[number] for number in again], looking.look, given.limit)
+        for number, (_, result) in zip(again, looked_at):
+            rows = [one.row for one in found if one.file == f"{number + 1:05}.html"]
+            list(written([Shown(replace(section, row=row), name_of(number, part), f"{number + 1:05}.html")
+                          for part, (section, row) in enumerate(zip(result.sections, rows))], given))
+    years = years_of(folders, given, known, leaps) if given.split else []
+    data = text_of(worst_first(found), given, len(folders), years)
+    if given.split or given.output:
+        write_named(os.path.join(given.split, INDEX) if given.split else given.output, data, bool(given.split))
+    else:
+        sys.stdout.buffer.write(data)
+    status = write_metrics(given.metrics, metrics) if given.metrics else 0
+    if not has_audit:
+        raise fault("none of these folders has an audit")
+    return max(worst, status)
+
+
+def years_of(folders: list[str], given: argparse.Namespace, known: Known, leaps: LeapList) -> list[str]:
+    """Writes a calendar of each year below the page, if the folders are days: of all days that stand beside them. Which
+    years these are."""
+    from ..fleet.days import Wanted, is_day, machines_of
+    from .years import Pages, write_year
+    if not all(is_day(os.path.basename(folder)) for folder in folders):
+        return []
+    found = []
+    for year in sorted({os.path.basename(folder)[:4] for folder in folders}):
+        pages = Pages(f"{given.title}, {year}", None, os.path.join(given.split, year))
+        wanted = Wanted(int(year), known, leaps, int(time.time()))
+        with suppress(Fault):  # (of a machine that can't be looked at the page has the line)
+            write_year(list(machines_of(folders)), wanted, pages, given.limit, 1)
+            found.append(year)
+    return found
+
+
+def written(own: list[Shown], given: argparse.Namespace) -> Iterator[Shown]:
+    """Writes the sections of a folder as a page of their own, and leaves their lines."""
+    text = page([one._replace(file="") for one in own], given.title, 1, given.signers is not None, INDEX)
+    write_named(os.path.join(given.split, own[0].file), text, True)
+    return (one._replace(section=replace(one.section, head="", rest="")) for one in own)
+
+
+def text_of(found: list[Shown], given: argparse.Namespace, folders: int, years: Sequence[str]) -> bytes:
+    """What is asked for, of sections: the table as JSON or CSV, or a page that leads to these years."""
+    if given.json:
+        return as_json([one.row for one in found]).encode("utf-8", "backslashreplace")
+    if given.csv:
+        return as_csv([one.row for one in found]).encode("utf-8", "backslashreplace")
+    return page(found, given.title, folders, given.signers is not None, years=years)
+
+
+def worst_first(found: list[Shown]) -> list[Shown]:
+    """The sections folder by folder, those of the worst folder first, and of two that are as bad in their own order."""
+    badness: dict[str, tuple[int, int]] = {}
+    for row in (one.row for one in found):
+        badness[row.machine] = min(badness_of(row), badness.get(row.machine, badness_of(row)))
+    return sorted(found, key=lambda one: badness[one.row.machine])
+
+
+def page(found: list[Shown], title: str, folders: int, is_looked_at: bool, above: str = "",
+         years: Sequence[str] = ()) -> bytes:
+    """A page of sections, which leads back to the one above it, if there is one, and to years. A column of the table
+    that would be empty is left out."""
+    rows = [one.row for one in found]
+    counts = Counter(row.verdict for row in rows)
+    made = {one.section.made.sha256: one.section.made.version for one in found if one.section.made}
+    has_days, has_figures = any(row.day for row in rows), any(row.bound_ns is not None for row in rows)
+    has_signers = is_looked_at or any(row.signature != NONE for row in rows)
+    return templates.page(
+        "page.html", len(rows), title=title, above=above, years=years, folders=count(folders, "folder"), found=found,
+        programs="; ".join(f"{version or 'ntpaudit'}, SHA-256 {sum_[:16]} and on" for sum_, version in made.items()),
+        counts={verdict: counts[verdict] for verdict in MEANINGS if counts[verdict]}, meanings=MEANINGS, signed=SIGNED,
+        has_days=has_days, has_figures=has_figures, has_signers=has_signers, is_looked_at=is_looked_at,
+        columns=2 + has_days + 9 * has_figures + has_signers)

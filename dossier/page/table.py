@@ -1,0 +1,70 @@
+"""The table of machines and days: a row for each audit, for a page, as JSON and as CSV."""
+import csv
+import io
+import json
+import re
+from dataclasses import asdict
+
+from ..fleet.signature import Signature
+from ..folder.entry import OPEN, WORST_FIRST, Entry
+from ..folder.registry import Judgement
+from ..folder.result import Row
+from ..text import plain
+from ..units import civil
+from ..verdict.alerts import warning_words
+from ..verdict.sentences import reason, to_do
+
+
+def badness_of(row: Row) -> tuple[int, int]:
+    """How bad a line is, the worst least: by its verdict, and then by how many warnings it has."""
+    return WORST_FIRST.index(row.verdict), -len(row.warnings)
+
+
+def signed_row(folder: str, day: str, found: Signature) -> Row:
+    return Row(plain(folder), day, signature=found.state, signer=plain(found.signer), signed_at=plain(found.at))
+
+
+def row_without_verdict(folder: str, verdict: str, why: str, what: str, signature: Signature) -> Row:
+    """A folder that has no figures: nobody audited it, or nobody verified that here."""
+    row = signed_row(folder, "", signature)
+    row.verdict, row.reason, row.to_do = verdict, plain(why), plain(what)
+    return row
+
+
+def row_of(folder: str, entry: Entry, signature: Signature, judged: Judgement | None) -> Row:
+    claim, worst = entry.claim, entry.worst
+    row = signed_row(folder, "" if entry.part == "." else entry.part, signature)
+    row.verdict, row.reason, row.to_do = entry.verdict, reason(entry), to_do(entry)
+    row.warnings = [warning_words(warning) for warning in entry.warnings]
+    row.client, row.begin, row.end, row.bound_ns = claim.client, claim.from_, claim.to, claim.bound_ns
+    row.least_bound_ns, row.worst_begin, row.worst_end = entry.least_ns, civil(worst.from_), civil(worst.to)
+    row.samples, row.servers, row.groups = entry.counts["samples"], len(claim.servers), len(claim.grouped)
+    row.false_max, row.leap_seconds = claim.false_max, entry.leap.says
+    row.judged_twice_at = judged.at if judged and entry.answer != OPEN else ""
+    return row
+
+
+def as_json(rows: list[Row]) -> str:
+    return json.dumps([asdict(row) for row in rows], indent=1) + "\n"
+
+
+FORMULA = re.compile(r"(^|[;,\t|])(\s*[\"']*\s*[=+@\uff1d\uff0b\uff20\uff0d-])")
+"""What a spreadsheet takes for a formula, at the begin of a cell, or of what another separator makes one."""
+
+
+def as_csv(rows: list[Row]) -> str:
+    """One line a row. A text that a spreadsheet would take for a formula gets an apostrophe before it."""
+    out = io.StringIO()
+    writer = csv.writer(out, lineterminator="\n")
+    writer.writerow(list(asdict(Row("", ""))))
+    for row in rows:
+        writer.writerow([as_cell(value) for value in asdict(row).values()])
+    return out.getvalue()
+
+
+def as_cell(value: object) -> object:
+    if value is None:
+        return ""
+    if isinstance(value, list):
+        value = "; ".join(value)
+    return FORMULA.sub(r"\1'\2", value) if isinstance(value, str) else value

@@ -1,0 +1,61 @@
+"""How fast a clock may gain or lose by its oscillator and its client together: what a draft proposes as drift, and what
+that rests on, as JSON for evidence.json to name."""
+from __future__ import annotations
+
+import json
+from dataclasses import dataclass
+from typing import Literal
+
+from ..fault import Fault, fault
+from ..folder.claim import GREATEST_DRIFT
+from ..schema import Count, Mangled, Time, said
+from ..units import seconds_of
+from . import client, tracking
+from .client import Configuration
+from .tracking import Tracking
+
+
+@dataclass(frozen=True)
+class Correction:
+    kind: Literal["drift"]
+    oscillator_ppb: Count
+    drift_ppb: Count
+    """Oscillator and slew together."""
+    configuration: Configuration
+    tracking: Tracking | None
+    made: Time
+
+    def __post_init__(self) -> None:
+        if self.drift_ppb != self.oscillator_ppb + self.configuration.slew_ppb:
+            raise Mangled("drift_ppb")
+        try:
+            client.cautions(self.configuration)
+        except Fault:
+            raise Mangled("makestep") from None
+
+    def sentences(self) -> list[str]:
+        """What it rests on, for the page and for a draft."""
+        words = [client.in_words(self.configuration),
+                 f"With {self.oscillator_ppb:,} of the oscillator that is a drift of {self.drift_ppb:,}."]
+        return words + ([tracking.in_words(self.tracking)] if self.tracking else [])
+
+    def steps_within(self, first: int, last: int) -> list[int]:
+        """The Unix seconds of the steps in a span, as the client logged them."""
+        steps = tracking.within(self.tracking, first, last) if self.tracking else []
+        return [seconds_of(time) for time, _, _ in steps]
+
+    def cautions(self, first: int, last: int) -> list[str]:
+        """What a person has to look at, over a span of Unix seconds."""
+        of_log = tracking.cautions(self.tracking, first, last) if self.tracking else []
+        return [*of_log, *client.cautions(self.configuration)]
+
+
+def correction(oscillator_ppb: int, found: Configuration, log: Tracking | None, made: str) -> Correction:
+    drift = oscillator_ppb + found.slew_ppb
+    if drift > GREATEST_DRIFT:
+        raise fault(f"a drift of {drift} by the configuration is more than a claim can grant")
+    return Correction("drift", oscillator_ppb, drift, found, log, made)
+
+
+def correction_text(found: Correction) -> bytes:
+    return (json.dumps(said(found), indent=1) + "\n").encode()

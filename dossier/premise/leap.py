@@ -1,0 +1,121 @@
+"""The list of leap seconds, as the IERS publishes it and systems keep it: read, and looked up over a stretch of time.
+
+Only one's own list counts: the system's, or one that is named here. Which one an audit was made by stands in
+audit.json; whoever looks at it later looks the span up in a list of his own.
+"""
+from __future__ import annotations
+
+import hashlib
+import json
+import os
+from collections.abc import Iterator
+from dataclasses import replace
+from typing import Final
+
+from ..capture.recording import Recording
+from ..fault import Fault, fault
+from ..folder.claim import Claim
+from ..folder.entry import AGAINST, OF_LEAPS, UNSUPPORTED, YES, Alert, Entry, Leap, LeapList, Reason, Record
+from ..folder.files import data_named
+from ..schema import said, typed
+from ..units import SECOND
+
+SYSTEM = os.environ.get("NTPAUDIT_LEAP_SECONDS") or "/usr/share/zoneinfo/leap-seconds.list"
+"""The system's list, or the one that the environment names."""
+FROM_1900 = 2_208_988_800
+"""Seconds from 1900, by which lists count, to 1970."""
+
+NONE: Final = "none"
+WITHIN: Final = "within"
+EXPIRED: Final = "expired"
+NO_LIST: Final = "no list"
+
+
+def read_list(path: str | None) -> LeapList:
+    """What a list says; or, if none is named and the system has none, why not. A list that is named has to be one."""
+    try:
+        return list_of(path or SYSTEM)
+    except Fault as found:
+        if path is not None:
+            raise
+        return LeapList(SYSTEM, fault=found.words)
+
+
+def list_of(path: str) -> LeapList:
+    try:
+        data = data_named(path)
+    except Fault as found:
+        raise found.of("the list of leap seconds") from None
+    try:
+        good_until, seconds = parsed(data.decode("utf-8"))
+        own = LeapList(path, "", hashlib.sha256(data).hexdigest(), good_until, seconds)
+        typed(LeapList, json.loads(json.dumps(said(own))))
+    except (ValueError, IndexError):
+        raise fault("the list of leap seconds isn't one") from None
+    return own
+
+
+def parsed(text: str) -> tuple[int, list[tuple[int, int]]]:
+    """Until when a list is good, in Unix seconds, and its leap seconds: where the day after each begins, and by how
+    much UTC fell behind. A ValueError if it isn't whole: a list has a sum of its own."""
+    good_until, own, words = None, None, []
+    rows: list[tuple[int, int]] = []
+    for line in text.splitlines():
+        if line.startswith("#h"):
+            own = [int(word, 16) for word in line[2:].split()]
+        elif line.startswith(("#$", "#@")):
+            words.append(line[2:].strip())
+            good_until = int(words[-1]) - FROM_1900 if line.startswith("#@") else good_until
+        elif line.strip() and not line.startswith("#"):
+            row = line.split("#")[0].split()
+            words += row
+            rows.append((int(row[0]) - FROM_1900, int(row[1])))
+    digest = hashlib.sha1("".join(words).encode(), usedforsecurity=False).hexdigest()
+    if good_until is None or own != [int(digest[k : k + 8], 16) for k in range(0, 40, 8)] or rows != sorted(rows):
+        raise ValueError
+    return good_until, [(time, offset - before) for (_, before), (time, offset) in zip(rows, rows[1:])]
+
+
+def stretch(claim: Claim, recording: Recording) -> tuple[int, int]:
+    """The first and the last whole Unix second of the span and all exchanges, wider by the claimed bound."""
+    times = [claim.first * SECOND, claim.last * SECOND, *recording.exchanges()]
+    return -((claim.bound_ns - min(times)) // SECOND), (max(times) + claim.bound_ns) // SECOND
+
+
+def look_up(leaps: LeapList, begin: int, end: int) -> Leap:
+    """What a list says of such a stretch."""
+    if leaps.fault:
+        return Leap(NO_LIST, begin, end)
+    within = [row for row in leaps.seconds if begin <= row[0] and row[0] - 1 <= end]
+    if within:
+        return Leap(WITHIN, begin, end, within)
+    return Leap(NONE if end < leaps.good_until else EXPIRED, begin, end)
+
+
+def alerts_of(leap: Leap, leaps: LeapList) -> Iterator[Alert]:
+    """What takes a yes away."""
+    if leap.says == WITHIN:
+        yield Alert("leap-second", seconds=leap.seconds)
+    if leap.says == EXPIRED:
+        yield Alert("leap-ends", before=max(0, leaps.good_until) * SECOND)
+    if leap.says == NO_LIST:
+        yield Alert("no-list")
+
+
+def entry_by(leaps: LeapList, entry: Entry) -> Entry:
+    """An entry by a list: its yes is one if nothing speaks against it."""
+    leap = look_up(leaps, entry.leap.from_, entry.leap.to)
+    warned = [warning for warning in entry.warnings if warning.kind not in OF_LEAPS]
+    warned += alerts_of(leap, leaps)
+    if entry.answer != YES:
+        return replace(entry, leap=leap, warnings=warned)
+    is_yes = not any(warning.kind in AGAINST for warning in warned)
+    return replace(entry, leap=leap, warnings=warned, verdict=YES if is_yes else UNSUPPORTED,
+                   reason=None if is_yes else Reason("evidence"))
+
+
+def record_by(leaps: LeapList, record: Record) -> Record:
+    """A record by a list, whatever list its audit was made by."""
+    if record.refusal:
+        return record
+    return replace(record, leap_seconds=leaps, entries=[entry_by(leaps, entry) for entry in record.entries])

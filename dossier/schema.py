@@ -1,0 +1,267 @@
+"""JSON of strangers, read into records: each field with its type and its range, and none besides.
+
+The name of a field is that of the record's, without a `_` at its end (`from_` is "from"). A field that has a default is
+left out where it has it.
+"""
+from __future__ import annotations
+
+import json
+import re
+from collections.abc import Callable
+from dataclasses import MISSING, dataclass, fields, is_dataclass
+from datetime import datetime
+from functools import cache
+from types import NoneType, UnionType
+from typing import Annotated, Any, Literal, NoReturn, Union, get_args, get_origin, get_type_hints
+
+from .fault import Fault, fault
+
+
+class Mangled(ValueError):
+    """Where JSON isn't what it has to be: the names and numbers that lead there."""
+
+    def __str__(self) -> str:
+        return " ".join(map(str, self.args))
+
+
+@dataclass(frozen=True)
+class Rule:
+    """Which values of a kind are right, and the same in words of JSON Schema."""
+
+    is_right: Callable[[Any], object]
+    schema: tuple[tuple[str, int | str], ...]
+
+    def __call__(self, value: Any) -> bool:
+        return bool(self.is_right(value))
+
+
+def within(least: int, most: int) -> Rule:
+    return Rule(lambda number: least <= number <= most, (("minimum", least), ("maximum", most)))
+
+
+def matching(pattern: str) -> Rule:
+    found = re.compile(pattern)
+    return Rule(found.fullmatch, (("pattern", f"^(?:{pattern})$"),))
+
+
+def length(least: int, most: int) -> Rule:
+    return Rule(lambda found: least <= len(found) <= most, (("minItems", least), ("maxItems", most)))
+
+
+def is_text(text: str) -> bool:
+    """Whether it is Unicode, and no longer than a page."""
+    try:
+        return len(text.encode()) <= 20_000
+    except UnicodeEncodeError:
+        return False
+
+
+def is_name(name: str) -> bool:
+    """Whether it may be the name of a file in a folder, its bytes as Python has them."""
+    try:
+        return 0 < len(name.encode("utf-8", "surrogateescape")) < 256 and "/" not in name and "\0" not in name
+    except UnicodeEncodeError:
+        return False
+
+
+def is_time(text: str) -> bool:
+    try:
+        return bool(TIME.fullmatch(text)) and bool(datetime.fromisoformat(text))
+    except ValueError:
+        return False
+
+
+def or_nothing(is_right: Callable[[str], bool]) -> Callable[[str], bool]:
+    return lambda text: not text or is_right(text)
+
+
+TIME = re.compile(r"[1-9]\d{3}-\d\d-\d\dT\d\d:\d\d:\d\dZ", re.ASCII)
+Text = Annotated[str, is_text]
+Name = Annotated[str, is_name]
+Time = Annotated[str, is_time]
+Sum = Annotated[str, matching("[0-9a-f]{64}")]
+Address = Annotated[str, matching(r"[0-9]{1,3}(\.[0-9]{1,3}){3}")]
+Small = Annotated[int, within(0, 31)]
+Count = Annotated[int, within(0, 2**40)]
+Seconds = Annotated[int, within(-(2**35), 2**37)]
+"""Unix seconds that have a civil time."""
+Ticks = Annotated[int, within(-(2**100), 2**100)]
+"""Ticks of 2^-32 s, of an error or since 1970."""
+Nanoseconds = Annotated[int, within(0, 10**25)]
+
+
+def parsed(data: bytes) -> Any:
+    """What JSON says; a ValueError if it isn't UTF-8, names a field twice, or holds what is no number."""
+    def once(pairs: list[tuple[str, Any]]) -> dict[str, Any]:
+        found = dict(pairs)
+        if len(found) < len(pairs):
+            raise Mangled("a name stands there twice")
+        return found
+
+    def never(word: str) -> NoReturn:
+        raise Mangled(word)
+    try:
+        return json.loads(data.decode(), object_pairs_hook=once, parse_constant=never)
+    except RecursionError:
+        raise Mangled("it is nested too deep") from None
+
+
+def read_typed(name: str, kind: Any, data: bytes) -> Any:
+    """What a file of JSON says, if it is of a kind; a fault that names the file and the place if it isn't."""
+    try:
+        return typed(kind, parsed(data))
+    except Mangled as error:
+        raise mangled(name, str(error)) from None
+    except ValueError:
+        raise mangled(name, "no JSON") from None
+
+
+def mangled(name: str, why: str) -> Fault:
+    return fault(f"{name} isn't one that is taken ({why[:200].strip() or 'as a whole'})")
+
+
+def typed(kind: Any, value: Any) -> Any:
+    """A value of a kind, or Mangled."""
+    return reader_of(kind)(value)
+
+
+Reader = Callable[[Any], Any]
+"""Gives a value of JSON as its kind has it, or Mangled."""
+
+
+@cache
+def reader_of(kind: Any) -> Reader:
+    """The reader of a kind, which is made once."""
+    origin, inner = get_origin(kind), get_args(kind)
+    if origin is Annotated:
+        return ruled(inner[0], getattr(inner[1], "is_right", inner[1]))
+    if origin in (Union, UnionType):
+        return one_of([(each is NoneType, reader_of(each)) for each in inner])
+    if origin is Literal:
+        return ruled(str, frozenset(inner).__contains__)
+    if origin is list:
+        return list_of(reader_of(inner[0]))
+    if origin is tuple:
+        return tuple_of(list(map(reader_of, inner)))
+    if origin is dict:
+        return dict_of(reader_of(inner[0]), reader_of(inner[1]))
+    return record_of(kind) if is_dataclass(kind) else ruled(kind)
+
+
+def ruled(kind: Any, is_right: Callable[[Any], object] | None = None) -> Reader:
+    """The reader of a kind's values that are right: of a plain kind by their type, or whole numbers among reals."""
+    plain = {int, float} if kind is float else {kind}
+    reader = reader_of(kind) if get_origin(kind) else None
+
+    def read(value: Any) -> Any:
+        found = reader(value) if reader else value
+        if (reader or type(value) in plain) and (is_right is None or is_right(found)):
+            return found
+        raise Mangled
+    return read
+
+
+def one_of(kinds: list[tuple[bool, Reader]]) -> Reader:
+    """The first kind that a value has. Of one that may be left out it is said where the other kind isn't met."""
+    def read(value: Any) -> Any:
+        found = Mangled()
+        for is_none, reader in kinds:
+            if (value is None) == is_none:
+                try:
+                    return reader(value)
+                except Mangled as error:
+                    found = error
+        raise found if len(kinds) == 2 and any(is_none for is_none, _ in kinds) else Mangled()
+    return read
+
+
+def list_of(reader: Reader) -> Reader:
+    def read(value: Any) -> Any:
+        if type(value) is not list:
+            raise Mangled
+        found: list[Any] = []
+        try:
+            for item in value:
+                found.append(reader(item))
+        except Mangled as error:
+            raise Mangled(len(found), *error.args) from None
+        return found
+    return read
+
+
+def tuple_of(readers: list[Reader]) -> Reader:
+    def read(value: Any) -> Any:
+        if type(value) is not list or len(value) != len(readers):
+            raise Mangled
+        return tuple(reader(item) for reader, item in zip(readers, value))
+    return read
+
+
+def dict_of(of_key: Reader, of_item: Reader) -> Reader:
+    def read(value: Any) -> Any:
+        if type(value) is not dict:
+            raise Mangled
+        found = {}
+        for key, item in value.items():
+            try:
+                found[of_key(key)] = of_item(item)
+            except Mangled as error:
+                raise Mangled(key, *error.args) from None
+        return found
+    return read
+
+
+@cache
+def kinds_of(kind: Any) -> dict[str, tuple[str, Any, bool]]:
+    """Of each name in JSON the field, its kind, and whether it has to be there."""
+    hints = get_type_hints(kind, include_extras=True)
+    return {field.name.rstrip("_"): (field.name, hints[field.name], field.default is field.default_factory is MISSING)
+            for field in fields(kind)}
+
+
+def record_of(kind: Any) -> Reader:
+    known = {name: (field, reader_of(own)) for name, (field, own, _) in kinds_of(kind).items()}
+    needed = [name for name, (_, _, is_needed) in kinds_of(kind).items() if is_needed]
+
+    def read(value: Any) -> Any:
+        if type(value) is not dict:
+            raise Mangled
+        for name in needed:
+            if name not in value:
+                raise Mangled(name)
+        found = {}
+        for name, item in value.items():
+            try:
+                field, reader = known[name]
+                found[field] = reader(item)
+            except Mangled as error:
+                raise Mangled(name, *error.args) from None
+            except KeyError:
+                raise Mangled(name) from None
+        return kind(**found)
+    return read
+
+
+def said(value: Any) -> Any:
+    """A record as JSON has it."""
+    if is_dataclass(value):
+        return {field.name.rstrip("_"): said(own) for field in fields(value)
+                if (own := getattr(value, field.name)) != default_of(field)}
+    if isinstance(value, dict):
+        return {name: said(item) for name, item in value.items()}
+    return list(map(said, value)) if isinstance(value, (list, tuple)) else value
+
+
+def default_of(field: Any) -> Any:
+    return field.default_factory() if field.default_factory is not MISSING else field.default
+
+
+def first_difference(one: Any, other: Any, place: str = "") -> tuple[str, Any, Any] | None:
+    """Where two values of JSON differ first, and what they say there."""
+    if isinstance(one, dict) and isinstance(other, dict):
+        parts = [(name, one.get(name), other.get(name)) for name in {**one, **other}]
+    elif isinstance(one, list) and isinstance(other, list) and len(one) == len(other):
+        parts = [(str(number), a, b) for number, (a, b) in enumerate(zip(one, other))]
+    else:
+        return None if one == other and type(one) is type(other) else (place, one, other)
+    return next((found for name, a, b in parts if (found := first_difference(a, b, f"{place} {name}"))), None)

@@ -1,0 +1,114 @@
+"""Servers that stand apart, all the time or for a part of it.
+
+A server's interval in a piece is made of its best samples, those beside the piece among them. So where it begins to be
+off and where it ends, its interval says little, and only its samples say when: one that misses the hull, which holds
+the clock's error, can't be that of a right server.
+"""
+from __future__ import annotations
+
+from bisect import bisect_right
+from dataclasses import replace
+from operator import gt
+from typing import NamedTuple
+
+from ..capture.classic import Classic, Extent
+from ..capture.recording import closing_of
+from ..folder.answers import Envelope
+from ..folder.claim import Part
+from ..folder.entry import Gap, Hull
+from ..folder.placing import keep
+from ..folder.program import Program
+from ..units import SECOND
+from .ranges import are_in
+
+SUSPECTS = "suspects.claim.json"
+"""A private file: a claim of the servers that may stand apart for a time."""
+
+
+class Time(NamedTuple):
+    """From the first to the last, Unix nanoseconds, each sample of a server misses the hull."""
+
+    server: str
+    first: int
+    last: int
+
+
+class Seen(NamedTuple):
+    """The servers that stand apart all the time, and when others do."""
+
+    always: list[str]
+    times: list[Time]
+
+
+def hulls_of(envelope: Envelope, gaps: list[Gap]) -> list[Hull]:
+    """The hulls, but for those in gaps, in which all intervals widen."""
+    return ["empty" if is_in else hull for hull, is_in in zip(envelope.hulls, are_in(envelope, gaps))]
+
+
+def meets_of(lows: list[int], highs: list[int], hulls: list[Hull]) -> list[bool]:
+    """Of each piece that has a hull whether a server's interval holds something, and meets it."""
+    return [low <= hull[1] and hull[0] <= high for low, high, hull in zip(lows, highs, hulls)
+            if not isinstance(hull, str)]
+
+
+def apart_of(envelope: Envelope, gaps: list[Gap]) -> list[str]:
+    """The servers that stand apart all the time: no interval of theirs meets the hull, if there are hulls."""
+    hulls = hulls_of(envelope, gaps)
+    met = {address: meets_of(*ends, hulls) for address, ends in envelope.servers.items()}
+    return [address for address, own in met.items() if own and not any(own)]
+
+
+def suspects_of(envelope: Envelope, gaps: list[Gap]) -> list[str]:
+    """The servers of which some interval misses the hull, and another one meets it or holds nothing."""
+    hulls = hulls_of(envelope, gaps)
+    met = {address: meets_of(*ends, hulls) for address, ends in envelope.servers.items()}
+    return [address for address, own in met.items()
+            if not all(own) and (any(own) or any(map(gt, *envelope.servers[address])))]
+
+
+class Search:
+    """Looks for the times in which servers stand apart."""
+
+    def __init__(self, envelope: Envelope, gaps: list[Gap], whole: Classic):
+        self.envelope, self.hulls, self.whole = envelope, hulls_of(envelope, gaps), whole
+        self.open: dict[str, Time] = {}
+        self.times: list[Time] = []
+        self.met = set[str]()
+
+    def take(self, block: bytes) -> None:
+        """Looks at lines of `samples`."""
+        for line in block[:closing_of(block)].decode("ascii").splitlines():
+            fields = line.split(" ")
+            stamps = (self.whole.extent.stamps[int(record)] for record in fields[2:4])
+            asked, answered = self.whole.nanoseconds(stamps)
+            first, last = self.hull_at(asked), self.hull_at(answered)
+            if isinstance(first, str) or isinstance(last, str):
+                continue
+            if int(fields[11]) > first[1] or int(fields[13]) < last[0]:
+                begin = self.open[fields[1]].first if fields[1] in self.open else asked
+                self.open[fields[1]] = Time(fields[1], begin, answered)
+                continue
+            self.met.add(fields[1])
+            if fields[1] in self.open:
+                self.times.append(self.open.pop(fields[1]))
+
+    def hull_at(self, time: int) -> Hull:
+        """The hull at Unix nanoseconds; `empty` outside of the span."""
+        at = bisect_right(self.envelope.begins, time // SECOND) - 1
+        return self.hulls[at] if at >= 0 and time <= self.envelope.ends[at] * SECOND else "empty"
+
+
+def seen_apart(program: Program, part: Part, capture: str, extent: Extent | None, envelope: Envelope,
+               gaps: list[Gap]) -> Seen:
+    """Which servers stand apart, and when, by their samples where their intervals don't tell."""
+    always, suspects = apart_of(envelope, gaps), suspects_of(envelope, gaps)
+    if not suspects:
+        return Seen(always, [])
+    keep(SUSPECTS, replace(part.claim, servers=suspects, false_max=0, groups=[]).text)
+    search = Search(envelope, gaps, Classic(capture, extent))
+    program.blocks(search.take, "samples", SUSPECTS, capture)
+    missed = [*search.times, *search.open.values()]
+    times = [time for time in missed if time.server in search.met]
+    own, named = {time.server for time in missed} - search.met, {time.server for time in times}
+    return Seen([server for server in part.claim.servers
+                 if server in own or server in always and server not in named], times)

@@ -1,0 +1,296 @@
+"""What an audit's answers come to: the verdict, why it isn't a yes, and what a reader has to be warned of.
+
+This is a function of texts that the program printed; `verify` calls it again on texts of its own.
+"""
+from __future__ import annotations
+
+from collections.abc import Iterator
+from itertools import groupby, pairwise
+from operator import sub
+from typing import NamedTuple
+
+from ..capture.recording import Recording
+from ..capture.traffic import Traffic, number_of
+from ..capture.twice import are_twice
+from ..folder.answers import Envelope, Settled, read_advice, read_settled
+from ..folder.claim import GREATEST_DRIFT, OSCILLATOR, Claim, Part
+from ..folder.entry import (FEW, NO_EVIDENCE, NOTHING_FITS, OPEN, REFUTED, YES, Alert, Answer, Entry, Gap, Hull,
+                            LeapList, Piece, Reason, Server, Stretch, side_of)
+from ..premise.allowance import slip
+from ..premise.backing import Backing, against
+from ..premise.leap import entry_by, look_up, stretch
+from ..units import SECOND, bound_ticks
+from .apart import Seen as Apart, Time
+from .ranges import are_in, outermost
+from .steps import Found
+
+FAR = 10
+"""A piece is far from the samples if the nearest is farther than this part of the span."""
+SILENCE, UNUSUAL = 60 * SECOND, 10
+"""Servers are silent if none is heard for this time, and for so many times as long as usual."""
+TOLD = "silence", "outside", "far"
+"""Warnings that say less than a reason which names the gaps."""
+MORE = 10
+"""So many times the claim's drift is tried where nothing fits, or that of an oscillator alone."""
+
+
+class Texts(NamedTuple):
+    """What the program printed of one audit."""
+
+    settled: bytes
+    """The answer of `settle`."""
+    report: bytes
+    """What `check` says of its certificate, or `refute` of its refutation; else the answer itself."""
+    other: bytes = b""
+    """The answer of `settle` to another claim: at a yes with the bound 0, where nothing fits with more drift and
+    the greatest bound."""
+    apiece: bytes = b""
+    """Where nothing fits, the answer of `settle` if each server is by itself and none may be wrong."""
+    found: Found = Found([], [])
+    stretches: list[Stretch] = []
+    """Where nothing fits, when servers contradict themselves, and what lies between these times."""
+    envelope: Envelope = Envelope([], [], [], {}, None, 0)
+    apart: Apart = Apart([], [])
+    traffic: Traffic | None = None
+    """Who asks whom, by `list`, if there is no evidence, or many replies have no request."""
+
+
+class Beside(NamedTuple):
+    """What a verdict is seen beside: a list of leap seconds, the folder's own evidence, and what became of captures."""
+
+    leaps: LeapList
+    backing: Backing
+    alerts: list[Alert]
+    capture: str
+    """The capture that is audited, by its name in the folder."""
+
+
+def more_drift(claim: Claim) -> int:
+    """The drift that is tried where nothing fits, in parts of 10^9."""
+    return min(max(MORE * claim.drift_ppb, OSCILLATOR), GREATEST_DRIFT)
+
+
+def judge(part: Part, recording: Recording, beside: Beside, texts: Texts, step: int,
+          outputs: dict[str, str]) -> Entry:
+    """The entry that the program's texts come to, beside what else is known."""
+    claim, leap = part.claim, look_up(beside.leaps, *stretch(part.claim, recording))
+    settled, envelope = read_settled(texts.settled), texts.envelope
+    advice = read_advice(texts.report) if settled.answer == YES else {}
+    servers = servers_of(claim, recording)
+    gaps = gaps_of(claim, recording)
+    warned = [*beside.alerts, *warnings(claim, recording, texts, advice, gaps),
+              *against(beside.backing, claim, leap)]
+    if texts.traffic and (mode := texts.traffic.interleaving(claim.client, claim.servers)):
+        warned.insert(0, Alert("interleaved", servers=mode))
+    if 0 < claim.drift_ppb <= OSCILLATOR and not beside.backing.read:
+        warned.append(Alert("oscillator", claim.drift_ppb))
+    reason = reason_of(claim, settled, Seen(servers, envelope, recording, gaps, texts, beside.capture))
+    if reason and reason.stretches and reason.apart:
+        known = {server for alert in warned if alert.kind == "apart" for server in alert.servers}
+        warned = [alert for alert in warned if alert.kind != "apart"]
+        warned.append(Alert("apart", servers=[one for one in claim.servers if one in known | set(reason.apart)]))
+    if reason and reason.why in ("gap", "beside"):
+        warned = [alert for alert in warned if alert.kind not in TOLD]
+    return entry_by(beside.leaps, Entry(
+        part=part.name,
+        verdict=verdict_of(settled, reason),
+        claim=claim,
+        envelope_step=step,
+        least_ns=None if settled.answer == NOTHING_FITS else envelope.least_ns,
+        worst=piece_of(envelope, envelope.worst),
+        counts=recording.counts,
+        servers=servers,
+        leap=leap,
+        reason=reason,
+        refutation=read_settled(texts.other).refutation if settled.answer == YES else settled.refutation,
+        warnings=warned,
+        outputs=outputs,
+    ))
+
+
+def verdict_of(settled: Settled, reason: Reason | None) -> Answer:
+    """The program's answer, but where nothing was recorded within the span."""
+    return NO_EVIDENCE if reason and reason.why == "beside" else settled.answer
+
+
+def piece_of(envelope: Envelope, k: int) -> Piece:
+    return Piece(k, envelope.begins[k], envelope.ends[k], envelope.hulls[k])
+
+
+def is_beyond(hull: Hull, bound: int) -> bool:
+    return not isinstance(hull, str) and (hull[0] < -bound or hull[1] > bound)
+
+
+class Seen(NamedTuple):
+    """What a reason is seen in."""
+
+    servers: list[Server]
+    envelope: Envelope
+    recording: Recording
+    gaps: list[Gap]
+    texts: Texts
+    capture: str
+
+
+def reason_of(claim: Claim, settled: Settled, seen: Seen) -> Reason | None:
+    """Of what isn't a yes by the program: why, and what shows it."""
+    if settled.answer == REFUTED:
+        return why_refuted(claim, seen)
+    if settled.answer == OPEN:
+        return Reason("tick", tick=settled.tick, hull=settled.hull)
+    if settled.answer == NO_EVIDENCE:
+        if are_twice(seen.recording.counts):
+            return Reason("twice", file=seen.capture)
+        return silent(claim, settled.heard, seen.texts.traffic or Traffic())
+    if settled.answer == NOTHING_FITS:
+        return why_nothing_fits(claim, seen.servers, settled, seen.texts)
+    return None
+
+
+def silent(claim: Claim, heard: int, seen: Traffic) -> Reason:
+    """The reason if too few servers have a sample. If the client asks none of them, who asks is named, and whom."""
+    asked = list(seen.asked.get(claim.client, ()))
+    if any(server in asked for server in claim.servers):
+        return Reason("silent", heard=heard)
+    return Reason("silent", heard=heard, asking=seen.by_number()[:FEW], asked=sorted(asked, key=number_of)[:FEW])
+
+
+def why_refuted(claim: Claim, seen: Seen) -> Reason:
+    """`unbounded`; `off` if a hull lies beyond the bound as a whole; `beside` if no packet lies within the span; `gap`
+    if hulls go beyond the bound where nothing was heard for long; else `exceeds`."""
+    envelope, bound = seen.envelope, bound_ticks(claim.bound_ns)
+    if "unbounded" in envelope.hulls:
+        return Reason("unbounded")
+    if off := off_piece(envelope, bound):
+        return Reason("off", off)
+    if around := seen.recording.around(claim.first * SECOND, claim.last * SECOND):
+        return Reason("beside", recorded=around)
+    are_gaps = are_in(envelope, seen.gaps)
+    if any(is_in and is_beyond(hull, bound) for hull, is_in in zip(envelope.hulls, are_gaps)):
+        rest = [hull for hull, is_in in zip(envelope.hulls, are_gaps) if not is_in]
+        longest = sorted(seen.gaps, key=lambda gap: gap[0] - gap[1])[:FEW]
+        return Reason("gap", hull=outermost(rest) if rest else None, gaps=sorted(longest), count=len(seen.gaps))
+    return Reason("exceeds")
+
+
+def off_piece(envelope: Envelope, bound: int) -> Piece | None:
+    """The longest run of pieces whose hulls lie beyond the bound as a whole, all on one side, if there is one."""
+    sides = [side_of(hull, bound) for hull in envelope.hulls]
+    runs, begin = list[tuple[int, int]](), 0
+    for side, own in groupby(sides):
+        end = begin + len(list(own))
+        runs += [(begin, end)] if side else []
+        begin = end
+    if not runs:
+        return None
+    first, last = max(runs, key=lambda run: envelope.ends[run[1] - 1] - envelope.begins[run[0]])
+    return Piece(first, envelope.begins[first], envelope.ends[last - 1], outermost(envelope.hulls[first:last]))
+
+
+def why_nothing_fits(claim: Claim, servers: list[Server], settled: Settled, texts: Texts) -> Reason:
+    """`step` if most servers contradict themselves at the same few times, or `drift` if a course fits with more drift
+    too; `apart` with the servers that are in conflict with themselves or with most others, if these are the minority
+    and in each conflict; `drift` if a course fits with more drift; else `many`."""
+    found, tried, conflicts = texts.found, more_drift(claim), settled.conflicts
+    fits = read_settled(texts.other).answer != NOTHING_FITS
+    if found.of_clock:
+        own = [set(stretch.apart) for stretch in texts.stretches if not isinstance(stretch.hull, str)]
+        always = [server for server in claim.servers if own and all(server in each for each in own)]
+        return Reason("drift" if fits else "step", drift_ppb=tried, conflicts=conflicts, apart=always,
+                      steps=found.of_clock, stretches=texts.stretches)
+    heard = {server.address for server in servers if server.samples}
+    pairs = {(low, high) for low, _, high, _ in read_settled(texts.apiece).conflicts}
+    met = {one: {high if low == one else low for low, high in pairs if one in (low, high)} - {one} for one in heard}
+    apart = [one for one in claim.servers
+             if (one, one) in pairs or one in heard and 2 * len(met[one]) >= len(heard)]
+    steps = [step for step in found.steps if set(step.servers) <= set(apart)][:FEW]
+    if 2 * len(apart) < len(heard) and all(low in apart or high in apart for low, high in pairs):
+        return Reason("apart", drift_ppb=tried, conflicts=conflicts, apart=apart, steps=steps)
+    return Reason("drift" if fits else "many", drift_ppb=tried, conflicts=conflicts, steps=found.steps[:FEW])
+
+
+def servers_of(claim: Claim, recording: Recording) -> list[Server]:
+    """For each server of the claim its group and its samples."""
+    group = {server: number for number, members in enumerate(claim.grouped) for server in members}
+    return [Server(address, group[number], recording.by_server.get(address, 0))
+            for number, address in enumerate(claim.servers)]
+
+
+def warnings(claim: Claim, recording: Recording, texts: Texts, advice: dict[str, str],
+             gaps: list[Gap]) -> Iterator[Alert]:
+    """What stands beside a verdict, whatever it is."""
+    if recording.first is not None and recording.last is not None:
+        before, after = recording.first - claim.first * SECOND, claim.last * SECOND - recording.last
+        if before > 0 or after > 0:
+            yield Alert("outside", before=max(0, before), after=max(0, after))
+    if claim.drift_ppb == 0:
+        yield Alert("no-drift")
+    if slip(claim.reading_ns):
+        yield Alert("slip", claim.reading_ns)
+    if recording.fall:
+        record, before, after = recording.fall
+        yield Alert("falls", recording.falls, record, before, after)
+    yield from silences(recording, gaps)
+    yield from far_pieces(claim, recording, texts.envelope, gaps)
+    if recording.counts.get("warnings"):
+        yield Alert("leap", recording.counts["warnings"])
+    if "sources" in advice:
+        yield Alert("sources", int(advice["sources"]))
+    if "reference" in advice:
+        yield Alert("reference", reference=advice["reference"])
+    if texts.apart.always:
+        yield Alert("apart", servers=texts.apart.always)
+    yield from for_a_time(texts.apart.times)
+
+
+def for_a_time(times: list[Time]) -> Iterator[Alert]:
+    """The longest time in which servers stand apart, and how many there are."""
+    if times:
+        longest = max(times, key=lambda time: (time.last - time.first, time))
+        own = [time for time in times if time.first <= longest.last and longest.first <= time.last]
+        yield Alert("apart-for-a-time", len(times) - len(own), before=min(time.first for time in own),
+                    after=max(time.last for time in own), servers=sorted({time.server for time in own}, key=number_of))
+
+
+def gaps_of(claim: Claim, recording: Recording) -> list[Gap]:
+    """The times within the span in which no server was heard for longer than usual, its begin and its end among
+    them."""
+    first, last, times = claim.first * SECOND, claim.last * SECOND, recording.times
+    lengths = list(map(sub, times[1:], times))
+    limit = max(SILENCE, UNUSUAL * sorted(lengths)[len(lengths) // 2] if lengths else 0)
+    ends = [min(first, times[0]), *times, max(last, times[-1])] if times else []
+    return [(before, after) for before, after in pairwise(ends)
+            if after - before > limit and before < last and first < after]
+
+
+def silences(recording: Recording, gaps: list[Gap]) -> Iterator[Alert]:
+    """The longest gap between samples, and how many there are."""
+    if inner := inner_gaps(recording, gaps):
+        before, after = max(inner, key=lambda gap: (gap[1] - gap[0], gap))
+        yield Alert("silence", len(inner), before=before, after=after)
+
+
+def inner_gaps(recording: Recording, gaps: list[Gap]) -> list[Gap]:
+    """Those between samples."""
+    times = recording.times
+    return [gap for gap in gaps if times[0] <= gap[0] and gap[1] <= times[-1]]
+
+
+def far_pieces(claim: Claim, recording: Recording, envelope: Envelope, gaps: list[Gap]) -> Iterator[Alert]:
+    """Pieces that are far from every sample, and in no gap that is named."""
+    first, last = claim.first * SECOND, claim.last * SECOND
+    limit = (last - first) // FAR
+    if not recording.replies or widest_gap([first, *recording.some_times(), last]) <= limit:
+        return  # (a piece can't be farther from a sample than some of the samples are from one another)
+    distances = list(map(recording.nearest, envelope.begins, envelope.ends))
+    inner = are_in(envelope, list(inner_gaps(recording, gaps)))
+    distances = [0 if is_in else distance for distance, is_in in zip(distances, inner)]
+    farthest = max(distances)
+    if farthest > limit:
+        far = sum(distance > limit for distance in distances)
+        yield Alert("far", far, distance=farthest, piece=piece_of(envelope, distances.index(farthest)))
+
+
+def widest_gap(times: list[int]) -> int:
+    gaps: Iterator[int] = map(sub, times[1:], times)
+    return max(gaps)

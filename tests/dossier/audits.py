@@ -1,0 +1,141 @@
+"""What the tests of ntpaudit-dossier share: folders to audit, its calls, and what holds of every page."""
+import atexit
+import functools
+import hashlib
+import json
+import os
+import re
+import shutil
+import tempfile
+from base64 import b64encode
+from collections.abc import Sequence
+from html.parser import HTMLParser
+from pathlib import Path
+from typing import Any
+
+from tests.support import DATA, ROOT, Ran, check, files_in, program, run, skip
+from tests.dossier.leaps import LATER, leap_list
+
+PROGRAM = program()
+SCRIPT = ROOT / "ntpaudit-dossier"
+STATE = tempfile.mkdtemp(prefix="ntpaudit-state-")
+"""Where the audits of tests are recorded: not in the user's own record."""
+atexit.register(shutil.rmtree, STATE, ignore_errors=True)
+ENVIRONMENT = {**os.environ, "XDG_STATE_HOME": STATE, "NTPAUDIT": PROGRAM, "PYTHONDONTWRITEBYTECODE": "1",
+               "LC_ALL": "C.UTF-8",
+               "NTPAUDIT_LEAP_SECONDS": str(leap_list(Path(STATE) / "leap-seconds.list", LATER, (78_796_800, 11)))}
+WITHOUT_EVIDENCE = {"clients-us.few.claim.json", "vlan-ns.silent.claim.json"}
+"""Claims of which their capture says nothing, so that there are no figures."""
+CLAIMS = [claim for claim in files_in(DATA, "*.claim.json") if claim.name not in WITHOUT_EVIDENCE]
+TICKS_PER_MS = 2**32 / 1000
+KEEP = [("keep",)] if shutil.which("zstd") else []
+"""The command `keep`, where it can be called: tests/dossier/test_daily.py says it where it can't."""
+SEARCH = (ROOT / "dossier/page/templates/search.js").read_text()
+"""The one script of pages, where a table is long."""
+VOID = {"meta", "link", "br", "input"}
+
+
+@functools.cache
+def skipped(name: str, why: str) -> None:
+    """Counts a test that isn't made here, once for a reason."""
+    skip(name, why)
+
+
+def dossier(*words: object, **how: Any) -> Ran:
+    how.setdefault("env", ENVIRONMENT)
+    return run([SCRIPT, *words], **how)
+
+
+def folder_of(parent: Path, name: str, capture: Path = DATA / "clients-us.pcap",
+              claim: Path = DATA / "clients-us.claim.json", /, **changes: object) -> Path:
+    """A folder with a claim and a capture, and some of the claim's values changed."""
+    folder = parent / name
+    folder.mkdir(parents=True)
+    shutil.copy(capture, folder / "f.pcap")
+    (folder / "claim.json").write_text(json.dumps({**json.loads(claim.read_text()), **changes}))
+    return folder
+
+
+def rows(*found: Any) -> tuple[Any, ...]:
+    """Cases of which each has its own kinds of values."""
+    return found
+
+
+def match_of(pattern: str, text: str) -> re.Match[str]:
+    """Where a text has this: it has to."""
+    found = re.search(pattern, text)
+    assert found, pattern
+    return found
+
+
+def capture_of(path: Path, *words: object) -> Path:
+    path.write_bytes(run([ROOT / "tests" / "tools" / "capture_of", *words])[1])
+    return path
+
+
+def table(*folders: Path, words: Sequence[object] = ()) -> list[dict[str, Any]]:
+    """The table's lines, in the order of the folders."""
+    rows = json.loads(dossier("page", "--json", *words, *folders)[1])
+    names = list(map(str, folders))
+    return sorted(rows, key=lambda row: names.index(row["machine"]) if row["machine"] in names else 0)
+
+
+def parts_left(parent: Path) -> list[str]:
+    return [str(path) for path in parent.rglob(".*")]
+
+
+Attributes = list[tuple[str, str | None]]
+
+
+class Outline(HTMLParser):
+    """Whether the tags of a page match, what it would fetch, and its words."""
+
+    def __init__(self, text: str) -> None:
+        super().__init__()
+        self.open, self.wrong, self.words = list[str](), list[str](), list[str]()
+        self.fetched, self.ids, self.tags = list[str | None](), list[str | None](), set[str]()
+        self.feed(text)
+        self.close()
+        self.wrong += [f"<{tag}> isn't closed" for tag in self.open]
+
+    def handle_starttag(self, tag: str, attributes: Attributes) -> None:
+        self.tags.add(tag)
+        self.ids += [value for name, value in attributes if name == "id"]
+        self.fetched += [value for name, value in attributes
+                         if name in ("src", "href", "srcset", "action") and not str(value).startswith("#")]
+        self.wrong += [f"{name} of <{tag}>" for name, _ in attributes if name.startswith("on")]
+        if tag not in VOID:
+            self.open.append(tag)
+
+    def handle_startendtag(self, tag: str, attributes: Attributes) -> None:
+        self.handle_starttag(tag, attributes)
+        if tag not in VOID:
+            self.open.pop()
+
+    def handle_endtag(self, tag: str) -> None:
+        if not self.open or self.open.pop() != tag:
+            self.wrong.append(f"</{tag}>")
+
+    def handle_data(self, words: str) -> None:
+        self.words.append(words)
+
+
+def check_page(name: str, text: str, links: Sequence[str] = (), scripts: Sequence[str] = ()) -> "Outline":
+    """Holds a page to what holds of every one. It has no script but these, each named by its sum."""
+    page = Outline(text)
+    there = re.findall("<script>(.*?)</script>", text, flags=re.S)
+    sums = [f" &#39;sha256-{b64encode(hashlib.sha256(script.encode()).digest()).decode()}&#39;" for script in scripts]
+    policy = "".join(["default-src &#39;none&#39;; style-src &#39;unsafe-inline&#39;", *["; script-src"][:len(sums)],
+                      *sums])
+    check(f"{name} is well-formed", wrong=(page.wrong, []), ids=(len(page.ids), len(set(page.ids))),
+          fetched=(page.fetched, list(links)), tags=(page.tags & {"img", "iframe", "object", "link"}, set()),
+          scripts=((there, text.count("<script")), (list(scripts), len(scripts))),
+          policy=(f'http-equiv="Content-Security-Policy" content="{policy}"' in text, True),
+          style=("url(" in text or "@import" in text, False))
+    if shutil.which("tidy"):
+        status, _, err = run(["tidy", "-e", "-q", "--drop-empty-elements", "no", "--show-warnings", "no"],
+                             text.encode())
+        check(f"{name} by tidy", run=((status in (0, 1), err), (True, b"")))
+    else:
+        skipped("pages by tidy", "tidy isn't installed")
+    return page

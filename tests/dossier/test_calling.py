@@ -1,0 +1,138 @@
+"""Tests of how the dossier is called: what a folder would have run, statuses, and words.
+"""
+import os
+import shutil
+import sys
+from pathlib import Path
+from unittest.mock import patch
+from typing import Any
+
+from tests.support import DATA, ROOT, check, run
+from tests.dossier.audits import ENVIRONMENT, SCRIPT, dossier, folder_of, skipped
+
+
+def test_owned(place: Path) -> None:
+    """Programs and modules that lie in the delivered folder aren't run, whatever PATH and PYTHONPATH are."""
+    folder, owned, house = folder_of(place, "host"), place / "owned", place / "house"
+    dossier("audit", folder)
+    (house / "bin").mkdir(parents=True)
+    (house / "crates.txt").write_text("")
+    shutil.copy(ROOT / "ntpaudit", house)
+    (house / "bin" / "rt").write_text(f"#!{sys.executable}\nimport json, sys\nsys.exit(sys.argv[1] != 'version')\n")
+    (house / "bin" / "rt").chmod(0o755)
+    script = f'#!/bin/sh\necho "$0" >> "{owned}"\n'
+    names = "rt python3 env readlink find sha256sum sort zstd ssh-keygen tcpdump sh cp mv chmod mkdir touch sleep rm"
+    for name in f"{names} nproc git dirname ntpaudit".split():
+        (folder / name).write_text(script)
+        (folder / name).chmod(0o755)
+    for name in ("argparse", "json", "os", "sitecustomize", "usercustomize", "hashlib", "subprocess"):
+        (folder / f"{name}.py").write_text(f"open({str(owned)!r}, 'a').write(__name__)\nraise SystemExit(1)\n")
+    (folder / "dossier").mkdir()
+    (folder / "dossier" / "__init__.py").write_text(f"open({str(owned)!r}, 'a').write('dossier')\n")
+    for path, python in ((f".:{os.environ['PATH']}", ":"), (f"{os.environ['PATH']}:.", f":{folder}"),
+                         (f":{os.environ['PATH']}", "."), (f"{os.environ['PATH']}:./", "")):
+        how: dict[str, Any] = {
+            "cwd": folder, "env": {**ENVIRONMENT, "PATH": path, "PYTHONPATH": python, "PYTHONSTARTUP": "os.py",
+            "LD_LIBRARY_PATH": ":", "PYTHONHOME": ""}}
+        for words in (("verify", "."), ("audit", "--again", "."), ("page", "--json", "."), ("help",)):
+            status = dossier(*words, **how)[0]
+            check(f"{words[0]} in a delivered folder by {path[:2]}..{path[-2:]}", owned=(owned.exists(), False),
+                  status=(status, 0))
+        bare = {**how["env"], "PATH": path.replace(os.environ["PATH"], f"{house}/bin:{os.environ['PATH']}")}
+        status, _, err = run([house / "ntpaudit", "list", "f.pcap"], cwd=folder, env=bare)
+        check(f"the launcher in a delivered folder by {path[:2]}..{path[-2:]}", status=(status, 70),
+              owned=(owned.exists(), False), built=(b"it was not built" in err, True))
+        owned.unlink(missing_ok=True)
+
+
+def test_statuses(place: Path) -> None:
+    """No fault has the status of a no."""
+    folder = folder_of(place, "host")
+    dossier("audit", folder)
+    copied = place / "copied"
+    shutil.copytree(ROOT / "dossier", copied / "dossier", ignore=shutil.ignore_patterns("__pycache__"))
+    shutil.copy(SCRIPT, copied)
+    for script in ('ulimit -f 1; exec "$0" help', 'exec "$0" help'):
+        status = run(["sh", "-c", script, copied / "ntpaudit-dossier"], env=ENVIRONMENT)[0]
+    check("a call after one with a full disk", status=(status, 0),
+          kept=(list((copied / "dossier").rglob("__pycache__")), []))
+    gone = place / "gone"
+    gone.mkdir()
+    calls = {"a current folder that is gone": f'cd "{gone}"; rmdir "{gone}"; "$0" verify "{folder}"',
+             "6 descriptors": f'ulimit -n 6; "$0" verify "{folder}"', "closed output": f'"$0" page "{folder}" >&-',
+             "closed input": f'"$0" verify "{folder}" <&-', "closed errors": f'"$0" verify "{folder}" 2>&-',
+             "an empty operand": '"$0" verify ""',
+             "a full output": f'"$0" verify "{folder}" > /dev/full',
+             "no memory": f'ulimit -v 20000; "$0" verify "{folder}"'}
+    wanted = {"an empty operand": (5,), "closed output": (4,), "closed input": (0,), "closed errors": (0,),
+              "a full output": (4,)}
+    for name, script in calls.items():
+        status, out, _ = run(["sh", "-c", script, SCRIPT], env=ENVIRONMENT)
+        check(f"the status of {name}", is_one=(status in wanted.get(name, (0, 2, 3, 4, 70)), True),
+              yes=(b"verified" in out, status == 0))
+    if os.geteuid():
+        skipped("an unreadable current folder", "this isn't root")
+    else:
+        shut = place / "shut"
+        shut.mkdir(0o755)
+        place.chmod(0o755)
+        place.parent.chmod(0o755)
+        call = 'cd "$1"; chmod 0 .; exec setpriv --reuid=65534 --regid=65534 --clear-groups "$0" page --json "$2"'
+        status = run(["sh", "-c", call, SCRIPT, shut, folder], env=ENVIRONMENT)[0]
+        check("the status of an unreadable current folder", status=(status, lambda status: status not in (0, 1)))
+    from dossier.folder.entry import read_record
+    from dossier.fault import Fault
+    from dossier.folder.registry import Known
+    record, write, seen = read_record((folder / "audit.json").read_bytes()), os.write, []
+    known = Known(str(place / "state"), True)
+    known.add("1" * 64, record)
+
+    def short(file: int, data: bytes) -> int:
+        if len(data) < 50:
+            raise OSError(28, "No space left on device")
+        return write(file, data[: len(data) - 20])
+    try:
+        with patch.object(os, "write", short):
+            known.add("2" * 64, record)
+    except Fault as fault:
+        seen.append(fault.status)
+    known.add("3" * 64, record)
+    lines = (place / "state" / "audits").read_text().splitlines()
+    check("a record on a full disk", seen=(seen, [4]), lines=([line[:1] for line in lines], ["1", "3"]),
+          known=([bool(Known(str(place / "state"), False).shown(f"{k}" * 64, record)) for k in (1, 2, 3)],
+                 [True, False, True]))
+
+
+def test_words(place: Path) -> None:
+    """CSV that a spreadsheet would take for a formula; a rate below zero; a claim that names a field twice."""
+    from dossier.page.table import as_cell
+    for text, wanted in (("=1+1", "'=1+1"), ("a;=1+1", "a;'=1+1"), ("\uff1dSUM(A1)", "'\uff1dSUM(A1)"),
+                         ("a\t@x", "a\t'@x"), (' "+1', "' \"+1"), ("a;\uff0d1", "a;'\uff0d1"), ("a-b=c", "a-b=c"),
+                         ("-1 ms", "'-1 ms"),
+                         ("yes", "yes"), ("a|+1", "a|'+1")):
+        check(f"a cell {text!a}", cell=(as_cell(text), wanted))
+    (place / "chrony.conf").write_text("server 192.0.2.1\nmaxslewrate -5\n")
+    status, out, err = dossier("draft", "--chrony", place / "chrony.conf", DATA / "clients-us.pcap")
+    check("a rate below zero", run=((status, out), (2, b"")), said=(b"maxslewrate is below zero" in err, True))
+    folder = folder_of(place, "twice")
+    text = (folder / "claim.json").read_text()
+    (folder / "claim.json").write_text(text[:-1] + ', "bound_ns": 50000000}')
+    status, out, _ = dossier("audit", folder)
+    check("a claim that names a field twice", status=(status, 2), said=(b"a name stands there twice" in out, True))
+    refuted = folder_of(place, "refuted", DATA / "chrony-ns.pcap", DATA / "chrony-ns.tight.claim.json")
+    dossier("audit", refuted)
+    check("a refuted clock is verified as such",
+          run=(dossier("verify", refuted)[:2], (1, f"{refuted}: verified: refuted\n".encode())))
+
+
+def test_without_jinja(place: Path) -> None:
+    """Where Jinja2 isn't installed, pages say how to get it, and all else is as it is."""
+    folder, out = folder_of(place, "web-1"), place / "page.html"
+    script = (f"import site, sys; site.getsitepackages = lambda: []; sys.path.insert(0, {str(ROOT)!r}); "
+              "from dossier.command_line import main; sys.exit(main(sys.argv[1:]))")
+    told = b"ntpaudit-dossier: Jinja2 isn't installed, which makes pages: apt-get install python3-jinja2\n"
+    for words, status, err in ((("audit",), 0, b""), (("page", "-o", out), 70, told), (("page", "--json"), 0, b""),
+                               (("page", "--csv"), 0, b""), (("page", "--split", place / "pages"), 70, told),
+                               (("year",), 70, told), (("verify",), 0, b"")):
+        seen = run(["python3", "-I", "-S", "-B", "-c", script, *words, folder], env=ENVIRONMENT)
+        check(f"{words[:2]} without Jinja2", run=((seen[0], seen[2]), (status, err)), left=(out.exists(), False))

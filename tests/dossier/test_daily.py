@@ -1,0 +1,655 @@
+"""Tests of what is done each day on many machines: the folders of days, systemd's units, metrics, and the alerts and
+the dashboard that read them.
+
+promtool, which comes with Prometheus, and systemd-analyze read what is written for them, where they are installed.
+"""
+import gzip
+import hashlib
+import json
+import os
+import re
+import shlex
+import shutil
+import sys
+import time
+from calendar import timegm
+from pathlib import Path
+from typing import Any
+
+from tests.support import DATA, ROOT, check, run
+from tests.dossier.audits import (ENVIRONMENT, PROGRAM, SCRIPT, capture_of, check_page, dossier, folder_of, rows,
+                                  skipped, table)
+from tests.dossier.test_captures import records_of
+from tests.dossier.test_evidence import key_of, until_it_listens, why_no_recording
+from tests.dossier.test_verdicts import GOOD, SETUP, good_folder, logged
+
+MONITORING = ROOT / "monitoring"
+LINE = re.compile(r'(ntpaudit_[a-z_]+)\{((?:[a-z]+="(?:[^"\\\n]|\\[\\"n])*",?)*)\} (\S+)')
+
+
+def metrics_of(path: Path) -> dict[tuple[Any, ...], str]:
+    """The lines of a file of metrics: each name with its labels, and the value as it stands there."""
+    lines = [line for line in path.read_text("utf-8").splitlines() if not line.startswith("#")]
+    found = [LINE.fullmatch(line) for line in lines]
+    check("the lines of metrics", form=([line for line, match in zip(lines, found) if not match], []))
+    return {(match[1].removeprefix("ntpaudit_"),
+             *sorted(re.findall(r'([a-z]+)="((?:[^"\\]|\\.)*)"', match[2]))): match[3] for match in found if match}
+
+
+def by_promtool(name: str, *words: object, given: bytes | None = None) -> None:
+    if shutil.which("promtool"):
+        status, out, err = run(["promtool", *words], given)
+        check(f"promtool on {name}", run=((status, b"FAILED" in out + err), (0, False)),
+              said=(out + err if status else b"", b""))
+    else:
+        skipped(f"promtool on {name}", "promtool isn't installed")
+
+
+def seconds(nanoseconds: int) -> str:
+    return f"{nanoseconds // 10**9}.{nanoseconds % 10**9:09}"
+
+
+def folders_of_all(place: Path) -> list[Path]:
+    """Folders of several verdicts, the last two of which have no audit."""
+    apart = [word.replace("4:-1000..1000", "4:900000000..900001000") for word in GOOD]
+    spoilt = good_folder(place, "spoilt")
+    (spoilt / "f.pcap").write_bytes(b"")
+    off = [word.replace("-1000..1000", "900000000..900001000") for word in GOOD]
+    return [good_folder(place, "good"), good_folder(place, 'a "name"\\n'), good_folder(place, "wrong", bound_ns=1),
+            good_folder(place, "off", None, off), good_folder(place, "apart", None, apart),
+            good_folder(place, "nothing", client="192.0.2.11"), spoilt, place / "missing"]
+
+
+def test_metrics(place: Path) -> None:
+    """Each figure of the table is a metric, and of the verdicts one is 1; the same by `audit` and by `page`."""
+    folders, file, other = folders_of_all(place), place / "m.prom", place / "other.prom"
+    status, _, err = dossier("audit", "--metrics", file, *folders)
+    check("audit --metrics", run=((status, err), (1, b"")))
+    found = metrics_of(file)
+    for folder, row in zip(folders, table(*folders)):
+        label = ("folder", str(folder).replace("\\", "\\\\").replace('"', '\\"'))
+        ones = [dict(labels)["verdict"] for (name, *labels), value in found.items()
+                if name == "verdict" and label in labels and value == "1"]
+        own = {name: value for (name, *labels), value in found.items() if labels == [label, ("machine", label[1])]}
+        check(f"the verdict of {folder.name} as metrics", ones=(ones, [row["verdict"]]),
+              all=(sum(name == "verdict" and label in labels for name, *labels in found), 9))
+        if row["bound_ns"] is None:
+            check(f"no figures of {folder.name} as metrics", figures=([name for name in own if "bound" in name], []))
+            continue
+        record = json.loads((folder / "audit.json").read_text())
+        least = {} if row["least_bound_ns"] is None else {"least_bound_seconds": seconds(row["least_bound_ns"])}
+        end = record["leap_seconds"]["good_until"] * 10**9
+        made, span_end = (timegm(time.strptime(text, "%Y-%m-%dT%H:%M:%SZ")) for text in (record["made"], row["end"]))
+        check(f"the figures of {folder.name} as metrics",
+              own=(own,
+                   {**least, "clock_off": str(int(folder.name == "off")),
+                    "claimed_bound_seconds": seconds(row["bound_ns"]), "samples": str(row["samples"]),
+                    "servers_apart": str(sum("apart" in words for words in row["warnings"])),
+                    "warnings": str(sum("is a copy" not in words for words in row["warnings"])),
+                    "span_end_timestamp_seconds": seconds(span_end * 10**9),
+                    "leap_list_end_timestamp_seconds": seconds(end),
+                    "last_audit_timestamp_seconds": seconds(made * 10**9),
+                    "audit_duration_seconds": seconds(round(record["seconds"] * 10**9))}))
+    dossier("page", "--json", "--metrics", other, *folders)
+    check("page --metrics", same=(other.read_text(), file.read_text()))
+    by_promtool("metrics", "check", "metrics", given=file.read_bytes())
+    stranger = dossier("page", "--csv", "--metrics", other, folders[0],
+                       env={**ENVIRONMENT, "XDG_STATE_HOME": str(place)})
+    check("metrics of what isn't known here", status=(stranger[0], 0),
+          lines=([labels[-1] for (_, *labels), value in metrics_of(other).items() if value == "1"],
+                 [("verdict", "not verified")]), more=({name for name, *_ in metrics_of(other)}, {"verdict"}))
+
+
+def test_metrics_of_days(place: Path) -> None:
+    folder = folder_of(place, "days", DATA / "clients-us.pcap", DATA / "clients-us.claim.json",
+                       **{"from": "2026-11-22T07:03:36Z", "to": "2026-11-24T00:00:00Z"})
+    dossier("audit", "--days", "--metrics", place / "m.prom", folder)
+    rows, found = table(folder), metrics_of(place / "m.prom")
+    ones = [dict(labels) for (name, *labels), value in found.items() if name == "verdict" and value == "1"]
+    check("metrics of days", days=([(one["day"], one["verdict"]) for one in ones],
+                                   [(row["day"], row["verdict"]) for row in rows]), count=(len(rows), 2))
+
+
+def test_metrics_written(place: Path) -> None:
+    """Whole or not at all, and never in the way of a verdict."""
+    good, wrong = good_folder(place, "good"), good_folder(place, "wrong", bound_ns=1)
+    kept = place / "kept.prom"
+    dossier("audit", "--metrics", kept, good, wrong)
+    text = kept.read_bytes()
+    for name, path, folders, wanted in (("in no folder", place / "none" / "m.prom", [good], 4),
+                                        ("in no folder beside a no", place / "none" / "m.prom", [good, wrong], 1),
+                                        ("on a full device", "/dev/full", [good], 4)):
+        for command in ("audit", "page"):
+            status, out, err = dossier(command, "--metrics", path, *folders)
+            check(f"{command}: metrics {name}", status=(status, 4 if command == "page" else wanted),
+                  line=((b"can't be written" in err, err.count(b"\n")), (True, 1)), told=(bool(out), True))
+    status, _, err = run(["bash", "-c", 'ulimit -f 0; exec "$0" audit --metrics "$1" "$2" | cat', SCRIPT, kept, good],
+                         env=ENVIRONMENT)
+    check("metrics on a full disk", told=(b"can't be written" in err, True), kept=(kept.read_bytes(), text),
+          left=([path.name for path in place.iterdir() if path.name.startswith(".")], []))
+    (place / "link.prom").symlink_to(kept)
+    status = dossier("audit", "--metrics", place / "link.prom", good)[0]
+    check("metrics through a link that is named", status=(status, 4), kept=(kept.read_bytes(), text))
+
+
+ALERTS: dict[str, list[str]] = {
+    "good": [], "wrong": ["ClockNotShown"], "off": ["ClockOff"], "apart": ["ClockServerApart"],
+    "nothing": ["ClockNotShown"], "spoilt": ["ClockNotAudited"], "missing": ["ClockNotAudited"]}
+"""The alerts of each folder."""
+
+
+def test_alerts(place: Path) -> None:
+    """The alert rules, on the metrics of folders of all kinds."""
+    rules = MONITORING / "ntpaudit.rules.yml"
+    by_promtool("the alert rules", "check", "rules", rules)
+    folders = [folder for folder in folders_of_all(place) if folder.name in ALERTS]
+    dossier("audit", "--metrics", place / "m.prom", *folders)
+    series = [{"series": line.rpartition(" ")[0], "values": f"{line.rpartition(' ')[2]}x10"}
+              for line in (place / "m.prom").read_text().splitlines() if not line.startswith("#")]
+    text = rules.read_text()
+    severity = dict(zip(re.findall(r"alert: (\w+)", text), re.findall(r"severity: (\w+)", text)))
+    timed = ("ClockAuditMissing", "ClockNearItsBound", "LeapSecondListEnds", "ClockMetricsMissing")
+    summaries = re.findall(r"summary: (.*)", text + (MONITORING / "ntpaudit-now.rules.yml").read_text())
+    check("the summaries of alerts", without=([words for words in summaries if "$labels.instance" not in words], []))
+    wanted = [of_alerts(name, severity[name], "5m", *(labels_of(series, folder, name) for folder in folders
+                                                      if name in ALERTS[folder.name]))
+              for name in severity if name not in timed]
+    tests = [{"interval": "1m", "input_series": series, "promql_expr_test": wanted}, *timed_alerts()]
+    test = {"rule_files": [str(rules)], "evaluation_interval": "1m", "tests": tests}
+    (place / "test.yml").write_text(json.dumps(test))
+    by_promtool("alerts of folders", "test", "rules", place / "test.yml")
+
+
+def series_of(name: str, values: object, **labels: str) -> dict[str, Any]:
+    return {"series": f"ntpaudit_{name}{{{','.join(f'{key}={json.dumps(value)}' for key, value in labels.items())}}}",
+            "values": values}
+
+
+def timed_alerts() -> list[dict[str, Any]]:
+    """Tests of the alerts that look at times, and at several metrics: of two machines one falls silent, and one of
+    three that are near their bounds is a yes."""
+    node = {"job": "node", "instance": "web-1"}
+    first, second = ({**node, "machine": machine} for machine in ("fleet/a", "fleet/b"))
+    audits = [series_of("last_audit_timestamp_seconds", "3600+3600x50", **first),
+              series_of("last_audit_timestamp_seconds", "3600x50", **second)]
+    yes, beyond, blind = ({**node, "folder": folder} for folder in ("yes", "beyond", "blind"))
+    near = [series_of("claimed_bound_seconds", "0.005x50", **own) for own in (yes, beyond, blind)]
+    near += [series_of("least_bound_seconds", f"{least}x50", **own)
+             for own, least in ((yes, 0.0048), (beyond, 0.0058), (blind, 0.0049))]
+    near += [series_of("verdict", "1x50", **own, verdict=verdict)
+             for own, verdict in ((yes, "yes"), (beyond, "refuted"), (blind, "no evidence"))]
+    leaps = [series_of("leap_list_end_timestamp_seconds", f"{40 * 86_400}x50", **node)]
+    gone = [series_of("verdict", "1x400", **first, folder="fleet/a/2026-11-26", verdict="yes"),
+            series_of("verdict", "1x120", **second, folder="fleet/b/2026-11-26", verdict="yes")]
+    missing = [of_alerts("ClockMetricsMissing", "ticket", "9h"),
+               of_alerts("ClockMetricsMissing", "ticket", "26h", second)]
+    hours = [of_alerts("ClockAuditMissing", "ticket", "36h"), of_alerts("ClockAuditMissing", "ticket", "38h", second)]
+    days = [of_alerts("LeapSecondListEnds", "ticket", "9d"), of_alerts("LeapSecondListEnds", "ticket", "11d", node)]
+    near_one = [of_alerts("ClockNearItsBound", "ticket", "1h", yes)]
+    none = [of_alerts("ClockMetricsMissing", "ticket", "1h", {})]
+    return [{"interval": interval, "input_series": given, "promql_expr_test": asked}
+            for interval, given, asked in (("1h", audits, hours), ("1h", near, near_one), ("1d", leaps, days),
+                                           ("5m", gone, missing), ("1h", leaps, none))]
+
+
+def test_alerts_of_now(place: Path) -> None:
+    """The alerts on the last minutes: twice running is a page, and a recorder that is silent or metrics that are gone
+    are tickets."""
+    rules = MONITORING / "ntpaudit-now.rules.yml"
+    by_promtool("the alert rules of now", "check", "rules", rules)
+    own = [{"job": "node", "instance": name, "recorder": "eth0"} for name in ("off", "step", "once", "silent", "blind")]
+    off, step, once, silent, blind = own
+
+    def verdicts(values: str, others: str = "0x99", **labels: str) -> list[dict[str, Any]]:
+        return [series_of("now_verdict", values if verdict == labels["verdict"] else others,
+                          **{**labels, "verdict": verdict}) for verdict in ("nothing fits", "no evidence", "refuted")]
+    given = [series_of("now_clock_off", values, **one)
+             for one, values in zip(own, ("0 0 1x90", "0 0 0 0 0 1x90", "0 0 1 1 1 0x90", "0x99", "0x99"))]
+    given += verdicts("0 0 1x90", **off, verdict="refuted") + verdicts("0 0 1 1 1 0x90", **step, verdict="nothing fits")
+    given += verdicts("0x99", **once, verdict="refuted") + verdicts("0x9", "0x9", **silent, verdict="refuted")
+    given += verdicts("1x99", **blind, verdict="no evidence")
+    given += [series_of("now_last_record_timestamp_seconds", "0+60x99" if one is not silent else "0x99", **one)
+              for one in own]
+    asked = [of_alerts("ClockIsOff", "page", "5m"), of_alerts("ClockIsOff", "page", "7m", off, step),
+             of_alerts("RecorderSilent", "ticket", "9m"), of_alerts("RecorderSilent", "ticket", "11m", silent),
+             of_alerts("ClockUnseen", "ticket", "9m"),
+             of_alerts("ClockUnseen", "ticket", "11m", {**blind, "verdict": "no evidence"}),
+             of_alerts("ClockNowMissing", "ticket", "68m", {"job": "node", "instance": "silent"})]
+    nothing = [of_alerts("ClockNowMissing", "ticket", "10m", {})]
+    tests = [{"interval": "1m", "input_series": series, "promql_expr_test": words}
+             for series, words in ((given, asked), ([], nothing))]
+    (place / "test.yml").write_text(json.dumps({"rule_files": [str(rules)], "evaluation_interval": "1m",
+                                                "tests": tests}))
+    by_promtool("alerts of the last minutes", "test", "rules", place / "test.yml")
+
+
+def labels_of(series: list[dict[str, str]], folder: object, name: str) -> dict[str, str]:
+    """The labels of the series of a folder that has an alert: its servers apart, that it was off, or the verdict that
+    is 1."""
+    kinds = {"ClockServerApart": "servers_apart", "ClockOff": "clock_off"}
+    kind, value = kinds.get(name, "verdict"), "" if name in kinds else "1x"
+    own, = (line["series"] for line in series if line["series"].startswith(f"ntpaudit_{kind}{{")
+            and f'folder="{folder}"' in line["series"] and line["values"].startswith(value))
+    return dict(re.findall(r'([a-z]+)="([^"]*)"', own))
+
+
+def of_alerts(name: str, severity: str, at: object, *labels: dict[str, Any]) -> dict[str, Any]:
+    """A test by promtool that of an alert these are there."""
+    alerts = [{"alertname": name, "alertstate": "firing", "severity": severity, **own} for own in labels]
+    said = [f"ALERTS{{{','.join(f'{label}={json.dumps(value)}' for label, value in own.items())}}}" for own in alerts]
+    return {"expr": f'ALERTS{{alertname="{name}",alertstate="firing"}}', "eval_time": at,
+            "exp_samples": [{"labels": own, "value": 1} for own in said]}
+
+
+def test_dashboard(place: Path) -> None:
+    """The dashboard reads metrics that there are, in words that Prometheus takes."""
+    from dossier.fleet.metrics import HELP
+    board = json.loads((MONITORING / "ntpaudit.dashboard.json").read_text())
+    asked = [target["expr"].replace("$folder", ".*").replace("$instance", ".*")
+             for panel in board["panels"] for target in panel["targets"]]
+    rules = "".join(path.read_text() for path in MONITORING.glob("*.yml"))
+    named = set(re.findall(r"ntpaudit_(\w+)", " ".join(asked + re.findall(r"expr: (.*)", rules))))
+    check("the metrics of dashboard and alerts", unknown=(named - set(HELP), set()), panels=(len(board["panels"]), 9),
+          places=(len({(panel["gridPos"]["x"], panel["gridPos"]["y"]) for panel in board["panels"]}), 9),
+          numbers=(len({panel["id"] for panel in board["panels"]}), 9))
+    groups = [{"name": "asked", "rules": [{"record": f"asked:{number}", "expr": expr}
+                                          for number, expr in enumerate(asked)]}]
+    (place / "asked.yml").write_text(json.dumps({"groups": groups}))
+    by_promtool("the dashboard", "check", "rules", place / "asked.yml")
+
+
+# ---- days
+
+DAY, NIGHT = 86_400, 1_000_000_000 - 1_000_000_000 % 86_400
+"""2001-09-09T00:00:00Z, and the seconds of a day."""
+
+
+def hours_of(place: Path, hours: Any, night: int = NIGHT) -> Any:
+    """A recorder's files of some hours since a night, with exchanges each minute, each last written at its end."""
+    words = [f"{server}:-1000..1000@{night + 3600 * hour + second}" for hour in hours for second in range(0, 3600, 60)
+             for server in (1, 2)]
+    whole = capture_of(place.parent / "whole.pcap", *words).read_bytes()
+    records, names, each = records_of(whole), [], 2 * 2 * 60
+    for number, hour in enumerate(hours):
+        begin = night + 3600 * hour
+        names.append(time.strftime("eth0-%Y-%m-%dT%H%M%SZ.pcap", time.gmtime(begin)))
+        (place / names[-1]).write_bytes(whole[:24] + b"".join(records[each * number : each * (number + 1)]))
+        os.utime(place / names[-1], times=(begin, begin + 3599))
+    return names
+
+
+def recorded(place: Path, hours: Any, night: int = NIGHT) -> tuple[Path, Path, Any]:
+    """The folders of recorder and days, with the claim of any day."""
+    recorder, days = place / "record", place / "days"
+    for path in (recorder, days):
+        path.mkdir()
+    claim = {"client": "192.0.2.10", "servers": ["192.0.2.1", "192.0.2.2"], "false_max": 0, "bound_ns": 60_000_000,
+             "from": "2001-01-01T00:00:00Z", "to": "2001-01-01T00:00:00Z", "drift_ppb": 600_000, "reading_ns": 0}
+    (days / "claim.json").write_text(json.dumps(claim))
+    return recorder, days, hours_of(recorder, hours, night)
+
+
+def kept_in(folder: Path) -> dict[str, tuple[bytes, int]]:
+    return {path.name: (path.read_bytes(), path.stat().st_mtime_ns) for path in folder.iterdir()}
+
+
+def test_day(place: Path) -> None:
+    """A day's folder has the files of the day and of the hours beside it, and its claim; nothing is written twice."""
+    recorder, days, names = recorded(place, range(-3, 29))
+    made = days / "2001-09-09"
+    words = ("day", "--from", recorder, "--to", days, "--date", "2001-09-09")
+    check("day", run=(dossier(*words), (0, f"{made}\n".encode(), b"")))
+    claim = json.loads((made / "claim.json").read_text())
+    check("the folder of a day", files=(sorted(path.name for path in made.iterdir()), ["claim.json", *names[2:29]]),
+          span=((claim["from"], claim["to"]), ("2001-09-09T00:00:00Z", "2001-09-10T00:00:00Z")),
+          rest=({**claim, "from": "", "to": ""},
+                {**json.loads((days / "claim.json").read_text()), "from": "", "to": ""}),
+          same=([(made / name).read_bytes() == (recorder / name).read_bytes() for name in names[2:29]], [True] * 27))
+    check("a day is shown", run=(dossier("audit", made)[0], 0), row=(table(made)[0]["verdict"], "yes"))
+    before = kept_in(made)
+    check("day again", run=(dossier(*words), (0, f"{made}\n".encode(), b"")), same=(kept_in(made) == before, True))
+    (made / names[9]).rename(made / f"{names[9]}.zst")
+    (made / names[10]).unlink()
+    (made / "claim.json").write_text("mine")
+    dossier(*words)
+    after = kept_in(made)
+    check("day of a folder that has some", packed=((names[9] in after, f"{names[9]}.zst" in after), (False, True)),
+          missing=(names[10] in after, True), claim=(after["claim.json"][0], b"mine"))
+    today = int(time.time()) // DAY * DAY
+    own = place / "own"
+    own.mkdir()
+    recorder, days, _ = recorded(own, range(-60, 2), today)
+    (days / "evidence.json").write_text(json.dumps({"drift": "sheet.pdf"}))
+    (days / "sheet.pdf").write_text("a sheet")
+    paths = [days / time.strftime("%Y-%m-%d", time.gmtime(today - DAY * number)) for number in (2, 1)]
+    check("days", run=(dossier("day", "--from", recorder, "--to", days)[:2],
+                       (0, "".join(f"{path}\n" for path in paths).encode())),
+          evidence=([{"evidence.json", "sheet.pdf"} <= set(kept_in(path)) for path in paths], [True] * 2),
+          audited=(dossier("audit", *paths)[0], 0))
+
+
+def test_day_of_others(place: Path) -> None:
+    """What isn't finished, isn't there, or isn't a recorder's file."""
+    recorder, days, names = recorded(place, range(4))
+    words = ("day", "--from", recorder, "--to", days, "--date", "2001-09-09")
+    (recorder / names[3]).touch()
+    (recorder / "other.pcap").write_bytes(b"")
+    (recorder / "eth0-2001-09-32T000000Z.pcap").write_bytes(b"")
+    status, out, err = dossier(*words)
+    check("a file that grows", run=((status, err), (
+        0, f"{names[3]} is still being written: call again when it is finished\n".encode())),
+        files=(sorted(kept_in(days / "2001-09-09")), ["claim.json", *names[:3]]))
+    os.utime(recorder / names[3], times=(NIGHT, NIGHT + 9999))
+    dossier(*words)
+    check("a file that grew", files=(sorted(kept_in(days / "2001-09-09")), ["claim.json", *names]))
+    status, out, err = dossier(*words[:-1], "2001-09-15")
+    check("a day without a recording", run=((status, err), (0, f"{days}/2001-09-15: nothing was recorded\n".encode())),
+          files=(list(kept_in(days / "2001-09-15")), ["claim.json"]),
+          audit=(dossier("audit", days / "2001-09-15")[0], 4))
+    (recorder / names[1]).unlink()
+    (recorder / names[1]).symlink_to(recorder / names[2])
+    (days / "2001-09-09" / names[1]).unlink()
+    check("a recorder's file that is a link",
+          run=(dossier(*words), (2, f"{days}/2001-09-09\n".encode(),
+                                 f"ntpaudit-dossier: {names[1]} is a link\n".encode())),
+          files=(names[1] in kept_in(days / "2001-09-09"), False))
+    shutil.rmtree(days / "2001-09-09")
+    (place / "victim").mkdir()
+    (days / "2001-09-09").symlink_to(place / "victim")
+    check("a day's folder that is a link",
+          run=(dossier(*words), (2, b"", b"ntpaudit-dossier: the folder is a link: name the folder itself\n")),
+          victim=(list(kept_in(place / "victim")), []))
+    check("no such date", status=(dossier(*words[:-1], "2001-02-30")[0], 5))
+    (days / "claim.json").unlink()
+    check("no claim of any day", run=(dossier(*words)[::2], (
+        4, b"ntpaudit-dossier: claim.json can't be read (No such file or directory)\n")))
+
+
+def test_odd_day(place: Path) -> None:
+    """A missing hour, a machine that was off, a recorder that was killed, a step in the log: all are told, and none
+    hides another."""
+    recorder, days, names = recorded(place, [hour for hour in range(-1, 21) if hour != 13])
+    whole = (recorder / names[5]).read_bytes()
+    (recorder / names[5]).write_bytes(whole[:-20])
+    log: dict[str, Any] = {**SETUP, "tracking": logged("2001-09-09T05:00:00Z")}
+    (days / "evidence.json").write_text(json.dumps({"drift": "drift.json"}))
+    (days / "drift.json").write_text(json.dumps(log))
+    dossier("day", "--from", recorder, "--to", days, "--date", "2001-09-09")
+    folder = days / "2001-09-09"
+    status, _, _ = dossier("audit", folder)
+    row = table(folder)[0]
+    said = ["No server was heard from 2001-09-09 12:59:00 to 14:00:0", f"{names[5]} ends inside a record",
+            "and from 2001-09-09 20:59:00 to 2001-09-10 00:00:00, and so nothing shows",
+            "The client logged a step of the clock at 2001-09-09 05:00:00"]
+    text = "".join(check_page("a page of an odd day", dossier("page", folder)[1].decode()).words)
+    check("an odd day", status=((status, row["verdict"]), (1, "refuted")),
+          told=([any(words in told for told in [row["reason"], *row["warnings"]]) for words in said], [True] * 4),
+          page=([words in text for words in said], [True] * 4), verified=(dossier("verify", folder)[0], 1))
+    even = capture_of(place / "even.pcap", *(f"1:0..9@{NIGHT + 600 * k}" for k in range(20)))
+    quiet = {"from": "2001-09-09T00:00:00Z", "to": "2001-09-09T03:10:00Z", "servers": ["192.0.2.1"]}
+    for name, capture, is_told in (("polls as usual", even, False), ("a poll that is missing", capture_of(
+            place / "gap.pcap", *(f"1:0..9@{NIGHT + 60 * k}" for k in range(190) if not 90 < k < 101)), True)):
+        other = folder_of(place, name, capture, days / "claim.json", **quiet)
+        dossier("audit", other)
+        check(f"silences: {name}",
+              told=("No server was heard" in str(table(other)[0]), is_told))
+
+
+# ---- years
+
+
+def listed(folder: Path) -> list[str]:
+    return sorted(str(path.relative_to(folder)) for path in folder.rglob("*") if path.is_file())
+
+
+def seen_of(*folders: Path) -> Any:
+    """The rows of folders, and their pages without the sums of files, the time, and how a capture is unpacked."""
+    differs = r"put together at \S+|<h3>Files</h3>.*?</table>|zstd -d [^\n]*\n|<p>joined\.pcap isn.t kept.*?</p>\n"
+    pages = [re.sub(differs, "", dossier("page", folder)[1].decode().replace("../f.pcap", "f.pcap"), flags=re.S)
+             for folder in folders]
+    return table(*folders), pages
+
+
+def test_keep(place: Path) -> None:
+    """What is kept is verified, shown and signed as before: captures packed, and nothing that is made of them."""
+    if not shutil.which("zstd"):
+        skipped("folders that are kept", "zstd isn't installed")
+        return
+    whole = (DATA / "clients-us.pcap").read_bytes()
+    half = whole[:24] + b"".join(records_of(whole)[:70]), whole[:24] + b"".join(records_of(whole)[70:])
+    days: dict[str, Any] = {"from": "2026-11-22T07:03:36Z", "to": "2026-11-24T00:00:00Z"}
+    one, two, packed, of_days = (folder_of(place, name, **(days if name == "days" else {}))
+                                 for name in ("one", "two", "packed", "days"))
+    for name, data in zip(("f.pcap", "g.pcap"), half):
+        (two / name).write_bytes(data)
+    (packed / "f.pcap").unlink()
+    (packed / "f.pcap.gz").write_bytes(gzip.compress(whole))
+    folders = [one, two, packed, of_days]
+    dossier("audit", one, two, packed)
+    dossier("audit", "--days", of_days)
+    before, files = seen_of(*folders), [set(listed(folder)) for folder in folders]
+    check("keep",
+          run=(dossier("keep", *folders), (0, "".join(f"{folder}: kept\n" for folder in folders).encode(), b"")))
+    gone = [{"f.pcap"}, {"f.pcap", "g.pcap", "joined.pcap"}, {"joined.pcap"},
+            {"f.pcap", "2026-11-23/joined.pcap"}]
+    came: list[set[str]] = [{"f.pcap.zst"}, {"f.pcap.zst", "g.pcap.zst"}, set(), {"f.pcap.zst"}]
+    for folder, had, off, new in zip(folders, files, gone, came):
+        check(f"what is kept of {folder.name}", files=(set(listed(folder)), had - off | new))
+    check("what is kept is shown as before", same=(seen_of(*folders) == before, True))
+    words = ("yes", "yes", "yes", "1 refuted, 1 no evidence")
+    verified = [f"{folder}: verified: {word}\n" for folder, word in zip(folders, words)]
+    for where in ("x", "y"):
+        own = {**ENVIRONMENT, "XDG_STATE_HOME": str(place / where)}
+        check("what is kept is verified", run=([dossier("verify", folder, env=own) for folder in folders],
+                                               [(int("refuted" in line), line.encode(), b"") for line in verified]))
+    check("what is kept isn't audited again", lines=(dossier("audit", one, two, packed)[1].count(b"(unchanged)"), 3),
+          days=(dossier("audit", "--days", of_days)[1].count(b"(unchanged)"), 2))
+    dossier("audit", two)
+    check("keep again", run=(dossier("keep", one, two, packed)[0], 0))
+    run(["zstd", "-dqk", one / "f.pcap.zst"])
+    check("a capture that is kept is the one that was recorded", same=((one / "f.pcap").read_bytes() == whole, True),
+          verified=(dossier("verify", one)[0], 0), check=(run([PROGRAM, "check", one / "claim.json", one / "f.pcap",
+                                                               one / "certificate.json"])[0], 0))
+    packed_file = one / "f.pcap.zst"
+    right = packed_file.read_bytes()
+    packed_file.write_bytes(right[:-1])
+    check("a capture whose packed file was spoilt stays", run=(dossier("keep", one)[0] not in (0, "no end"), True),
+          files=("f.pcap" in listed(one), True))
+    packed_file.write_bytes(right)
+    dossier("keep", one)
+    check("a keeping that was broken off is ended", files=("f.pcap" in listed(one), False))
+    if not shutil.which("ssh-keygen"):
+        skipped("what is kept is signed", "ssh-keygen isn't installed")
+    else:
+        key = key_of(place, "key")[0]
+        check("what is kept is signed", run=(dossier("sign", "--key", key, one)[0], 0),
+              verified=(dossier("verify", one)[0], 0))
+        signed = folder_of(place, "signed")
+        dossier("audit", signed)
+        dossier("sign", "--key", key, signed)
+        check("what is signed isn't kept", run=(dossier("keep", signed)[:2], (
+            5, f"{signed}: ntpaudit-dossier: signed: a folder is kept before it is signed\n".encode())),
+            files=("f.pcap" in listed(signed), True))
+
+
+def test_kept_by_strangers(place: Path) -> None:
+    """Whatever lies in a folder that is kept: nothing but what was audited is verified, and nothing else taken away."""
+    if not shutil.which("zstd"):
+        skipped("folders of strangers that are kept", "zstd isn't installed")
+        return
+    folder = folder_of(place, "host")
+    dossier("audit", folder)
+    dossier("keep", folder)
+    kept = {path.name: path.read_bytes() for path in folder.iterdir()}
+    other = (DATA / "vlan-ns.pcap").read_bytes()
+    record = json.loads(kept["audit.json"])
+
+    def forged(**changes: object) -> dict[str, bytes]:
+        return {"audit.json": json.dumps({**record, **changes}).encode()}
+    packed = run(["zstd", "-qc"], other)[1]
+    swapped = {"f.pcap.zst": packed, **forged(kept={"sums": {"f.pcap": hashlib.sha256(packed).hexdigest()}})}
+    for name, files, said, status in rows(
+            ("another beside it", {"f.pcap": other}, "f.pcap isn't the file that was audited",
+            1),
+            ("another in it", {"f.pcap.zst": packed},
+            "f.pcap isn't the file that was audited", 1),
+            ("another with its sum", swapped, "report.txt: from byte 0 on (line 1) it is", 1),
+            ("a joined one", {"joined.pcap": other}, "joined.pcap isn't of this", 1),
+            ("one that isn't packed", {"f.pcap.zst": other},
+            "f.pcap isn't the file that was audited", 1),
+            ("one that isn't there", {"f.pcap.zst": None}, "no capture in the folder", 4),
+            ("a name that is no capture's", forged(kept={"sums": {"claim.json": "0" * 64}}),
+            "isn't one that is taken", 2),
+            ("a name that is no input's", forged(kept={"sums": {"g.pcap": "0" * 64}}),
+            "isn't one that is taken", 2)):
+        for file, data in files.items():
+            (folder / file).write_bytes(data) if data is not None else (folder / file).unlink()
+        found = dossier("verify", folder)
+        check(f"kept with {name}", status=(found[0], status), said=(said in found[1].decode(), True),
+              page=(table(folder)[0]["verdict"], lambda verdict: verdict in ("not verified", "refused")))
+        before = kept_in(folder)
+        state = {**ENVIRONMENT, "XDG_STATE_HOME": str(place / "none")}
+        dossier("keep", "--years", "1", folder, env=state)
+        check(f"nothing is taken away with {name}", same=(kept_in(folder) == before, True))
+        for file in files:
+            (folder / file).unlink(missing_ok=True)
+        for file, data in kept.items():
+            (folder / file).write_bytes(data)
+    joined = folder_of(place, "joined")
+    (joined / "g.pcap").write_bytes((joined / "f.pcap").read_bytes()[:24])
+    dossier("audit", joined)
+    dossier("keep", joined)
+    check("the page of a kept folder with a joined capture",
+          said=("joined.pcap isn\u2019t kept: <code>ntpaudit-dossier" in dossier("page", joined)[1].decode(), True))
+    copy = place / "copy"
+    shutil.copytree(joined, copy)
+    check("a joined capture is made anew", run=(dossier("audit", "--again", copy)[0], 0),
+          there=("joined.pcap" in listed(copy), True), verified=(dossier("verify", copy)[0], 0))
+    gone = "joined.pcap" in listed(joined)
+    (joined / "joined.pcap").write_bytes(other)
+    check("kept with another joined capture", gone=(gone, False), run=(dossier("verify", joined)[0], 1),
+          page=(table(joined)[0]["verdict"], "not verified"))
+    victim, odd = place / "victim", folder_of(place, "odd")
+    dossier("audit", odd)
+    (odd / "f.pcap.zst").symlink_to(victim)
+    check("keep beside a link", run=(dossier("keep", odd)[0], 2), files=("f.pcap" in listed(odd), True),
+          victim=(victim.exists(), False))
+    (odd / "f.pcap.zst").unlink()
+    for name, script in (("lies", "echo nothing"), ("fails", "exit 1"),
+                         ("is cut off", 'head -c 99 "$3" 2>/dev/null || cat')):
+        (place / "zstd").write_text(f"#!/bin/sh\n{script}\n")
+        (place / "zstd").chmod(0o755)
+        before = kept_in(odd)
+        status, out, _ = dossier("keep", odd, env={**ENVIRONMENT, "PATH": f"{place}:{os.environ['PATH']}"})
+        check(f"a zstd that {name}", run=((status, b"f.pcap can't be packed" in out), (4, True)),
+              same=(kept_in(odd) == before, True))
+    bare = {**ENVIRONMENT, "PATH": str(place / "bin")}
+    (place / "bin").mkdir()
+    (place / "bin" / "python3").symlink_to(sys.executable)
+    (place / "bin" / "env").symlink_to(str(shutil.which("env")))
+    check("keep without zstd", run=(dossier("keep", odd, env=bare)[0], 70), same=(kept_in(odd) == before, True))
+    # Of a bound of its own, as in tests/dossier/test_strangers.py.
+    stranger = folder_of(place, "stranger", bound_ns=5_000_002)
+    dossier("audit", stranger, env=state)
+    check("what isn't known isn't kept", run=(dossier("keep", stranger)[0], 5),
+          files=("f.pcap" in listed(stranger), True))
+
+
+def test_years(place: Path) -> None:
+    """Folders whose span ended long ago are taken away, if they are as they were audited, and no others."""
+    old, lately, kept, changed, more = (good_folder(place, name) if name != "lately" else folder_of(place, name)
+                                        for name in ("old", "lately", "kept", "changed", "more"))
+    dossier("audit", old, lately, kept, changed, more)
+    if not shutil.which("zstd"):
+        skipped("years", "zstd isn't installed")
+        return
+    dossier("keep", kept)
+    check("years that aren't over", run=(dossier("keep", "--years", "90", kept)[0], 0), there=(kept.exists(), True))
+    (changed / "report.txt").write_text("mine")
+    for name in ("notes.txt", "claim.json.zst"):
+        (more / name).write_text("mine")
+    status, out, _ = dossier("keep", "--force", "--years", "20", old, kept, changed, more, lately)
+    check("years", status=(status, 2),
+          gone=([path.exists() for path in (old, kept, changed, more)], [False, False, True, True]),
+          left=(listed(more), ["claim.json.zst", "notes.txt"]), changed=("f.pcap" in listed(changed), True),
+          said=(out.decode().splitlines()[0], f"{old}: taken away"))
+    dossier("keep", "--force", "--years", "1", lately)
+    check("what ended lately", there=("claim.json" in listed(lately), True))
+
+
+# ---- systemd
+
+
+UNITS = ROOT / "systemd"
+RECORDER = "ntpaudit-record@.service"
+
+
+def started_by(unit: str) -> Any:
+    return re.findall(r"^ExecStart=-?(.*)$", (UNITS / unit).read_text(), flags=re.M)
+
+
+def test_systemd_units(place: Path) -> None:
+    """systemd takes the units, and finds them shut."""
+    if not shutil.which("systemd-analyze"):
+        skipped("systemd's units", "systemd isn't installed")
+        return
+    names = (RECORDER, "ntpaudit-daily.service", "ntpaudit-now.service", "ntpaudit-daily.timer", "ntpaudit-now.timer")
+    for name in names:
+        text = (UNITS / name).read_text().replace("=ntpaudit-dossier ", f"={SCRIPT} ")
+        (place / name.replace("@.", "@lo.")).write_text(text)
+    own = [place / name.replace("@.", "@lo.") for name in names]
+    check("systemd-analyze verify", run=(run(["systemd-analyze", "verify", "--man=no", *own]), (0, b"", b"")))
+    for unit in own[:3]:
+        status, out, _ = run(["systemd-analyze", "security", "--offline=yes", "--threshold=20", "--no-pager", unit])
+        check(f"systemd-analyze security {unit.name}", status=(status, 0), told=(b"exposure level" in out, True))
+
+
+def test_recorder(place: Path) -> None:
+    """The recorder's command, called by hand: the names of its files are read by `day`."""
+    command, = started_by(RECORDER)
+    from dossier.capture.recorder import Wanted, words_of
+    called = " ".join(words_of(Wanted("eth0", "/100%", True, None)))
+    check("the recorder keeps tagged frames",
+          filter=(called.endswith(" -- (udp port 123) or (vlan and udp port 123)"), True),
+          own=([word for word in (" -U ", " -G 3600 ", " -C 1000 ", " -j host ", " --time-stamp-precision=nano ",
+                                  " -w /100%%/eth0-%Y-%m-%dT%H%M%SZ.pcap ") if word not in called], []),
+          claim=("ntpaudit/days\n" in re.findall(r"StateDirectory=.*\n", (UNITS / RECORDER).read_text())[0], True))
+    if why := why_no_recording():
+        skipped("the recorder's command", why)
+        return
+    (place / "ntpaudit" / "record").mkdir(parents=True)
+    words = shlex.split(command.replace("%S", str(place)).replace("%I", "lo").replace("%%", "%"))
+    words[0] = str(shutil.which(words[0], path=ROOT))
+    until_it_listens(words, ENVIRONMENT)
+    from dossier.fleet.day import recordings
+    from dossier.folder.files import Folder
+    with Folder(str(place / "ntpaudit" / "record")) as folder:
+        found, ahead = recordings(folder)
+        captures = [name for name in folder.names() if name.endswith(".pcap")]
+        check("the recorder's files", read=(([one.name for one in found], ahead), (captures, [])),
+              some=(len(captures), 1),
+              now=([abs(one.begin - time.time()) < 60 and one.grows for one in found], [True] * len(captures)),
+              beside=([name for name in folder.names() if name not in captures], ["evidence.json", "lo.recorder.json"]))
+
+
+def test_daily(place: Path) -> None:
+    """The commands of the daily unit, called by hand: folder, audit, page and metrics of a day."""
+    state = place / "ntpaudit"
+    state.mkdir()
+    recorder, days, _ = recorded(state, range(-30, 30))
+    environment = {**ENVIRONMENT, "XDG_STATE_HOME": str(place), "PATH": f"{ROOT}:{os.environ['PATH']}"}
+    commands = [command.replace("%S", str(place)).replace("%%", "%")
+                for command in started_by("ntpaudit-daily.service")]
+    check("the daily unit", commands=(len(commands), lambda count: count >= 4))
+    commands = [command.replace("day --from", "day --date 2001-09-09 --from") for command in commands]
+    for command in commands:
+        status, _, err = run(shlex.split(command), env=environment, cwd=days)
+        check(f"the daily command {command[:60]}", run=((status, err), (0, b"")))
+    check_page("the page of the daily unit", (state / "pages" / "index.html").read_text(),
+               ["2001/index.html", "00001.html"])
+    check_page("the year of the daily unit", (state / "pages" / "2001" / "index.html").read_text(),
+               ["00001.html"] * 2)
+    ones = [dict(labels) for (name, *labels), value in metrics_of(state / "ntpaudit.prom").items()
+            if name == "verdict" and value == "1"]
+    check("the metrics of the daily unit", ones=(ones, [{"folder": "2001-09-09", "verdict": "yes"}]))
+    check("the record of the daily unit", there=((state / "audits").exists(), True))

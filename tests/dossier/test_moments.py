@@ -1,0 +1,211 @@
+"""Tests of what the last minutes of a recording say: `ntpaudit-dossier now`.
+
+The captures have times of today, since now is the machine's.
+"""
+import json
+import re
+import signal
+import struct
+import subprocess
+import time
+from collections.abc import Sequence
+from pathlib import Path
+
+from tests.support import check
+from tests.dossier.audits import ENVIRONMENT, SCRIPT, capture_of, dossier
+from tests.dossier.test_captures import records_of
+from tests.dossier.test_daily import metrics_of
+
+CLAIM = {"client": "192.0.2.10", "servers": [f"192.0.2.{k}" for k in (1, 2, 3, 4)], "false_max": 1,
+         "from": "2001-09-09T00:00:00Z", "to": "2001-09-10T00:00:00Z", "bound_ns": 5_000_000, "drift_ppb": 0,
+         "reading_ns": 0}
+RIGHT, AHEAD = "-1000..1000", "85899346..85903640"
+"""Ends in ticks: under a microsecond, and 20.000 to 20.001 ms."""
+
+
+def words_of(parts: Sequence[tuple[int, int, str]], servers: Sequence[int]) -> list[str]:
+    """Exchanges with servers each ten seconds, as parts of seconds with their ends say."""
+    return [f"{server}:{ends}@{second}" for begin, end, ends in parts for second in range(begin, end, 10)
+            for server in servers]
+
+
+def civil(second: int) -> str:
+    return time.strftime("%Y-%m-%dT%H:%M:%SZ", time.gmtime(second))
+
+
+def name_of(second: int, interface: str) -> str:
+    return f"{interface}-{civil(second).replace(':', '')}.pcap"
+
+
+def recorded(place: Path, begin: int, *parts: tuple[int, int, str], interface: str = "eth0",
+             servers: Sequence[int] = (1, 2, 3, 4)) -> Path:
+    place.mkdir(exist_ok=True)
+    return capture_of(place / name_of(begin, interface), *words_of(parts, servers))
+
+
+def claim_in(place: Path, **changes: object) -> Path:
+    path = place / "any.claim.json"
+    path.write_text(json.dumps({**CLAIM, **changes}))
+    return path
+
+
+def now(place: Path, *words: object, claim: Path | None = None) -> tuple[int | str, list[str], str]:
+    status, out, err = dossier("now", "--from", place, "--claim", claim or claim_in(place.parent), *words)
+    return status, out.decode().splitlines(), err.decode()
+
+
+def test_now(place: Path) -> None:
+    """The line, by hand: the span, the verdict, the hull, the bound and the groups."""
+    last = int(time.time()) - 5
+    begin = last - 1500
+    first, end = civil(last - 600), civil(last)
+    span = f"{first} .. {end[11:] if first[:10] == end[:10] else end}"
+    cases = {
+        "right": ([(begin, last + 1, RIGHT)], 0, "yes  -0.001 .. +0.001 ms of 5.000 ms  least 0.001 ms  4 of 4 groups"),
+        "off": ([(begin, last + 1, AHEAD)], 1, "refuted  +20.000 .. +20.001 ms of 5.000 ms  least 20.001 ms  4 of 4 "
+                                               "groups  the clock is off"),
+        "step": ([(begin, last - 300, RIGHT), (last - 300, last + 1, AHEAD)], 1,
+                 "nothing fits  4 of 4 groups"),
+    }
+    for name, (parts, wanted, words) in cases.items():
+        whole = [(begin + (last - begin) % 10 if k == 0 else first, end, ends)
+                 for k, (first, end, ends) in enumerate(parts)]
+        recorded(place / name, begin, *whole)
+        status, lines, err = now(place / name)
+        check(f"the last minutes: {name}", run=((status, err), (wanted, "")), line=(lines, [f"eth0  {span}  {words}"]))
+    old = place / "old"
+    recorded(old, begin - 3600, (begin - 3600, begin - 900, RIGHT))
+    status, lines, _ = now(old)
+    check("a recorder that is silent", status=(status, 1), told=(f"nothing was recorded since {civil(begin - 910)}"
+                                                                 in lines[0] and "no evidence" in lines[0], True))
+    (place / "none").mkdir()
+    status, lines, _ = now(place / "none")
+    check("no recorder", run=(status, 1), told=("nothing was recorded" in lines[0], True))
+    status, _, err = now(place / "right", claim=place / "missing")
+    check("no claim", run=((status, err.count("\n")), (4, 1)))
+
+
+def test_now_of_files(place: Path) -> None:
+    """Files that rotate, one that is torn at its end, two interfaces with the worse first, and a silent group."""
+    last = int(time.time()) - 5
+    begin, cut = last - 1500 + 1500 % 10, last - 200
+    rotated = place / "rotated"
+    recorded(rotated, begin, (begin, cut, RIGHT))
+    second = recorded(rotated, cut, (cut, last + 1, RIGHT))
+    second.write_bytes(second.read_bytes()[:-7])
+    (rotated / name_of(last + 2, "eth0")).touch()
+    (rotated / f"{name_of(begin - 7200, 'eth0')}.gz").write_bytes(b"packed")
+    status, lines, err = now(rotated, "--minutes", "5")
+    torn = [line for line in lines if civil(last - 300) in line]
+    check("files that rotate, torn", run=((status, err), (0, "")), span=(len(torn), 1), lines=(len(lines), 1))
+    recorded(rotated, begin, (begin, last + 1, AHEAD), interface="wlan0")
+    status, lines, _ = now(rotated)
+    check("two interfaces", status=(status, 1), order=([line.split()[0] for line in lines], ["wlan0", "eth0"]))
+    few = place / "few"
+    recorded(few, begin, (begin, last + 1, RIGHT), servers=(1, 2, 3))
+    check("a silent group", line=("  3 of 4 groups" in now(few)[1][0], True))
+    recorded(place / "one", begin, (begin, last + 1, RIGHT), servers=(1,))
+    status, lines, _ = now(place / "one")
+    check("too few groups", run=((status, "no evidence" in lines[0], "1 of 4" in lines[0]), (1, True, True)))
+
+
+def test_now_metrics(place: Path) -> None:
+    last = int(time.time()) - 5
+    begin = last - 1500
+    for name, ends in (("right", RIGHT), ("off", f"-{AHEAD.split('.')[-1]}..-{AHEAD.split('.')[0]}")):
+        recorded(place / name, begin, (begin, last + 1, ends))
+        now(place / name, "--metrics", place / "m.prom")
+        found = {(key, dict(labels).get("verdict", "")): value
+                 for (key, *labels), value in metrics_of(place / "m.prom").items()}
+        own = {key.removeprefix("now_"): value for (key, verdict), value in found.items() if not verdict}
+        hull = ("-0.000000233", "0.000000233") if name == "right" else ("-0.020001000", "-0.020000000")
+        check(f"metrics of the last minutes: {name}",
+              verdict=([verdict for (key, verdict), value in found.items() if verdict and value == "1"],
+                       ["yes" if name == "right" else "refuted"]),
+              own=({key: own[key] for key in own if key != "least_bound_seconds"},
+                   {"clock_off": str(int(name == "off")), "claimed_bound_seconds": "0.005000000",
+                    "hull_low_seconds": hull[0], "hull_high_seconds": hull[1], "groups_heard": "4", "groups": "4",
+                    "last_record_timestamp_seconds": own["last_record_timestamp_seconds"]}),
+              last=(last - 10 <= float(own["last_record_timestamp_seconds"]) <= last + 1, True))
+
+
+def test_follow(place: Path) -> None:
+    """In a pipe a line each time, until it is interrupted: then one more, and the last look's status."""
+    last = int(time.time()) - 5
+    recorded(place / "rec", last - 1500, (last - 1500, last + 1, AHEAD))
+    words = [str(SCRIPT), "now", "--from", str(place / "rec"), "--claim", str(claim_in(place)), "--follow", "1"]
+    with subprocess.Popen(words, env=ENVIRONMENT, stdout=subprocess.PIPE, stderr=subprocess.PIPE, text=True) as call:
+        assert call.stdout
+        lines = [call.stdout.readline() for _ in range(2)]
+        call.send_signal(signal.SIGINT)
+        out, err = call.communicate(timeout=60)
+    check("now --follow", status=(call.returncode, 1), lines=([" refuted " in line for line in lines], [True, True]),
+          end=(out.splitlines()[-1].startswith("ended after "), True), err=(err, ""), colours=("\x1b" in out, False))
+
+
+def test_band(place: Path) -> None:
+    """What stands on a terminal is no wider than that, and shows the hull and the bound."""
+    from dossier.fleet.band import Band
+    from dossier.folder.entry import Piece
+    from dossier.folder.result import Moment
+    pieces = [Piece(k, second, second + 1, (-1000, 1000) if second < 3300 else (85_899_346, 85_903_640))
+              for k, second in enumerate(range(0, 3600))]
+    moment = Moment("eth0", 0, 3600, "refuted", 5_000_000, 4, 3600, 4, 20_001_000, "", pieces)
+    for columns in (40, 60, 80, 200):
+        for has_colour in (False, True):
+            band = Band(True, has_colour)
+            band.add([moment])
+            width = min(max(60, columns - 1), 160)
+            head, rows = band.head(moment, width), band.band(moment, width)
+            words = [re.sub(r"\x1b\[\d+m", "", row) for row in head]
+            check(f"the band of {columns} columns", wide=([row for row in words + rows if len(row) > width], []),
+                  colours=(any("\x1b" in row for row in head), has_colour),
+                  right=("#" in rows[4] and rows[4].count("!") < 2, True),
+                  off=("!" in rows[0] and "#" not in rows[0], True),
+                  bounds=(sum("+5.000 ms" in row or "-5.000 ms" in row for row in rows), 2))
+
+
+def test_tail(place: Path) -> None:
+    """The end of a large capture is read as the whole is, from any second on, whatever stands in its packets."""
+    from dossier.folder.files import Folder
+    from dossier.capture.tail import Growing
+    words = [f"{k}:-1000..1000@{1_000_000_000 + k}x4000" for k in (1, 2, 3, 4)]
+    whole = capture_of(place / "plain.pcap", *words).read_bytes()
+    records = sorted(records_of(whole), key=lambda record: struct.unpack("<II", record[:8]))
+    # packets in which records seem to stand: whole ones, ones that lead into the next packet, and zeros
+    fake = struct.pack("<IIII", 1_000_001_000, 0, 20, 20) + bytes(20)
+    leading = struct.pack("<IIII", 1_000_001_000, 0, 60_000, 60_000)
+    hostile = [struct.pack("<IIII", *struct.unpack("<II", record[:8]), 2 * len(body), 2 * len(body)) + 2 * body
+               for record, body in zip(records, [fake, leading, bytes(64)] * len(records))]
+    files = {"plain": whole[:24] + b"".join(records),
+             "hostile": whole[:24] + b"".join(map(bytes.__add__, records, hostile))}
+    for name, data in files.items():
+        (place / f"{name}.pcap").write_bytes(data)
+        own = records_of(data)
+        with Folder(str(place)) as folder:
+            file = Growing(folder, f"{name}.pcap")
+            seconds = [int.from_bytes(record[:4], "little") for record in own]
+            check(f"the last record of {name}", last=(file.last, seconds[-1]), size=(len(data) > 1 << 21, True))
+            for second in (seconds[0] - 1, seconds[0], seconds[0] + 1, 1_000_002_000, 1_000_003_900, seconds[-1],
+                           seconds[-1] + 1):
+                first = next((k for k, own_second in enumerate(seconds) if own_second >= second), len(own))
+                wanted = data[:24] + b"".join(own[first:])
+                check(f"{name} since {second}", same=(file.since(second) == (wanted, first > 0), True))
+
+
+def test_many_ways(place: Path) -> None:
+    """Packets in which records seem to stand at every 16 bytes, each way leading into the next packet: the search for
+    one's begin ends after as many places as it may look at, and then the file is read from its own begin."""
+    from dossier.capture.tail import MOST_PLACES, Growing
+    from dossier.folder.files import Folder
+    length, count, begin = 1424, 20_000, 1_000_000_000
+    way = struct.pack("<IIII", begin + 5_000, 0, length, length)
+    record = struct.pack("<II", length, length) + way * (length // 16)
+    own = [struct.pack("<II", begin + number, 0) + record for number in range(count)]
+    data = struct.pack("<IHHIIII", 0xA1B2C3D4, 2, 4, 0, 0, 262_144, 1) + b"".join(own)
+    (place / "f.pcap").write_bytes(data)
+    with Folder(str(place)) as folder:
+        file = Growing(folder, "f.pcap")
+        check("many ways", size=(len(data) // 16 > 3 * MOST_PLACES, True),
+              same=(file.since(begin + count - 9) == (data[:24] + b"".join(own[-9:]), True), True),
+              last=(file.last, begin + count - 1), left=(file.heads.left, 0))

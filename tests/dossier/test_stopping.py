@@ -1,0 +1,221 @@
+"""Tests of folders that would stop the others: what crashes, has no end, takes all memory or room, or comes from afar.
+"""
+import json
+import os
+import shutil
+import time
+from pathlib import Path
+from typing import Any
+
+from tests.support import DATA, ROOT, Ran, check, run, sum_of
+from tests.dossier.audits import ENVIRONMENT, KEEP, PROGRAM, SCRIPT, capture_of, dossier, folder_of, rows, skipped
+from tests.dossier.leaps import leap_list
+from tests.dossier.test_captures import records_of
+from tests.dossier.test_daily import kept_in, recorded
+from tests.dossier.test_evidence import FIRST, MINUTE
+from tests.dossier.test_strangers import elsewhere, forge, limited
+
+GOOD = "yes           {}: least bound 0.619 ms, claimed 5 ms"
+
+
+def ended_well(name: str, ran: Ran, good: Path, said: str = "") -> None:
+    """A call ends, says something of each folder, and has the good one as without the others."""
+    status, out, err = ran
+    check(name, ended=(isinstance(status, int), True), trace=(b"Traceback" in err, False),
+          good=(GOOD.format(good) in out.decode() or f"{good}: verified: yes" in out.decode(), True),
+          said=(said in out.decode(), True))
+
+
+def test_crashes(place: Path) -> None:
+    """What made a traceback of one folder's: each is that folder's, with words, and the good one is audited."""
+    good, folders = folder_of(place, "good"), []
+    for number, seconds in enumerate((2**40, -(2**40), 10**14)):
+        folders.append(folder_of(place, f"list {number}"))
+        dossier("audit", folders[-1], env=elsewhere(place))
+
+        def far(record: dict[str, Any], _: object, seconds: int = seconds) -> None:
+            record["leap_seconds"].update(good_until=seconds, seconds=[[seconds, 1]])
+        forge(folders[-1], far)
+        list_ = leap_list(place / f"{number}.list", seconds, (seconds - 10, 11))
+        check(f"a list of one's own that ends in {seconds}",
+              run=(dossier("audit", "--leap-seconds", list_, good),
+                   (2, b"", b"ntpaudit-dossier: the list of leap seconds isn't one\n")))
+    blank = folder_of(place, "blank", DATA / "clients-us.pcap", bound_ns=600_000)
+    dossier("audit", blank, env=elsewhere(place))
+    text = (blank / "refutation.json").read_bytes()
+    (blank / "refutation.json").write_bytes(b" " + text)
+    sum_ = sum_of(b" " + text)
+
+    def other(record: dict[str, Any], entry: dict[str, Any]) -> None:
+        record["program"]["sha256"] = "0" * 64
+        entry["outputs"]["refutation.json"] = sum_
+    forge(blank, other)
+    folders += [blank, place / "\u00e9", place / "missing"]
+    shutil.copytree(good, place / "\u00e9")
+    for command in ("verify", "audit"):
+        if command == "verify":
+            dossier("audit", good)
+        ended_well(f"crashes: {command}", dossier(command, *folders, good), good)
+    ascii_only = {**ENVIRONMENT, "LC_ALL": "C", "PYTHONUTF8": "0", "PYTHONCOERCECLOCALE": "0",
+                  "PYTHONIOENCODING": "ascii"}
+    for words in (("audit", "--again"), ("verify",), ("page", "-o", place / "p.html"), *KEEP):
+        status, out, err = dossier(*words, place / "\u00e9", good, env=ascii_only)
+        check(f"an ASCII locale: {words[0]}", status=(status, 0), error=(err, b""))
+    folder = folder_of(place, "slow")
+    slow = place / "slow.program"
+    slow.write_text(f'#!/bin/sh\ncmp -s 0.pcap "{folder}/f.pcap" && [ "$1" = samples ] && exec sleep 60\n'
+                    f'exec "{PROGRAM}" "$@"\n')
+    slow.chmod(0o755)
+    (folder / "f.pcap").write_bytes((DATA / "vlan-ns.pcap").read_bytes())
+    begun = time.monotonic()
+    ran = dossier("audit", "--again", "--limit", "8", folder, good, env={**ENVIRONMENT, "NTPAUDIT": str(slow)})
+    ended_well("what doesn't end", ran, good, "not done within 8 s (--limit)")
+    check("what doesn't end is ended", quick=(time.monotonic() - begun < 50, True))
+
+
+def test_bad_recordings(place: Path) -> None:
+    """A recorder's file that is too big or can't be read is named, and the day is made of the others."""
+    recorder, days, names = recorded(place, range(4))
+    with open(recorder / names[1], "r+b") as large:
+        large.truncate((1 << 32) + 1)
+    os.utime(recorder / names[1], times=(0, os.stat(recorder / names[2]).st_mtime - 3600))
+    (recorder / names[2]).unlink()
+    os.mkfifo(recorder / names[2])
+    status, out, err = dossier("day", "--from", recorder, "--to", days, "--date", "2001-09-09")
+    check("a day with bad files", status=(status, 2), path=(out, f"{days}/2001-09-09\n".encode()),
+          named=([f"{name} is {what}" in err.decode() for name, what in zip(names[1:3], ("too big", "a FIFO"))],
+                 [True] * 2),
+          files=(sorted(kept_in(days / "2001-09-09")), ["claim.json", names[0], names[3]]))
+    text = (ROOT / "systemd" / "ntpaudit-daily.service").read_text()
+    steps = [line for line in text.splitlines() if line.startswith("ExecStart=")]
+    check("no step of the daily unit stops another", steps=([line[10] for line in steps], ["-"] * len(steps)))
+
+
+def test_budget(place: Path) -> None:
+    """What would take all memory, room or time: ranges are looked at before work, and a budget holds for the rest."""
+    span: dict[str, Any] = {"from": "1000-01-01T00:00:00Z", "to": "9999-12-31T00:00:00Z"}
+    many, one = folder_of(place, "days", **span), folder_of(place, "one")
+    wide = folder_of(place, "step", servers=[f"192.0.2.{number}" for number in range(1, 33)],
+                     **{"from": "2026-11-22T00:00:00Z", "to": "2026-11-23T00:00:00Z"})
+    for words, folder, said in rows((("--days",), many, b"more than 1,100 days"),
+                                (("--step", "1"), wide, b"lines, and a folder")):
+        begun, (status, out, _) = time.monotonic(), limited("audit", *words, folder, timeout=60)
+        check(f"too much: {folder.name}", status=(status, 2), said=(said in out, True),
+              quick=(time.monotonic() - begun < 30, True))
+    dossier("audit", one, env=elsewhere(place))
+
+    def of_days(record: dict[str, Any], entry: dict[str, Any]) -> None:
+        record["options"] = {"days": True}
+        entry["claim"].update(span)
+        record["inputs"]["claim.json"] = sum_of((many / "claim.json").read_bytes())
+    forge(one, of_days)
+    shutil.copy(many / "claim.json", one)
+    status, out, _ = limited("verify", one, timeout=60)
+    check("options that name days", run=((status, b"more than 1,100 days" in out), (2, True)))
+    from dossier.folder import jobs
+    from dossier.capture import traffic
+    work, bounds = wanted_of(place), jobs.bounds_of
+    for name, few, limit in (("memory", jobs.Bounds(60, 1 << 22, 1 << 30), "out of memory"),
+                            ("room", jobs.Bounds(60, 1 << 30, 9000), "more room than a folder may"),
+                            ("processor", jobs.Bounds(1, 1 << 30, 1 << 30), "not done within 1 s")):
+        jobs.bounds_of = lambda *_, few=few: few
+        try:
+            own = str(folder_of(place, name))
+            does: Any = {"processor": endless, "memory": lambda *_: bytearray(1 << 30)}.get(name, work)
+            found, = (found for _, found in jobs.run_all([own], does, 60))
+        finally:
+            jobs.bounds_of = bounds
+        said_of = [found.refusal.line] if found.refusal else found.lines
+        check(f"a budget of {name}", status=(found.status in (2, 3, 4), True), said=(limit in said_of[0], True))
+    all_jobs = [jobs.bounds_of(600, number) for number in (1, 4)]
+    check("one budget for all jobs", memory=(all_jobs[0].memory // 4, all_jobs[1].memory),
+          most=(2 * all_jobs[0].memory < os.sysconf("SC_PAGE_SIZE") * os.sysconf("SC_PHYS_PAGES"), True))
+    most, traffic.MOST_PAIRS = traffic.MOST_PAIRS, 3
+    try:
+        traffic.read_traffic(running_program(), str(DATA / "clients-us.pcap"))
+        told = ""
+    except Exception as fault:
+        told = str(fault)
+    finally:
+        traffic.MOST_PAIRS = most
+    check("many addresses", said=("pairs of addresses" in told, True))
+
+
+def endless(*_: object) -> None:
+    while True:
+        pass
+
+
+def running_program() -> Any:
+    from dossier.folder.entry import Made
+    from dossier.folder.program import Program
+    return Program(PROGRAM, Made("ntpaudit", "0" * 64))
+
+
+def wanted_of(place: Path) -> Any:
+    """What audits a folder in this process's children, for the constants that are changed here."""
+    from dossier.fleet import audit
+    from dossier.folder.entry import LeapList, Options
+    from dossier.folder.registry import Known
+    wanted = audit.Wanted(Options(), False, LeapList("none", good_until=4_000_000_000),
+                          Known(str(place / "state"), True), running_program())
+    return lambda path, number: audit.audit(wanted, path, number)
+
+
+def test_flood(place: Path) -> None:
+    """What comes from afar is left out before limits apply, all that is of the claim's client and servers is kept, and
+    the page names it."""
+    from dossier.capture import captures, classic, recorder
+    from dossier.folder import jobs
+    words = [f"{server}:-1000..1000@{FIRST + 5 + 5 * number}" for number in range(10) for server in range(1, 8)]
+    own = [word for word in words if word[0] in "12"]
+    two = {**MINUTE, "servers": ["192.0.2.1", "192.0.2.2"]}
+    flooded, plain = (folder_of(place, name, capture_of(place / f"{name}.pcap", *some), **two)
+                      for name, some in (("flooded", words), ("plain", own)))
+    damaged = folder_of(place, "damaged", place / "flooded.pcap", **two)
+    whole = (damaged / "f.pcap").read_bytes()
+    first, *rest = records_of(whole)
+    spoilt = first[:4] + b"\xff\xff\xff\xff" + first[8:]
+    (damaged / "f.pcap").write_bytes(whole[:24] + first + b"".join(rest[:99]) + spoilt + b"".join(rest[99:]))
+    kept, captures.MANY, classic.MOST_RECORDS = (captures.MANY, classic.MOST_RECORDS), 16, 60
+    try:
+        found = dict(jobs.run_all([str(flooded), str(plain)], wanted_of(place), 600))
+        refused = jobs.run_one(str(damaged), wanted_of(place))
+    finally:
+        captures.MANY, classic.MOST_RECORDS = kept
+    check("a flood that is damaged", status=(refused.status, 2),
+          said=("so it can't be thinned out" in refused.lines[0], True))
+    records = records_of((flooded / "joined.pcap").read_bytes())
+    row, = json.loads(dossier("page", "--json", "--state", place / "state", flooded)[1])
+    check("a flood", status=([one.status for one in found.values()], [0, 0]),
+          records=([one[:16] for one in records], [one[:16] for one in records_of((plain / "f.pcap").read_bytes())]),
+          joined=((plain / "joined.pcap").exists(), False),
+          same=((flooded / "envelope.txt").read_bytes(), (plain / "envelope.txt").read_bytes()),
+          said=([words for words in row["warnings"] if "100 records of the capture are of others" in words],
+                lambda said: len(said) == 1))
+    unit = (ROOT / "systemd" / "ntpaudit-record@.service").read_text()
+    status, out, _ = dossier("filter", plain / "claim.json")
+    called = recorder.words_of(recorder.Wanted("eth0", str(place), True, str(plain / "claim.json")))
+    check("the recorder's filter", ceiling=(called[called.index("-C") + 1], "1000"),
+          own=(called[-1] + "\n", out.decode()), unit=(" --hourly --claim %S/ntpaudit/days/claim.json " in unit, True),
+          run=((status, out), (0, b"(udp port 123 and (host 192.0.2.1 or host 192.0.2.2)) or (vlan and udp port 123 "
+                               b"and (host 192.0.2.1 or host 192.0.2.2))\n")),
+          none=(dossier("filter", place / "none")[:2], (0, b"(udp port 123) or (vlan and udp port 123)\n")))
+
+
+def test_dead_mounts(place: Path) -> None:
+    """Folders on a mount that never answers: each is refused when its time is over, and the good one is as without."""
+    mounted, good = place / "mounted", folder_of(place / "real", "good")
+    mounted.mkdir()
+    for kind in ("read", "open", "readdir", "getattr"):
+        script = ('exec 3< <("$0" "$1" "$2" "$3" 2>&1); read -r said <&3; [ "$said" = mounted ] || exit 99; '
+                  'place=$2; shift 3; "$@" | cat; status=${PIPESTATUS[0]}; umount -f "$place"; exit $status')
+        words = ["audit", "--again", "--limit", "6", mounted / "good", good]
+        ran = run(["unshare", "-m", "--propagation", "private", "bash", "-c", script, ROOT / "tests/tools/hanging",
+                   place / "real", mounted, kind, SCRIPT, *words], env=ENVIRONMENT)
+        if ran[0] in (1, 99, 127) and b"yes" not in ran[1]:
+            skipped("folders on a mount that never answers", "nothing can be mounted by FUSE here")
+            return
+        check(f"a mount that never answers a {kind}", status=(ran[0], 2))
+        ended_well(f"a mount that never answers: {kind}", ran, good,
+                   f"refused       {mounted}/good: ntpaudit-dossier: not done within 6 s (--limit)\n")

@@ -1,0 +1,1057 @@
+"""Audits captures of data/ with ntpaudit-dossier, and holds its tables, pages and pictures to what the program prints.
+
+- The figures of the table are those of `settle`, `check` and `envelope`, and a picture's coordinates those of the
+  envelope.
+- Pages are well-formed, fetch and run nothing, and interpret no name, whatever stands in it.
+- Folders side by side, resumed after a kill, refused, on a full disk, broken off; changed and then verified.
+- Files that change between their sums and the verdict, by a stand-in for the program that changes them.
+- Drafts of claims, days, each verdict and each reason of it, GNU parallel, a Slurm array.
+"""
+import csv
+import hashlib
+import io
+import json
+import math
+import os
+import random
+import re
+import shutil
+import signal
+import struct
+import subprocess
+import tempfile
+import textwrap
+import time
+from collections import Counter
+from collections.abc import Iterator
+from concurrent.futures import ThreadPoolExecutor
+from contextlib import suppress
+from fractions import Fraction
+from html.parser import HTMLParser
+from itertools import product
+from pathlib import Path
+from typing import Any
+from unittest.mock import patch
+
+from tests.support import DATA, ROOT, SECONDS, check, files_in, run
+from tests.dossier.audits import (CLAIMS, ENVIRONMENT, PROGRAM, SCRIPT, STATE, TICKS_PER_MS, capture_of, check_page,
+                                  dossier, folder_of, match_of, parts_left, rows, skipped, table)
+from tests.dossier.test_captures import records_of
+from tests.system.fault_lines import fault_lines
+
+# ---- figures
+
+
+def seen_of_program(claim: Path, capture: Path, entry: dict[str, Any]) -> tuple[str, str, int, int, int, bytes]:
+    """Verdict, least bound, its piece and the number of samples, straight from the program."""
+    asked = [PROGRAM, "envelope", claim, capture, "--least", "--step", str(entry["envelope_step"])]
+    envelope = run(asked)[1].decode().splitlines()
+    _, least, _, piece = envelope[-1].split()
+    said = run([PROGRAM, "samples", claim, capture])[1].decode()
+    samples = int(match_of(r"(?m)^records .* samples (\d+) ", said)[1])
+    status, text, _ = run([PROGRAM, "settle", claim, capture])
+    check_it = ["check", claim, capture, "/dev/stdin"] if status == 0 else ["refute", claim, capture, "/dev/stdin",
+                                                                            "--drift"]
+    report = run([PROGRAM, *check_it], text)[1]
+    verdict = "yes" if report.endswith(b"verdict yes\n") else "refuted" if report == b"refuted yes\n" else ""
+    begin, end = envelope[int(piece)].split()[1:3]
+    return verdict, least, int(begin), int(end), samples, report
+
+
+def test_figures(place: Path) -> None:
+    folders = [folder_of(place, claim.name, DATA / f"{claim.name.split('.')[0]}.pcap", claim) for claim in CLAIMS]
+    status, out, err = dossier("audit", *folders)
+    rows = table(*folders)
+    worst = 0
+    for claim, folder, row in zip(CLAIMS, folders, rows):
+        entry = json.loads((folder / "audit.json").read_text())["entries"][0]
+        verdict, least, begin, end, samples, report = seen_of_program(claim, DATA / f"{claim.name.split('.')[0]}.pcap",
+                                                                      entry)
+        worst = max(worst, verdict != "yes")
+        check(f"figures of {claim.name}", verdict=(row["verdict"], verdict), least=(str(row["least_bound_ns"]), least),
+              worst=((entry["worst"]["from"], entry["worst"]["to"]), (begin, end)), samples=(row["samples"], samples),
+              report=((folder / "report.txt").read_bytes(), report),
+              times=(row["worst_begin"], time.strftime("%Y-%m-%dT%H:%M:%SZ", time.gmtime(begin))))
+    check("audits of data/", status=(status, worst), error=(err, b""), lines=(len(out.splitlines()), len(CLAIMS) + 1))
+    text = dossier("page", *folders)[1].decode()
+    check_page("a page of data/", text)
+    for folder, row in zip(folders, rows):
+        micros = -(-row["least_bound_ns"] // 1000)
+        shown = f"{micros // 1000:,}.{micros % 1000:03} ms"
+        check(f"the page's row of {folder.name}", shown=(f">{shown}</td>" in text, True))
+    lines = list(csv.DictReader(io.StringIO(dossier("page", "--csv", *folders)[1].decode())))
+    check("the table as CSV",
+          rows=(sorted((row["machine"], row["verdict"], row["least_bound_ns"]) for row in lines),
+                sorted((row["machine"], row["verdict"], str(row["least_bound_ns"])) for row in rows)))
+    check("verify of data/",
+          lines=([line for line in dossier("verify", *folders)[1].decode().splitlines() if ": (" not in line],
+                 [f"{folder}: verified: {row['verdict']}" for folder, row in zip(folders, rows)]))
+    again = dossier("audit", *folders)
+    check("audits that are done", status=(again[0], worst), unchanged=(again[1].count(b"(unchanged)"), len(CLAIMS)))
+
+
+class Figures(HTMLParser):
+    """The lines of a page's tables, each a list of its cells' words; the words that stand outside of tables; and those
+    that describe pictures."""
+
+    def __init__(self, text: str) -> None:
+        super().__init__()
+        self.rows, self.within = list[list[str]](), list[str]()
+        self.rest = self.described = ""
+        self.feed(text)
+        self.close()
+
+    def handle_starttag(self, tag: str, attributes: list[tuple[str, str | None]]) -> None:
+        if tag in ("td", "svg", "desc", "style"):
+            self.within.append(tag)
+        if tag == "tr":
+            self.rows.append([])
+        if tag == "td":
+            self.rows[-1].append("")
+
+    def handle_endtag(self, tag: str) -> None:
+        if self.within[-1:] == [tag]:
+            self.within.pop()
+
+    def handle_data(self, words: str) -> None:
+        place = self.within[-1] if self.within else ""
+        if place == "td":
+            self.rows[-1][-1] += words
+        elif place == "desc":
+            self.described += words
+        elif not place:
+            self.rest += f" {' '.join(words.split())}"
+
+
+def ms(number: int | Fraction, per_ms: int | Fraction, up: bool) -> str:
+    """A whole number of some unit in milliseconds, to the microsecond, rounded up or down."""
+    exact = Fraction(number) / Fraction(per_ms)
+    thousandths = math.ceil(exact * 1000) if up else math.floor(exact * 1000)
+    sign = "\u2212" if thousandths < 0 else ""
+    return f"{sign}{abs(thousandths) // 1000:,}.{abs(thousandths) % 1000:03}"
+
+
+def ticks_range(low: int, high: int) -> str:
+    return f"{ms(low, Fraction(2**32, 1000), False)} to {ms(high, Fraction(2**32, 1000), True)} ms"
+
+
+def civil(seconds: float) -> str:
+    return time.strftime("%Y-%m-%d %H:%M:%S", time.gmtime(seconds))
+
+
+class Said:
+    """What the program says of an audit, asked again, and written as a page is to write it."""
+
+    def __init__(self, claim: Path, folder: Path, entry: dict[str, Any]) -> None:
+        self.claim, capture = json.loads(claim.read_text()), folder / "f.pcap"
+        self.samples = run([PROGRAM, "samples", claim, capture])[1].decode().splitlines()
+        asked = [PROGRAM, "envelope", claim, capture, "--servers", "--least", "--step", str(entry["envelope_step"])]
+        *lines, _, closing = (line.split() for line in run(asked)[1].decode().splitlines())
+        self.hulls = [list(map(int, words[1:])) for words in lines if "." not in words[1]]
+        self.begin = civil(self.hulls[int(closing[3])][0])
+        self.least, self.bound = ms(int(closing[1]), 10**6,
+                                    True), f"{self.claim['bound_ns'] / 10**6:,.6f}".rstrip("0").rstrip(".")
+        self.groups = self.claim.get("groups") or [[k] for k in range(len(self.claim["servers"]))]
+        self.ends = {address: [(int(words[2]), int(words[3])) for words in lines if words[1] == address]
+                     for address in self.claim["servers"]}
+        self.error = Fraction(entry["refutation"]["error"] * 1000, 2**32)
+        self.error_ms = f"{'-' if self.error < 0 else ''}{math.trunc(abs(self.error) * 1000) / 1000:,.3f}"
+        self.report = (folder / "report.txt").read_text()
+
+    def servers(self) -> Iterator[list[str]]:
+        held = Counter(line.split()[1] for line in self.samples[:-1])
+        for number, address in enumerate(self.claim["servers"]):
+            ends, group = self.ends[address], next(k for k, members in enumerate(self.groups) if number in members)
+            outer = ticks_range(min(low for low, _ in ends), max(high for _, high in ends)) if ends else "no sample"
+            yield [address, str(number), str(group), f"{held[address]:,}", outer]
+
+    def counts(self) -> list[list[str]]:
+        words = self.samples[-1].split()
+        return [[what, f"{int(number):,}"] for what, number in zip(words[::2], words[1::2])]
+
+    def hull(self) -> str:
+        return ticks_range(min(hull[2] for hull in self.hulls), max(hull[3] for hull in self.hulls)).replace("\u2212",
+                                                                                                             "-")
+
+    def figures(self) -> set[str]:
+        """All numbers that may stand in the page's sentences."""
+        lengths = map(len, (self.hulls, self.claim["servers"], self.groups))
+        hulls = (word for hull in self.hulls for word in ticks_range(*hull[2:]).replace("\u2212", "").split())
+        return {self.bound, self.least, self.error_ms.lstrip("-"),
+                *map(str, (0, 1, 10, *lengths, self.claim["false_max"])), f"{self.claim['drift_ppb']:,}",
+                *re.findall(r"\d+", self.samples[-1] + self.report), *hulls}
+
+
+NO_FIGURE = re.compile(r"by [\d.]+ m?s\b|SHA-256|\d+(?:\.\d+){3}|\d{4}-\d\d-\d\d(?:[T "
+                       r"][\d:]{8}Z?)?|\b[\d:]{8}\b|[0-9a-f]{16} and on"
+                       r"|logic [0-9a-f]{16}|ntpaudit [\d.]+|in [\d.]+ s\.|--step \d+|bound-0|pieces of \d+ "
+                       r"s|10\^9|version 4")
+"""What has digits and is no figure of an answer: addresses, times, sums, versions, calls."""
+
+
+def sums_of(folder: Path) -> dict[str, str]:
+    return {path.name: hashlib.sha256(path.read_bytes()).hexdigest() for path in folder.iterdir()
+            if path.name != "audit.json"}
+
+
+def test_page_figures(place: Path) -> None:
+    """Each figure of a page, held to what the program prints: none is missing, and there is no other."""
+    program_sum = hashlib.sha256(Path(PROGRAM).read_bytes()).hexdigest()
+    for claim in CLAIMS:
+        folder, name = folder_of(place, claim.name, DATA / f"{claim.name.split('.')[0]}.pcap",
+                                 claim), f"on the page of {claim.name}"
+        dossier("audit", folder)
+        entry = json.loads((folder / "audit.json").read_text())["entries"][0]
+        said, page = Said(claim, folder, entry), Figures(dossier("page", folder)[1].decode())
+        rows = [[cell.strip() for cell in row] for row in page.rows]
+        check(f"servers {name}", rows=([row[:5] for row in rows if len(row) == 6], list(said.servers())))
+        check(f"counts {name}",
+              rows=([row[:2] for row in rows if len(row) == 3 and row[1].replace(",", "").isdecimal()], said.counts()))
+        check(f"sums {name}",
+              rows=({row[0]: row[2] for row in rows if row[1:2] in (["input"], ["left by the audit"])},
+                    sums_of(folder)), program=([row[2] for row in rows if row[1:2] == ["the program"]], [program_sum]))
+        check(f"the line {name}", client=(rows[1][2], said.claim["client"]),
+              bounds=(rows[1][5:7], [f"{said.bound} ms", f"{said.least} ms"]),
+              span=([f"{cell.replace(' ', 'T')}Z" for cell in rows[1][3:5]], [said.claim["from"], said.claim["to"]]),
+              worst=(rows[1][7], said.begin), samples=(rows[1][8], f"{len(said.samples) - 1:,}"),
+              servers=(rows[1][9].split()[0], str(len(said.claim["servers"]))),
+              granted=(rows[1][10], f"{said.claim['false_max'] or 'none'} wrong"))
+        widest = re.search(rf"may have been off was {said.least} ms, (at|between) {said.begin}", page.rest)
+        check(f"what a manager reads {name}", within=(f"was within {said.bound} ms of UTC" in page.rest, True),
+              least=(bool(widest), entry["verdict"] == "yes"),
+              begin=(said.claim["from"].replace("T", " ").rstrip("Z") in page.rest, True))
+        check(f"what refutes it {name}", said=("no certificate can" in page.rest, entry["verdict"] == "refuted"),
+              course=(f"an error of {said.error_ms} ms at {civil(entry['refutation']['reading'] // 2**32)}"
+                      in page.rest.replace("\u2212", "-"), True))
+        check(f"the words of the picture {name}", hull=(f"The hull lies within {said.hull()}." in page.described, True))
+        sentences = " ".join([page.rest, *(" ".join(row) for row in rows if len(row) in (1, 4))])
+        sentences = sentences.replace(str(folder), "").replace(STATE, "")
+        seen = set(re.findall(r"\d[\d,]*(?:\.\d+)?", NO_FIGURE.sub(" ", sentences)))
+        check(f"no other figure {name}",
+              seen=(sorted(seen - said.figures() - {f"{said.claim['reading_ns'] / 10**6:g}"}), []))
+
+
+def test_rounding() -> None:
+    from dossier.units import high_ms, low_ms, ns_ms, ns_up_ms
+    for ticks in (0, 1, -1, 4294967, 4294968, -4294967, -9936214, 9705162, -(10**13), 10**13 + 1):
+        low, high = (float(text.replace(",", "")) * TICKS_PER_MS for text in (low_ms(ticks), high_ms(ticks)))
+        check(f"{ticks} ticks in milliseconds", low=(low <= ticks + 1e-3, True), high=(high >= ticks - 1e-3, True),
+              near=(high - low < 4296, True))
+    check("nanoseconds in milliseconds",
+          seen=([ns_ms(5000000), ns_ms(956568), ns_up_ms(956568), ns_up_ms(956000)],
+                ["5", "0.956568", "0.957", "0.956"]))
+
+
+def seen_in_texts(claim: Path, capture: Path) -> dict[str, Any]:
+    """Of the texts of `list` and `samples` what is read of a capture: packets and samples, one after another."""
+    packets = [line.split()[:2] for line in run([PROGRAM, "list", capture])[1].decode().splitlines()[:-1]]
+    at = {int(number): int(Fraction(time) * 10**9) for number, time in packets}
+    samples = [line.split() for line in run([PROGRAM, "samples", claim, capture])[1].decode().splitlines()[:-1]]
+    times = list(at.items())
+    falls = [(number, before, time) for (_, before), (number, time) in zip(times, times[1:]) if time < before]
+    return {"by_server": dict(Counter(words[1] for words in samples)), "falls": len(falls),
+            "fall": falls[0] if falls else None, "replies": [at[int(words[3])] for words in samples],
+            "first_request": at[min(int(words[2]) for words in samples)] if samples else None,
+            "first": min(at.values(), default=None), "last": max(at.values(), default=None)}
+
+
+def test_recordings() -> None:
+    """What is read of a capture is what `list` and `samples` say, whether their texts come in small pieces or in large
+    ones, and whether the capture holds the claim's packets alone."""
+    from dossier.capture import recording
+    from dossier.folder import jobs
+    from dossier.folder.entry import Made
+    from dossier.folder.program import Program
+    program, ways = Program(PROGRAM, Made("", "")), [(700, 1), (vars(jobs)["BLOCK"], recording.AT_ONCE)]
+    with tempfile.TemporaryDirectory(prefix="ntpaudit-") as place:
+        claim = Path(place) / "claim.json"
+        claim.write_text(json.dumps(CLAIM_OF_TWO))
+        other = Path(place) / "other.json"
+        other.write_text(json.dumps({**CLAIM_OF_TWO, "servers": ["192.0.2.2"]}))
+        falling = capture_of(Path(place) / "falls.pcap",
+                             *(f"{1 + k % 2}:-1000..1000@{1000000000 + 5 * (k ^ 1)}" for k in range(40)))
+        whole = falling.read_bytes()
+        first, second, *rest = records_of(whole)
+        falling.write_bytes(whole[:24] + first + first[:8] + second[8:] + b"".join(rest))  # (two are of one time)
+        lists = set()
+        for claim, capture in [(claim, falling), (other, falling),
+                               *((claim, DATA / f"{claim.name.split('.')[0]}.pcap") for claim in CLAIMS)]:
+            wanted = seen_in_texts(claim, capture)
+            for block, at_once in ways:
+                with patch.object(jobs, "BLOCK", block), patch.object(recording, "AT_ONCE", at_once):
+                    found = recording.read_recording(program, str(claim), str(capture))
+                check(f"what is read of {capture.name} and {claim.name}",
+                      seen=({name: getattr(found, name) for name in wanted}, wanted),
+                      falls=(found.falls > 0, capture == falling))
+            lists.add(found.counts["requests"] + found.counts["replies"] == found.counts["records"])
+        check("captures of the claim's packets alone, and others", seen=(lists, {True, False}))
+
+
+def test_looks_at_captures() -> None:
+    """Records of all lengths, of one length, torn and damaged: their ends and times, by going from one to the next."""
+    from dossier.capture.classic import Classic
+    rnd, seen = random.Random(5), Counter[Any]()
+    with tempfile.TemporaryDirectory(prefix="ntpaudit-") as place:
+        for trial in range(300):
+            order, unit = rnd.choice("<>"), rnd.choice((10**6, 10**9))
+            data = struct.pack(f"{order}IHHIIII", {10**6: 0xA1B2C3D4, 10**9: 0xA1B23C4D}[unit], 2, 4, 0, 0, 262_144, 1)
+            wanted, lengths = [], rnd.choice(([7], [7, 7, 7, 7, 7, 8], [0, 300], [261, 5], [600], [7, 7, 600]))
+            for _ in range(rnd.choice((0, 1, 5, 200))):
+                seconds, part, length = rnd.randrange(2**32), rnd.randrange(unit), rnd.choice(lengths)
+                data += struct.pack(f"{order}IIII", seconds, part, length, 60) + rnd.randbytes(length)
+                wanted.append(seconds * 10**9 + part * (10**9 // unit))
+            end, rest = len(data), rnd.choice(("", "torn", "long", "late"))
+            if rest == "late":  # (its time has a second of units)
+                data += struct.pack(f"{order}IIII", 5, unit, 7, 7) + bytes(7)
+                end, wanted = len(data), []
+            elif rest:
+                data += struct.pack(f"{order}IIII", 5, 6, 262_145 if rest == "long" else 7, 7) + bytes(6)
+            (Path(place) / "f.pcap").write_bytes(data)
+            capture = Classic(f"{place}/f.pcap")
+            found = capture.extent
+            seen[(found.end, capture.nanoseconds(found.stamps)) == (end, wanted)] += 1
+            seen[rest] += capture.is_torn(found.end) == (rest == "torn")
+    check("looks at captures", seen=((seen[True], sum(seen.values())), (300, 600)))
+
+
+# ---- pictures
+
+
+def path_of(svg: str, name: str, after: int = 0) -> Any:
+    return match_of(rf'<path class="{name}" d="([^"]*)"', svg[after:])[1]
+
+
+def test_coordinates() -> None:
+    """The picture's hull and strokes, taken back to ticks and seconds, are those of the envelope."""
+    from dossier.folder.answers import read_envelope
+    from dossier.page.columns import cells_of
+    from dossier.page.figure import HEIGHT, WIDTH, extent, picture
+    from dossier.units import bound_ticks
+    for name, bound_ns, step in (("vlan-ns", 5_000_000, 1), ("chrony-ns", 800_000, 8), ("clients-us", 400_000, 1)):
+        text = run([PROGRAM, "envelope", DATA / f"{name}.claim.json", DATA / f"{name}.pcap", "--servers", "--step",
+                    str(step)])[1]
+        lines = [line.split() for line in text.decode().splitlines()[:-1]]
+        hulls = [tuple(map(int, words[1:])) for words in lines if "." not in words[1]]
+        svg = picture(read_envelope(text), bound_ns, "p", name)
+        low, high = extent(cells_of(read_envelope(text), bound_ticks(bound_ns)), bound_ticks(bound_ns))
+        pixel, first, last = (high - low) / HEIGHT, hulls[0][0], hulls[-1][1]
+
+        def seconds(x: str) -> float:
+            return first + (last - first) * int(x) / WIDTH
+
+        def ticks(y: str) -> float:
+            return high - pixel * float(y)
+        numbers = re.findall(r"V([\d.-]+)H(\d+)", path_of(svg, "hull"))
+        there, back = numbers[: len(hulls)], numbers[len(hulls) :][::-1]
+        check(f"the hull of {name} in its picture", pieces=((len(there), len(back)), (len(hulls), len(hulls))),
+              highs=(max(abs(ticks(y) - hull[3]) for (y, _), hull in zip(there, hulls)),
+                     lambda off: off <= pixel * 0.06),
+              lows=(max(abs(ticks(y) - hull[2]) for (y, _), hull in zip(back, hulls)), lambda off: off <= pixel * 0.06),
+              ends=(max(abs(seconds(x) - hull[1]) for (_, x), hull in zip(there, hulls)), lambda off: off < 0.01),
+              begins=(max(abs(seconds(x) - hull[0]) for (_, x), hull in zip(back, hulls)), lambda off: off < 0.01))
+        for side, y in zip((1, -1), re.findall(r'<path class="bound" d="M0 ([\d.]+)H', svg)):
+            check(f"the bound in the picture of {name}",
+                  off=(abs(ticks(y) - side * bound_ns * 2**32 / 10**9), lambda off: off <= pixel * 0.06))
+        fails = sum(max(-hull[2], hull[3]) > bound_ns * 2**32 // 10**9 for hull in hulls)
+        drawn = re.search(r'<path class="mark beyond" d="([^"]*)"', svg)
+        width = sum(int(b) - int(a) for run_ in (drawn[1].split("M")[1:] if drawn else [])
+                    for a, b in [(run_.split(" ")[0], run_.split("H")[-1])])
+        check(f"the marks of {name}",
+              width=(abs(width - WIDTH * fails / len(hulls)), lambda off: off <= len(hulls) or step > 1))
+    strokes = re.findall(r"M(\d+) ([\d.]+)V([\d.]+)", path_of(svg, "server c0 d0"))
+    own = [words for words in lines if words[1] == "192.0.2.1"]
+    tall = [(a, b, words) for (_, a, b), words in zip(strokes, own) if float(a) < HEIGHT and float(b) > 0]
+    check("a server's strokes", count=(len(strokes), len(own)), tall=(bool(tall), True),
+          ends=(max(max(abs(ticks(a) - int(words[2])), abs(ticks(b) - int(words[3]))) for a, b, words in tall),
+                lambda off: off <= pixel * 0.06))
+
+
+def test_gaps() -> None:
+    """Pieces without a hull are gaps, and marked; of many pieces in a column the extremes are drawn."""
+    from dossier.folder.answers import Envelope
+    from dossier.page.columns import cells_of
+    from dossier.page.figure import picture
+    hulls: Any = [(-5, 5), "unbounded", (-7, 3), "empty", (-2000, 9)]
+    begins = list(range(1000, 1005))
+    envelope = Envelope(begins, [b + 1 for b in begins], hulls, {"192.0.2.1": ([-5] * 5, [5] * 5)}, None, 1)
+    svg = picture(envelope, 233, "p", "gaps")
+    check("a hull with gaps", parts=(path_of(svg, "hull").count("M"), 3),
+          marks=([match_of(rf'class="mark {kind}" d="([^"]*)"', svg)[1] for kind in ("empty", "beyond", "unbounded")],
+                 ["M6000 6H8000", "M8000 6H10000", "M2000 6H4000"]))
+    many = 100_000
+    los, his = [-(k % 997) for k in range(many)], [k % 991 for k in range(many)]
+    addresses = [f"192.0.2.{k}" for k in range(8)]
+    wide = Envelope(list(range(many)), list(range(1, many + 1)), list(zip(los, his)),
+                    {a: (los, his) for a in addresses}, 1, 0)
+    cells = cells_of(wide, 10**6)
+    drawn = picture(wide, 10**6, "p", "many")
+    check("100,000 pieces", columns=(len(cells), 1000), size=(len(drawn) < 300_000, True),
+          extremes=(all(cell.hull == (min(los[100 * k : 100 * k + 100]), max(his[100 * k : 100 * k + 100]))
+                        for k, cell in enumerate(cells)), True))
+
+
+def texts_of(svg: str) -> list[tuple[str, str, float]]:
+    """The words in a picture, each with its place."""
+    return [(words, x, float(y))
+            for x, y, words in re.findall(r'<text[^>]*? x="([-\d.%]+)"[^>]*? y="([-\d.]+)"[^>]*>([^<]*)<', svg)]
+
+
+def test_looks() -> None:
+    """Eight servers have eight colours, no words stand where strokes are, a wide bound leaves the hull to be seen, and
+    a step is drawn."""
+    from dossier.folder.answers import Envelope
+    from dossier.page.columns import cells_of
+    from dossier.page.figure import HEIGHT, TOP, extent, picture, standing_alone
+    from dossier.page.templates import text_of
+    ms, seconds = 2**32 // 1000, list(range(1000, 1010))
+    addresses = {f"192.0.2.{k}": ([-ms] * 10, [ms] * 10) for k in range(8)}
+    envelope = Envelope(seconds, [second + 1 for second in seconds], [(-ms, ms)] * 10, addresses, 10**6, 0)
+    for times, is_drawn in ((2, True), (9, True), (20, False), (1000, False)):
+        svg, alone = picture(envelope, times * 10**6, "p", "p"), standing_alone(envelope, times * 10**6, "p")
+        low, high = extent(cells_of(envelope, times * ms), times * ms)
+        check(f"a bound {times} times as wide as the hull", drawn=(svg.count('class="bound"') > 0, is_drawn),
+              words=(any("claimed" in f'{words}' or f"{times} ms" in words for words, _, _ in texts_of(svg)), is_drawn),
+              height=(HEIGHT * 2 * ms / (high - low), lambda height: height > (25 if is_drawn else 200)),
+              legend=(("beyond this picture" in alone, f"claimed bound, {times:,} ms" in alone), (not is_drawn, True)))
+        inside = [(words, x, y) for words, x, y in texts_of(svg) if TOP < y < TOP + HEIGHT
+                  and not float(x.rstrip("%")) < 0]
+        rows = sorted(y for _, x, y in texts_of(svg) if x == "-6")
+        check(f"words of a picture with {times}", inside=(inside, []),
+              apart=(all(b - a >= 12 for a, b in zip(rows, rows[1:])), True), some=(len(rows) > 2, True))
+    colours = [re.findall(rf"--c{k}:(#[0-9a-f]+)", text_of("picture.css")) for k in range(8)]
+    check("eight colours", own=([len({found[theme] for found in colours}) for theme in (0, 1)], [8, 8]),
+          used=(len(set(re.findall(r'class="server (c\d)', svg))), 8))
+    stepped = picture(envelope, 10**6, "p", "p", [1005, 990])
+    check("a step in a picture", line=(re.findall(r'class="step" d="M(\d+) 0V', stepped), ["5000"]),
+          word=([x for words, x, _ in texts_of(stepped) if words == "step"], ["50.00%"]),
+          none=('class="step"' in svg, False))
+
+
+# ---- pages
+
+
+def test_names(place: Path) -> None:
+    """Names of strangers: nothing in them is interpreted."""
+    names = ["a b", "line\nfeed", "<b>bold</b> & \"quotes' -->", "$(touch owned) `touch owned`; x", "-n", "=1+1",
+             "\x1b[31mred", "\u202eturned", "\u00fc\u6f22", os.fsdecode(b"no\xffutf"), "100%", "back\\slash",
+             "carriage\rreturn", os.fsdecode(b"no\\\xffutf")]
+    folders = []
+    for name in names:
+        folder = folder_of(place / "names", name)
+        os.rename(folder / "f.pcap", folder / f"{name.replace('/', '')}.pcap")
+        folders.append(f"./{name}")
+    where = {"cwd": place / "names"}
+    status, out, err = dossier("audit", *folders, **where)
+    check("strange names", status=(status, 0), error=(err, b""), lines=(out.count(b"\n"), len(names) + 1),
+          escape=(b"\x1b" in out, False))
+    text = dossier("page", "--title", "<i>&", *folders, **where)[1].decode()
+    page = check_page("a page of strange names", text)
+    words = "".join(page.words)
+    check("strange names on a page", tags=(page.tags & {"b", "i"} <= {"b"}, True), bold=("<b>bold</b>" in words, True),
+          title=("<i>&" in words, True), controls=([c for c in text if not c.isprintable() and c != "\n"], []),
+          line=("line\\x0afeed" in words, True), byte=("no\\xffutf" in words, True))
+    cells = [row["machine"]
+             for row in csv.DictReader(io.StringIO(dossier("page", "--csv", "=1+1", **where)[1].decode()))]
+    check("a formula in CSV", cells=(cells, ["'=1+1"]))
+    check("verify of strange names", status=(dossier("verify", *folders, **where)[0], 0))
+    check("nothing was run", owned=(list((place / "names").rglob("owned")), []))
+
+
+def test_refusals(place: Path) -> None:
+    cases: dict[str, Any] = {
+             "no-claim": (lambda f: (f / "claim.json").unlink(), 4, "no claim.json", "The folder has no claim."),
+             "no-capture": (lambda f: (f / "f.pcap").unlink(), 4, "no capture",
+                            "The folder has no file *.pcap, *.pcapng or *.cap."),
+             "fraction": (lambda f: (f / "f.pcap").write_bytes((f / "f.pcap").read_bytes()[:24] + b"\xff" * 500), 2,
+                          "ntpaudit: capture 6 too-long at",
+                          "f.pcap: has over 262144 bytes in the record at that byte; 0 whole records stand before it."),
+             "magic": (lambda f: (f / "f.pcap").write_bytes(b"\x0a\x0d\x0a\x0d" + bytes(60)), 2,
+                       "ntpaudit: capture 2 magic", "f.pcap: isn't a classic pcap file."),
+             "claim": (lambda f: (f / "claim.json").write_text("{}"), 2, "ntpaudit: claim 2 field field 1",
+                       'claim.json: "client" is missing.'),
+             "no-json": (lambda f: (f / "claim.json").write_text("["), 2, "ntpaudit: claim 1 json",
+                         "claim.json: isn't JSON"),
+             "nested": (lambda f: (f / "claim.json").write_text("[" * 60_000), 2, "ntpaudit: claim 1 json",
+                        "claim.json: isn't JSON")}
+    folders = []
+    for name, (spoil, *_) in cases.items():
+        folders.append(folder_of(place / "refused", name))
+        spoil(folders[-1])
+    good = folder_of(place / "refused", "zz-good")
+    missing = place / "refused" / "missing"
+    status, out, _ = dossier("audit", *folders, missing, good)
+    rows = table(*folders, missing, good)
+    for (name, (_, wanted, line, why)), row, said in zip(cases.items(), rows, out.decode().splitlines()):
+        code = dossier("audit", place / "refused" / name)[0]
+        check(f"refused: {name}", status=(code, wanted), verdict=(row["verdict"], "refused"),
+              line=(line in row["reason"] and line in said, True), why=(f". {why}" in row["reason"], True),
+              remedy=(len(row["to_do"]) > 10, True))
+    check("refused folders beside a good one", status=(status, 4),
+          verdicts=([row["verdict"] for row in rows[-2:]], ["refused", "yes"]))
+    text = dossier("page", *folders, missing, good)[1].decode()
+    check_page("a page of refusals", text)
+    check("a fault line on the page", shown=("<pre>ntpaudit: capture 6 too-long at" in text, True),
+          remedy=("<p>Record without -s, fetch the file again, or join by mergecap in place of cat: " in text, True))
+    verified = json.loads(dossier("page", "--json", "--verify", *folders[2:])[1])
+    check("the same while it is verified", words=(sorted((row["reason"], row["to_do"]) for row in verified),
+                                                  sorted((row["reason"], row["to_do"]) for row in rows[2:7])))
+    folder = folders[2]
+    shutil.copy(DATA / "clients-us.pcap", folder / "f.pcap")
+    check("a folder that was put right", run=(dossier("audit", folder)[0], 0))
+    lines: list[list[str]] = [[], ["audit"], ["audit", "--step", "0", "x"], ["audit", "--jobs", "x", "y"], ["nothing"],
+                              ["page", "--json", "--csv", "x"]]
+    for typed in lines:
+        check(f"command line {typed}", status=(dossier(*typed)[0], 5))
+
+
+def test_remedies() -> None:
+    """Of each fault line the program says what it means (tests/system/test_words.py), and the dossier hasn't words of
+    its own, but for memory."""
+    from dossier.page.remedies import remedy
+    for line in fault_lines():
+        check(f"the words of {line}", own=(bool(remedy(f"ntpaudit: {line}")[0]), line == "memory"))
+
+
+# ---- many folders
+
+
+def test_side_by_side(place: Path) -> None:
+    parent = place / "many"
+    folders = [folder_of(parent, f"host-{number:03}") for number in range(200)]
+    call = subprocess.Popen([SCRIPT, "audit", "--jobs", "4", *folders], env=ENVIRONMENT, stdout=subprocess.DEVNULL,
+                            stderr=subprocess.DEVNULL)
+    until = time.monotonic() + SECONDS
+    while len(list(parent.glob("*/audit.json"))) < 20 and time.monotonic() < until:
+        time.sleep(0.01)
+    call.kill()
+    call.wait(SECONDS)
+    time.sleep(0.2)
+    done = len(list(parent.glob("*/audit.json")))
+    status, out, err = dossier("audit", "--jobs", "4", *folders)
+    lines = out.decode().splitlines()
+    check("200 folders, resumed after a kill", status=(status, 0), error=(err, b""), last=(lines[-1], "200 yes"),
+          killed=(20 <= done < 200, True),
+          order=([line.split()[1] for line in lines[:-1]], [f"{folder}:" for folder in folders]),
+          again=(out.count(b"(unchanged)") in range(20, 200), True), left=(parts_left(parent), []))
+    sums = {json.dumps(json.loads((folder / "audit.json").read_text())["entries"]) for folder in folders}
+    check("200 copies, one answer", count=(len(sums), 1))
+    status, out, _ = dossier("page", *folders)
+    check("a page of 200", status=(status, 0), articles=(out.count(b"<article"), 200))
+    broken = [folder_of(place / "broken", f"host-{number:03}") for number in range(60)]
+    for jobs in ("1", "3"):
+        call = subprocess.Popen([SCRIPT, "audit", "--again", "--jobs", jobs, *broken], env=ENVIRONMENT,
+                                stdout=subprocess.PIPE, stderr=subprocess.PIPE, start_new_session=True)
+        assert call.stdout
+        call.stdout.readline()
+        os.killpg(call.pid, signal.SIGINT)
+        said = call.communicate(timeout=SECONDS)[1]
+        check(f"Ctrl-C with {jobs} jobs", status=(call.returncode, 130), line=(said.count(b"\n"), 1),
+              left=(parts_left(place / "broken"), []))
+
+
+def children(process: int) -> list[int]:
+    """The processes that a process has made, the first first."""
+    found = []
+    for stat in Path("/proc").glob("[0-9]*/stat"):
+        with suppress(OSError):  # (it may have ended meanwhile)
+            if int(stat.read_bytes().rpartition(b")")[2].split()[1]) == process:
+                found.append(int(stat.parent.name))
+    return sorted(found)
+
+
+def stopped_amid(process: int, number: int) -> Any:
+    """So many processes that a process has made, each stopped while one that it has made itself is there."""
+    found, until = list[int](), time.monotonic() + SECONDS
+    while len(found) < number and time.monotonic() < until:
+        for worker in set(children(process)) - set(found):
+            with suppress(ProcessLookupError):  # (it may have ended meanwhile)
+                os.kill(worker, signal.SIGSTOP)
+                if len(found) < number and children(worker):
+                    found.append(worker)
+                else:
+                    os.kill(worker, signal.SIGCONT)
+    return found
+
+
+def test_ended_workers(place: Path) -> None:
+    """Workers that are ended from outside: their folders say so, the others are audited."""
+    for number in (1, 2):
+        folders = [folder_of(place / str(number), f"host-{k:03}") for k in range(150)]
+        call = subprocess.Popen([SCRIPT, "audit", "--jobs", "2", *folders], env=ENVIRONMENT, stdout=subprocess.PIPE,
+                                stderr=subprocess.DEVNULL)
+        assert call.stdout
+        first = call.stdout.readline()
+        for worker in stopped_amid(call.pid, number):
+            os.kill(worker, signal.SIGKILL)
+        lines = [first, *call.stdout.read().splitlines()]
+        call.wait(SECONDS)
+        ended = [line for line in lines if b"the process of this folder was ended" in line]
+        last = f"{150 - number} yes, {number} refused".encode()
+        check(f"workers that are ended: {number}", status=(call.returncode, 3), lines=(len(lines), 151),
+              ended=(len(ended), number), last=(lines[-1], last))
+        check("and their folders again", status=(dossier("audit", *folders)[0], 0), left=(parts_left(place), []))
+
+
+def test_slurm(place: Path) -> None:
+    """The script for a Slurm array that docs/FLEET.md shows, its tasks called by hand."""
+    text = (ROOT / "docs" / "FLEET.md").read_text("utf-8").split("a file audit.slurm:\n\n")[1].split("\n\n")[0]
+    (place / "audit.slurm").write_text(textwrap.dedent(text) + "\n")
+    (place / "ntpaudit-dossier").symlink_to(SCRIPT)
+    folders = [folder_of(place, f"fleet/host {machine}/2026-11-{day:02}") for machine in "ab" for day in (1, 2)]
+    check("the Slurm script's form", run=(run(["bash", "-n", place / "audit.slurm"]), (0, b"", b"")))
+    told, metrics = [], place / "metrics"
+    metrics.mkdir()
+    for number in range(6):
+        status, out, err = run(["bash", place / "audit.slurm"], cwd=place,
+                               env={**ENVIRONMENT, "SLURM_ARRAY_TASK_ID": str(number)})
+        check(f"task {number} of the Slurm script", status=(status, 0), error=(err, b""))
+        told += [line for line in out.decode().splitlines() if line.startswith("yes ")]
+    check("the tasks of the Slurm script",
+          folders=(sorted(told),
+                   [f"yes           {folder.relative_to(place)}: least bound 0.619 ms, claimed 5 ms"
+                    for folder in folders]))
+    dossier("page", "--json", "--state", "state", "--metrics", "all.prom",
+            *(folder.relative_to(place) for folder in folders), cwd=place)
+    lines = {line for path in metrics.iterdir() for line in path.read_text().splitlines()}
+    check("the metrics of the tasks", files=(sorted(path.name for path in metrics.iterdir()),
+                                             [f"{number}.prom" for number in range(4)]),
+          same=(lines, set((place / "all.prom").read_text().splitlines())))
+
+
+def test_parallel(place: Path) -> None:
+    if b"GNU parallel" not in run(["parallel", "--version"])[1]:
+        skipped("GNU parallel", "parallel isn't installed")  # (moreutils has another program of this name)
+        return
+    folders = [folder_of(place / "parallel", f"host {number}") for number in range(4)]
+    log = place / "joblog"
+    status, out, _ = run(["parallel", "--will-cite", "--joblog", log, SCRIPT, "audit", ":::", *folders],
+                         env=ENVIRONMENT)
+    check("GNU parallel", status=(status, 0), lines=(len(out.splitlines()), 4),
+          log=(len(log.read_text().splitlines()), 5))
+
+
+def test_full_disk(place: Path) -> None:
+    """Where files can't grow, none is left half written."""
+    folder = folder_of(place / "full", "host")
+    for blocks, names in ((0, {"claim.json", "f.pcap"}), (2, {"claim.json", "f.pcap", "audit.json"})):
+        status, out, err = run(["bash", "-c", f'ulimit -f {blocks}; exec "{SCRIPT}" audit "$0"', folder],
+                               env={**ENVIRONMENT, "XDG_STATE_HOME": str(place / "state")})
+        check(f"a disk with {blocks} KiB left", status=(status, 4), told=(b"can't be written" in out + err, True),
+              files=({path.name for path in folder.iterdir()}, names))
+    check("what was written of a full disk",
+          verdict=(json.loads(dossier("page", "--json", "--state", place / "state/ntpaudit", folder)[1])[0]["verdict"],
+                   "refused"))
+    check("a page to a full device",
+          run=(run(["sh", "-c", f'"{SCRIPT}" page "$0" > /dev/full', folder], env=ENVIRONMENT)[0], 4))
+    dossier("audit", folder)
+    status, _, _ = dossier("page", "-o", place / "full" / "d.html", folder)
+    check("a page into a file", status=(status, 0),
+          whole=((place / "full" / "d.html").read_bytes().endswith(b"</html>\n"), True))
+
+
+# ---- verify
+
+
+def test_verify(place: Path) -> None:
+    """What differs from what the inputs come to, with both values."""
+    folder = folder_of(place, "verified")
+    dossier("audit", folder)
+    kept = {path.name: path.read_bytes() for path in folder.iterdir()}
+    record = json.loads(kept["audit.json"])
+    entry = record["entries"][0]
+
+    def differs(files: dict[str, bytes], line: str) -> None:
+        for name, data in files.items():
+            (folder / name).write_bytes(data)
+        status, out, _ = dossier("verify", folder)
+        check(f"verify sees {', '.join(files)}: {line}", status=(status, 1), line=(line in out.decode(), True),
+              lines=(out.count(b"\n"), 1))
+        for name in files:
+            (folder / name).write_bytes(kept[name]) if name in kept else (folder / name).unlink()
+
+    def forged(**changes: object) -> bytes:
+        return json.dumps({**record, "entries": [{**entry, **changes}]}).encode()
+
+    def with_output(name: str, data: bytes) -> dict[str, bytes]:
+        return {name: data, "audit.json": forged(outputs={**entry["outputs"], name: hashlib.sha256(data).hexdigest()})}
+    differs({"f.pcap": kept["f.pcap"][:-1] + b"x"}, "f.pcap isn't the file that was audited")
+    differs({"claim.json": kept["claim.json"].replace(b"5000000", b"5000001")},
+            "claim.json isn't the file that was audited")
+    differs({"envelope.txt": kept["envelope.txt"].replace(b"1", b"2", 1)}, "envelope.txt was changed since the audit")
+    differs({"certificate.json": kept["certificate.json"] + b" "}, "certificate.json was changed since the audit")
+    differs({"more.pcap": kept["f.pcap"]}, "more.pcap is new")
+    differs({"more-drift.claim.json": b""}, "more-drift.claim.json isn't of this audit")
+    for change, line in rows(({"verdict": "open", "reason": {"why": "tick"}},
+                          "entries 0 verdict is `open`, and by the inputs `yes`"),
+                         ({"least_ns": 1}, f"entries 0 least_ns is `1`, and by the inputs `{entry['least_ns']}`"),
+                         ({"counts": {**entry["counts"], "samples": 58}},
+                          "entries 0 counts samples is `58`, and by the inputs `57`"),
+                         ({"warnings": []}, "entries 0 warnings is"),
+                         ({"servers": entry["servers"][::-1]}, "entries 0 servers 0 address is"),
+                         ({"claim": {**entry["claim"], "bound_ns": 1}},
+                          "entries 0 claim bound_ns is `1`, and by the inputs `5000000`"),
+                         ({"envelope_step": 2}, "entries 0 envelope_step is `2`, and by the inputs `1`"),
+                         ({"leap": {**entry["leap"], "says": "within"}}, "entries 0 leap says is `within`"),
+                         ({"worst": {**entry["worst"], "piece": 0}}, "entries 0 worst piece is `0`"),
+                         ({"refutation": {**entry["refutation"], "error": 1}}, "entries 0 refutation error is `1`"),
+                         ({"part": "2026-11-22"}, "entries 0 part is `2026-11-22`"),
+                         ({"outputs": {}}, "isn't of this audit")):
+        differs({"audit.json": forged(**change)}, line)
+    differs(with_output("report.txt", kept["report.txt"].replace(b"samples 57", b"samples 58")),
+            "report.txt: from byte ")
+    differs(with_output("report.txt", kept["report.txt"] + b"more"), "is `more`, and by the inputs ``")
+    differs(with_output("report.txt", kept["report.txt"][:-5]), "is ``, and by the inputs ` yes\\x0a`")
+    differs({"audit.json": json.dumps({**record, "program": {**record["program"], "version": "ntpaudit 9"}}).encode()},
+            "program version is `ntpaudit 9`")
+    differs({"audit.json": json.dumps({**record, "options": {"step": 64}}).encode()}, "envelope.txt: from byte ")
+    leaps = {**record["leap_seconds"], "seconds": record["leap_seconds"]["seconds"][:-1]}
+    differs({"audit.json": json.dumps({**record, "leap_seconds": leaps}).encode()}, "leap_seconds seconds is `None`")
+    check("verify at the end", run=(dossier("verify", folder), (0, f"{folder}: verified: yes\n".encode(), b"")))
+    (folder / "envelope.txt").write_bytes(b"")
+    text = dossier("page", folder)[1].decode()
+    check("no picture of a changed envelope", told=("envelope.txt was changed since the audit" in text, True),
+          drawn=('class="picture"' in text, False), badge=('class="verdict not-verified"' in text, True))
+    check("verify without an audit", status=(dossier("verify", place / "missing")[0], 4))
+    (folder / "audit.json").unlink()
+    check("verify of a folder without audit.json",
+          run=(dossier("verify", folder)[:2], (4, f"{folder}: ntpaudit-dossier: not audited\n".encode())))
+
+
+# ---- files that change
+
+
+def stand_in(path: Path, script: str) -> dict[str, str]:
+    """A program that does something and then is the program."""
+    path.write_text(f'#!/bin/sh\n{script}\nexec "{PROGRAM}" "$@"\n')
+    path.chmod(0o755)
+    return {**ENVIRONMENT, "NTPAUDIT": str(path)}
+
+
+UNSEEN = "conv=notrunc bs=1 seek=40 status=none of"
+"""For dd: the first byte of an Ethernet address, which no answer depends on."""
+HARMLESS = {".pcap": f"printf x | dd {UNSEEN}=", ".json": "echo >> "}
+"""What changes a file, and no answer, by how the file's name ends."""
+
+
+def test_changing(place: Path) -> None:
+    """Whatever changes in the folder after it was read: the answers are about what was read, and `verify` names the
+    file. Whatever changes in the private copies is refused."""
+    kinds = {"yes": (DATA / "clients-us.pcap", DATA / "clients-us.claim.json"),
+             "refuted": (DATA / "chrony-ns.pcap", DATA / "chrony-ns.tight.claim.json")}
+    for kind, (capture, claim) in kinds.items():
+        judge = "check" if kind == "yes" else "refute"
+        for command in ("settle", "samples", judge):
+            for name in ("f.pcap", "claim.json"):
+                folder, label = folder_of(place / kind, f"{command} {name}", capture,
+                                          claim), f"{kind}: {name} changes at {command}"
+                bad = stand_in(folder.parent / f"{folder.name}.program",
+                               f'[ "$1" = {command} ] && {HARMLESS[name[-5:]]}"{folder}/{name}"')
+                before = sums_of(folder)
+                status, out, err = dossier("audit", folder, env=bad)
+                record = json.loads((folder / "audit.json").read_text())
+                check(label, status=(status, int(kind == "refuted")), error=(err, b""), sums=(record["inputs"], before))
+                status, out, _ = dossier("verify", folder)
+                check(f"{label}, by verify",
+                      run=((status, f"{name} isn't the file that was audited" in out.decode()), (1, True)))
+                check(f"{label}, on the page", badge=(table(folder)[0]["verdict"], "not verified"))
+        for name in ("claim.json", "0.pcap", "certificate.json" if kind == "yes" else "refutation.json"):
+            folder = folder_of(place / kind, f"own {name}", capture, claim)
+            bad = stand_in(folder.parent / f"{folder.name}.program",
+                           f'[ "$1" = {judge} ] && {HARMLESS[name[-5:]]}{name}')
+            status, out, _ = dossier("audit", folder, env=bad)
+            check(f"{kind}: the copy of {name} changes at {judge}", status=(status, 2),
+                  line=(b"ntpaudit: sums differ" in out, True))
+    folder = folder_of(place, "unchanged")
+    good = stand_in(place / "program", ":")
+    check("a stand-in that changes nothing", status=(dossier("audit", folder, env=good)[0], 0),
+          verify=(dossier("verify", folder, env=good), (0, f"{folder}: verified: yes\n".encode(), b"")))
+
+
+def test_sums(place: Path) -> None:
+    """What is handed to `check` and `refute` as a file of sums: what sha256sum writes of the very operands, and what
+    audit.json says."""
+    keeps = stand_in(place / "program",
+                     f'case "$*" in *" --sums sums") cat sums > "{place}/$1.sums"; sha256sum "$2" "$3" "$4" > '
+                     f'"{place}/$1.wanted";; esac')
+    names = ("f.pcap", "-f.pcap", "back\\slash.pcap", "line\nfeed.pcap", "carriage\rreturn.pcap", "*.pcap",
+             " a b .pcap", os.fsdecode(b"no\xff\\utf.pcap"))
+    kinds = [("check", "certificate.json", DATA / "clients-us.pcap", DATA / "clients-us.claim.json"),
+             ("refute", "refutation.json", DATA / "chrony-ns.pcap", DATA / "chrony-ns.tight.claim.json")]
+    for name, (command, second, capture, claim) in product(names, kinds):
+        folder = folder_of(place, f"folder of {name} for {command}", capture, claim)
+        os.rename(folder / "f.pcap", folder / name)
+        check(f"the audit of {name!a} by {command}",
+              status=(dossier("audit", folder, env=keeps)[0], int(command == "refute")))
+        record = json.loads((folder / "audit.json").read_text())
+        recorded = {**record["inputs"], **record["entries"][0]["outputs"]}
+        said, wanted = ((place / f"{command}.{end}").read_bytes() for end in ("sums", "wanted"))
+        check(f"the sums that {command} gets of {name!a}", sums=(said, wanted),
+              record=([line[:64].decode() for line in said.splitlines()],
+                      [recorded["claim.json"], recorded[name], recorded[second]]))
+        (place / f"{command}.sums").unlink()
+        status, out, _ = dossier("verify", folder, env=keeps)
+        check(f"verify of {name!a} by {command}", status=(status, int(command == "refute")),
+              sums=((place / f"{command}.sums").exists(), True))
+
+
+# ---- drafts, days, verdicts
+
+
+def test_draft(place: Path) -> None:
+    status, out, err = dossier("draft", DATA / "vlan-ns.pcap")
+    claim = json.loads(out)
+    check("a draft of vlan-ns", status=(status, 0), client=(claim["client"], "198.51.100.10"),
+          servers=(claim["servers"], [f"198.51.100.{k}" for k in (1, 2, 3, 4)]),
+          groups=(claim["groups"], [[0, 3], [1], [2]]), false_max=(claim["false_max"], 1),
+          span=((claim["from"], claim["to"]), ("2026-11-22T06:58:54Z", "2026-11-22T06:59:32Z")),
+          told=([name for name in ("drift_ppb", "reading_ns", "false_max", "groups") if f"\n{name}" not
+                 in f"\n{err.decode()}"], []))
+    least = int(run([PROGRAM, "envelope", "/dev/stdin", DATA / "vlan-ns.pcap", "--least"], out)[1].split()[-3])
+    check("the bound of a draft", digits=(str(claim["bound_ns"]).rstrip("0"), lambda text: len(text) <= 2),
+          above=(least <= claim["bound_ns"] < least * 1.1, True))
+    claim_of_vlan = claim
+    for capture in files_in(DATA, "*.pcap"):
+        status, out, err = dossier("draft", capture)
+        if status == 0:
+            claim = json.loads(out)
+            groups, most = len(claim.get("groups", claim["servers"])), claim["false_max"]
+            check(f"a draft of {capture.name} is a claim",
+                  status=(run([PROGRAM, "samples", "/dev/stdin", capture], out)[0], 0),
+                  false_max=(most, lambda most: 2 * most < groups <= 2 * most + 2))
+        else:
+            check(f"no draft of {capture.name}", status=(status, 1), told=(bool(err), True), output=(out, b""))
+    bare = "drift_ppb is 100000, an oscillator alone: the client's own corrections are NOT in it."
+    check("a draft that knows nothing of the client", first=(err.decode().splitlines()[0][: len(bare)], bare),
+          once=(err.count(b"drift_ppb is"), 1))
+    own = dossier("draft", "--oscillator-ppb", "20000", DATA / "vlan-ns.pcap")
+    check("a draft with another oscillator", drift=(json.loads(own[1])["drift_ppb"], 20_000),
+          first=(own[2].startswith(b"drift_ppb is 20000, an oscillator alone:"), True))
+    status, out, err = dossier("draft", "--bound-ns", "123456789", DATA / "vlan-ns.pcap")
+    check("a draft of a bound", claim=(json.loads(out), {**claim_of_vlan, "bound_ns": 123_456_789}),
+          told=(f" {-(-least // 1000) / 1000:.3f} ms; 123.456789 ms stands there, as asked for." in err.decode(), True))
+    for option, word in (("--bound-ns", "1000000000000001"), ("--drift-ppb", "-1"), ("--reading-ns", "1000000001")):
+        check(f"a draft with {option} {word}", status=(dossier("draft", option, word, DATA / "vlan-ns.pcap")[0], 5))
+    for words in rows(["--drift-ppb", "600000"], ["--chrony", ROOT / "tests/dossier/client/chrony.conf"]):
+        status, out, err = dossier("draft", *words, DATA / "vlan-ns.pcap")
+        check(f"a draft by {words[0]}", drift=(json.loads(out)["drift_ppb"], 600_000),
+              alone=(b"NOT in it" in err, False), told=(b"\ndrift_ppb is 600000: how fast" in b"\n" + err, True))
+    day = json.loads(dossier("draft", "--day", DATA / "vlan-ns.pcap")[1])
+    check("a draft of a day", span=((day["from"], day["to"]), ("2026-11-22T00:00:00Z", "2026-11-23T00:00:00Z")))
+    header = place / "header.pcap"
+    header.write_bytes((DATA / "clients-us.pcap").read_bytes()[:24])
+    check("a draft of nothing",
+          run=(dossier("draft", header), (1, b"", b"No NTP client asks anybody in it: 0 NTP packets.\n")))
+    both = place / "both.pcap"
+    both.write_bytes((DATA / "clients-us.pcap").read_bytes() + (DATA / "odd-us.pcap").read_bytes()[24:])
+    status, out, err = dossier("draft", both)
+    check("a draft with two clients", status=(status, 0),
+          told=(b"2 clients" in err and b"198.51.100.10 asks" in err and b"192.0.2.10 asks" in err, True))
+    status, out, _ = dossier("draft", "--client", "192.0.2.10", both)
+    check("a draft for a client", status=(status, 0), client=(json.loads(out)["client"], "192.0.2.10"))
+    check("a draft of a torn capture", status=(dossier("draft", ROOT / "README.md")[0], 2))
+
+
+def test_newcomer(place: Path) -> None:
+    """From a capture to a page: the claim as it is drafted carries, and verifies."""
+    for name in ("clients-us", "vlan-ns", "chrony-ns", "port123-ns", "odd-us"):
+        folder = place / "newcomer" / name
+        folder.mkdir(parents=True)
+        shutil.copy(DATA / f"{name}.pcap", folder / "f.pcap")
+        (folder / "claim.json").write_bytes(dossier("draft", folder / "f.pcap")[1])
+        check(f"the draft of {name} carries", status=(dossier("audit", folder)[0], 0),
+              verified=(dossier("verify", folder)[0], 0))
+        check_page(f"the page of {name}", dossier("page", folder)[1].decode())
+
+
+TCPDUMP = """#!/bin/sh
+# stands in for tcpdump: leaves a capture of data/ in the file after -w
+[ "$1" != --version ] || exec echo "tcpdump version 4"
+while [ "$1" != -w ]; do shift; done
+exec cp -- "{capture}" "$2"
+"""
+
+
+def test_five_commands(place: Path) -> None:
+    """The commands of docs/DOSSIER.md from a recording to a page, as they stand there."""
+    text = (ROOT / "docs" / "DOSSIER.md").read_text("utf-8").split("## From a recording to "
+                                                                   "a page")[1].split("## A folder")[0]
+    commands = re.findall(r"^    (.*)", text, flags=re.M)
+    check("five commands", count=(len(commands), 5))
+    bound = re.findall(r"^    (\./.*)", (ROOT / "docs" / "BOUND.md").read_text("utf-8"), flags=re.M)
+    check("the same five for a bound",
+          seen=([command.replace("--bound-ns 100000 ", "--bound-ns 50000000 ") for command in bound], commands))
+    (place / "tcpdump").write_text(TCPDUMP.format(capture=DATA / "vlan-ns.pcap"))
+    (place / "tcpdump").chmod(0o755)
+    (place / "ntpaudit-dossier").symlink_to(SCRIPT)
+    with_tcpdump = {**ENVIRONMENT, "PATH": f"{place}:{os.environ['PATH']}"}
+    words = "draft --bound-ns 50000000 --chrony /etc/chrony/chrony.conf "
+    check("they read the client's configuration", seen=(words in commands[1], True))
+    for command in (command.replace("/etc/chrony", str(ROOT / "tests" / "dossier" / "client")) for command in commands):
+        status, out, _ = run(["sh", "-c", command], cwd=place, env=with_tcpdump)
+        check(f"the command: {command}", status=(status, 0))
+    check("they end with", output=(out, b"web-1: verified: yes\n"))
+    page = (place / "dossier.html").read_text("utf-8")
+    check_page("the page of five commands", page)
+    check("its verdict", badge=('<span class="verdict yes">' in page, True))
+
+
+CLAIM_OF_TWO: dict[str, Any] = {"client": "192.0.2.10", "servers": ["192.0.2.1", "192.0.2.2"], "false_max": 0,
+                "from": "2001-09-09T01:46:40Z", "to": "2001-09-09T01:47:44Z", "bound_ns": 60_000_000,
+                "drift_ppb": 100_000, "reading_ns": 0}
+
+
+AT = 1_000_000_010
+MS = 4_294_967
+VERDICTS: dict[str, Any] = {"yes": ({}, [f"1:-{MS}..{MS}@{AT}", f"2:-{2 * MS}..{MS}@{AT + 9}"],
+                    "The yes isn't empty: a course of events fits the capture, with an error of", ""),
+            "refuted exceeds": ({"bound_ns": 10**6}, [f"1:-{9 * MS}..{9 * MS}@{AT}"],
+                                "A course of events fits the exchanges with an error of", "ask nearer servers"),
+            "refuted off": ({"bound_ns": 10**6}, [f"1:{7 * MS}..{9 * MS}@{AT}"],
+                            "ms ahead of UTC from 2001-09-09 01:46:40 to 01:47:44, and so beyond the bound of 1 ms, if "
+                            "none of these 3 servers was wrong", "Mend the clock"),
+            "no evidence silent": ({"false_max": 1}, [f"1:0..9@{AT}"],
+                                   "1 of 3 groups of servers has a sample, and 1 may be wrong", "Name more servers"),
+            "nothing fits apart": ({}, [f"1:0..9@{AT}", f"2:5..9@{AT}", f"3:{-7 * MS}..{-6 * MS}@{AT}"],
+                                   "192.0.2.3 contradicts itself or most others, in each of 2 conflicts.",
+                                   "Leave them out of the claim"),
+            "nothing fits many": ({}, [f"1:0..9@{AT}", f"2:{-7 * MS}..{-6 * MS}@{AT}"],
+                                  "More servers are in conflict than the claim takes for wrong: there is 1 conflict.",
+                                  "Grant that they were wrong"),
+            "nothing fits step": ({},
+                                  [f"{k}:{shift * MS}..{shift * MS + 9}@{AT + 9}" for shift in (0, 50) for k in (1, 2)],
+                                  "The clock was stepped between 2001-09-09 01:46:59 and 01:47:00: there every server "
+                                  "contradicts what it said before.", "See who stepped it: "),
+            "open": ({"from": "2001-09-09T02:03:20Z", "to": "2001-09-09T02:03:20Z", "bound_ns": 119_000_000},
+                     [f"1:0..{20 * MS}@{AT}"], "stays open: no certificate shows it",
+                     "is the least that a certificate carries"),
+            "nothing fits drift": ({},
+                                   [f"{k}:{shift * MS}..{shift * MS + 9}@{AT + 4 * shift}" for shift in (0, 3)
+                                    for k in (1, 2)],
+                                   "Or it moved faster than the claim grants: with a drift of 1,000,000 parts in 10^9 "
+                                   "a course of events would fit.", "Or grant as much drift as")}
+"""Of each verdict and reason what is changed of a claim of three servers, the exchanges, and what is said."""
+
+
+def test_verdicts(place: Path) -> None:
+    """Each verdict with its sentence and what to do, on the page and by `verify`."""
+    for name, (changes, words, said, to_do) in VERDICTS.items():
+        verdict = name.rpartition(" ")[0] or name
+        folder = folder_of(place, name, capture_of(place / f"{name}.pcap", *words),
+                           **{**CLAIM_OF_TWO, "servers": [f"192.0.2.{k}" for k in (1, 2, 3)], **changes})
+        status, out, _ = dossier("audit", folder)
+        row, entry = table(folder)[0], json.loads((folder / "audit.json").read_text())["entries"][0]
+        text = dossier("page", folder)[1].decode()
+        page = check_page(f"a page of {name}", text)
+        shown = "".join(page.words).replace("\u2212", "-")
+        check(name, status=(status, int(verdict != "yes")),
+              line=(out.decode().startswith(f"{verdict:14}{folder}: "), True), verdict=(row["verdict"], verdict),
+              why=(entry.get("reason", {}).get("why", ""),
+                   name.removeprefix(verdict).strip() or {"open": "tick"}.get(verdict, "")),
+              badge=(f'<span class="verdict {verdict.replace(" ", "-")}">' in text, True), said=(said in shown, True),
+              to_do=(to_do in row["to_do"] and to_do in shown, True),
+              verified=(dossier("verify", folder), (status, f"{folder}: verified: {verdict}\n".encode(), b"")),
+              least=(entry["least_ns"] is None, verdict in ("no evidence", "nothing fits")),
+              conflicts=("<h3>Conflicts</h3>" in text, verdict == "nothing fits"))
+    bound_0 = json.loads((place / "yes" / "bound-0.claim.json").read_text())
+    check("the claim with the bound 0",
+          claim=(bound_0, {**json.loads((place / "yes" / "claim.json").read_text()), "bound_ns": 0}))
+    folder = place / "nothing fits many"
+    dossier("audit", "--step", "64", folder)
+    envelope, row = (folder / "envelope.txt").read_text().splitlines(), table(folder)[0]
+    check("where nothing fits no bound is carried", empty=("empty" in envelope[0] + envelope[1], False),
+          verdict=(row["verdict"], "nothing fits"),
+          least=((row["least_bound_ns"], envelope[-1]), (None, "least_ns none")))
+    lines = (place / "nothing fits apart" / "report.txt").read_text().splitlines()
+    check("the conflicts on a page",
+          lines=(lines, ["conflict 192.0.2.1 0 192.0.2.3 5", "conflict 192.0.2.2 2 192.0.2.3 5", "nothing fits"]),
+          rows=([row for row in Figures(dossier("page", place / "nothing fits apart")[1].decode()).rows if len(row)
+                 == 4][:2], [line.split()[1:] for line in lines[:2]]))
+
+
+TICK = 7710888014534666407
+FAKE = """#!/bin/sh
+# stands in for the program: settle gives the answer in a file, and refute what is asked
+case $1 in
+settle) cat -- "$0.settle"; exit 1;;
+refute) echo "$(cat -- "$0.refute")"; exit 0;;
+esac
+exec {program} "$@"
+"""
+
+
+def test_other_answers(place: Path) -> None:
+    """What stays open; another refutation than the one that is kept; and a program that contradicts itself."""
+    fake, folder = place / "ntpaudit", folder_of(place, "host", bound_ns=600_000)
+    fake.write_text(FAKE.format(program=PROGRAM))
+    fake.chmod(0o755)
+    environment = {**ENVIRONMENT, "NTPAUDIT": str(fake)}
+
+    def answers(text: str, word: str = "yes") -> None:
+        (place / "ntpaudit.settle").write_text(text)
+        (place / "ntpaudit.refute").write_text(f"refuted {word}")
+    answers(f"open {TICK} {TICK + 1} hull -2579000 2580000\n")
+    status, out, _ = dossier("audit", folder, env=environment)
+    shown = "".join(check_page("a page of what is open", dossier("page", folder)[1].decode()).words).replace("\u2212",
+                                                                                                             "-")
+    check("what stays open", status=(status, 1), line=(out.decode().startswith(f"open          {folder}: "), True),
+          verified=(dossier("verify", folder, env=environment)[1].endswith(b"verified: open\n"), True),
+          said=(f"At {civil(TICK >> 32)} errors from {ticks_range(-2579000, 2580000)} are left open.".replace("\u2212",
+                                                                                                              "-")
+                in shown, True), to_do=("A bound of 0.619 ms is the least that a certificate carries." in shown, True))
+    refutation = {"error": 3_000_000, "false": [3], "reading": TICK}
+    answers(json.dumps(refutation))
+    check("a refutation", status=(dossier("audit", "--again", folder, env=environment)[0], 1))
+    answers(json.dumps({**refutation, "error": 2_900_000}))
+    status, out, _ = dossier("verify", folder, env=environment)
+    check("another refutation by the same build", status=(status, 1),
+          line=(b'refutation.json: from byte 10 on (line 1) it is `3000000,' in out, True))
+    with open(fake, "a") as opened:
+        opened.write("# another build\n")
+    other = b": (by another build of the program than the audit's)\n"
+    check("another refutation by another build",
+          run=(dossier("verify", folder, env=environment)[:2],
+               (1, f"{folder}: verified: refuted\n{folder}".encode() + other)))
+    answers(json.dumps(refutation), "no")
+    check("a refutation that isn't accepted any more",
+          run=(dossier("verify", folder, env=environment)[:2],
+               (70, f"{folder}: ntpaudit-dossier: refute doesn't accept what settle gave\n".encode())))
+    status, out, _ = dossier("audit", "--again", folder, env=environment)
+    check("a program that contradicts itself", status=(status, 70),
+          line=(b"refute doesn't accept what settle gave" in out, True),
+          to_do=("anew" in table(folder)[0]["to_do"], True))
+
+
+def test_warnings(place: Path) -> None:
+    capture = capture_of(place / "falls.pcap", "1:-1000..1000@1000000010", "1:-1000..1000@1000000005")
+    folder = folder_of(place, "warned", capture, **{**CLAIM_OF_TWO, "servers": ["192.0.2.1"], "drift_ppb": 0})
+    dossier("audit", folder)
+    warnings = json.loads((folder / "audit.json").read_text())["entries"][0]["warnings"]
+    check("warnings",
+          kinds=([warning["kind"] for warning in warnings],
+                 ["outside", "no-drift", "falls", "far", "sources", "reference"]))
+    packets = [line.split() for line in run([PROGRAM, "list", capture])[1].decode().splitlines()[:-1]]
+    times = [Fraction(words[1]) for words in packets if words[5] == "m4"]
+    pieces = [line.split()[1:3] for line in (folder / "envelope.txt").read_text().splitlines()[:-2] if "." not in line]
+    distances = [min(max(int(begin) - moment, moment - int(end), Fraction(0)) for moment in times)
+                 for begin, end in pieces]
+    limit = Fraction(int(pieces[-1][1]) - int(pieces[0][0]), 10)
+    check("pieces far from samples",
+          seen=((warnings[3]["count"], warnings[3]["distance"]),
+                (sum(d > limit for d in distances), max(distances) * 10**9)))
+
+
+def test_days(place: Path) -> None:
+    second = 1000000000 - 1000000000 % 86400 + 86400
+    capture = capture_of(place / "days.pcap", f"1:-1000..1000@{second - 20}", f"1:-1000..1000@{second + 20}")
+    times: dict[str, Any] = {"from": "2001-09-09T23:59:30Z", "to": "2001-09-10T00:00:30Z"}
+    folder = folder_of(place, "days", capture, **{**CLAIM_OF_TWO, "servers": ["192.0.2.1"], **times})
+    status, out, _ = dossier("audit", "--days", folder)
+    rows = table(folder)
+    check("a verdict a day", status=(status, 0), days=([row["day"] for row in rows], ["2001-09-09", "2001-09-10"]),
+          spans=([(row["begin"], row["end"]) for row in rows],
+                 [("2001-09-09T23:59:30Z", "2001-09-10T00:00:00Z"), ("2001-09-10T00:00:00Z", "2001-09-10T00:00:30Z")]),
+          verified=(dossier("verify", folder)[0], 0))
+    check_page("a page of days", dossier("page", folder)[1].decode())
+    dossier("audit", folder)
+    check("without days again", left=([path.name for path in folder.iterdir() if path.is_dir()], []),
+          rows=(len(table(folder)), 1))

@@ -1,0 +1,323 @@
+"""Tests of verdicts that are more than the program's answer: a yes against which the folder's own evidence speaks, what
+kind of evidence is missing, and what becomes of many folders together.
+"""
+import csv
+import io
+import json
+import os
+import re
+import shutil
+from pathlib import Path
+from typing import Any
+
+from tests.support import DATA, ROOT, check, run
+from tests.dossier.audits import PROGRAM, SEARCH, capture_of, check_page, dossier, folder_of, rows, table
+from tests.dossier.leaps import LATER, leap_list
+
+FIRST = 1_000_000_000
+GOOD = [f"{server}:-1000..1000@{FIRST + second}" for second in (10, 40) for server in (1, 2, 3, 4)]
+CLAIM: dict[str, Any] = {"client": "192.0.2.10", "servers": [f"192.0.2.{k}" for k in (1, 2, 3, 4)], "false_max": 1,
+         "from": "2001-09-09T01:46:45Z", "to": "2001-09-09T01:47:20Z", "bound_ns": 60_000_000, "drift_ppb": 100_000,
+         "reading_ns": 0}
+SETUP: dict[str, Any] = {
+    "kind": "drift", "oscillator_ppb": 100_000, "drift_ppb": 600_000, "made": "2001-09-09T00:00:00Z",
+    "configuration": {"client": "chronyd", "files": {}, "slew_ppb": 500_000}, "tracking": None}
+
+
+def logged(*times: str) -> dict[str, Any]:
+    """What the client logged of its clock: steps at these times."""
+    return {"files": {}, "updates": 9, "first": "2001-09-09T00:00:00Z", "last": "2001-09-09T03:00:00Z",
+            "least_ppm": "0.000", "greatest_ppm": "0.000", "change_ppm": "0.000",
+            "steps": [[time, "0.5", "it says so"] for time in times]}
+
+
+def measured(greatest: int) -> dict[str, Any]:
+    return {"packets": 1000, "busy": 0, "late": 3, "greatest_ns": greatest, "median_ns": 2, "reading_ns": 100_000,
+            "tool": "tcpdump 4.99", "machine": "web-1", "kernel": "6.1", "made": "2001-09-09T00:00:00Z", "kind": "late"}
+
+
+def good_folder(place: Path, name: str, evidence: dict[str, Any] | None = None, words: list[str] = GOOD, /,
+                **changes: object) -> Path:
+    """A folder whose capture shows its claim, with evidence for a premise beside it."""
+    folder = folder_of(place, name, capture_of(place / f"{name}.pcap", *words), **{**CLAIM, **changes})
+    for premise, value in (evidence or {}).items():
+        (folder / "evidence.json").write_text(json.dumps({premise: f"{premise}.json"}))
+        (folder / f"{premise}.json").write_text(json.dumps(value))
+    return folder
+
+
+AGAINST: dict[str, Any] = {
+    "drift": ({"drift": SETUP}, {}, "may move the clock by 600,000 parts in 10^9", "Grant as much drift"),
+    "reading": ({"reading": measured(70_000)}, {"reading_ns": 60_000}, "as much as 0.07 ms after they left",
+                "Grant as much as was measured"),
+    "step": ({"drift": {**SETUP,
+                        "tracking": logged("2001-09-09T01:47:00Z", "2001-09-09T01:46:50Z",
+                                           "2001-09-09T02:00:00Z")}}, {"drift_ppb": 600_000},
+             "logged a step of the clock at 2001-09-09 01:46:50, the first of 2 steps", "before the step")}
+"""Of each kind of evidence against a yes: the evidence, what is changed of the claim, what is said, and what to do."""
+IN_SHORT = {"drift": "more drift than is granted", "reading": "a greater allowance than is granted",
+            "step": "a logged step", "leap-second": "a leap second", "leap-ends": "the list of leap seconds has ended"}
+SUPPORTED: dict[str, Any] = {"drift": ({"drift": SETUP}, {"drift_ppb": 600_000}),
+             "reading": ({"reading": measured(60_000)}, {"reading_ns": 60_000}),
+             "step": ({"drift": {**SETUP, "tracking": logged("2001-09-09T02:00:00Z")}}, {"drift_ppb": 600_000})}
+"""The same kinds, with evidence that doesn't speak against it."""
+
+
+def test_unsupported(place: Path) -> None:
+    """A yes against which the folder's own evidence speaks has a badge of its own and isn't a yes, anywhere."""
+    lists: dict[str, Any] = {
+        "leap-second": (leap_list(place / "second.list", LATER, (FIRST + 30, 11)), "A leap second at the end of",
+        "Claim another span"),
+        "leap-ends": (leap_list(place / "ended.list", FIRST - 86_400), "was good until 2001-09-08 only",
+        "--leap-seconds")}
+    cases: dict[str, Any] = {
+        kind: (evidence, changes, said, to_do, ()) for kind, (evidence, changes, said, to_do) in AGAINST.items()}
+    cases |= {kind: ({}, {}, said, to_do, ("--leap-seconds", list_)) for kind, (list_, said, to_do) in lists.items()}
+    for kind, (evidence, changes, said, to_do, words) in cases.items():
+        folder = good_folder(place, kind, evidence, **changes)
+        status, out, _ = dossier("audit", *words, folder)
+        record, row = json.loads((folder / "audit.json").read_text())["entries"][0], table(folder, words=words)[0]
+        text = dossier("page", *words, folder)[1].decode()
+        page = "".join(check_page(f"a page of evidence against a yes: {kind}", text).words)
+        line = next(csv.DictReader(io.StringIO(dossier("page", "--csv", *words, folder)[1].decode())))
+        check(f"evidence against a yes: {kind}", status=(status, 1),
+              line=((out.decode().startswith(f"unsupported   {folder}: "), out.decode().partition(" ms (")[2]),
+                    (True, f"{IN_SHORT[kind]})\n")),
+              record=((record["verdict"], record["reason"],
+                       kind in [warning["kind"] for warning in record["warnings"]]),
+                      ("unsupported", {"why": "evidence"}, True)),
+              json=((row["verdict"], said in row["reason"], to_do in row["to_do"]), ("unsupported", True, True)),
+              csv=((line["verdict"], said in line["reason"]), ("unsupported", True)),
+              badge=('class="verdict unsupported"' in text and 'class="verdict yes"' not in text, True),
+              said=("It isn't shown that" in page and said in page, True),
+              certificate=((folder / "certificate.json").exists() and "ntpaudit check claim.json" in page, True),
+              verified=(dossier("verify", *words, folder)[0], 1), again=(dossier("audit", *words, folder)[0], 1))
+    for kind, (evidence, changes) in SUPPORTED.items():
+        folder = good_folder(place, f"{kind} supported", evidence, **changes)
+        check(f"evidence for a yes: {kind}", status=(dossier("audit", folder)[0], 0),
+              row=(table(folder)[0]["verdict"], "yes"))
+    folder = good_folder(place, "refuted", {"drift": SETUP}, bound_ns=1)
+    dossier("audit", folder)
+    check("evidence against what isn't a yes", row=(table(folder)[0]["verdict"], "refuted"),
+          warned=("may move the clock" in " ".join(table(folder)[0]["warnings"]), True))
+
+
+def test_oscillator(place: Path) -> None:
+    """A claim whose drift is an oscillator's alone says so, unless the folder has evidence of the client."""
+    slow = {**SETUP, "drift_ppb": 90_000, "oscillator_ppb": 80_000,
+            "configuration": {"client": "chronyd", "files": {}, "slew_ppb": 10_000}}
+    for name, evidence, drift, is_warned in rows(("alone", {}, 100_000, True), ("with more", {}, 600_000, False),
+                                             ("with evidence", {"drift": slow}, 100_000, False)):
+        folder = good_folder(place, name, evidence, drift_ppb=drift)
+        status, row = dossier("audit", folder)[0], table(folder)[0]
+        text = "".join(check_page(f"a page of an oscillator {name}", dossier("page", folder)[1].decode()).words)
+        check(f"an oscillator {name}", status=(status, 0),
+              json=(any("corrections are NOT in it" in words for words in row["warnings"]), is_warned),
+              page=("corrections are NOT in it" in text, is_warned))
+
+
+def test_no_audit(place: Path) -> None:
+    """A page of folders none of which has an audit has status 2, with a line; and so have help and version theirs."""
+    bare = good_folder(place, "bare")
+    for form in ((), ("--json",), ("--csv",)):
+        status, out, err = dossier("page", *form, bare, place / "missing")
+        check(f"a page of no audit {form}", status=(status, 2),
+              error=(err, b"ntpaudit-dossier: none of these folders has an audit\n"), output=(bool(out), True))
+    refused = good_folder(place, "refused")
+    (refused / "f.pcap").unlink()
+    dossier("audit", refused)
+    check("a page of a refusal that was audited", status=(dossier("page", refused, bare)[0], 0))
+    asked = [dossier("help", "page"), dossier("page", "--help")]
+    check("help of a command", same=(asked[0], asked[1]), status=(asked[0][0], 0),
+          first=(asked[0][1].startswith(b"usage: ntpaudit-dossier page "), True))
+    check("help", same=(dossier("help"), dossier("--help")), unknown=(dossier("help", "nothing")[0], 5),
+          none=(dossier()[0], 5))
+    status, out, err = dossier("--version")
+    program = run([PROGRAM, "--version"])[1].splitlines()[0]
+    check("version", run=((status, err), (0, b"")),
+          lines=(out.splitlines()[0], b"ntpaudit-dossier, form 9 of audit.json"),
+          program=(out.splitlines()[1].startswith(program + b", SHA-256 "), True))
+
+
+def test_interleaved(place: Path) -> None:
+    """A server that answers in interleaved mode is named by draft and page: by what a real chronyd sent."""
+    capture = ROOT / "tests" / "dossier" / "client" / "interleaved.pcap"
+    said = "10.9.0.1 mostly answers in interleaved mode, which can't be used: take `xleave` out of its line"
+    status, out, err = dossier("draft", "--client", "10.9.0.2", capture)
+    check("a draft of interleaved mode", status=(status, 0), said=(said.replace("`", "") in err.decode(), True),
+          named=("10.9.0.3 mostly" in err.decode(), False))
+    claim = {"client": "10.9.0.2", "servers": ["10.9.0.1", "10.9.0.3"], "false_max": 0,
+             **{name: json.loads(out)[name] for name in ("from", "to")}, "bound_ns": 10**9}
+    for name, changes, is_warned in rows(("both", {}, True), ("one", {"servers": ["10.9.0.1"]}, True),
+                                     ("other", {"servers": ["10.9.0.3"]}, False)):
+        folder = folder_of(place, name, capture, **{**CLAIM, **claim, **changes})
+        status = dossier("audit", folder)[0]
+        row, text = table(folder)[0], dossier("page", folder)[1].decode()
+        shown = "".join(check_page(f"a page of interleaved mode: {name}", text).words)
+        check(f"interleaved mode: {name}", json=(any(said in words for words in row["warnings"]), is_warned),
+              page=("10.9.0.1 mostly answers in interleaved mode" in shown, is_warned),
+              verified=(dossier("verify", folder)[0], status))
+
+
+def test_split(place: Path) -> None:
+    """A page of the table, and a page for each folder, linked; whatever stands in the folders and in the place."""
+    folders = [good_folder(place, "good"), good_folder(place, "<b>wrong</b>".replace("/", "-"), bound_ns=1),
+               place / "missing"]
+    days = folder_of(place, "days", DATA / "clients-us.pcap", DATA / "clients-us.claim.json",
+                     **{"from": "2026-11-22T07:03:36Z", "to": "2026-11-24T00:00:00Z"})
+    dossier("audit", *folders)
+    dossier("audit", "--days", days)
+    made = place / "made" / "pages"
+    check("page --split", run=(dossier("page", "--split", made, *folders, days), (0, b"", b"")),
+          files=(sorted(path.name for path in made.iterdir()),
+                 [f"{number:05}.html" for number in (1, 2, 3, 4)] + ["index.html"]))
+    index = (made / "index.html").read_text()
+    check_page("the page of the table", index, ["00002.html", "00004.html", "00004.html", "00003.html", "00001.html"])
+    check("the page of the table alone", articles=(index.count("<article"), 0),
+          badges=([index.count(f'class="verdict {kind}"') for kind in ("yes", "refuted", "no-evidence", "refused")],
+                  [2, 3, 2, 2]), brief=(bool(re.search(r">\d warnings?<", index)), True))
+    many = dossier("page", *folders, *(place / f"none {number}" for number in range(20)))[1].decode()
+    check_page("a page of many lines", many, scripts=[SEARCH])
+    whole = dossier("page", *folders, days)[1].decode()
+    for number, articles in ((1, 1), (2, 1), (3, 1), (4, 2)):
+        text = (made / f"{number:05}.html").read_text()
+        check_page(f"the page of folder {number}", text, ["index.html"])
+        own = re.findall(r"<article.*?</article>", text, flags=re.S)
+        check(f"the page of folder {number} has what the one page has", count=(len(own), articles),
+              same=(all(article in whole for article in own), True))
+    check("page --split again", run=(dossier("page", "--split", made, folders[0])[0], 0),
+          articles=((made / "00001.html").read_text().count("<article"), 1))
+    victim = place / "victim"
+    victim.write_text("victim")
+    for name, make in rows(("index.html", lambda path: path.symlink_to(victim)), ("00001.html", os.mkfifo)):
+        (made / name).unlink()
+        make(made / name)
+    check("page --split over a link and a FIFO", run=(dossier("page", "--split", made, folders[0], timeout=20)[0], 0),
+          victim=(victim.read_text(), "victim"),
+          files=([(made / name).is_file() and not (made / name).is_symlink() for name in ("index.html", "00001.html")],
+                 [True] * 2), left=([path.name for path in made.iterdir() if path.name.startswith(".")], []))
+    check("page --split and --output", status=(dossier("page", "--split", made, "-o", place / "x", folders[0])[0], 5),
+          json=(dossier("page", "--split", made, "--json", folders[0])[0], 5))
+    (place / "file").write_text("kept")
+    status, _, err = dossier("page", "--split", place / "file", folders[0])
+    check("page --split into a file", status=(status, 4),
+          line=((b"can't be written" in err, err.count(b"\n")), (True, 1)), kept=((place / "file").read_text(), "kept"))
+    check("page --split of no audit", status=(dossier("page", "--split", place / "none", place / "missing")[0], 2))
+
+
+TEN: dict[str, Any] = {"good": ({}, {}, "yes"),
+       "outvoted server": ({}, {"words": [word.replace("4:-1000..1000", "4:900000000..900001000") for word in GOOD]},
+                           "yes"),
+       "30 ms off": ({},
+                     {"words": [word.replace("-1000..1000", "128849018..128850018") for word in GOOD],
+                      "bound_ns": 5_000_000}, "refuted"),
+       "stepped": ({},
+                   {"words": [word if number < 4 else word.replace("-1000..1000", "900000000..900001000")
+                              for number, word in enumerate(GOOD)]}, "nothing fits"),
+       "contradictory": ({},
+                         {"words": [word if number % 2 else word.replace("-1000..1000", "900000000..900001000")
+                                    for number, word in enumerate(GOOD)]}, "nothing fits"),
+       "empty": ({}, {"bytes": 24}, "no evidence"), "wrong client": ({}, {"client": "192.0.2.11"}, "no evidence"),
+       "local time": ({}, {"from": "2001-09-09T03:46:45Z", "to": "2001-09-09T03:47:20Z"}, "no evidence"),
+       "evidence against it": ({"drift": SETUP}, {}, "unsupported"), "torn": ({}, {"bytes": -50}, "yes")}
+"""Ten folders, each with the verdict that an engineer on call wants at three in the night."""
+
+
+def test_ten(place: Path) -> None:
+    folders = []
+    for name, (evidence, changes, _) in TEN.items():
+        size, words = changes.pop("bytes", None), changes.pop("words", GOOD)
+        folders.append(good_folder(place, name, evidence, words, **changes))
+        if size is not None:
+            (folders[-1] / "f.pcap").write_bytes((folders[-1] / "f.pcap").read_bytes()[:size])
+    status, out, err = dossier("audit", *folders)
+    rows = table(*folders)
+    check("ten folders", status=(status, 1), error=(err, b""),
+          verdicts=({row["machine"].rpartition("/")[2]: row["verdict"] for row in rows},
+                    {name: verdict for name, (_, _, verdict) in TEN.items()}),
+          warned=([name for name, row in zip(TEN, rows)
+                   if any("stands apart" in words or "ends inside a record" in words for words in row["warnings"])],
+                  ["outvoted server", "torn"]), verified=(dossier("verify", *folders)[0], 1))
+
+
+def silent_folders(place: Path) -> dict[Path, str]:
+    """Folders that say nothing of the clock, each with what is said."""
+    empty = good_folder(place, "empty")
+    (empty / "f.pcap").write_bytes((empty / "f.pcap").read_bytes()[:24])
+    unanswered = good_folder(place, "unanswered")
+    whole = (unanswered / "f.pcap").read_bytes()
+    length = 16 + int.from_bytes(whole[32:36], "little")
+    (unanswered / "f.pcap").write_bytes(whole[:24]
+                                        + b"".join(whole[at : at + length] for at in range(24, len(whole), 2 * length)))
+    return {empty: "Nothing was recorded: there is no record at all.",
+            good_folder(place, "client", client="192.0.2.11"):
+                "192.0.2.11 asks nobody in this capture: 192.0.2.10 does.",
+            good_folder(place, "servers", servers=["203.0.113.1", "203.0.113.2"]):
+                "192.0.2.10 asks none of the claim's servers: it asks 192.0.2.1, 192.0.2.2, 192.0.2.3, 192.0.2.4.",
+            unanswered: "The servers never answered: 8 requests, and no reply.",
+            good_folder(place, "few", servers=["192.0.2.1", "203.0.113.2"]):
+                "1 of 2 groups of servers has a sample, and 1 may be wrong",
+            good_folder(place, "hour", **{"from": "2001-09-09T02:46:45Z", "to": "2001-09-09T02:47:20Z"}):
+                "No packet was recorded within the span: the last before it is from 2001-09-09 01:47:20 UTC.",
+            good_folder(place, "earlier", **{"from": "2001-09-09T00:46:45Z", "to": "2001-09-09T00:47:20Z"}):
+                "No packet was recorded within the span"}
+
+
+def test_nothing_seen(place: Path) -> None:
+    """What kind of evidence is missing."""
+    for folder, said in silent_folders(place).items():
+        status, out, _ = dossier("audit", folder)
+        row = table(folder)[0]
+        page = "".join(check_page(f"a page of no evidence: {folder.name}", dossier("page", folder)[1].decode()).words)
+        check(f"no evidence: {folder.name}", status=(status, 1), row=(row["verdict"], "no evidence"),
+              said=(said in row["reason"] and said in page, True), to_do=(len(row["to_do"]) > 20, True),
+              verified=(dossier("verify", folder), (1, f"{folder}: verified: no evidence\n".encode(), b"")))
+    off = good_folder(place, "off", None, [word.replace("-1000..1000", "9000000000..9000001000") for word in GOOD],
+                      **{"from": "2001-09-09T02:46:45Z", "to": "2001-09-09T02:47:20Z"})
+    dossier("audit", off)
+    check("a clock that was off an hour before the span", row=(table(off)[0]["verdict"], "refuted"))
+
+
+def test_many_together(place: Path) -> None:
+    """A missing folder doesn't hide a wrong clock, and the worst folder comes first."""
+    good, wrong = good_folder(place, "good"), good_folder(place, "wrong", bound_ns=1)
+    apart = good_folder(place, "apart", None, [*GOOD[:-1], f"4:900000000..900001000@{FIRST + 40}"][1:])
+    nothing = good_folder(place, "nothing", client="192.0.2.11")
+    contrary, missing, refused = good_folder(place, "contrary",
+                                             {"drift": SETUP}), place / "missing", good_folder(place, "refused")
+    (refused / "f.pcap").write_bytes(b"")
+    folders = [good, apart, missing, refused, nothing, contrary, wrong]
+    check("the status of many", all=(dossier("audit", *folders)[0], 1),
+          jobs=(dossier("audit", "--again", "--jobs", "2", *folders)[0], 1),
+          faults=(dossier("audit", good, missing, refused)[0], 4), refused=(dossier("audit", good, refused)[0], 2),
+          fine=(dossier("audit", good, apart)[0], 0))
+    (wrong / "report.txt").write_text("")
+    check("the status of verify", differs=(dossier("verify", missing, wrong, good)[0], 1),
+          missing=(dossier("verify", missing, good)[0], 4))
+    dossier("audit", wrong)
+    order = ["wrong", "contrary", "nothing", "missing", "refused", "good", "apart"]  # (the capture of good is a copy)
+    rows = json.loads(dossier("page", "--json", *folders)[1])
+    lines = list(csv.DictReader(io.StringIO(dossier("page", "--csv", *folders)[1].decode())))
+    text = dossier("page", *folders)[1].decode()
+    check_page("a page with the worst first", text)
+    names = [row["machine"].rpartition("/")[2] for row in rows]
+    check("the worst folder first", json=(names, order),
+          csv=([line["machine"].rpartition("/")[2] for line in lines], order),
+          page=(sorted(order, key=lambda name: text.index(f"/{name}</a>")), order),
+          articles=(sorted(order, key=lambda name: text.index(f"<h2>{place / name} ")), order))
+    check("what stands apart reaches machines",
+          json=("192.0.2.4 stands apart: its range never meets the hull." in rows[6]["warnings"], True),
+          csv=("192.0.2.4 stands apart" in lines[6]["warnings"], True))
+    seen = list(dict.fromkeys(row["verdict"].replace(" ", "-") for row in rows))
+    check("the lines of one verdict alone", places=(sorted(re.findall(r'id="only-([a-z-]+)"', text)), sorted(seen)),
+          links=(sorted(re.findall(r'href="#only-([a-z-]+)"', text)), sorted(seen)),
+          lines=(re.findall(r'<tbody class="of-([a-z-]+)"', text),
+                 [row["verdict"].replace(" ", "-") for row in rows]),
+          hidden=([kind for kind in seen if f"#only-{kind}:target~.audits tbody:not(.of-{kind}){{display:none}}"
+                   not in text], []))
+    day = folder_of(place, "days", DATA / "clients-us.pcap", DATA / "clients-us.claim.json",
+                    **{"from": "2026-11-22T07:03:36Z", "to": "2026-11-24T00:00:00Z"})
+    dossier("audit", "--days", day)
+    rows = json.loads(dossier("page", "--json", good, day)[1])
+    check("the days of a folder stay in order", days=([row["day"] for row in rows], ["2026-11-22", "2026-11-23", ""]))
+    shutil.rmtree(day)

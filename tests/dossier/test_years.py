@@ -1,0 +1,217 @@
+"""Tests of the year: `ntpaudit-dossier year`, and what is signed and verified of it.
+A machine has some days of September 2001, of which each figure
+is known by hand.
+"""
+import json
+import re
+import shutil
+import time
+from collections.abc import Callable
+from html import unescape
+from pathlib import Path
+from typing import Any
+
+from tests.support import check, run, sum_of
+from tests.dossier.audits import ENVIRONMENT, capture_of, check_page, dossier
+from tests.dossier.test_evidence import key_of
+from tests.dossier.test_verdicts import CLAIM
+
+DAY, FIRST = 86_400, 999_993_600
+"""Seconds; and 2001-09-09T00:00:00Z."""
+RIGHT, WIDE = "-1000..1000", "-8589934..8589934"
+"""Ends in ticks: a sample that shows the bound, and one that doesn't."""
+COUNTED = {"2001-09-09": "yes", "2001-09-10": "yes", "2001-09-11": "refuted", "2001-09-12": "not verified",
+           "2001-09-13": "no evidence"}
+"""What the machine's days are. The other 360 of the year are missing."""
+
+
+def day(machine: Path, number: int, ends: str, name: str = "", servers: int = 4, **changes: object) -> Path:
+    """A folder of a day, by how many come before it since 2001-09-09, with a sample each ten minutes of each server."""
+    begin = FIRST + DAY * number
+    date = f"2001-09-{9 + number:02}"
+    folder = machine / (name or date)
+    folder.mkdir(parents=True)
+    capture_of(folder / "f.pcap", *(f"{server}:{ends}@{begin + 600 * k}" for k in range(144)
+                                    for server in range(1, servers + 1)))
+    claim = {**CLAIM, "from": f"{date}T00:00:00Z", "to": f"2001-09-{10 + number:02}T00:00:00Z", "drift_ppb": 0,
+             "bound_ns": 1_000_000, **changes}
+    (folder / "claim.json").write_text(json.dumps(claim))
+    return folder
+
+
+def machine_of(place: Path) -> Path:
+    """A machine with days of all kinds, audited."""
+    own = place / "fleet" / "web 1"
+    day(own, 0, RIGHT)
+    day(own, 1, RIGHT)
+    day(own, 2, WIDE)
+    changed = day(own, 3, RIGHT)
+    day(own, 4, RIGHT, servers=1)
+    day(own, 5, RIGHT, client="192.0.2.11")
+    twin = day(own, 0, RIGHT, name="2001-09-16")
+    assert twin.name == "2001-09-16"
+    dossier("audit", *sorted(own.iterdir()))
+    record = changed / "audit.json"
+    record.write_text(record.read_text().replace("192.0.2.4", "192.0.2.5"))
+    return own
+
+
+def test_year(place: Path) -> None:
+    """The calendar's cells, the sums, the days that aren't shown, and what isn't counted."""
+    own = machine_of(place)
+    status, _, err = dossier("year", "--year", "2001", "--split", place / "pages", place / "fleet" / "web 1")
+    check("year", run=((status, err), (0, b"")))
+    text = (place / "pages" / "00001.html").read_text()
+    names = [*COUNTED, "2001-09-14"]
+    cells = re.findall(r'<(?:a|span) class="d ([a-z-]+)[^"]*"[^>]*title="(\S+): ([a-z ]+)', text)
+    check("the cells of a year", number=(len(cells), 365),
+          named=({date: words.strip() for _, date, words in cells if words.strip() != "missing"}, COUNTED),
+          classes=([kind for kind, _, words in cells if kind != words.strip().replace(" ", "-")], []))
+    links = [f"../fleet/web%201/{name}/" for name in names]
+    rows = re.findall(r"<tr>(.*?)</tr>", text, flags=re.S)
+    days = [row for row in rows if "data-label=\"Day\"" in row]
+    check("days that aren't shown", rows=(len(days), 363), room=(sum('class="done"></td>' in row for row in days), 363),
+          links=(set(re.findall(r'href="([^"#]+)"', text)), {*links, "index.html"}))
+    others = text[text.index("Not counted") :]
+    check("what isn't counted", twice=("2001-09-16: 2001-09-09 stands twice" in others
+                                       or "2001-09-09: 2001-09-09 stands twice" in others, True),
+          other=("2001-09-14: another claim or client" in others, True), number=(others.count("<li>"), 2))
+    words = text.partition('class="statement">')[2].partition("</p>")[0]
+    for said in ("The clock of 192.0.2.10", "within 1 ms of UTC", "From 2001-01-01 to 2001-12-31 this is shown on 2 of "
+                 "365 days", "Not shown: 1 refuted, 1 no evidence, 1 not verified, 360 missing", "no more than 1 group "
+                 "was wrong", "no request left more than 0 ms before its record",
+                 "no reply arrived more than that after its own",
+                 "The longest time without a day that is shown is 251 days from 2001-01-01 on"):
+        check(f"the statement: {said[:40]}", there=(said in words, True))
+    check_page("the page of a machine's year", text, re.findall(r'href="([^"#]+)"', text))
+    index = (place / "pages" / "index.html").read_text()
+    check_page("the page of a year", index, ["00001.html"] * 2)
+    check("the sums of a year", line=(["2 of 365" in index, "251 from 2001-01-01" in index], [True, True]))
+    sums = run(["sha256sum", "-c", "00001.sums"], cwd=place / "pages")
+    check("the sums of its days", run=(sums[0], 0), lines=(len(sums[1].splitlines()), 5))
+    maybe = place / "second"
+    maybe.write_text("#!/bin/sh\necho verdict maybe\n")
+    maybe.chmod(0o755)
+    state = {**ENVIRONMENT, "XDG_STATE_HOME": str(place / "disputed"), "NTPAUDIT_SECOND": str(maybe)}
+    other = place / "other"
+    once = day(other, 1, RIGHT)
+    dossier("audit", once, env=state)
+    before = dossier("year", "--year", "2001", other, env=state)[1].decode()
+    disputed = dossier("verify", "--second", once, env=state)[0]
+    text = dossier("year", "--year", "2001", other, env=state)[1].decode()
+    check("a day that the second program disputes", status=(disputed, 1), before=("1 of 365" in before, True),
+          after=("0 of 365" in text, True), named=("1 disputed" in text, True),
+          cell=('title="2001-09-10: disputed"' in text, True))
+    status, out, _ = dossier("year", "--year", "2001", *sorted(own.iterdir()))
+    check("a year by its days", status=(status, 0), same=("2 of 365" in out.decode(), True))
+    begin = int(time.time()) // DAY * DAY + DAY
+    tomorrow, after = (time.strftime("%Y-%m-%d", time.gmtime(begin + DAY * k)) for k in (0, 1))
+    span: dict[str, Any] = {"from": f"{tomorrow}T00:00:00Z", "to": f"{after}T00:00:00Z"}
+    dossier("audit", day(place / "ahead", 0, RIGHT, name=tomorrow, **span))
+    text = dossier("year", "--year", tomorrow[:4], place / "ahead")[1].decode()
+    said = f"<li>{tomorrow}: {tomorrow} hasn't ended yet</li>"
+    check("a day that hasn't ended", named=(said in unescape(text), True),
+          cell=(f'title="{tomorrow}' in text, False))
+    check("another year", none=("0 of 365" in dossier("year", "--year", "2002", own)[1].decode(), True))
+
+
+def test_strange_years(place: Path) -> None:
+    """A folder of days is a stranger's: what isn't one is named, and nothing of it is shown."""
+    own = machine_of(place)
+    (place / "link").symlink_to(own)
+    for name, folder, words in (("a link", place / "link", b"is a link"),
+                                ("no folder", place / "none", b"no such folder")):
+        status, _, err = dossier("year", "--year", "2001", folder)
+        check(f"a year of {name}", status=(status, lambda found: found in (2, 4)), told=(words in err, True))
+    changes: dict[str, Callable[[Path], object]] = {
+        "audit.json is a FIFO": lambda path: run(["mkfifo", path]),
+        "audit.json is rubbish": lambda path: path.write_text("{"),
+        "audit.json is a link": lambda path: path.symlink_to("../2001-09-10/audit.json")}
+    for name, change in changes.items():
+        file = own / "2001-09-09" / "audit.json"
+        kept = file.read_bytes()
+        file.unlink()
+        shutil.rmtree(own / "2001-09-16", ignore_errors=True)
+        change(file)
+        text = dossier("year", "--year", "2001", own)[1].decode()
+        check(f"a year in which {name}", shown=("1 of 365" in text, True))
+        file.unlink()
+        file.write_bytes(kept)
+    stranger = {**ENVIRONMENT, "XDG_STATE_HOME": str(place)}
+    text = dossier("year", "--year", "2001", own, env=stranger)[1].decode()
+    check("a year that nobody made here", shown=("0 of 365" in text, True), told=("6 not verified" in text, True))
+
+
+def test_signed_year(place: Path) -> None:
+    """A signature on the statements is held to the days, and each day to its inputs."""
+    own, pages, (key, allowed) = machine_of(place), place / "pages", key_of(place, "key")
+    signers = place / "signers"
+    signers.write_text(allowed)
+    shutil.rmtree(own / "2001-09-12")
+    dossier("year", "--year", "2001", "--split", pages, own)
+    status, out, _ = dossier("sign", "--key", key, pages)
+    check("sign a year", run=((status, out), (0, f"{pages}: signed\n".encode())))
+    named = (pages, place / "fleet")
+    status, out, _ = dossier("verify", "--signers", signers, *named)
+    lines = out.decode().splitlines()
+    check("verify a year", status=(status, 1), days=(sum(": verified: " in line for line in lines), 5),
+          by=(any("by key@example.org" in line for line in lines), True),
+          end=(f"{pages}: verified: its statements follow from its days" in lines, True),
+          named=(lines[-1], f"{place / 'fleet'}: (a year's days are in it)"))
+    status, out, _ = dossier("verify", pages)
+    check("a year whose days are in no folder that is named", status=(status, 2), days=(out.count(b"2001-09-09"), 1),
+          told=(out.decode().partition("\n")[0], f"{pages}: ntpaudit-dossier: {own}/2001-09-09 is in no folder that is "
+                "named: if it may be read, name the folder of its machine too"))
+    text = (pages / "year.json").read_text()
+    (pages / "year.json").write_text(text.replace("shown on 2 of", "shown on 9 of"))
+    status, out, _ = dossier("verify", "--signers", signers, *named)
+    check("a statement that was changed", status=(status, 1), told=(b"the signature doesn't fit" in out
+                                                                    and b"doesn't follow from its days" in out, True))
+    year = json.loads(text)
+    (machine,), sums = year["machines"], (pages / "00001.sums").read_text()
+    odd = sums.replace("2001-09-09", "day")
+    many = "".join(f"{sums[:64]}  ../fleet/web 1/{1000 + number}-01-01/audit.json\n" for number in range(5000))
+    for name, machines, rows, words in (
+            ("one machine's days as those of two", [machine, {**machine, "machine": "web 2"}], sums, "there twice"),
+            ("another machine's name", [{**machine, "machine": "web 2",
+                                         "statement": machine["statement"].replace("web 1", "web 2")}], sums,
+             "which has another name"),
+            ("more days shown than are", [{**machine, "shown": 9}], sums, "doesn't follow from its days"),
+            ("a folder that is no day", [{**machine, "sha256": sum_of(odd.encode())}], odd, "other files than audits"),
+            ("days that aren't there", [{**machine, "sha256": sum_of(many.encode())}], many, "a day isn't the one")):
+        (pages / "year.json").write_text(json.dumps({**year, "machines": machines}))
+        (pages / "00001.sums").write_text(rows)
+        status, out, _ = dossier("verify", *named)
+        lines = out.decode().splitlines()
+        check(f"a year with {name}", status=(status, lambda status: status in (1, 4)), few=(len(lines) < 20, True),
+              told=(any(words in line for line in lines), True), yes=(any("verified: its" in line for line in lines),
+                                                                      False))
+    (pages / "year.json").write_text(text)
+    (pages / "00001.sums").write_text(sums)
+    with open(own / "2001-09-10" / "f.pcap", "ab") as opened:
+        opened.write(b"\0")
+    status, out, _ = dossier("verify", *named)
+    check("a day that was changed", status=(status, 1), told=(b"2001-09-10: f.pcap isn't the file" in out, True))
+    record = own / "2001-09-10" / "audit.json"
+    record.write_text(record.read_text().replace('"samples": 576', '"samples": 577'))
+    status, out, _ = dossier("verify", *named)
+    check("an audit that was changed", told=(b"a day isn't the one that 00001.sums names" in out, True))
+
+
+def test_midnight(place: Path) -> None:
+    """A day ends with the moment at which the next begins, so that no moment lies between two days."""
+    claim = {**CLAIM, "from": "2001-09-09T00:00:00Z", "to": "2001-09-12T00:00:00Z", "drift_ppb": 0}
+    folder = place / "days"
+    folder.mkdir()
+    capture_of(folder / "f.pcap", *(f"{server}:{RIGHT}@{FIRST + 600 * k}" for k in range(432)
+                                    for server in (1, 2, 3, 4)))
+    (folder / "claim.json").write_text(json.dumps(claim))
+    dossier("audit", "--days", folder)
+    claims = [entry["claim"] for entry in json.loads((folder / "audit.json").read_text())["entries"]]
+    spans = [(own["from"], own["to"]) for own in claims]
+    check("days join", ends=([end for _, end in spans[:-1]], [begin for begin, _ in spans[1:]]), number=(len(spans), 3),
+          all=((spans[0][0], spans[-1][1]), (claim["from"], claim["to"])))
+    for own in sorted(path for path in folder.iterdir() if path.is_dir()):
+        pieces = json.loads((own / "certificate.json").read_text())["pieces"]
+        end = FIRST + DAY * (int(own.name[-2:]) - 8)
+        check(f"the certificate of {own.name}", end=(pieces[-1]["upto"], end * 2**32))

@@ -1,0 +1,141 @@
+"""What the commands with a claim print, restated: the second reading of each command's text, by what the rules of
+tests/second/rules.py, tests/second/pieces.py and tests/second/settlement.py say of the samples. A command has one
+function here, and its options are the words that it is typed with.
+
+Nothing here is shared with the program. tests/tools/samples_from_list prints these texts, and
+tests/system/test_readings.py, tests/system/test_courses.py, tests/system/test_hostile.py and tests/system/test_large.py
+hold the program to them.
+"""
+from collections.abc import Callable, Iterator, Sequence
+from typing import NamedTuple
+
+from tests.second import pieces, rules, settlement
+from tests.second.claims import Claim
+from tests.second.columns import MOMENT, PIECE, PIECE_OF_SERVER, SAMPLE, TICKS, written
+from tests.second.rules import Hull, Intervals, Sample
+
+Answer = tuple[int, list[str]]
+"""A status, and the lines on standard output."""
+
+
+class Evidence(NamedTuple):
+    """A claim and its samples: of each the numbers of its two records, the line of counts, and the interval of each
+    server over any piece."""
+    claim: Claim
+    samples: list[Sample]
+    records: list[tuple[int, int]]
+    counts: str
+    intervals: Callable[[int, int], Intervals]
+
+
+def by_rules(claim: Claim, samples: list[Sample], records: list[tuple[int, int]] = [], counts: str = "") -> Evidence:
+    """Evidence whose intervals are those of the best samples, looked for among all of them."""
+    def intervals(begin: int, end: int) -> Intervals:
+        return rules.intervals(claim, samples, rules.best_entries(claim, samples, begin, end), begin, end)
+    return Evidence(claim, samples, records, counts, intervals)
+
+
+def step_of(words: Sequence[object]) -> int:
+    return int(str(words[words.index("--step") + 1])) if "--step" in words else 64
+
+
+# ---- each command
+
+
+def samples(evidence: Evidence) -> Answer:
+    """A line for each sample, and the counts."""
+    servers, rows = evidence.claim["servers"], enumerate(zip(evidence.samples, evidence.records, strict=True))
+    return 0, [*(written(SAMPLE, number, servers[sample.server], *records, *sample.offset, *sample.delay, sample.low,
+                         sample.high) for number, (sample, records) in rows), evidence.counts]
+
+
+def at(evidence: Evidence, time: str) -> Answer:
+    """The servers' intervals at a moment, and the hull."""
+    place = rules.ticks_of(time)
+    of_servers = evidence.intervals(place, place)
+    lines = [written(MOMENT, evidence.claim["servers"][server], *ends) for server, ends in of_servers.items()]
+    return 0, [*lines, written(MOMENT, "hull", *rules.hull_fields(rules.hull_of(evidence.claim, of_servers)))]
+
+
+class Drawn(NamedTuple):
+    """A piece of an envelope."""
+    begin: int
+    end: int
+    servers: Intervals
+    hull: Hull
+
+
+def drawn(evidence: Evidence, step: int) -> Iterator[Drawn]:
+    """The pieces of so many seconds."""
+    for begin, end in rules.pieces_of(evidence.claim, step):
+        of_servers = evidence.intervals(begin, end)
+        yield Drawn(begin, end, of_servers, rules.hull_of(evidence.claim, of_servers))
+
+
+def bound_over(found: list[Drawn]) -> tuple[int | None, int]:
+    """The least bound in nanoseconds inside which all hulls lie, with the first piece that needs it: None where a piece
+    has no hull, the first of which is given."""
+    needs = [rules.need_of(piece.hull) for piece in found]
+    if None in needs:
+        return None, needs.index(None)
+    in_ns = [rules.ceiling(need * rules.BILLION, TICKS) for need in needs if need is not None]
+    return max(in_ns), in_ns.index(max(in_ns))
+
+
+def envelope(evidence: Evidence, *words: object) -> Answer:
+    """A line for each piece, those of its servers before it, the bound over them, and the least bound."""
+    found, lines = list(drawn(evidence, step_of(words))), list[str]()
+    for number, (begin, end, servers, hull) in enumerate(found):
+        if "--servers" in words:
+            lines += [written(PIECE_OF_SERVER, number, evidence.claim["servers"][server], *ends)
+                      for server, ends in servers.items()]
+        lines.append(written(PIECE, number, begin // TICKS, end // TICKS, *rules.hull_fields(hull)))
+    bound, worst = bound_over(found)
+    lines.append(f"bound_ns {'none' if bound is None else bound} piece {worst}")
+    if "--least" in words:
+        least = pieces.least(evidence.claim, evidence.samples, step_of(words))
+        lines.append(f"least_ns {least[0]} piece {least[1]}" if least else "least_ns none")
+    return int(bound is None), lines
+
+
+def told_least(line: str) -> tuple[int, int] | None:
+    """The bound and the piece of a line `least_ns`."""
+    words = line.split()
+    return None if words[1] == "none" else (int(words[1]), int(words[3]))
+
+
+def failing(evidence: Evidence, step: int) -> str | None:
+    """The line of `find` of the first piece that fails, if one does."""
+    for number, piece in enumerate(drawn(evidence, step)):
+        if not rules.is_inside(rules.bound_of(evidence.claim), piece.hull):
+            return f"nothing piece {number} hull {rules.hull_words(piece.hull)}"
+    return None
+
+
+def find(evidence: Evidence, *words: object) -> Answer:
+    """A certificate, or the first piece that fails; or the nearest refutation."""
+    claim, known, _, _, _ = evidence
+    if "--refutation" in words:
+        found = rules.refutation(claim, known)
+        return int(not found), [rules.compact(found) if found else "nothing refutation"]
+    if line := failing(evidence, step_of(words)):
+        return 1, [line]
+    cut = [{"entries": rules.best_entries(claim, known, begin, end), "upto": end}
+           for begin, end in rules.pieces_of(claim, step_of(words))]
+    return 0, [rules.compact({"pieces": cut})]
+
+
+def settle(evidence: Evidence) -> Answer:
+    """One of five answers, where a refutation may be another one."""
+    lines = settlement.settle(evidence.claim, evidence.samples, evidence.records)
+    return int(settlement.kind_of(lines[0].encode()) != "shown"), lines
+
+
+def fewest(evidence: Evidence) -> Answer:
+    """No command: the certificate of fewest pieces, or where its pieces stop."""
+    certificate, stop = pieces.fewest(evidence.claim, evidence.samples)
+    return int(stop is not None), [f"nothing from {stop.begin} to {stop.end}" if stop else rules.compact(certificate)]
+
+
+READINGS: dict[str, Callable[..., Answer]] = {
+    "samples": samples, "at": at, "find": find, "envelope": envelope, "settle": settle}

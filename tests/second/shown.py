@@ -1,0 +1,171 @@
+"""What `--human` shows, read off the lines that the same command prints without it: a second reading, in whole numbers.
+tests/second/columns.py says how the fields of a table are shown, and this file all else:
+
+- nanoseconds are milliseconds, parts of 10^9 are parts of 10^6
+- a reference identifier is its one to four letters, before zero bytes alone, or else an address
+- a record's time and the ends of a tick have nanoseconds, unless it is a whole second
+- a certificate or a refutation is told of, with what the claim says
+
+Nothing here is shared with the program.
+"""
+import json
+import re
+from collections.abc import Sequence
+from pathlib import Path
+
+from tests.second.claims import Claim, Refutation, read_claim
+from tests.second.columns import (HULL, MOMENT, PIECE, PIECES_WITH_SERVERS, PIECE_OF_SERVER, SAMPLE, TICKS, cells,
+                                  milliseconds, read, table, time)
+
+
+def millionths(ppb: str) -> str:
+    return f"{int(ppb) // 1000}.{int(ppb) % 1000:03}"
+
+
+def reference(digits: str) -> str:
+    named = re.fullmatch(rb"([!-~]+)\0*", bytes.fromhex(digits))
+    return named[1].decode() if named else ".".join(map(str, bytes.fromhex(digits)))
+
+
+# ---- each command's lines
+
+
+def samples(lines: list[str]) -> list[str]:
+    *rows, counts = lines
+    return [*table(SAMPLE, [read(SAMPLE, row) for row in rows]), counts]
+
+
+def at(lines: list[str]) -> list[str]:
+    rows = [read(MOMENT, row) for row in lines]
+    assert [row["SERVER"] for row in rows].index("hull") == len(rows) - 1, lines
+    return table(MOMENT, rows)
+
+
+def envelope(lines: list[str], servers: bool) -> list[str]:
+    """A server's line has its piece's fields but the hull. The piece's own line comes after those of the servers."""
+    at_end = [row for row in lines if row.startswith(("bound_ns ", "least_ns "))]
+    rows = [read(PIECE_OF_SERVER if "." in row.split(" ")[1] else PIECE, row) for row in lines[:-len(at_end)]]
+    of_pieces = {row["K"]: row for row in rows if "FROM" in row}
+    columns = PIECES_WITH_SERVERS if servers else PIECE
+    return table(columns, [{**of_pieces[row["K"]], **row} for row in rows]) + [bound(row) for row in at_end]
+
+
+def bound(row: str) -> str:
+    """The last lines: the least bound, and the least that a certificate carries."""
+    name, amount, *rest = row.split(" ")
+    shown = [amount] if amount == "none" else [milliseconds(int(amount)), "ms"]
+    return " ".join([name.removesuffix("_ns"), *shown, *rest])
+
+
+def pieces_of(row: str) -> int:
+    return len(json.loads(row)["pieces"])
+
+
+def find(lines: list[str], claim: Claim, step: str) -> list[str]:
+    """A piece that fails is shown, and of what is found its size."""
+    row, = lines
+    if row.startswith("nothing piece "):
+        return [bounded(row)]
+    if row == "nothing refutation":
+        return ["no refutation found"]
+    if row.startswith('{"error"'):
+        return ["refutation found", *refutation(json.loads(row), claim)]
+    return ["certificate found", bound_of(claim), f"pieces {pieces_of(row)}", f"step {step} s"]
+
+
+def bound_of(claim: Claim) -> str:
+    return f"bound {milliseconds(claim['bound_ns'])} ms"
+
+
+def refutation(said: Refutation, claim: Claim) -> list[str]:
+    """What a refutation says: its error and time, how that stands to the bound, and who would be wrong. The error is
+    rounded away from zero: in ticks it is beyond the bound, or it isn't."""
+    error, bound_ns, servers = said["error"], claim["bound_ns"], claim["servers"]
+    size = -(-abs(error) * 10**9 // TICKS)
+    at = said["reading"] * 10**9 // TICKS
+    when = moment(at) if at < 2**32 * 10**9 else str(said["reading"])
+    is_beyond = abs(error) > bound_ns * TICKS // 10**9
+    wrong = [f"if wrong {servers[k]}" if k < len(servers) else f"if wrong server {k} not in the claim"
+             for k in said["false"]]
+    return [f"error {milliseconds(-size if error < 0 else size)} ms at {when}", bound_of(claim),
+            f"beyond the bound by {milliseconds(size - bound_ns)} ms" if is_beyond else "not beyond the bound",
+            *(wrong or ["if wrong none"])]
+
+
+def refute(lines: list[str], claim: Claim, said: Refutation) -> list[str]:
+    return [*lines, *refutation(said, claim)]
+
+
+def bounded(row: str) -> str:
+    """A line whose hull stands at its end, in no columns."""
+    words, hull = row.split(" hull ")
+    return " ".join([words, "hull", *filter(None, cells(HULL, read(HULL, hull)))])
+
+
+def moment(nanoseconds: int) -> str:
+    """A time in Unix nanoseconds, with nine decimals, or none at a whole second."""
+    second, part = divmod(nanoseconds, 10**9)
+    return time(second).replace("Z", f".{part:09}Z" if part else "Z")
+
+
+def settle(lines: list[str], claim: Claim, times: dict[int, int], least: str, heard: set[str]) -> list[str]:
+    """Conflicts are shown with the times of the records by their numbers in Unix nanoseconds, and all else is told,
+    with the line of the least bound and the servers that have a sample."""
+    shown = [conflict(row, times) if row.startswith("conflict ") else row for row in lines]
+    first = lines[0]
+    if first.startswith('{"pieces"'):
+        return ["shown", bound_of(claim), f"pieces {pieces_of(first)}", bound(least)]
+    if first.startswith('{"error"'):
+        return ["refuted", *refutation(json.loads(first), claim)]
+    if first.startswith("no evidence "):
+        return [first, *(f"no sample {server}" for server in claim["servers"] if server not in heard)]
+    return [opened(first), bound_of(claim), bound(least), *wider(least, claim)] if first.startswith("open ") else shown
+
+
+def conflict(row: str, times: dict[int, int]) -> str:
+    f = row.split(" ")
+    ends = zip(("request", "reply"), f[1::2], f[2::2])
+    return " ".join(["conflict", *(f"{server} {what} {record} at {moment(times[int(record)])}"
+                                   for what, server, record in ends)])
+
+
+def opened(row: str) -> str:
+    f = row.split(" ")
+    begin, end = int(f[1]) * 10**9 // TICKS, -(-int(f[2]) * 10**9 // TICKS)
+    return bounded(" ".join(["open", moment(begin), moment(end), *f[3:]]))
+
+
+def wider(least: str, claim: Claim) -> list[str]:
+    """By how much the least bound is above the claimed one, if there is one."""
+    amount = least.split(" ")[1]
+    return [] if amount == "none" else [f"wider by {milliseconds(int(amount) - claim['bound_ns'])} ms"]
+
+
+def check(lines: list[str]) -> list[str]:
+    shown = []
+    for row in lines:
+        f = row.split(" ")
+        if f[0] == "span":
+            assert f[3::2] == ["bound_ns", "drift_ppb", "reading_ns"], row
+            row = (f"span {time(f[1])} {time(f[2])} bound {milliseconds(int(f[4]))} ms "
+                   f"drift {millionths(f[6])} ppm reading {milliseconds(int(f[8]))} ms")
+        elif f[:2] == ["advice", "reference"]:
+            row = f"advice reference {reference(f[2])}"
+        shown.append(row)
+    return shown
+
+
+def of(words: Sequence[str], text: bytes) -> bytes:
+    """What a command prints with `--human`, of its words and what it prints without."""
+    command, lines = words[0], text.decode().splitlines()
+    if command in ("samples", "at") and lines:
+        lines = {"samples": samples, "at": at}[command](lines)
+    elif command == "envelope" and lines:
+        lines = envelope(lines, "--servers" in words)
+    elif command == "find" and lines:
+        lines = find(lines, read_claim(words[1]), words[words.index("--step") + 1] if "--step" in words else "64")
+    elif command == "refute" and lines:
+        lines = refute(lines, read_claim(words[1]), json.loads(Path(words[3]).read_text()))
+    elif command == "check":
+        lines = check(lines)
+    return "".join(f"{row}\n" for row in lines).encode()

@@ -1,0 +1,165 @@
+"""What the tests share: what they say of a case, the program, and how they run it.
+
+A test is a function `test_..` of a module `test_..` in a folder here, and may take a folder of its own. `tests/run`
+makes a case of unittest of each. What a test counts, checks or skips is a subtest. The program is the one that
+./ntpaudit runs, or the file that the environment's NTPAUDIT names (from the repository's root).
+"""
+import functools
+import hashlib
+import inspect
+import os
+import shutil
+import subprocess
+import sys
+import tempfile
+import threading
+import unittest
+from collections.abc import Callable, Iterable, Sized
+from pathlib import Path
+from types import ModuleType
+from typing import Any
+
+ROOT = Path(__file__).resolve().parents[1]
+DATA = ROOT / "data"
+
+SECONDS = 120
+"""A run that takes longer than this has hung; no test depends on being quicker."""
+
+NOBODY = 65534
+LOCK = threading.Lock()
+
+Ran = tuple[int | str, bytes, bytes]
+"""Status, standard output and standard error of a command. A run that doesn't end, or that can't be begun, has a text
+for its status."""
+
+
+class Case(unittest.TestCase):
+    """A test of this name. It has a folder of its own, if it takes one, and may give a value."""
+    now: "Case"
+    """The one that runs."""
+
+    def __init__(self, name: str, test: Callable[..., Any]) -> None:
+        super().__init__("run_it")
+        self.name, self.test, self.value = name, test, None
+
+    def id(self) -> str:
+        return self.name
+
+    def run_it(self) -> None:
+        Case.now = self
+        os.chdir(ROOT)
+        with tempfile.TemporaryDirectory(prefix="ntpaudit-") as made:
+            os.chmod(made, 0o755)
+            (folder := Path(made) / "test").mkdir()
+            self.value = self.test(*([folder] if inspect.signature(self.test).parameters else []))
+
+
+def named(module: ModuleType) -> str:
+    return module.__name__.removeprefix("tests.").replace(".test_", ".")
+
+
+def cases_of(module: ModuleType) -> list[Case]:
+    """The tests of a module, in its order: its functions `test_..`, or those that it makes itself by `cases`."""
+    if hasattr(module, "cases"):
+        return [Case(name, test) for name, test in module.cases()]
+    return [Case(f"{named(module)}.{word.removeprefix('test_')}", test) for word, test in vars(module).items()
+            if word.startswith("test_") and inspect.isfunction(test) and test.__module__ == module.__name__]
+
+
+@functools.cache
+def program() -> str:
+    """The program under test: the file that the environment's NTPAUDIT names (from the repository's root), or the one
+    that the launcher keeps, which the launcher has made sure of just now."""
+    if "NTPAUDIT" in os.environ:
+        named = (ROOT / os.environ["NTPAUDIT"]).resolve()
+        if not os.access(named, os.X_OK):
+            sys.exit(f"NTPAUDIT names {named}, and no program is there")
+        return str(named)
+    ran = subprocess.run([ROOT / "ntpaudit", "--version"], stdin=subprocess.DEVNULL, stdout=subprocess.DEVNULL)
+    if ran.returncode:
+        sys.exit(f"./ntpaudit --version ends with status {ran.returncode}")
+    kept = ROOT / "out" / "ntpaudit"
+    return str(kept if kept.exists() else ROOT / "dist" / "ntpaudit")
+
+
+def count(name: str, wrong: str) -> None:
+    """Counts a subtest, and what is wrong with it: nothing where that's an empty text."""
+    with LOCK, Case.now.subTest(name):
+        if wrong:
+            raise AssertionError(wrong)
+
+
+def check(name: str, **pairs: tuple[Any, Any]) -> None:
+    """Counts a case: each pair is what was seen and what is wanted, or what was seen and a test of it."""
+    wrong = []
+    for what, (seen, wanted) in pairs.items():
+        if not (wanted(seen) if callable(wanted) else seen == wanted):
+            wrong.append(f"{what} {short(seen)}" + ("" if callable(wanted) else f", wanted {short(wanted)}"))
+    count(name, "; ".join(wrong))
+
+
+def skip(name: str, why: str) -> None:
+    """Counts a subtest that isn't tried here, and says why."""
+    with LOCK, Case.now.subTest(name):
+        raise unittest.SkipTest(why)
+
+
+def is_here(tool: str, name: str) -> bool:
+    """Whether a tool is installed; where it isn't, a case is skipped."""
+    if not shutil.which(tool):
+        skip(name, f"{tool} isn't installed")
+    return bool(shutil.which(tool))
+
+
+def nobody(name: str) -> dict[str, Any] | None:
+    """How to run as a user who owns nothing: permissions don't bind root. Where that can't be, a case is skipped."""
+    how: dict[str, Any] = {"user": NOBODY, "group": NOBODY, "extra_groups": []} if os.geteuid() == 0 else {}
+    if run(["true"], **how)[0] == 0:
+        return how
+    skip(name, "root may not become another user here")
+    return None
+
+
+def short(seen: object) -> str:
+    text = repr(seen)
+    long = len(seen if isinstance(seen, Sized) else text)
+    return text if len(text) < 300 else f"{text[:140]} .. {text[-140:]} ({long} long)"
+
+
+def run(words: Iterable[object], given: bytes | None = b"", **how: Any) -> Ran:
+    how = {"stdout": subprocess.PIPE, "stderr": subprocess.PIPE, "timeout": SECONDS, **how}
+    if given is not None:
+        how["input"] = given
+    try:
+        ran = subprocess.run([word if isinstance(word, bytes) else str(word) for word in words], **how)
+    except subprocess.TimeoutExpired:
+        return "no end", b"", b""
+    except OSError as error:
+        return f"no start: {error}", b"", b""
+    return ran.returncode, ran.stdout, ran.stderr
+
+
+def files_in(folder: Path, pattern: str) -> list[Path]:
+    """The files of such a name, in order. There have to be some: else what is tried on each is tried on none."""
+    found = sorted(folder.glob(pattern))
+    assert found, f"there is no {pattern} in {folder}"
+    return found
+
+
+def sum_of(data: bytes) -> str:
+    return hashlib.sha256(data).hexdigest()
+
+
+def sum_of_sources(top: Path) -> str:
+    """The sum of the files that the program is built of, as the launcher takes it: of the sums of all files with their
+    paths, sorted by bytes."""
+    folders = [folder for name in ("src", "specs", "proofs") for folder in top.glob(f"crates/*/{name}")]
+    files = [top / "crates.txt", *(file for folder in folders for file in folder.rglob("*") if file.is_file())]
+    lines = sorted(f"{sum_of(file.read_bytes())}  {file.relative_to(top)}\n".encode() for file in files)
+    return sum_of(b"".join(lines))
+
+
+def manifest_of(top: Path, toolchain: str) -> str:
+    """What dist/MANIFEST has to say of the program in dist/."""
+    return (f"program {sum_of((top / 'dist/ntpaudit').read_bytes())}\nsources {sum_of_sources(top)}\n"
+            f"toolchain {toolchain}\n")

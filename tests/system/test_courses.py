@@ -1,0 +1,487 @@
+"""A plain reading of the theorem. It makes courses of events at random, writes the captures that
+they would give, and sees that
+
+- wherever `check` says yes the clock was within the bound in that course, and it says yes to what `find` gives; also
+  where the clock was stepped before the exchanges that the certificate names, and where other servers are false in
+  other pieces
+- the hulls that `at` and `envelope` give hold the clock's error at each moment that is tried, and the bound that
+  `envelope` gives is the least for which `find` finds a certificate
+- under the bound that `envelope --least` gives there is a certificate that `check` accepts, and one nanosecond below it
+  none; no cuts that are tried need fewer pieces than the certificate that is made of pieces as long as they can be
+- all of that holds too where requests are stamped early and replies late, by up to 20 ms with no allowance; and with
+  the signs turned the clock's error is outside of the hulls
+- to each refutation that stands there is a course that fits, made here by plain arithmetic, and no certificate that is
+  made here gets a yes beside it; and what happened in the course is never refused as a refutation with drift
+
+A course has a clock whose error wanders within the drift rate, servers with delays of any kind, and up to false_max
+groups of servers that say what they like. Certificates and refutations are made here too, good ones and spoiled ones,
+and each answer is compared with the one that tests/second/rules.py, tests/second/marks.py and second/recheck give. Each
+seed is one course.
+"""
+import hashlib
+import json
+import os
+import random
+import tempfile
+from collections.abc import Callable, Iterator
+from functools import partial
+
+from tests.support import Ran, program, run
+from tests.second import answers, marks, pieces, rechecked, rules
+from tests.second.answers import Evidence, by_rules
+from tests.second.claims import Certificate, Claim, Piece, Refutation
+from tests.second.columns import TICKS
+from tests.second.rules import BILLION, Sample, ceiling
+from tests.tools.events import Course, FINE, PartedCourse, StampedCourse, spelled
+
+COURSES = 1000
+
+
+def ends_of(course: Course, rng: random.Random) -> list[int]:
+    """The ends of a certificate's pieces, some of them of one moment."""
+    first, last = course.first * TICKS, (course.first + course.seconds) * TICKS
+    ends = sorted(rng.randint(first, last) for _ in range(rng.randint(0, 6)))
+    return ends + [last]
+
+
+def certify(course: Course, samples: list[Sample], rng: random.Random) -> tuple[Certificate, int | None]:
+    """A certificate of the best samples, and the least bound in nanoseconds that it shows: None where it shows none."""
+    claim, begin, found, needs = course.claim(0), course.first * TICKS, list[Piece](), list[int | None]()
+    for upto in ends_of(course, rng):
+        entries = rules.best_entries(claim, samples, begin, upto)
+        needs.append(rules.need_of(rules.hull(claim, samples, entries, begin, upto)))
+        found.append({"entries": entries, "upto": upto})
+        begin = upto
+    worst = None if None in needs else max(filter(None, needs), default=0)
+    return {"pieces": found}, None if worst is None else ceiling(worst * BILLION, TICKS)
+
+
+def spoiled(certificate: Certificate, samples: list[Sample], rng: random.Random) -> Certificate:
+    """The certificate with one thing changed."""
+    copy: Certificate = json.loads(json.dumps(certificate))
+    piece = rng.choice(copy["pieces"])
+    kind = rng.randrange(6)
+    if kind == 0:
+        piece["upto"] = max(0, piece["upto"] + rng.choice((-1, 1, -TICKS, TICKS)))
+    elif kind == 1:
+        rng.choice(piece["entries"])[rng.randrange(2)] = rng.randrange(len(samples) + 1)
+    elif kind == 2:
+        piece["entries"].append(rng.choice(piece["entries"]))
+    elif kind == 3:
+        piece["entries"].pop(rng.randrange(len(piece["entries"])))
+    elif kind == 4:
+        copy["pieces"].remove(piece)
+    else:
+        rng.shuffle(piece["entries"])
+    return copy
+
+
+def written(folder: str, name: str, value: object) -> str:
+    """A file with these bytes, or with this value. What was written once isn't written again."""
+    data = value if isinstance(value, bytes) else json.dumps(value).encode()
+    path = os.path.join(folder, f"{name}-{hashlib.sha256(data).hexdigest()}")
+    if not os.path.exists(path):
+        with open(path, "wb") as file:
+            file.write(data)
+    return path
+
+
+def text_of(lines: list[str]) -> str:
+    return "".join(f"{line}\n" for line in lines)
+
+
+def ran_of(evidence: Evidence, words: list[str]) -> Ran:
+    """What `envelope` has to give."""
+    status, lines = answers.envelope(evidence, *words)
+    return status, text_of(lines).encode(), b""
+
+
+def spellings(certificate: Certificate | bytes) -> list[bytes]:
+    """The certificate as it stands, or a value's text with spaces and without."""
+    if isinstance(certificate, bytes):
+        return [certificate]
+    return [json.dumps(certificate).encode(), rules.compact(certificate).encode() + b"\n"]
+
+
+def verdict_line(folder: str, course: Course, capture: str, bound_ns: int, certificate: Certificate | bytes) -> str:
+    """What the program says: the end of its last line, where the status agrees with it and nothing else was said, the
+    same for each spelling of the certificate."""
+    claim, verdicts = written(folder, "claim", course.claim(bound_ns)), set()
+    for text in spellings(certificate):
+        status, out, err = run([PROGRAM, "check", claim, capture, written(folder, "certificate", text)])
+        said = out.decode().splitlines()[-1] if out else ""
+        is_told = err == b"" and said.startswith("verdict ") and status == (said != "verdict yes")
+        verdicts.add(said.removeprefix("verdict ") if is_told else f"status {status}, {out!r}, {err!r}")
+    return " or ".join(sorted(verdicts))
+
+
+def try_moments(course: Course, samples: list[Sample], folder: str, capture: str, rng: random.Random) -> list[str]:
+    """What is wrong with `at` of some moments: a whole second that the clock passed in the course, and any other."""
+    passed = sorted(course.clock.at_second)
+    seconds = rng.sample(passed, min(2, len(passed))) + [max(0, course.first + rng.choice((-100, -1, 0, 1, 7, 100000)))]
+    claim, wrong = course.claim(10**6), []
+    for second in seconds:
+        want = text_of(answers.at(by_rules(claim, samples), spelled(second))[1])
+        ran = run([PROGRAM, "at", written(folder, "claim", claim), capture, spelled(second)])
+        if ran != (0, want.encode(), b""):
+            wrong.append(f"at {second}: {ran} in place of {want!r}")
+        told = ran[1].decode().splitlines()[-1:]
+        if (error := course.clock.at_second.get(second)) is not None and told != ["hull unbounded"]:
+            ends = told[0].split()[1:] if told else []
+            if len(ends) != 2 or not FINE * int(ends[0]) <= error <= FINE * int(ends[1]):
+                wrong.append(f"at {second}: an error of {error} and {told}")
+    return wrong
+
+
+def try_finding(course: Course, samples: list[Sample], folder: str, capture: str, bounds: list[int],
+                rng: random.Random) -> list[str]:
+    """What is wrong with `find` for some steps and bounds."""
+    wrong = []
+    for step in (1, rng.choice((2, 3, 7, 64, 86400))):
+        bound_ns = rng.choice([*bounds, 2 * bounds[0]])
+        claim = course.claim(bound_ns)
+        want_status, lines = answers.find(by_rules(claim, samples), "--step", step)
+        want = text_of(lines)
+        ran = run([PROGRAM, "find", written(folder, "claim", claim), capture, "--step", str(step)])
+        if ran != (want_status, want.encode(), b""):
+            wrong.append(f"find --step {step}: {ran} in place of {want!r}")
+        elif ran[0] == 0 and (said := verdict_line(folder, course, capture, bound_ns, ran[1])) != "yes":
+            wrong.append(f"find --step {step}, and then {said}")
+        if want.endswith("hull empty\n"):
+            begin = course.first + int(want.split()[2]) * step
+            end = min(begin + step, course.first + course.seconds)
+            if any(begin <= second <= end for second in course.clock.at_second):
+                wrong.append(f"find --step {step}: an empty hull over a second that the clock passed")
+    return wrong
+
+
+def try_envelope(course: Course, samples: list[Sample], folder: str, capture: str, rng: random.Random) -> list[str]:
+    """What is wrong with `envelope` for a step: its text, an error outside of its hulls, or its least bound."""
+    step, with_servers = rng.choice((1, 2, 7, 64)), rng.random() < 0.5
+    claim = course.claim(rng.choice((0, 10**9)))
+    evidence = by_rules(claim, samples)
+    found = list(answers.drawn(evidence, step))
+    least, _ = answers.bound_over(found)
+    words = ["--step", str(step), *(["--servers"] if with_servers else [])]
+    ran, want = run([PROGRAM, "envelope", written(folder, "claim", claim), capture, *words]), ran_of(evidence, words)
+    wrong = [] if ran == want else [f"envelope {' '.join(words)}: {ran} in place of {want}"]
+    for time, error in course.clock.error.items():
+        for begin, upto, _, hull in found:
+            if FINE * begin <= time + error <= FINE * upto and hull is not None:
+                if not hull or not FINE * hull[0] <= error <= FINE * hull[1]:
+                    wrong.append(f"envelope --step {step}: an error of {error} outside of {hull}")
+    if least is not None and least <= 10**15:
+        for bound, status in ((least, 0), (least - 1, 1)):
+            if bound >= 0:
+                file = written(folder, "claim", course.claim(bound))
+                said = run([PROGRAM, "find", file, capture, "--step", str(step)])[0]
+                wrong += [] if said == status else [f"find --step {step} with a bound of {bound}: status {said}"]
+    return wrong
+
+
+def is_inside(claim: Claim, samples: list[Sample], begin: int, end: int) -> bool:
+    """Whether the hull of the best entries of a piece lies inside the bound."""
+    found = rules.hull(claim, samples, rules.best_entries(claim, samples, begin, end), begin, end)
+    return rules.is_inside(rules.bound_of(claim), found)
+
+
+def fewest_over(claim: Claim, samples: list[Sample], ends: list[int]) -> int | None:
+    """How few pieces an accepted certificate needs whose pieces end at some of these ends, by looking at every pair:
+    None where none is accepted."""
+    begin, last = rules.span_of(claim)
+    ends = sorted({end for end in ends if begin < end < last} | {begin, last})
+    needed = {begin: 0 if begin < last else 1}
+    if begin == last:
+        return 1 if is_inside(claim, samples, begin, last) else None
+    for at, end in enumerate(ends[1:], 1):
+        froms = [needed[p] for p in ends[:at] if p in needed and is_inside(claim, samples, p, end)]
+        if froms:
+            needed[end] = min(froms) + 1
+    return needed.get(last)
+
+
+def try_hulls(course: Course, samples: list[Sample], rng: random.Random) -> list[str]:
+    """What is wrong with the hulls of tests/second/pieces.py, by those of tests/second/rules.py; and with the tick that
+    needs most of nine, by looking at each of them."""
+    claim, wrong, last = course.claim(0), [], course.seconds * TICKS + 10
+    hulls, begin = pieces.Hulls(claim, samples), course.first * TICKS
+    for _ in range(5):
+        place = begin + rng.randint(-10, last)
+        end = place + rng.choice((0, 1, rng.randint(0, last)))
+        entries = rules.best_entries(claim, samples, place, end)
+        plain = rules.intervals(claim, samples, entries, place, end), rules.hull(claim, samples, entries, place, end)
+        if plain != (hulls.intervals(place, end), hulls.over(place, end)):
+            wrong.append(f"the hull from {place} to {end} is {plain}, and by sorted lists another one")
+    needs = [rules.need_of(hulls.over(tick, tick + 1)) for tick in range(place, place + 9)]
+    most = max((need for need in needs if need is not None), default=None)
+    found = pieces.neediest(hulls, place, place + 9, 99)
+    if most != (found and found[0]):
+        wrong.append(f"the 9 ticks from {place} on need {most}, and {found} by halving")
+    return wrong
+
+
+def try_marks(course: Course, samples: list[Sample]) -> list[str]:
+    """What is wrong with the contradictions of tests/second/marks.py, by looking at every pair of marks."""
+    claim, wrong = course.claim(0), []
+    for a in course.groups:
+        for b in course.groups:
+            pairs = [(i, j) for i, low in enumerate(samples) for j, high in enumerate(samples)
+                     if low.server in a and high.server in b
+                     and (not marks.are_compatible(claim, marks.low_mark(low), marks.high_mark(high))
+                          or i == j and not marks.is_possible(low))]
+            own = marks.GroupMarks(claim, samples, a)
+            found = own.contradiction(own if a == b else marks.GroupMarks(claim, samples, b))
+            if found != min(pairs, default=None):
+                wrong.append(f"groups {a} and {b} contradict each other by {pairs[:1]}, and by sorted lists by {found}")
+    return wrong
+
+
+def try_least(course: Course, samples: list[Sample], folder: str, capture: str, rng: random.Random) -> list[str]:
+    """What is wrong with `envelope --least`: its text, or that the bound hasn't the property that makes it one."""
+    step, words = rng.choice((1, 2, 7, 64)), rng.choice((list[str](), ["--servers"]))
+    claim, words = course.claim(0), ["--step", str(step), *words, "--least"]
+    want = ran_of(by_rules(claim, samples), words)
+    ran = run([PROGRAM, "envelope", written(folder, "claim", claim), capture, *words])
+    wrong = [] if ran == want else [f"envelope {' '.join(words)}: {ran} in place of {want}"]
+    found = answers.told_least(want[1].decode().splitlines()[-1])
+    if not pieces.has_property(claim, samples, found, step):
+        wrong.append(f"a least bound of {found} hasn't the property of one")
+    if found is None or found[0] >= 10**14:
+        return wrong
+    for bound_ns in (found[0], found[0] - 1, found[0] + rng.randint(0, found[0] + 10**6)):
+        if bound_ns >= 0:
+            wrong += try_fewest(course, samples, folder, capture, bound_ns, bound_ns >= found[0], rng)
+    return wrong
+
+
+def try_fewest(course: Course, samples: list[Sample], folder: str, capture: str, bound_ns: int, is_carried: bool,
+               rng: random.Random) -> list[str]:
+    """What is wrong with the certificate of fewest pieces for a bound, where there is one or not."""
+    claim, wrong = course.claim(bound_ns), []
+    certificate, stop = pieces.fewest(claim, samples)
+    begin, last = rules.span_of(claim)
+    ends = [piece["upto"] for piece in certificate["pieces"]] if certificate else [stop.begin, stop.end] if stop else []
+    if is_carried != bool(certificate):
+        wrong.append(f"a bound of {bound_ns} is carried {is_carried}: {stop}")
+    if len(ends) <= 6 and not (stop and stop.is_over):
+        tried = [*ends, *(end + way for end in ends for way in (-1, 1)), *(rng.randint(begin, last) for _ in range(4))]
+        if (fewer := fewest_over(claim, samples, tried)) != (len(ends) if certificate else None):
+            known = len(ends) if certificate else "no"
+            wrong.append(f"a bound of {bound_ns}: {known} pieces, and by other cuts {fewer}")
+    if certificate:
+        if (said := verdict_line(folder, course, capture, bound_ns, certificate)) != "yes":
+            wrong.append(f"{said} to the certificate of fewest pieces for a bound of {bound_ns}")
+    else:
+        step = rng.choice((1, 1, 3, 86400))
+        ran = run([PROGRAM, "find", written(folder, "claim", claim), capture, "--step", str(step)])
+        if ran[0] != 1 or not ran[1].startswith(b"nothing piece "):
+            wrong.append(f"find --step {step} with a bound of {bound_ns}, which none carries: {ran}")
+    return wrong
+
+
+def fits_throughout(course: Course, refutation: Refutation) -> bool:
+    """Whether the course that a refutation stands for fits: the clock reads the first tick of each request's window and
+    the last of each reply's, and is off by the error."""
+    for x in course.exchanges:
+        reading1, reading4 = x.request.low - course.allowance, x.reply.high + course.allowance
+        t1, t4 = reading1 - refutation["error"], reading4 - refutation["error"]
+        if reading1 > x.request.high + course.allowance or reading4 < x.reply.low - course.allowance:
+            return False
+        if x.server not in refutation["false"]:
+            t2 = max(t1, x.receive - x.distance)
+            t3 = max(t2, x.transmit - x.distance)
+            if t2 > x.receive + x.distance or t3 > x.transmit + x.distance or t3 > t4:
+                return False
+    return True
+
+
+def spoiled_refutation(refutation: Refutation, course: Course, rng: random.Random) -> Refutation:
+    """The refutation with one thing changed."""
+    copy: Refutation = json.loads(json.dumps(refutation))
+    kind = rng.randrange(4)
+    if kind == 0:
+        copy["error"] += rng.choice((-1, 1, -TICKS, TICKS))
+    elif kind == 1:
+        copy["reading"] += rng.choice((-1, 1, course.seconds * TICKS, course.seconds * TICKS + 1))
+    elif kind == 2 and copy["false"]:
+        copy["false"].pop(rng.randrange(len(copy["false"])))
+    else:
+        copy["false"].append(rng.randrange(sum(map(len, course.groups)) + 1))
+    return copy
+
+
+def try_refutations(course: Course, samples: list[Sample], folder: str, capture: str, bounds: list[int],
+                    certificate: Certificate, rng: random.Random) -> list[str]:
+    """What is wrong with `find --refutation` and `refute` for some bounds."""
+    wrong = []
+    for bound_ns in {bounds[0], rng.choice(bounds), 0}:
+        claim = course.claim(bound_ns)
+        found, file = rules.refutation(claim, samples), written(folder, "claim", claim)
+        text = rules.compact(found) if found else "nothing refutation"
+        ran = run([PROGRAM, "find", file, capture, "--refutation"])
+        if ran != (int(not found), text.encode() + b"\n", b""):
+            wrong.append(f"find --refutation: {ran} in place of {text}")
+        tried = [found, *(spoiled_refutation(found, course, rng) for _ in range(2))] if found else []
+        for refutation in tried:
+            want = rechecked.stands(course.claim(bound_ns), samples, refutation)
+            ran = run([PROGRAM, "refute", file, capture, written(folder, "refutation", refutation)])
+            if ran != (int(not want), b"refuted yes\n" if want else b"refuted no\n", b""):
+                wrong.append(f"refute {refutation}: {ran}, and by the rules {want}")
+            if want and not fits_throughout(course, refutation):
+                wrong.append(f"refute {refutation}: no such course fits")
+            if want and verdict_line(folder, course, capture, bound_ns, certificate) == "yes":
+                wrong.append(f"a yes, and {refutation} stands")
+    return wrong
+
+
+def drifting(course: Course, samples: list[Sample],
+             rng: random.Random) -> tuple[list[Refutation], list[Refutation], list[int]]:
+    """Refutations with drift, each with a bound in nanoseconds below its error: what the clock did in the course, the
+    greatest error that the marks leave at its reading, the next one, and some of these spoiled."""
+    passed = [(second, error // FINE) for second, error in course.clock.at_second.items()
+              if course.first <= second <= course.first + course.seconds and error and error % FINE == 0]
+    happened, tried = list[Refutation](), list[Refutation]()
+    for second, error in rng.sample(passed, min(2, len(passed))):
+        happened.append({"error": error, "false": course.liars, "reading": second * TICKS})
+        greatest = marks.greatest_error(course.claim(0), samples, course.liars, second * TICKS)
+        for other in (greatest, greatest + 1) if greatest is not None and abs(greatest) < 2**62 else ():
+            tried.append({"error": other, "false": course.liars, "reading": second * TICKS})
+    tried += [spoiled_refutation(rng.choice(happened + tried), course, rng) for _ in range(3) if happened]
+    bound = max(0, min((abs(r["error"]) for r in happened), default=1) - 1) * BILLION // TICKS
+    return happened, tried, [0, bound]
+
+
+def try_drift(course: Course, samples: list[Sample], folder: str, capture: str, certificate: Certificate,
+              rng: random.Random) -> list[str]:
+    """What is wrong with `refute --drift`."""
+    happened, tried, bounds = drifting(course, samples, rng)
+    wrong = []
+    for number, refutation in enumerate(happened + tried):
+        claim = course.claim(bound_ns := rng.choice(bounds))
+        want = rechecked.stands_with_drift(claim, samples, refutation)
+        kept = [sample for sample in samples if sample.server not in refutation["false"]]
+        seen = marks.Mark(refutation["reading"], refutation["error"])
+        lows, highs = [seen, *map(marks.low_mark, kept)], [seen, *map(marks.high_mark, kept)]
+        by_pairs = all(marks.are_compatible(claim, low, high) for low in lows for high in highs)
+        if by_pairs != all(map(marks.Highs(claim, highs).are_compatible_with, lows)):
+            wrong.append(f"{refutation}: every pair of marks says {by_pairs}, and sorted lists don't")
+        file, named = written(folder, "claim", claim), written(folder, "refutation", refutation)
+        ran = run([PROGRAM, "refute", file, capture, named, "--drift"])
+        if ran != (int(not want), b"refuted yes\n" if want else b"refuted no\n", b""):
+            wrong.append(f"refute --drift {refutation}: {ran}, and by the rules {want}")
+        if number < len(happened) and not want:
+            wrong.append(f"{refutation} happened, and is refused")
+        if want and (misfits := marks.LowestCourse(claim, samples, refutation).misfits(claim, samples)):
+            wrong.append(f"refute --drift {refutation}: {misfits[0]}")
+        if want and verdict_line(folder, course, capture, bound_ns, certificate) == "yes":
+            wrong.append(f"a yes, and {refutation} stands with drift")
+        if not want and run([PROGRAM, "refute", file, capture, named])[0] == 0:
+            wrong.append(f"{refutation} stands without drift alone")
+    return wrong
+
+
+def try_parted(folder: str, rng: random.Random) -> list[str]:
+    """What is wrong with a certificate whose pieces name exchanges of their half of the span alone, in a course that
+    the whole capture doesn't allow for."""
+    course = PartedCourse(rng)
+    capture = written(folder, "capture", course.capture())
+    claim, samples, found, worst = course.claim(0), course.samples(), list[Piece](), 0
+    last = course.first + course.seconds
+    for half, (begin, end) in enumerate(((course.first, course.middle), (course.middle, last))):
+        among = {k for k, x in enumerate(course.exchanges) if x.half == half}
+        entries = rules.best_entries(claim, samples, begin * TICKS, end * TICKS, among)
+        hull = rules.hull(claim, samples, entries, begin * TICKS, end * TICKS)
+        if not hull:
+            return [f"a half of a course that fits has the hull {hull}"]
+        worst = max(worst, -hull[0], hull[1])
+        found.append({"entries": entries, "upto": end * TICKS})
+    bound_ns = ceiling(worst * BILLION, TICKS)
+    said = verdict_line(folder, course, capture, bound_ns, {"pieces": found})
+    if said != "yes":
+        return [f"{said} to pieces that name the exchanges of their half"]
+    bound = FINE * (bound_ns * TICKS // BILLION)
+    worst = course.worst()
+    return [] if worst <= bound else [f"a clock that was stepped before: {worst} and a bound of {bound}"]
+
+
+def try_stamps(folder: str, rng: random.Random) -> list[str]:
+    """What is wrong in a course whose requests are stamped early and its replies late; and whether its errors don't
+    come to lie outside of the hulls where the signs are turned."""
+    course = StampedCourse(rng)
+    course.stamp(1, rng)
+    capture = written(folder, "capture", course.capture())
+    samples = course.samples()
+    certificate, least = certify(course, samples, rng)
+    wrong = [*try_moments(course, samples, folder, capture, rng), *try_envelope(course, samples, folder, capture, rng),
+             *try_drift(course, samples, folder, capture, certificate, rng)]
+    if least is None or (said := verdict_line(folder, course, capture, least, certificate)) != "yes":
+        wrong.append(f"{said if least is not None else 'no bound'}")
+    elif course.worst() > FINE * (least * TICKS // BILLION):
+        wrong.append(f"an error of {course.worst()} and a yes for a bound of {least}")
+    course.stamp(-1, rng)
+    capture = written(folder, "capture", course.capture())
+    turned = try_envelope(course, course.samples(), folder, capture, rng)
+    low, high = course.first * TICKS * FINE, (course.first + course.seconds) * TICKS * FINE
+    seen = sum(low <= time + error <= high for time, error in course.clock.error.items())
+    if not 0 < seen <= len(turned) or not all("outside of" in fault for fault in turned):
+        wrong.append(f"with the signs turned, of {seen} errors outside: {turned}")
+    return [f"stamps that are early and late: {fault}" for fault in wrong]
+
+
+def try_course(seed: int) -> tuple[int, int, int, list[str]]:
+    """Counts the yeses of one course, those whose error comes near the bound, and what went wrong. Every yes has to be
+    true."""
+    rng = random.Random(seed)
+    course = Course(rng)
+    with tempfile.TemporaryDirectory(prefix="ntpaudit-") as folder:
+        capture = written(folder, "capture", course.capture())
+        samples = course.samples()
+        certificate, least = certify(course, samples, rng)
+        bounds = [10**12] if least is None else [least, max(0, least - 1), least + 10**6]
+        tries = [(bound, certificate) for bound in bounds]
+        tries += [(rng.choice(bounds), spoiled(certificate, samples, rng)) for _ in range(4)]
+        yeses = near = 0
+        wrong = []
+        for bound_ns, tried in tries:
+            want = rechecked.verdict(course.claim(bound_ns), samples, tried)
+            said = verdict_line(folder, course, capture, bound_ns, tried)
+            bound = FINE * (bound_ns * TICKS // BILLION)
+            if said != want:
+                wrong.append(f"{said} in place of {want}")
+            if said == "yes":
+                yeses += 1
+                near += bound > 0 and 100 * course.worst() >= 99 * bound
+                if course.worst() > bound:
+                    wrong.append(f"an error of {course.worst()} and a yes for a bound of {bound}")
+        wrong += try_moments(course, samples, folder, capture, rng)
+        wrong += try_finding(course, samples, folder, capture, bounds, rng)
+        wrong += try_envelope(course, samples, folder, capture, rng)
+        wrong += try_hulls(course, samples, rng)
+        wrong += try_marks(course, samples)
+        wrong += try_least(course, samples, folder, capture, rng)
+        wrong += try_refutations(course, samples, folder, capture, [*bounds, 0], certificate, rng)
+        wrong += try_drift(course, samples, folder, capture, certificate, rng)
+        wrong += try_parted(folder, rng)
+        wrong += try_stamps(folder, rng)
+    return yeses, near, len(course.clock.at_second), wrong
+
+
+PROGRAM = program()
+
+
+def test_seed(seed: int) -> tuple[int, int, int]:
+    *counts, wrong = try_course(seed)
+    assert not wrong, wrong
+    return counts[0], counts[1], counts[2]
+
+
+def cases() -> Iterator[tuple[str, Callable[[], tuple[int, int, int]]]]:
+    for seed in range(COURSES):
+        yield f"system.courses.{seed}", partial(test_seed, seed)
+
+
+def together(counts: list[tuple[int, int, int]]) -> None:
+    """There are enough yeses, bounds that are come near, and moments to say anything."""
+    yeses, near, seconds = map(sum, zip(*counts))
+    print(f"{yeses} yeses, {near} of them with an error within 1% of the bound; {seconds} whole seconds passed")
+    assert yeses >= COURSES and near >= COURSES // 4 and seconds >= COURSES

@@ -1,0 +1,30 @@
+"""Holds the program that the repository ships to the sources, and to the one that was built of them.
+
+dist/MANIFEST names the sum of dist/ntpaudit, the sum of the sources that are here, and a toolchain of the same logic as
+the one that is here; and dist/ntpaudit is what was built, byte for byte. (Two kits of one logic may build the same
+program. If another kit builds another one, the last case fails.)
+"""
+import os
+from pathlib import Path
+
+from tests.support import ROOT, check, is_here, program, run, sum_of, sum_of_sources
+
+SHIPPED = ROOT / "dist/ntpaudit"
+
+
+def test_manifest() -> None:
+    listed = dict(line.split(" ", 1) for line in (ROOT / "dist/MANIFEST").read_text().splitlines())
+    check("dist/MANIFEST has three lines", names=(list(listed), ["program", "sources", "toolchain"]))
+    check("dist/MANIFEST names other sources than those that are here: call dist/renew",
+          sum=(listed.get("sources"), sum_of_sources(ROOT)))
+    check("dist/MANIFEST names another program than dist/ntpaudit: call dist/renew",
+          sum=(listed.get("program"), sum_of(SHIPPED.read_bytes())))
+    check("dist/ntpaudit may be run", seen=(os.access(SHIPPED, os.X_OK), True))
+    if is_here("rt", "the toolchain's logic"):
+        logic = run(["rt", "version"])[1].decode().split()[1:]
+        check("dist/MANIFEST names a toolchain of the logic that is here",
+              seen=(listed.get("toolchain", "").split()[1:], logic))
+
+
+def test_built() -> None:
+    check("dist/ntpaudit is what was built", same=(SHIPPED.read_bytes() == Path(program()).read_bytes(), True))

@@ -1,0 +1,412 @@
+"""Tests the launcher ./ntpaudit and ./install on a copy of them, with a stand-in for the toolchain.
+
+In the copy the "program" is its source, a shell script, and a build copies it. So the tests see when a build is made,
+of what, and what is run. It prints a line for each case that failed, and last 'N passed, M failed, K skipped'.
+"""
+import os
+import re
+import shutil
+import subprocess
+import time
+from collections.abc import Callable
+from pathlib import Path
+from typing import Any
+
+from tests.support import ROOT, Ran, SECONDS, check, manifest_of, nobody, run
+
+STAND_IN = """#!/bin/sh
+# stands in for the toolchain: `rt run` in the crate's folder leaves the "program" that its source is
+set -eu
+here=$(dirname "$0")
+if [ "$*" = version ]; then cat "$here/version"; exit; fi
+echo noise of a build; echo noise of a build >&2
+case $* in "all check --jobs "[0-9]*)
+    [ -f crates.txt ]; echo "== other"; echo "== summary"; echo "other: ok"; exit ;;
+esac
+[ "$*" = "run -- --help" ]
+[ "$(basename "$PWD")" = ntpaudit ]
+cat > /dev/null
+echo . >> ../../builds
+if [ -e "$here/holds" ]; then
+    touch "$here/is-held"
+    while [ -e "$here/holds" ]; do sleep 0.05; done
+fi
+if [ -e "$here/changes-sources" ]; then echo '# changed meanwhile' >> src/main.rt; fi
+if [ -e "$here/leaves-nothing" ]; then exit 0; fi
+if grep -q wrong src/main.rt; then echo the proof is open; exit 1; fi
+mkdir -p out; cp src/main.rt out/ntpaudit
+"""
+PROGRAM = '#!/bin/sh\nread -r line || line=none\necho "$PWD $line $*"\necho the program ran >&2\nexit 3\n'
+TOOLS = (
+    "sh bash env find sort sha256sum readlink mkdir mv cp rm chmod tail touch sleep flock dirname basename cat grep "
+    "nproc cmp").split()
+BUILDING = rb"ntpaudit: building, which mostly takes 12 to 25 minutes on four processors; " \
+           rb"\S.*/out/build\.log shows how far it is\n" \
+           rb"(ntpaudit: still building, \d+ of \d+ crates are proved, after \d+ s\n)*"
+
+
+class Copy:
+    """A copy of the launcher in a repository of one crate, with a folder of tools and one of a home."""
+
+    def __init__(self, folder: Path) -> None:
+        folder.chmod(0o755)
+        self.folder, self.top, self.home = folder, folder / "copy of it", folder / "home"
+        self.tools, self.toolchain = folder / "bin", folder / "toolchain"
+        self.crate, self.kept = self.top / "crates/ntpaudit", self.top / "out"
+        self.source = self.crate / "src/main.rt"
+        for made in (self.crate / "src", self.crate / "specs", self.top / "crates/other/proofs/lemma", self.tools,
+                     self.toolchain, self.home):
+            made.mkdir(parents=True)
+        for script in ("ntpaudit", "install"):
+            shutil.copy(ROOT / script, self.top / script)
+        (self.top / "crates.txt").write_text("ntpaudit: other\n")
+        (self.top / "crates/other/proofs/lemma/Answers.antt").write_text("-- a proof\n")
+        self.source.write_text(PROGRAM)
+        self.rt = self.toolchain / "rt"
+        self.rt.write_text(STAND_IN)
+        self.rt.chmod(0o755)
+        (self.toolchain / "version").write_text("stand-in 1\n")
+        for tool in TOOLS:
+            (self.tools / tool).symlink_to(str(shutil.which(tool)))
+
+    def without(self, tool: str) -> Path:
+        """A folder of all tools but one."""
+        bare = self.folder / f"no-{tool}"
+        shutil.copytree(self.tools, bare, symlinks=True, ignore=lambda *_: [tool])
+        return bare
+
+    def environment(self, tools: Path | None = None, toolchain: Path | None = None) -> dict[str, str]:
+        folders = [toolchain or self.toolchain, tools or self.tools]
+        return {"PATH": os.pathsep.join(str(folder) for folder in folders), "HOME": str(self.home)}
+
+    def launch(self, *words: object, by: list[Path | str] | None = None, tools: Path | None = None,
+               toolchain: Path | None = None, **how: Any) -> Ran:
+        """Status, output and error of the launcher, called from another folder."""
+        call = by or [self.top / "ntpaudit"]
+        return run([*call, *words], b"input\n", cwd=self.folder, env=self.environment(tools, toolchain), **how)
+
+    def ran(self, *words: object) -> bytes:
+        """What the program prints, called from the folder."""
+        return f"{os.path.realpath(self.folder)} input {' '.join(map(str, words))}\n".encode()
+
+    def builds(self) -> int:
+        return len((self.top / "builds").read_text().split()) if (self.top / "builds").exists() else 0
+
+    def mark(self, name: str, is_there: bool) -> None:
+        if is_there:
+            (self.toolchain / name).touch()
+        else:
+            (self.toolchain / name).unlink()
+
+    def check_run(self, name: str, builds: int, *words: object, is_built: bool = False, **how: Any) -> None:
+        """A call runs the program, and this many builds were made by then."""
+        status, out, err = self.launch(*words, **how)
+        told = re.compile((BUILDING if is_built else b"") + b"the program ran\n")
+        check(name, status=(status, 3), output=(out, self.ran(*words)), error=(err, lambda seen: told.fullmatch(seen)),
+              builds=(self.builds(), builds))
+
+    def check_refused(self, name: str, why: bytes, **how: Any) -> None:
+        """A call ends with status 70, says why, and runs nothing."""
+        status, out, err = self.launch("list", **how)
+        check(name, status=(status, 70), output=(out, b""),
+              error=(err, lambda seen: why in seen and b"the program ran" not in seen))
+
+
+def ship(copy: Copy) -> Path:
+    """Puts the program of the copy's sources into its dist/, with a manifest."""
+    dist = copy.top / "dist"
+    dist.mkdir(exist_ok=True)
+    shutil.copy(copy.source, dist / "ntpaudit")
+    (dist / "ntpaudit").chmod(0o755)
+    (dist / "MANIFEST").write_text(manifest_of(copy.top, "stand-in 1"))
+    return dist
+
+
+def test_calls(folder: Path) -> None:
+    copy = Copy(folder)
+    link = folder / "link"
+    link.symlink_to(copy.top / "ntpaudit")
+    copy.check_refused("without a toolchain", b"the command rt of the Rattle toolchain is not on the PATH",
+                       toolchain=copy.home)
+    copy.check_run("the first call", 1, "list", "a b", is_built=True)
+    copy.check_run("the second call", 1, "list", "a b")
+    copy.check_run("a call by a link, without a toolchain", 1, "list", by=[link], toolchain=copy.home)
+    copy.check_run("a call by sh", 1, "list", by=["sh", copy.top / "ntpaudit"])
+    copy.check_run("a call by bash", 1, "list", by=["bash", copy.top / "ntpaudit"])
+    copy.check_run("a call that hashes nothing", 1, tools=copy.without("sha256sum"))
+    status, out, err = run(["sh", "ntpaudit"], b"input\n", cwd=copy.top, env=copy.environment())
+    check("a call by sh in its folder", status=(status, 3), output=(out, lambda seen: b" input " in seen),
+          error=(err, b"the program ran\n"))
+    moved = folder / "alone"
+    shutil.copy(copy.top / "ntpaudit", moved)
+    copy.check_refused("the launcher alone", b"its repository is not around it", by=[moved])
+    copy.check_refused("the launcher alone by sh", b"its repository is not around it", by=["sh", "alone"])
+
+
+def test_changes(folder: Path) -> None:
+    """Whatever changes in the sources, the program or the toolchain, the next call notices."""
+    copy = Copy(folder)
+    copy.check_run("before the changes", 1, is_built=True)
+    (copy.crate / "specs/Line.antt").write_text("-- a definition\n")
+    copy.check_run("after a new file", 2, is_built=True)
+    (copy.crate / "specs/Line.antt").unlink()
+    copy.check_run("after a file is gone", 3, is_built=True)
+    copy.source.touch()
+    copy.check_run("after a touch", 3)
+    copy.check_run("after a touch that was seen", 3, tools=copy.without("sha256sum"))
+    old = copy.source.stat()
+    copy.source.write_text(PROGRAM + "# other\n")
+    os.utime(copy.source, (old.st_atime - 1000, old.st_mtime - 1000))
+    copy.check_run("after a change with a time set back", 4, is_built=True)
+    older = folder / "older"
+    older.write_text(PROGRAM + "# older\n")
+    os.utime(older, (0, 0))
+    older.rename(copy.source)
+    copy.check_run("after an older file took a file's place", 5, is_built=True)
+    (copy.top / "crates/other/proofs/lemma").rename(copy.top / "crates/other/proofs/other_lemma")
+    copy.check_run("after a folder has another name", 6, is_built=True)
+    (copy.kept / "ntpaudit").write_text(PROGRAM.replace("ran", "ran wrongly"))
+    copy.check_run("after the program was replaced", 7, is_built=True)
+    copy.rt.touch()
+    copy.check_run("after a touch of the toolchain", 7)
+    (copy.toolchain / "version").write_text("stand-in 2\n")
+    copy.rt.touch()
+    copy.check_run("after another toolchain took its place", 8, is_built=True)
+    other = folder / "other toolchain"
+    shutil.copytree(copy.toolchain, other)
+    copy.check_run("with the same toolchain elsewhere", 8, toolchain=other)
+    (other / "version").write_text("stand-in 3\n")
+    copy.rt.touch()
+    copy.check_run("with the toolchain of the build", 8)
+    copy.check_run("with another toolchain elsewhere", 9, toolchain=other, is_built=True)
+    for number, (kit, built) in enumerate((("kit-a logic one", 10), ("kit-b logic one", 10), ("kit-b logic two", 11))):
+        (other / "version").write_text(f"{kit}\n")
+        (other / "rt").touch()
+        copy.check_run(f"with {kit}", built, toolchain=other, is_built=number != 1)
+    (copy.kept / "ntpaudit.stamp").write_text("")
+    copy.check_run("with an empty stamp", 12, toolchain=other, is_built=True)
+    shutil.rmtree(copy.kept)
+    copy.check_run("without the folder out/", 13, toolchain=other, is_built=True)
+
+
+def test_failed_builds(folder: Path) -> None:
+    """A build that fails leaves no program that could be taken for a proved one."""
+    copy = Copy(folder)
+    copy.check_run("before the failures", 1, is_built=True)
+    copy.source.write_text(PROGRAM + "# wrong\n")
+    for call in ("a failed build", "the call after it"):
+        copy.check_refused(call, b"the proof is open")
+    copy.check_refused("after a failed build, without a toolchain", b"is not on the PATH", toolchain=copy.home)
+    copy.source.write_text(PROGRAM + "# right\n")
+    copy.mark("leaves-nothing", True)
+    for call in ("a build that leaves no program", "the call after it"):
+        copy.check_refused(call, b"the build left no program")
+    copy.mark("leaves-nothing", False)
+    copy.check_run("a build that leaves one", 6, is_built=True)
+    copy.source.write_text(PROGRAM + "# other\n")
+    (copy.kept / "build.log").unlink()
+    (copy.kept / "build.log").mkdir()
+    for call in ("a log that is a folder", "the call after it"):
+        copy.check_refused(call, b"build.log cannot be written")
+    (copy.kept / "build.log").rmdir()
+    copy.check_run("a log that is a file again", 7, is_built=True)
+    copy.source.write_text(PROGRAM + "# a change\n")
+    copy.mark("changes-sources", True)
+    copy.check_refused("sources that change during the build", b"the sources were changed while it was built")
+    copy.mark("changes-sources", False)
+    copy.check_run("sources that changed once", 9, is_built=True)
+    copy.source.write_text("#!/missing/interpreter\n")
+    copy.check_refused("a program that can't be started", b"ntpaudit: ")
+    copy.check_refused("a program that still can't be started", b"ntpaudit: ")
+    shutil.rmtree(copy.kept)
+    copy.source.write_text(PROGRAM)
+    copy.kept.write_text("a file\n")
+    copy.check_refused("a file in the place of out/", b"nothing can be written")
+    copy.kept.unlink()
+    copy.rt.write_text("#!/bin/sh\nexit 1\n")
+    copy.check_refused("a toolchain without a version", b"does not tell its version")
+
+
+def test_shipped_program(folder: Path) -> None:
+    """The program in dist/ runs at once as long as sources, program and manifest belong together."""
+    copy = Copy(folder)
+    dist, kept = ship(copy), (copy.top / "dist/MANIFEST").read_text()
+    nothing: dict[str, Any] = {"toolchain": copy.home}
+    copy.check_run("the shipped program, without a toolchain", 0, "list", **nothing)
+    copy.check_run("the shipped program again, which hashes nothing", 0, tools=copy.without("sha256sum"), **nothing)
+    copy.check_run("the shipped program, with a toolchain", 0)
+    (copy.toolchain / "version").write_text("stand-in 2\n")
+    copy.check_run("the shipped program, with another toolchain", 0)
+    (copy.toolchain / "version").write_text("stand-in 1\n")
+    copy.source.write_text(PROGRAM + "# other\n")
+    copy.check_refused("other sources, without a toolchain", b"which is run by: dist/ntpaudit", **nothing)
+    copy.check_run("other sources, with a toolchain", 1, is_built=True)
+    copy.source.write_text(PROGRAM)
+    copy.check_run("the sources of the shipped program again", 1, **nothing)
+    for name, file, text in (("a changed program", "ntpaudit", PROGRAM + "# spoiled\n"),
+                             ("a changed manifest", "MANIFEST", kept.replace("program ", "program 0")),
+                             ("an empty manifest", "MANIFEST", ""), ("no program", "ntpaudit", None)):
+        ship(copy)
+        shutil.rmtree(copy.kept)
+        (dist / file).unlink() if text is None else (dist / file).write_text(text)
+        copy.check_refused(f"{name}, without a toolchain", b"dist/", **nothing)
+    copy.check_run("no program, with a toolchain", 2, is_built=True)
+    ship(copy)
+    shutil.rmtree(copy.kept)
+    copy.kept.write_text("a file\n")
+    copy.check_run("the shipped program where nothing can be kept", 2, **nothing)
+    copy.kept.unlink()
+    how = nobody("the shipped program in a read-only folder")
+    if how:
+        copy.top.chmod(0o555)
+        copy.check_run("the shipped program in a read-only folder", 2, **nothing, **how)
+        copy.top.chmod(0o755)
+
+
+def test_verify(folder: Path) -> None:
+    """The shipped program is compared with one that is built from nothing."""
+    copy = Copy(folder)
+    copy.source.write_text(PROGRAM.replace("exit 3", "exit 0"))
+    dist = ship(copy)
+    sources = (dist / "MANIFEST").read_text().splitlines()[1]
+
+    def verify(name: str, wanted: int, why: bytes, **how: Any) -> None:
+        status, out, err = run([copy.top / "ntpaudit", "--verify"], cwd=folder, env=copy.environment(**how))
+        check(name, status=(status, wanted), said=(out + err, lambda seen: why in seen),
+              left=(list(copy.kept.glob("fresh*")), []))
+
+    verify("verified", 0, b"is what was proved and built of these sources: " + sources.split()[1].encode())
+    status, out, err = copy.launch("--version")
+    told = [sources, "toolchain stand-in 1"]
+    check("the version, with the sum of the sources and the toolchain", status=(status, 0),
+          output=(out.decode().splitlines(), lambda seen: seen[0].endswith("--version") and seen[1:] == told))
+    verify("verified without a toolchain", 70, b"has to be on the PATH", toolchain=copy.home)
+    copy.mark("leaves-nothing", True)
+    verify("verified by a build that leaves no program", 70, b"the build left no program")
+    copy.mark("leaves-nothing", False)
+    copy.source.write_text(PROGRAM)
+    verify("verified with other sources", 70, b"not those of the program in dist/")
+    (dist / "ntpaudit").write_text("another\n")
+    (dist / "MANIFEST").write_text(manifest_of(copy.top, "stand-in 1"))
+    verify("another program with its own manifest", 70, b"is not what was built just now")
+    (dist / "MANIFEST").write_text(manifest_of(copy.top, "stand-in 2"))
+    others = b" by another toolchain, stand-in 1 (dist/MANIFEST names stand-in 2)"
+    verify("another program, of another toolchain", 70, b"is not what was built just now" + others)
+    copy.source.write_text(PROGRAM.replace("exit 3", "exit 0"))
+    (ship(copy) / "MANIFEST").write_text(manifest_of(copy.top, "stand-in 2"))
+    verify("the same program by another toolchain", 0, b"is what was proved and built of these sources" + others)
+
+
+def test_tools_and_rights(folder: Path) -> None:
+    copy = Copy(folder)
+    for tool in ("sha256sum", "find", "sort", "flock", "touch"):
+        copy.check_refused(f"without {tool}", f"the command {tool} is not on the PATH".encode(),
+                           tools=copy.without(tool))
+    how = nobody("a checkout of another user")
+    if how is None:
+        return
+    for kept in (copy.top, copy.crate, copy.crate / "src"):
+        kept.chmod(0o555)
+    copy.check_refused("a read-only checkout", b"read-only", **how)
+    copy.top.chmod(0o777 if how else 0o755)
+    copy.source.chmod(0)
+    copy.check_refused("a source that may not be read", b"a file of the sources cannot be read", **how)
+    copy.source.chmod(0o644)
+    (copy.crate / "specs").chmod(0)
+    copy.check_refused("a folder of sources that may not be read", b"a file of the sources cannot be read", **how)
+    for kept in (copy.crate, copy.crate / "src", copy.crate / "specs"):
+        kept.chmod(0o755)
+    if how:
+        copy.check_run("built by its owner", 1, is_built=True)
+        copy.top.chmod(0o555)
+        copy.check_run("run by another user", 1, **how)
+        copy.source.touch()
+        copy.check_run("run by another user after a touch", 1, **how)
+        copy.source.write_text(PROGRAM + "# a change\n")
+        copy.check_refused("run by another user after a change", b"read-only", **how)
+
+
+def wait_for(is_so: Callable[[], bool]) -> bool:
+    """Whether it becomes so."""
+    end = time.monotonic() + SECONDS
+    while not is_so():
+        if time.monotonic() > end:
+            return False
+        time.sleep(0.02)
+    return True
+
+
+def test_two_builds(folder: Path) -> None:
+    """A call during a build says so, waits for its end, and builds nothing."""
+    copy = Copy(folder)
+    copy.mark("holds", True)
+    said = folder / "said"
+    calls = []
+    try:
+        waits: list[tuple[str, str, Callable[[], bool]]] = [
+            ("a build is begun", os.devnull, (copy.toolchain / "is-held").exists),
+            ("a second call says that a build is running", str(said), lambda: b"another build" in said.read_bytes())]
+        for what, errors, is_so in waits:
+            with open(errors, "wb") as error:
+                calls.append(subprocess.Popen([copy.top / "ntpaudit", "list"], stdin=subprocess.DEVNULL, stderr=error,
+                                              stdout=subprocess.PIPE, cwd=folder, env=copy.environment()))
+            check(what, seen=(wait_for(is_so), True))
+    finally:
+        copy.mark("holds", False)
+    outs = [call.communicate(timeout=SECONDS)[0] for call in calls]
+    check("two calls at once", statuses=([call.returncode for call in calls], [3, 3]), builds=(copy.builds(), 1),
+          outputs=(outs, 2 * [copy.ran("list").replace(b"input", b"none")]),
+          error=(said.read_bytes(),
+                 b"ntpaudit: another build is running here; this call waits for its end\nthe program ran\n"))
+
+
+def test_killed_launcher(folder: Path) -> None:
+    """What a killed launcher left is not taken for a built program, and the next call waits for what still runs."""
+    copy = Copy(folder)
+    copy.mark("holds", True)
+    call = subprocess.Popen([copy.top / "ntpaudit"], stdin=subprocess.DEVNULL, stdout=subprocess.DEVNULL,
+                            stderr=subprocess.DEVNULL, cwd=folder, env=copy.environment())
+    try:
+        check("a build is begun, to be left alone", seen=(wait_for((copy.toolchain / "is-held").exists), True))
+    finally:
+        call.kill()
+        call.wait()
+        check("a killed launcher leaves no program", seen=((copy.kept / "ntpaudit").exists(), False))
+        copy.mark("holds", False)
+    status, out, _ = copy.launch("list")
+    check("a call after a killed launcher", status=(status, 3), output=(out, copy.ran("list")),
+          builds=(copy.builds(), 2))
+
+
+def test_install(folder: Path) -> None:
+    copy = Copy(folder)
+    copy.source.write_text(PROGRAM.replace("exit 3", "exit 0"))
+    prefix = folder / "a prefix"
+
+    def install(*words: object, toolchain: Path | None = None, home: bool = True) -> Ran:
+        environment = copy.environment(toolchain=toolchain)
+        if not home:
+            del environment["HOME"]
+        return run([copy.top / "install", *words], cwd=folder, env=environment)
+
+    def refused(name: str, *words: object, **how: Any) -> None:
+        status, out, err = install(*words, **how)
+        check(name, status=(status, 70), output=(out, b""), error=(err, lambda seen: b"ntpaudit: " in seen))
+
+    refused("an install without a toolchain", prefix, toolchain=copy.home)
+    check("an install that failed leaves nothing", seen=(prefix.exists(), False))
+    for call in ("an install", "an install over it"):
+        status, out, err = install(prefix)
+        check(call, status=(status, 0), output=(out, f"{prefix}/bin/ntpaudit\n".encode()), error=(
+            err, lambda seen: b"is not on the PATH\n" in seen), files=(os.listdir(prefix / "bin"), ["ntpaudit"]))
+    status, out, err = run([prefix / "bin/ntpaudit", "list"], b"input\n", cwd=folder, env={"PATH": str(copy.tools)})
+    check("the installed program", run=((status, out, err), (0, copy.ran("list"), b"the program ran\n")))
+    status, out, err = install()
+    check("an install at home", status=(status, 0), there=((copy.home / ".local/bin/ntpaudit").exists(), True))
+    (folder / "file").write_text("")
+    refused("an install below a file", folder / "file")
+    refused("an install to two folders", prefix, prefix)
+    refused("an install with an option", "--bogus")
+    refused("an install without a home", home=False)
+    status, out, err = install("--help")
+    check("help on installing", status=(status, 0), output=(out, lambda seen: b"PREFIX" in seen), error=(err, b""))

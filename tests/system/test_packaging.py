@@ -1,0 +1,280 @@
+"""Tests what ./install and ./package put in place: the program, the man page, completion, the Debian package.
+
+The man page that docs/manual makes and the completions are held to what `ntpaudit --help` says, and the man page's
+examples are run.
+"""
+import gzip
+import json
+import os
+import re
+import shutil
+import tempfile
+from pathlib import Path
+
+from tests.support import DATA, ROOT, check, is_here, program, run, skip, sum_of, sum_of_sources
+from tests.dossier.leaps import leap_list
+
+PROGRAM = program()
+MANUAL = run([ROOT / "docs/manual", PROGRAM])[1]
+
+
+def said(*words: str) -> str:
+    """What the program says of itself."""
+    return run([PROGRAM, *words])[1].decode()
+
+
+def options_of_commands() -> dict[str, set[str]]:
+    """The names of the commands, and the long options of each, by its help."""
+    section = said("--help").split("Commands:\n")[1].split("\n\n")[0]
+    names = re.findall(r"^  (\w+)  ", section, flags=re.M)
+    return {name: set(re.findall(r"--[a-z]+", said(name, "--help").split("Options:\n")[1].split("\n\n")[0]))
+            for name in names if name != "help"}
+
+
+def test_manual() -> None:
+    named = options_of_commands()
+    text = MANUAL.decode()
+    for sign, escaped in {"-": r"\-", "'": r"\(aq", "\\": r"\(rs"}.items():
+        text = text.replace(escaped, sign)
+    for name, options in named.items():
+        check(f"the man page has {name}",
+              seen=(f"\n.TP\n.B {name}\n" in text and f".SY ntpaudit\n.B {name}\n" in text, True))
+        for option in options:
+            check(f"the man page has {name}'s {option}", seen=(option in text, True))
+    version = said("--version").split()[1]
+    check("the man page's version", seen=(f'"ntpaudit {version}"' in text, True))
+    check("the man page without Markdown", left=(re.findall(r"[`*]{2}|\]\(|^#|^\| |\|--|`\w", text, flags=re.M), []))
+    with tempfile.TemporaryDirectory(prefix="ntpaudit-") as folder:
+        page = Path(folder) / "ntpaudit.1"
+        page.write_bytes(MANUAL)
+        if is_here("mandoc", "the man page by mandoc"):
+            check("mandoc finds nothing", run=(run(["mandoc", "-T", "lint", page])[:2], (0, b"")))
+        if is_here("man", "the man page by man"):
+            shown = run(["man", "--warnings", "-l", page], env={**os.environ, "LC_ALL": "C.UTF-8", "MANWIDTH": "80"})
+            check("man finds nothing", run=(shown[2], b""),
+                  wide=([row for row in shown[1].decode().splitlines() if len(row) > 80], []))
+        (Path(folder) / "data").mkdir()
+        for file in DATA.glob("clients-us*"):
+            os.symlink(file, Path(folder) / "data" / file.name)
+        for kept, name in {"clients-us.pcap": "recording.pcap", "clients-us.claim.json": "claim.json",
+                           "two-packets.refutation.json": "refutation.json"}.items():
+            shutil.copy(DATA / kept, Path(folder) / name)
+        os.symlink(PROGRAM, Path(folder) / "ntpaudit")
+        examples = re.findall(r"^(?:\$ )?(ntpaudit \w(?:.*\\\n)*.*)$", text, flags=re.M)
+        check("the man page has examples", seen=(len(examples), lambda count: count > len(named)))
+        for example in examples:
+            status, _, err = run(["sh", "-c", f"PATH=.:$PATH; {example}"], cwd=folder)
+            check(f"the man page's example: {example}", status=(status in (0, 1), True), err=(err, b""))
+
+
+def completed(folder: str, shell: str, *words: str) -> set[str]:
+    """What a shell offers for the last of these words, where the programs are in this folder."""
+    given = " ".join(repr(word) for word in words)
+    script = {
+        "bash": f". {ROOT}/completion/ntpaudit.bash; COMP_WORDS=({given}); COMP_CWORD={len(words) - 1}; "
+                f"_ntpaudit {words[0]}; printf '%s\\n' \"${{COMPREPLY[@]}}\"",
+        "fish": f"source {ROOT}/completion/ntpaudit.fish; complete -C {' '.join(words)!r} | "
+                "string replace -r '\t.*' ''",
+        "zsh": "_arguments() { print -rl -- ${@%%\\[*} }; _describe() { print -rl -- ${${(P)2}%%:*} }; _files() { }; "
+               "_call_program() { shift; \"$@\" }; "
+               f"words=({given}); CURRENT={len(words)}; . {ROOT}/completion/_ntpaudit",
+    }[shell]
+    path = f"{folder}:{os.environ['PATH']}"
+    text = run([shell, "-c", script], cwd=DATA, env={**os.environ, "NTPAUDIT": str(PROGRAM), "PATH": path})[1].decode()
+    return {word for word in text.split() if re.fullmatch(r"--[a-z-]+|[a-z][a-z.-]*", word)}
+
+
+def test_completion() -> None:
+    """Each shell that is here offers what the programs' help has."""
+    named = options_of_commands()
+    with tempfile.TemporaryDirectory(prefix="ntpaudit-") as folder:
+        os.symlink(Path(PROGRAM).absolute(), Path(folder) / "ntpaudit")
+        os.symlink(ROOT / "ntpaudit-dossier", Path(folder) / "ntpaudit-dossier")
+        for shell in [shell for shell in ("bash", "fish", "zsh") if is_here(shell, f"completion in {shell}")]:
+            for script, commands in (("ntpaudit", named), ("ntpaudit-dossier", dossier_options())):
+                offered = completed(folder, shell, script, "")
+                check(f"{shell} offers {script}'s commands",
+                      seen=(offered - {"--help", "--version"}, {*commands, "help"}))
+                check(f"{shell} offers {script}'s own options",
+                      seen=(completed(folder, shell, script, "--"), lambda words: {"--help", "--version"} <= words))
+                for name, options in commands.items():
+                    check(f"{shell} offers {script} {name}'s options",
+                          seen=(completed(folder, shell, script, name, "--"), options))
+        check("bash offers the commands of a beginning", seen=(completed(folder, "bash", "ntpaudit", "li"), {"list"}))
+        check("bash offers files",
+              seen=(completed(folder, "bash", "ntpaudit", "list", "two-packets.pc"), {"two-packets.pcap"}))
+        check("bash offers no files for a number",
+              seen=(completed(folder, "bash", "ntpaudit", "find", "--step", ""), set()))
+
+
+def dossier_options() -> dict[str, set[str]]:
+    """The names of the dossier's commands, and the long options of each, by its help."""
+    section = run([ROOT / "ntpaudit-dossier", "help"])[1].decode().split("COMMAND\n")[-1]
+    shown = {name: run([ROOT / "ntpaudit-dossier", "help", name])[1].decode()
+             for name in re.findall(r"^    (\w+) +\S", section, flags=re.M) if name != "help"}
+    option = re.compile(r"^  (?:-\w(?: \w+)?, )?(--[a-z-]+)", flags=re.M)
+    return {name: set(option.findall(text)) for name, text in shown.items()}
+
+
+def test_dossier() -> None:
+    """The dossier's man page has what its help has."""
+    text = (ROOT / "docs/ntpaudit-dossier.1").read_text("utf-8").replace("\\-", "-")
+    named = dossier_options()
+    check("the dossier's commands", seen=(len(named), lambda count: count > 6))
+    for name, options in {**named, "help": set[str]()}.items():
+        check(f"the dossier's man page has {name}",
+              seen=(f"\n.TP\n.B {name}\n" in text and f".SY ntpaudit-dossier\n.B {name}\n" in text, True),
+              missing=([option for option in options - {"--help"} if f"{option}\\fR" not in text], []))
+    if is_here("mandoc", "the dossier's man page by mandoc"):
+        check("mandoc finds nothing in the dossier's",
+              run=(run(["mandoc", "-T", "lint", ROOT / "docs/ntpaudit-dossier.1"])[:2], (0, b"")))
+    recheck = (ROOT / "docs/ntpaudit-recheck.1").read_text("utf-8").replace("\\-", "-")
+    usage = run([ROOT / "second/recheck", "--help"])[1].decode()
+    check("the second checker's man page", version=(f'"ntpaudit {said("--version").split()[1]}"' in recheck, True),
+          missing=([word for word in re.findall(r"--[a-z]+|\b[A-Z]{5,}\b", usage) if word not in recheck], []))
+    if is_here("mandoc", "the second checker's man page by mandoc"):
+        check("mandoc finds nothing in the second checker's",
+              run=(run(["mandoc", "-T", "lint", ROOT / "docs/ntpaudit-recheck.1"])[:2], (0, b"")))
+    check("the dossier's man page's version", seen=(f'"ntpaudit {said("--version").split()[1]}"' in text, True))
+    version = run([ROOT / "ntpaudit-dossier", "--version"], env={**os.environ, "NTPAUDIT": PROGRAM})
+    check("the dossier's version", run=((version[0], version[2]), (0, b"")),
+          program=(said("--version").splitlines()[0] in version[1].decode(), True))
+
+
+def files_below(folder: Path) -> list[str]:
+    return sorted(str(file.relative_to(folder)) for file in folder.rglob("*") if file.is_file())
+
+
+def compiled(folder: Path) -> tuple[int, int]:
+    """How many modules are compiled below a folder, and how many there are."""
+    return len(list(folder.rglob("*.pyc"))), len(list(folder.rglob("*.py")))
+
+
+def test_install(folder: Path) -> None:
+    if not is_at_hand("what is installed"):
+        return
+    prefix = folder / "a prefix"
+    status, out, _ = run([ROOT / "install", prefix])
+    listed = sorted(line.removeprefix(f"{prefix}/") for line in out.decode().splitlines())
+    check("what is installed is said", status=(status, 0),
+          files=([file for file in files_below(prefix) if not file.endswith(".pyc")], listed))
+    check("the installed dossier is compiled", modules=compiled(prefix / "share/ntpaudit/dossier"))
+    broken = folder / "broken"
+    shutil.copytree(prefix / "share/ntpaudit/dossier", broken)
+    (broken / "broken.py").write_text("(")
+    check("what can't be compiled is left as it is", status=(run([ROOT / "debian/compile", broken])[0], 0),
+          kept=(list(broken.rglob("__pycache__")), []))
+    names = ("bin/ntpaudit", "share/man/man1/ntpaudit.1", "share/bash-completion/completions/ntpaudit")
+    for file in (*names, *(name.replace("/ntpaudit", "/ntpaudit-dossier") for name in names)):
+        check(f"installed: {file}", seen=(file in listed, True))
+    check("the installed program runs", run=(run([prefix / "bin/ntpaudit", "list", DATA / "two-packets.pcap"]),
+                                             (0, (DATA / "two-packets.list.txt").read_bytes(), b"")))
+    files = [DATA / f"vlan-ns.{kind}" for kind in ("claim.json", "pcap", "settle.txt")]
+    check("the installed second checker runs", run=(run([prefix / "bin/ntpaudit-recheck", *files]),
+                                                    (0, b"verdict yes\n", b"")))
+    dossier = prefix / "bin/ntpaudit-dossier"
+    if dossier.exists():
+        audits = [folder / name for name in ("one", "two")]
+        for audit in audits:
+            audit.mkdir()
+            shutil.copy(DATA / "clients-us.pcap", audit)
+            shutil.copy(DATA / "clients-us.claim.json", audit / "claim.json")
+        bare = {name: value for name, value in os.environ.items() if name != "NTPAUDIT"} | {
+            "XDG_STATE_HOME": str(folder / "state"), "NTPAUDIT_LEAP_SECONDS": str(leap_list(folder / "leap-seconds"))}
+        status, out, _ = run([dossier, "audit", "--jobs", "2", *audits], cwd=folder, env=bare)
+        check("the installed dossier audits folders side by side", status=(status, 0),
+              said=(out, lambda seen: seen.count(b"yes") >= 2))
+    other, tools = folder / "other", folder / "tools"
+    tools.mkdir()
+    for tool in {tool.name: tool for place in ("/usr/bin", "/bin") for tool in Path(place).iterdir()}.values():
+        if not tool.name.startswith("python"):
+            os.symlink(tool, tools / tool.name)
+    status, out, err = run([ROOT / "install", other], env={**os.environ, "PATH": str(tools)})
+    check("without Python there is no man page", status=(status, 0), said=(err.count(b"so there is no man page\n"), 1),
+          files=({file for file in listed if file not in files_below(other)}, {"share/man/man1/ntpaudit.1"}))
+    (prefix / "bin/other").write_text("somebody else's\n")
+    check("what is removed is said", status=(run([ROOT / "install", "--remove", prefix])[0], 0),
+          left=(sorted(str(file.relative_to(prefix)) for file in prefix.rglob("*")), ["bin", "bin/other"]))
+    system = folder / "usr"
+    everywhere = run([ROOT / "install", system])[1].decode().splitlines()
+    units = {"lib/systemd/system/ntpaudit-daily.timer", "lib/sysusers.d/ntpaudit.conf", "lib/tmpfiles.d/ntpaudit.conf"}
+    check("systemd's files are put where it reads them", usr=(units - set(files_below(system)), set()),
+          other=([file for file in listed if file.startswith("lib/")], []), said=(len(everywhere) > len(listed), True))
+    run([ROOT / "install", "--remove", system])
+    check("nothing is left", left=(list(system.iterdir()), []))
+
+
+def test_package(folder: Path) -> None:
+    if not is_at_hand("the package"):
+        return
+    if not is_here("dpkg-deb", "the package"):
+        return
+    if not (ROOT / ".git").exists():
+        skip("the package", "the repository's history isn't here, and so not its time")
+        return
+    packages = []
+    for name in ("one", "two"):
+        (folder / name).mkdir()
+        status, out, err = run([ROOT / "package"], cwd=folder / name)
+        check(f"package {name}", run=((status, err), (0, b"")))
+        packages.append(folder / name / out.decode().strip())
+    check("the same sources give the same package", same=(packages[0].read_bytes() == packages[1].read_bytes(), True))
+    if is_here("lintian", "the package by lintian"):
+        check("lintian finds nothing", run=(run(["lintian", "--allow-root", packages[0]]), (0, b"", b"")))
+    target = folder / "target"
+    target.mkdir(0o755)
+    target.chmod(0o755)
+    unpacked = run(["dpkg-deb", "-x", packages[0], target])[0]
+    check("unpacking it leaves the folder as it was", status=(unpacked, 0),
+          mode=(oct(target.stat().st_mode & 0o777), "0o755"),
+          inside=(sorted({oct(file.stat().st_mode & 0o777) for file in target.rglob("*") if file.is_dir()}), ["0o755"]))
+    root = folder / "root"
+    for kept in ("var/lib/dpkg/info", "var/lib/dpkg/updates", "etc"):
+        (root / kept).mkdir(parents=True)
+    (root / "var/lib/dpkg/status").touch()
+    dpkg = ["dpkg", f"--root={root}", "--force-depends", "--force-not-root", "--force-script-chrootless",
+            "--log=/dev/null"]
+    if os.geteuid():
+        skip("the package put in place by dpkg", "this isn't root")
+        return
+    made_of = json.loads((target / "usr/share/doc/ntpaudit/ntpaudit.spdx.json").read_text())
+    sums = {part["name"]: part["checksums"][0]["checksumValue"] for part in made_of["packages"] if "checksums" in part}
+    crates = set(re.findall(r"`(\w+)`", (ROOT / "README.md").read_text("utf-8").split("crates of the toolchain:")[1]
+                            .split(".")[0]))
+    check("what the package says that it is made of", form=(made_of["spdxVersion"], "SPDX-2.3"),
+          program=(sums["ntpaudit"], sum_of((target / "usr/bin/ntpaudit").read_bytes())),
+          sources=(sums["sources"], sum_of_sources(ROOT)),
+          crates=({part["name"] for part in made_of["packages"]}, {"ntpaudit", "sources", "toolchain", *crates}))
+    check("the package is installed", status=(run([*dpkg, "-i", packages[0]])[0], 0))
+    users = root / "etc/passwd"
+    if shutil.which("systemd-sysusers"):
+        check("the package makes its user", user=(users.exists() and "ntpaudit" in users.read_text(), True))
+    listed = run([root / "usr/bin/ntpaudit", "list", DATA / "two-packets.pcap"])
+    check("its program runs", run=(listed, (0, (DATA / "two-packets.list.txt").read_bytes(), b"")))
+    page = gzip.decompress((root / "usr/share/man/man1/ntpaudit.1.gz").read_bytes())
+    check("its man page", same=(page == MANUAL, True))
+    bare = {name: value for name, value in os.environ.items() if name != "NTPAUDIT"}
+    before = files_below(root / "usr")
+    said_by = run([root / "usr/bin/ntpaudit-dossier", "--version"], env=bare)
+    check("its dossier runs, is compiled, and keeps nothing more beside itself", status=(said_by[0], 0),
+          kept=(files_below(root / "usr"), before), modules=compiled(root / "usr/share/ntpaudit/dossier"))
+    check("the package is removed", status=(run([*dpkg, "-r", "ntpaudit"])[0], 0),
+          left=([file for file in files_below(root) if not file.startswith(("var/lib/dpkg/", "etc/"))], []))
+
+
+def is_built() -> bool:
+    """Whether ./install and ./package find a program without building one: a build would take away the file that other
+    scripts are calling."""
+    return "NTPAUDIT" not in os.environ or f"sources {sum_of_sources(ROOT)}\n" in (ROOT / "dist/MANIFEST").read_text()
+
+
+def is_at_hand(name: str) -> bool:
+    """The same; where it isn't so, a case is skipped."""
+    if not is_built():
+        skip(name, "dist/MANIFEST names other sources")
+    return is_built()
+
+
+def test_sources() -> None:
+    check("dist/MANIFEST names the sources that are here, so nothing has to be built to install it",
+          seen=(is_built(), True))

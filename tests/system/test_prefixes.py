@@ -1,0 +1,138 @@
+"""Gives each command each prefix of data/two-packets.pcap, of its claim, its certificate and its refutation, and of a
+file of their sums: files that were cut. The commands are those of tests/second/commands.py, and there is no other. Each
+takes an option that has no value once.
+"""
+import re
+import tempfile
+from collections.abc import Callable
+from concurrent.futures import ThreadPoolExecutor
+from pathlib import Path
+
+from tests.support import DATA, Ran, check, program, run, sum_of
+from tests.second import sum_form
+from tests.second.answers import Answer
+from tests.second.commands import CAPTURE, CLAIM, COMMANDS, Command, SECOND, fault_alone, flags_of
+from tests.system import test_outputs
+
+BYTES = CAPTURE.read_bytes()
+LINES = (DATA / "two-packets.list.txt").read_bytes().splitlines(keepends=True)
+PROGRAM = program()
+
+
+def listing_of(length: int) -> Ran:
+    """Status, output and error for the first bytes of the capture: its header has 24, and each record 16 and 90."""
+    if length < 24:
+        return 2, b"", b"ntpaudit: capture 1 torn-header\n"
+    records, rest = divmod(length - 24, 106)
+    lines = b"".join(LINES[:records])
+    if rest:
+        return 2, lines, f"ntpaudit: capture 5 torn-record at {24 + 106 * records}\n".encode()
+    return 0, lines + f"records {records} packets {records}\n".encode(), b""
+
+
+def answer_of(length: int, answer: Callable[[int], Answer]) -> Ran:
+    """The same for a command with a claim, which prints nothing of a capture that is refused."""
+    status, _, error = listing_of(length)
+    if status:
+        return status, b"", error
+    status, lines = answer((length - 24) // 106)
+    return status, "".join(f"{line}\n" for line in lines).encode(), b""
+
+
+def refused(name: str) -> Ran:
+    return 2, b"", f"ntpaudit: {name} 1 json\n".encode()
+
+
+def runs(words: list[object], whole: bytes) -> list[Ran]:
+    """What a command says of each prefix of these bytes, which it gets on standard input."""
+    with ThreadPoolExecutor() as pool:
+        return list(pool.map(lambda length: run(words, whole[:length]), range(len(whole) + 1)))
+
+
+def test_listings() -> None:
+    for length, ran in enumerate(runs([PROGRAM, "list"], BYTES)):
+        check(f"the first {length} bytes", run=(ran, listing_of(length)))
+
+
+def try_command(command: Command) -> None:
+    """A command on each prefix of the capture, of the claim, and of its second input."""
+    def check_prefixes(operand: int, whole: bytes, wanted: Callable[[int], Ran | None]) -> None:
+        words: list[object] = [PROGRAM, command.name, CLAIM, CAPTURE, *command.words]
+        words[1 + operand] = "/dev/stdin"
+        for length, ran in enumerate(runs(words, whole)):
+            if answer := wanted(length):
+                check(f"{command.title}: the first {length} bytes of operand {operand}",
+                      run=(fault_alone(ran, command.options), answer))
+
+    check_prefixes(2, BYTES, lambda length: answer_of(length, command.answer))
+    inputs = [(1, "claim", CLAIM)] + [(3, SECOND[command.name], file)
+                                      for file in command.others if isinstance(file, Path)]
+    for operand, name, file in inputs:
+        whole = file.read_bytes().rstrip()
+        check_prefixes(operand, whole, lambda length: refused(name) if length < len(whole) else None)
+
+
+def try_sums(command: Command) -> None:
+    """A file of sums of which a part is left: a line that was cut isn't of the form, or has another name; and of the
+    lines that aren't there the first that is asked for is missing."""
+    operands = {"claim": CLAIM, SECOND[command.name]: Path(command.others[0]), "capture": CAPTURE}
+    ends, sums = [], b""
+    for operand in operands.values():
+        sums += sum_form.line_of(str(operand).encode(), sum_of(operand.read_bytes()).encode())
+        ends.append(len(sums) - 1)
+    words = [PROGRAM, command.name, CLAIM, CAPTURE, *command.words, "--sums", "/dev/stdin"]
+    for length, ran in enumerate(runs(words, sums)):
+        whole = sum(end <= length for end in ends)
+        rest = length - ([-1, *ends][whole] + 1)
+        if 0 < rest < len(sum_of(b"")) + 3:
+            wanted: Ran = 2, b"", f"ntpaudit: sums form line {whole + 1}\n".encode()
+        elif whole < 3:
+            wanted = 2, b"", f"ntpaudit: sums missing {list(operands)[whole]}\n".encode()
+        else:
+            wanted = answer_of(len(BYTES), command.answer)
+        check(f"{command.title}: the first {length} bytes of sums", run=(fault_alone(ran, command.options), wanted))
+
+
+def try_outputs(command: Command) -> None:
+    """With `-o` a prefix of the capture leaves a whole file, or none if it's refused."""
+    def tried(length: int, folder: Path) -> tuple[Ran, dict[str, bytes]]:
+        inside = folder / str(length)
+        inside.mkdir()
+        words = [PROGRAM, command.name, CLAIM, "/dev/stdin", *command.words, "-o", inside / "f"]
+        return fault_alone(run(words, BYTES[:length]), command.options), test_outputs.files_of(inside)
+
+    plain, lengths = test_outputs.for_a_program(command), range(len(BYTES) + 1)
+    with tempfile.TemporaryDirectory(prefix="ntpaudit-") as folder, ThreadPoolExecutor() as pool:
+        for length, (ran, files) in enumerate(pool.map(lambda length: tried(length, Path(folder)), lengths)):
+            status, text, error = answer_of(length, command.answer)
+            left = {"f": answer_of(length, plain.answer)[1]} if status in (0, 1) else {}
+            check(f"{command.title} -o: the first {length} bytes", files=(files, left),
+                  run=(ran, (status, text if "--human" in command.options else b"", error)))
+
+
+def test_names() -> None:
+    named = set(re.findall(r"^  (\w+)  ", run([PROGRAM, "--help"])[1].decode(), flags=re.M))
+    check("the commands of the program", seen=({command.name for command in COMMANDS}, named - {"list", "help"}))
+
+
+def test_flags() -> None:
+    """An option without a value is refused twice, with a value, and beside a command that hasn't it."""
+    operands = {command.name: [CLAIM, CAPTURE, *command.others] for command in COMMANDS} | {"list": [CAPTURE]}
+    flags = {name: flags_of(name) for name in operands}
+    for name, files in operands.items():
+        for letter, word in flags[name]:
+            check(f"{name} {word}", once=(run([PROGRAM, name, *files, word])[0], lambda status: status in (0, 1)))
+            for words in ([word, word], [f"{word}=1"], *([[word, letter]] if letter else [])):
+                status, output, error = run([PROGRAM, name, *files, *words])
+                check(f"{name} {' '.join(words)}", refused=((status, output, error != b""), (5, b"", True)))
+        for _, word in {flag for others in flags.values() for flag in others} - {*flags[name]}:
+            check(f"{name} has no {word}", status=(run([PROGRAM, name, *files, word])[0], 5))
+
+
+def test_commands() -> None:
+    for command in COMMANDS:
+        try_command(command)
+        if command.name in SECOND:
+            try_sums(command)
+        if command in test_outputs.WRITERS:
+            try_outputs(command)
