@@ -877,9 +877,6 @@ def test_five_commands(place: Path) -> None:
                                                                    "a page")[1].split("## A folder")[0]
     commands = re.findall(r"^    (.*)", text, flags=re.M)
     check("five commands", count=(len(commands), 5))
-    bound = re.findall(r"^    (\./.*)", (ROOT / "docs" / "BOUND.md").read_text("utf-8"), flags=re.M)
-    check("the same five for a bound",
-          seen=([command.replace("--bound-ns 100000 ", "--bound-ns 50000000 ") for command in bound], commands))
     (place / "tcpdump").write_text(TCPDUMP.format(capture=DATA / "vlan-ns.pcap"))
     (place / "tcpdump").chmod(0o755)
     (place / "ntpaudit-dossier").symlink_to(SCRIPT)

@@ -4,26 +4,14 @@ import re
 from dataclasses import dataclass
 
 from tests.support import ROOT
-from tests.system.fault_lines import fault_lines
 
 SOURCES = ROOT / "crates/fault_words/src"
 TABLES = ("sentence", "claim_field", "kind", "obstacle")
 """The files of the table."""
 
-INPUTS = {"CaptureFault": "capture", "ClaimFault": "claim", "CertificateFault": "certificate",
-          "RefutationFault": "refutation", "SumsFault": "sums"}
-"""The faults of an input."""
-
-OTHERS = {"Exchanges": "exchanges over 1000000", "Pieces": "pieces over 100000", "TooBig": "too-big INPUT",
-          "Device": "device INPUT", "Write": "device output after N", "Memory": "memory"}
-"""The faults of a run, with their lines."""
-
-MARKS = {"@": "FILE", "#": "PLACE", "~": "CLAIM CAPTURE", "&": "CLAIM CAPTURE SECOND", "%": "SUMS"}
-"""The marks of a remedy, and what stands for them where no name is known."""
-
 WORD = r"(?:'[^']*'|[^-' ]\S*)"
 FILLED = {"@": WORD, "#": r"\d+", "~": f"{WORD} {WORD}", "&": f"{WORD} {WORD}(?: {WORD})?", "%": WORD}
-"""The same where names are known: words of a shell, none of them an option."""
+"""The marks of a remedy, and what stands for them: words of a shell, none of them an option."""
 
 TEXT = r'"((?:[^"\\]|\\.)*)"'
 
@@ -82,25 +70,6 @@ def texts() -> list[str]:
     return sorted({text for text in [*found, *shared().values()] if text})
 
 
-def filled(remedy: str) -> str:
-    """A remedy with words in place of its marks that stand for names."""
-    return re.sub("[@#~&%]", lambda mark: MARKS[mark[0]], remedy)
-
-
 def pattern_of(text: str) -> str:
     """What a text is where names are known."""
     return "".join(FILLED.get(sign, re.escape(sign)) for sign in text)
-
-
-def of_lines() -> dict[str, Row]:
-    """The rows by fault lines of docs/FORMATS.md, but those of a claim's single fields."""
-    lines, found = fault_lines(), dict[str, Row]()
-    for row in rows():
-        faults, _, variant = row.name.partition("::")
-        word = re.sub(r"(?<!^)(?=[A-Z])", "-", variant).lower()
-        if faults == "RunFault":
-            found[OTHERS[variant]] = row
-        elif faults in INPUTS:
-            pattern = rf"{INPUTS[faults]} (\d )?{word}( .*)?"
-            found.update({line: row for line in lines if re.fullmatch(pattern, line)})
-    return found

@@ -4,7 +4,7 @@
   docs/FORMATS.md says has to stand there, and what stands there.
 - Names are escaped, pipes and devices aren't looked at again, and at a terminal a hint follows a fault line.
 - Each text of the program's table (tests/system/sentences.py) is expected by a case here or there.
-- docs/FORMATS.md has the faults that have words, and docs/REFUSALS.md the remedies.
+- docs/FORMATS.md has the faults that have words.
 """
 import json
 import os
@@ -233,7 +233,7 @@ def test_mistakes() -> None:
 
 
 def test_pages() -> None:
-    """FORMATS' fault lines are those that have words, and REFUSALS' headings are among them."""
+    """FORMATS' fault lines are those that have words."""
     lines = fault_lines()
     cases = (ROOT / "tests/cases/words.txt").read_text("utf-8")
     told_of = re.findall(r"^2> ntpaudit: (.+)\n2>   .+\n2>   .+$", cases, flags=re.M)
@@ -241,20 +241,6 @@ def test_pages() -> None:
         check(f"FORMATS has {told}", rows=(sum(is_like(told, line) for line in lines), 1))
     for line in lines:
         check(f"a case has {line}", seen=(line in ELSEWHERE or any(is_like(told, line) for told in told_of), True))
-
-
-def test_refusals() -> None:
-    """The remedies of docs/REFUSALS.md's table are those of the program, for the same lines."""
-    rows, known = sentences.rows(), sentences.of_lines()
-    fields = {row.name: row for row in rows}
-    known |= {"claim 2 field field CODE": fields["_"], "time": fields["4"]}
-    wanted = dict[str, list[str]]()
-    for line in fault_lines():
-        wanted.setdefault(sentences.filled(known[line].remedy), []).append(line)
-    table = (ROOT / "docs/REFUSALS.md").read_text("utf-8").split("\n## ")[0]
-    seen = {remedy: re.findall("`([^`]+)`", named)
-            for named, remedy in re.findall(r"^\| (`.*?`) \| (.*) \|$", table, flags=re.M)}
-    check("the table of REFUSALS", remedies=(seen, wanted))
 
 
 def test_table() -> None:
