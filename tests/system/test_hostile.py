@@ -1,9 +1,9 @@
-"""Captures that are made to be slow, each call under a limit of 60 s of the processor, of which it may take a tenth:
-every command answers in bounded time.
+"""Captures that are made to be slow: every command comes back, with the right answer. A limit of 60 s of the processor
+ends a call that wouldn't. How long calls take, and how that grows, no test asks: bench/hostile measures it.
 
-The families are those of tests/tools/families.py, with 8, 64 and 1,000 exchanges; bench/hostile measures the large
-ones. Of each capture and each of its claims `settle`, `envelope --least`, `find`, `check`, `refute --drift`, `at` and
-`samples` are held to a second reading, which shares nothing with the program:
+The families are those of tests/tools/families.py, with 8, 64 and 1,000 exchanges. Of each capture and each of its
+claims `settle`, `envelope --least`, `find`, `check`, `refute --drift`, `at` and `samples` are held to a second reading,
+which shares nothing with the program:
 
 - `samples`, `at`, `envelope` and `find` are the same, byte for byte (a certificate of `find` as far as its samples can
   be looked for one by one)
@@ -47,8 +47,7 @@ WHOLE = {"hair-4-100ppm", "hair-100-100ppm", "hair-10000-half", "gaps-100ppm", "
 
 
 class Told(NamedTuple):
-    """The longest call, which commands were called, and the kinds of answers of `settle`."""
-    longest: tuple[float, str]
+    """Which commands were called, and the kinds of answers of `settle`."""
     called: set[str]
     kinds: list[str]
 
@@ -57,15 +56,14 @@ class Told(NamedTuple):
 
 
 def tried(questions: Iterable[Question]) -> Told:
-    times, called, kinds = list[tuple[float, str]](), set[str](), list[str]()
+    called, kinds = set[str](), list[str]()
     for question in questions:
         for case in CASES:
             for name, wrong in case(question):
                 count(f"{question.name}: {name}", wrong)
                 kinds += name.split("settle: ")[1:]
-        times.append(max(question.times))
         called |= question.called
-    return Told(max(times), called, kinds)
+    return Told(called, kinds)
 
 
 def questions_on(name: str, exchanges: Exchanges, claims: dict[str, Claim], way: Way) -> Iterator[Question]:
@@ -149,10 +147,6 @@ def cases() -> Iterator[tuple[str, Callable[[], Told]]]:
 
 def together(told: list[Told]) -> None:
     kinds = sum((Counter(one.kinds) for one in told), Counter[str]())
-    longest = sorted((one.longest for one in told), reverse=True)[:10]
     print("; ".join(f"{number} {kind}" for kind, number in kinds.most_common()))
-    print("\n".join(f"{seconds:6.2f} s {name}" for seconds, name in longest))
-    check("the longest call takes at most a tenth of the limit",
-          seconds=(longest[0][0], lambda most: most <= LIMIT / 10))
     check("each command is called", missing=({command.title for command in PLAIN} - {
         word for one in told for word in one.called}, set()))
