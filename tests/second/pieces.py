@@ -87,39 +87,26 @@ class Hulls:
                        *greatest(self.sides[server][1].parts(both) for server in group)) for group in self.groups]
 
     def over(self, begin: int, end: int) -> Hull:
-        """The hull: None where it's unbounded, () where it's empty."""
+        """The hull: None where it's unbounded, () where it's empty. With the ends in order, a point lies in so many
+        intervals if for some k as many and k more begin up to it, and at most k end before it."""
         wanted = len(self.groups) - self.false_max
         if wanted <= 0:
             return None
         if not self.since <= begin + end < self.until:
             self.place(begin + end)
-        first, last, rest, ends = self.ppb * begin, self.ppb * end, BILLION - self.ppb, list[int]()
+        first, last, rest, lows, highs = self.ppb * begin, self.ppb * end, BILLION - self.ppb, list[int](), list[int]()
         for low_first, low_last, high_first, high_last in self.parts:
-            low = max(low_first + first, low_last - last) // rest
-            high = -(max(high_first + first, high_last - last) // rest)
+            low, other_low = low_first + first, low_last - last
+            high, other_high = high_first + first, high_last - last
+            low = (low if low > other_low else other_low) // rest
+            high = -((high if high > other_high else other_high) // rest)
             if low <= high:
-                ends += 2 * low, 2 * high + 1
-        return meeting(sorted(ends), wanted)
-
-
-def meeting(ends: list[int], wanted: int) -> Hull:
-    """The first and the last point that lie in so many intervals. Their ends are in order, each twice as great, and a
-    high end one more."""
-    if (first := crossed(ends, wanted, 0)) is None:
-        return ()
-    last = crossed(ends[::-1], wanted, 1)
-    assert last is not None
-    return first, last
-
-
-def crossed(ends: list[int], wanted: int, leaving: int) -> int | None:
-    """The first of these ends at which so many intervals are entered and not yet left."""
-    count = 0
-    for end in ends:
-        count += -1 if end & 1 ^ leaving else 1
-        if count == wanted:
-            return end >> 1
-    return None
+                lows.append(low)
+                highs.append(high)
+        lows.sort()
+        highs.sort()
+        common = [both for both in zip(lows[wanted - 1:], highs) if both[0] <= both[1]]
+        return (common[0][0], common[-1][1]) if common else ()
 
 
 def bound_in_ticks(bound_ns: int) -> int:
@@ -172,13 +159,13 @@ def ends_of(span: tuple[int, int], hulls: Hulls, bound: int, most: int = MOST_PI
 
 
 class Pieces:
-    """The pieces of claims that differ in nothing but their bound, and what is wrong with their least bound. What was
+    """The pieces of claims that differ in nothing but their bound, and whether their least bound was judged. What was
     made once isn't made again."""
 
     def __init__(self, claim: Claim, samples: list[Sample]) -> None:
         self.span, self.hulls = rules.span_of(claim), Hulls(claim, samples)
         self.known: dict[tuple[int, int], tuple[list[int], Stop | None]] = {}
-        self.judged: dict[str, str] = {}
+        self.judged = False
 
     def ends(self, bound: int, most: int = MOST_PIECES) -> tuple[list[int], Stop | None]:
         if (bound, most) not in self.known:

@@ -18,6 +18,7 @@ groups of servers that say what they like. Certificates and refutations are made
 and each answer is compared with the one that tests/second/rules.py, tests/second/marks.py and second/recheck give. Each
 seed is one course.
 """
+import functools
 import hashlib
 import json
 import os
@@ -96,23 +97,26 @@ def ran_of(evidence: Evidence, words: list[str]) -> Ran:
     return status, text_of(lines).encode(), b""
 
 
-def spellings(certificate: Certificate | bytes) -> list[bytes]:
-    """The certificate as it stands, or a value's text with spaces and without."""
+def spelled_out(certificate: Certificate | bytes, bound_ns: int) -> bytes:
+    """The certificate as it stands, or a value's text: with spaces, and without them for bounds that are odd."""
     if isinstance(certificate, bytes):
-        return [certificate]
-    return [json.dumps(certificate).encode(), rules.compact(certificate).encode() + b"\n"]
+        return certificate
+    return rules.compact(certificate).encode() + b"\n" if bound_ns % 2 else json.dumps(certificate).encode()
 
 
 def verdict_line(folder: str, course: Course, capture: str, bound_ns: int, certificate: Certificate | bytes) -> str:
-    """What the program says: the end of its last line, where the status agrees with it and nothing else was said, the
-    same for each spelling of the certificate."""
-    claim, verdicts = written(folder, "claim", course.claim(bound_ns)), set()
-    for text in spellings(certificate):
-        status, out, err = run([PROGRAM, "check", claim, capture, written(folder, "certificate", text)])
-        said = out.decode().splitlines()[-1] if out else ""
-        is_told = err == b"" and said.startswith("verdict ") and status == (said != "verdict yes")
-        verdicts.add(said.removeprefix("verdict ") if is_told else f"status {status}, {out!r}, {err!r}")
-    return " or ".join(sorted(verdicts))
+    """What the program says: the end of its last line, where the status agrees with it and nothing else was said."""
+    claim = written(folder, "claim", course.claim(bound_ns))
+    status, out, err = checked(claim, capture, written(folder, "certificate", spelled_out(certificate, bound_ns)))
+    said = out.decode().splitlines()[-1] if out else ""
+    is_told = err == b"" and said.startswith("verdict ") and status == (said != "verdict yes")
+    return said.removeprefix("verdict ") if is_told else f"status {status}, {out!r}, {err!r}"
+
+
+@functools.cache
+def checked(*files: str) -> Ran:
+    """What `check` says of these files, whose names are their sums: it isn't asked the same twice."""
+    return run([PROGRAM, "check", *files])
 
 
 def try_moments(course: Course, samples: list[Sample], folder: str, capture: str, rng: random.Random) -> list[str]:

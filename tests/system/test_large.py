@@ -141,7 +141,7 @@ def time_of(tick: int) -> str:
 
 def list_case(question: Question) -> Iterator[Case]:
     """`list`: the first lines, how many there are, and the last one."""
-    status, text, error = run([PROGRAM, "list", question.capture], timeout=LIMIT)
+    status, text, error = run([PROGRAM, "list", question.capture])
     lines = text.decode().splitlines()
     wanted = list(islice(listed(question), FIRST_LINES))
     wrong = [f"{line!r}, wanted {right!r}" for line, right in zip(lines, wanted) if line != right]
@@ -160,6 +160,4 @@ def test_questions(folder: Path) -> None:
             count(f"{question.name}: {name}", wrong)
             if name.startswith("settle: "):
                 kinds[question.name.split(", ")[1], name.removeprefix("settle: ")] += 1
-        seconds, words = max(question.times)
-        print(f"{seconds:6.2f} s {words}", flush=True)
     check("the answers of settle", kinds=(dict(kinds.keys()), WANTED))
