@@ -8,13 +8,13 @@ from __future__ import annotations
 import json
 import re
 from collections.abc import Callable
-from dataclasses import MISSING, dataclass, fields, is_dataclass
 from datetime import datetime
 from functools import cache
 from types import NoneType, UnionType
-from typing import Annotated, Any, Literal, NoReturn, Union, get_args, get_origin, get_type_hints
+from typing import Annotated, Any, Literal, NamedTuple, NoReturn, Union, get_args, get_origin
 
 from .fault import Fault, fault
+from .records import NEEDED, default_of
 
 
 class Mangled(ValueError):
@@ -24,8 +24,7 @@ class Mangled(ValueError):
         return " ".join(map(str, self.args))
 
 
-@dataclass(frozen=True)
-class Rule:
+class Rule(NamedTuple):
     """Which values of a kind are right, and the same in words of JSON Schema."""
 
     is_right: Callable[[Any], object]
@@ -35,13 +34,15 @@ class Rule:
         return bool(self.is_right(value))
 
 
+pattern_of = cache(re.compile)
+
+
 def within(least: int, most: int) -> Rule:
     return Rule(lambda number: least <= number <= most, (("minimum", least), ("maximum", most)))
 
 
 def matching(pattern: str) -> Rule:
-    found = re.compile(pattern)
-    return Rule(found.fullmatch, (("pattern", f"^(?:{pattern})$"),))
+    return Rule(lambda text: pattern_of(pattern).fullmatch(text), (("pattern", f"^(?:{pattern})$"),))
 
 
 def length(least: int, most: int) -> Rule:
@@ -145,7 +146,7 @@ def reader_of(kind: Any) -> Reader:
         return tuple_of(list(map(reader_of, inner)))
     if origin is dict:
         return dict_of(reader_of(inner[0]), reader_of(inner[1]))
-    return record_of(kind) if is_dataclass(kind) else ruled(kind)
+    return record_of(kind) if hasattr(kind, "own_fields") else ruled(kind)
 
 
 def ruled(kind: Any, is_right: Callable[[Any], object] | None = None) -> Reader:
@@ -214,14 +215,14 @@ def dict_of(of_key: Reader, of_item: Reader) -> Reader:
 @cache
 def kinds_of(kind: Any) -> dict[str, tuple[str, Any, bool]]:
     """Of each name in JSON the field, its kind, and whether it has to be there."""
-    hints = get_type_hints(kind, include_extras=True)
-    return {field.name.rstrip("_"): (field.name, hints[field.name], field.default is field.default_factory is MISSING)
-            for field in fields(kind)}
+    return {field.rstrip("_"): (field, kind.__annotations__[field], default is NEEDED)
+            for field, default in kind.own_fields.items()}
 
 
 def record_of(kind: Any) -> Reader:
-    known = {name: (field, reader_of(own)) for name, (field, own, _) in kinds_of(kind).items()}
-    needed = [name for name, (_, _, is_needed) in kinds_of(kind).items() if is_needed]
+    """The reader of a record. That of a field is made when the first is met: most of a command's are never."""
+    known, readers = kinds_of(kind), dict[str, tuple[str, Reader]]()
+    needed = [name for name, (_, _, is_needed) in known.items() if is_needed]
 
     def read(value: Any) -> Any:
         if type(value) is not dict:
@@ -232,7 +233,9 @@ def record_of(kind: Any) -> Reader:
         found = {}
         for name, item in value.items():
             try:
-                field, reader = known[name]
+                if name not in readers:
+                    readers[name] = known[name][0], reader_of(known[name][1])
+                field, reader = readers[name]
                 found[field] = reader(item)
             except Mangled as error:
                 raise Mangled(name, *error.args) from None
@@ -244,16 +247,12 @@ def record_of(kind: Any) -> Reader:
 
 def said(value: Any) -> Any:
     """A record as JSON has it."""
-    if is_dataclass(value):
-        return {field.name.rstrip("_"): said(own) for field in fields(value)
-                if (own := getattr(value, field.name)) != default_of(field)}
+    if hasattr(value, "own_fields"):
+        return {field.rstrip("_"): said(own) for field, default in value.own_fields.items()
+                if (own := getattr(value, field)) != default_of(default)}
     if isinstance(value, dict):
         return {name: said(item) for name, item in value.items()}
     return list(map(said, value)) if isinstance(value, (list, tuple)) else value
-
-
-def default_of(field: Any) -> Any:
-    return field.default_factory() if field.default_factory is not MISSING else field.default
 
 
 def first_difference(one: Any, other: Any, place: str = "") -> tuple[str, Any, Any] | None:

@@ -9,7 +9,7 @@ from array import array
 from bisect import bisect_left, bisect_right
 from collections.abc import Iterable, Iterator
 from heapq import merge
-from itertools import chain, pairwise, takewhile
+from itertools import chain, pairwise
 from operator import itemgetter
 from struct import Struct
 from typing import NamedTuple
@@ -84,19 +84,34 @@ class Classic:
 
     def look(self) -> Extent:
         """Goes from record to record, and over those of one length that follow one another at once."""
-        head, at, stamps, alike = Struct(f"{self.order}8xI").unpack_from, HEADER, array("Q"), 1
+        head, at, stamps = Struct(f"{self.order}III").unpack_from, HEADER, array("Q")
+        before, alike = -1, 1
         while self.is_one and at + HEAD <= self.size and len(stamps) < MOST_RECORDS:
-            captured, = head(self.data, at)
-            if captured > MOST_CAPTURED or captured > self.size - at - HEAD:
+            seconds, part, captured = head(self.data, at)
+            length = HEAD + captured
+            if captured > MOST_CAPTURED or length > self.size - at:
                 break
-            length, before = HEAD + captured, len(stamps)
-            number = min(alike, (self.size - at) // length, MOST_RECORDS - before)
-            rows = Struct(f"{self.order}III{length - 12}x").iter_unpack(self.data[at : at + number * length])
-            stamps.extend(seconds << 32 | part for seconds, part, _ in takewhile(lambda row: row[2] == captured, rows))
-            at += (len(stamps) - before) * length
-            alike = min(MOST_ALIKE, 2 * alike) if len(stamps) - before == number else 1
-        are_times = all(stamp & 0xFFFF_FFFF < self.unit for stamp in stamps)
-        return Extent(at, stamps if are_times else array("Q"))
+            if captured == before:
+                alike = min(MOST_ALIKE, 2 * alike)
+                some = self.data[at : at + length * min(alike, MOST_RECORDS - len(stamps))]
+                own = self.stamps_of(some[: len(some) // length * length], length)
+                stamps.frombytes(own)
+                at += len(own) // 8 * length
+            else:
+                stamps.append(seconds << 32 | part)
+                at, before, alike = at + length, captured, 1
+        parts = array("I", stamps.tobytes())[::2]
+        return Extent(at, stamps if max(parts, default=0) < self.unit else array("Q"))
+
+    def stamps_of(self, records: bytes, length: int) -> bytearray:
+        """The times of the first of some records, as far as they have one length: column by column of their bytes, since
+        a step for each record takes many times as long. They stand as this machine has them, the lowest byte first."""
+        number = min(len(column) - len(column.lstrip(column[:1]))
+                     for column in (records[place::length] for place in range(8, 12)))
+        times = bytearray(8 * number)
+        for at, place in enumerate((4, 5, 6, 7, 0, 1, 2, 3) if self.order == "<" else range(7, -1, -1)):
+            times[at::8] = records[place : number * length : length]
+        return times
 
     def nanoseconds(self, stamps: Iterable[int]) -> list[int]:
         """Times since 1970."""

@@ -1,14 +1,11 @@
 """The recorder: tcpdump on an interface. Beside its files it leaves what they are recorded by, and has evidence.json
 name it, so that a draft can know of what kind their stamps are.
 """
-from __future__ import annotations
-
 import json
 import os
 import re
 import signal
 from collections.abc import Iterable, Iterator
-from dataclasses import dataclass, replace
 from typing import Annotated, Literal, NamedTuple, NoReturn
 
 from ..fault import DEVICE, USAGE, Fault, fault
@@ -17,6 +14,7 @@ from ..folder.evidence import evidence, named_in
 from ..folder.files import EVIDENCE, Folder, data_named, is_capture
 from ..folder.jobs import ENVIRONMENT, find_tool, private_folder, run
 from ..folder.placing import make_folder, place
+from ..records import dataclass, replace
 from ..schema import Address, Text, Time, is_time, length, matching, read_typed, said
 from ..text import note, plain
 from ..units import now, seconds_of

@@ -3,10 +3,10 @@ from __future__ import annotations
 
 from collections import Counter, defaultdict
 from collections.abc import Iterable
-from dataclasses import dataclass, field
 
 from ..fault import fault
 from ..folder.program import Program
+from ..records import dataclass, field
 
 MOST_PAIRS = 100_000
 """Of addresses that have asked or answered one another."""

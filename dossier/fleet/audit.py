@@ -3,7 +3,6 @@ put in place."""
 from __future__ import annotations
 
 from collections.abc import Iterable
-from dataclasses import dataclass
 from functools import partial
 
 from ..fault import NOT_SHOWN, USAGE, Fault, fault, summed
@@ -17,6 +16,7 @@ from ..folder.progress import Progress
 from ..folder.registry import Known
 from ..folder.result import Result
 from ..premise.leap import record_by
+from ..records import dataclass
 from ..text import plain
 from ..verdict.line import line_of, refusal_of
 from ..verdict.making import Making, sums_of_inputs

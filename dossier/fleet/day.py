@@ -8,7 +8,6 @@ from __future__ import annotations
 import os
 import time
 from collections.abc import Iterable
-from dataclasses import replace
 from typing import NamedTuple
 
 from ..capture.captures import MARGIN
@@ -20,6 +19,7 @@ from ..folder.files import CLAIM, Folder
 from ..folder.jobs import answer, run_all
 from ..folder.placing import blocks_of, copy_of, make_in, place
 from ..folder.result import Result
+from ..records import replace
 from ..schema import is_time, read_typed
 from ..text import note, plain
 from ..units import DAY, civil, day_of, seconds_of

@@ -12,7 +12,6 @@ import sys
 import time
 from collections import Counter
 from collections.abc import Iterable
-from dataclasses import replace
 from functools import partial
 
 from ..fault import DEVICE, NOT_SHOWN, USAGE, fault
@@ -23,6 +22,7 @@ from ..folder.jobs import find_tool, run_all, stream
 from ..folder.placing import Copy, blocks_of, copy_of, is_ones_own, place, remove_folder, take_away
 from ..folder.registry import Known
 from ..folder.result import Result
+from ..records import replace
 from ..text import plain
 from ..units import DAY
 from .audit import change_of

@@ -10,7 +10,6 @@ import shutil
 import sys
 import time
 from collections.abc import Iterator
-from dataclasses import replace
 from typing import NamedTuple
 
 from ..capture.captures import audited
@@ -27,6 +26,7 @@ from ..folder.placing import keep
 from ..folder.program import Program
 from ..folder.result import Moment, Result
 from ..premise.leap import alerts_of, look_up
+from ..records import replace
 from ..schema import read_typed
 from ..text import note
 from ..units import civil

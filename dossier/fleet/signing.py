@@ -3,7 +3,6 @@ from __future__ import annotations
 
 import os
 import sys
-from dataclasses import replace
 from functools import partial
 from typing import IO
 
@@ -16,6 +15,7 @@ from ..folder.jobs import DEVNULL, ENVIRONMENT, PIPE, begun, find_tool, private_
 from ..folder.placing import is_ones_own, keep, place
 from ..folder.registry import Known
 from ..folder.result import Result
+from ..records import replace
 from ..schema import said
 from ..text import plain
 from ..units import now

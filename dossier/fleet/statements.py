@@ -1,8 +1,5 @@
 """What year.json holds: the statements for a year, and on which sums each rests, so that somebody can sign them."""
-from __future__ import annotations
-
 import os
-from dataclasses import dataclass, field, replace
 from typing import Annotated
 
 from ..fault import fault
@@ -10,6 +7,7 @@ from ..folder.entry import SKEW, YES, LeapList
 from ..folder.files import AUDIT, YEAR, Folder, sum_of
 from ..folder.registry import Known
 from ..folder.result import Year
+from ..records import dataclass, field, replace
 from ..schema import Count, Name, Sum, Text, Time, is_time, length, or_nothing, read_typed, within
 from ..text import plain
 from ..units import now, seconds_of

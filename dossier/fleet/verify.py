@@ -4,7 +4,6 @@ from __future__ import annotations
 import os
 from collections import Counter
 from contextlib import suppress
-from dataclasses import replace
 from typing import NamedTuple
 
 from .. import VERSION
@@ -18,6 +17,7 @@ from ..folder.program import Program
 from ..folder.registry import Known
 from ..folder.result import Result
 from ..premise.leap import record_by
+from ..records import replace
 from ..schema import first_difference, said
 from ..text import plain
 from ..units import now

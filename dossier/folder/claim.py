@@ -1,12 +1,10 @@
 """A claim, as claim.json has it: read into a record, cut into days, and written for the program."""
-from __future__ import annotations
-
 import json
 from collections.abc import Iterator
-from dataclasses import dataclass, field, replace
 from typing import Annotated
 
 from ..fault import fault
+from ..records import dataclass, field, replace
 from ..schema import Address, Small, Time, length, said, within
 from ..units import DAY, civil, day_of, seconds_of
 

@@ -1,12 +1,10 @@
 """What audit.json holds: a record of a folder, with an entry for each audit in it."""
-from __future__ import annotations
-
 import json
-from dataclasses import dataclass, field
 from typing import Annotated, Any, Final, Literal
 
 from .. import VERSION
 from ..fault import DEVICE, REFUSED as INPUT_REFUSED, fault
+from ..records import dataclass, field
 from ..schema import (Address, Count, Mangled, Name, Nanoseconds, Seconds, Small, Sum, Text, Ticks, Time, is_name,
                       is_time, length, mangled, matching, or_nothing, parsed, said, typed, within)
 from ..units import now

@@ -15,7 +15,6 @@ import shutil
 import signal
 import subprocess
 import sys
-import tempfile
 import time
 from collections.abc import Callable, Iterator, Sequence
 from contextlib import contextmanager, suppress
@@ -25,7 +24,7 @@ from ..fault import DEVICE, MEMORY, MISSING, REFUSED, Fault, fault
 from ..schema import read_typed, said
 from .entry import Refusal
 from .files import BLOCK, own, own_data
-from .placing import ROOM, make_private, write
+from .placing import ROOM, make_private, nameless, write
 from .progress import Progress
 from .result import Result
 
@@ -91,12 +90,15 @@ def stream(words: Sequence[str], take: Callable[[bytes], object], given: str = o
            cwd: str = ".") -> tuple[int, bytes]:
     """Calls a program with a file on its standard input, and hands on what it prints, as it comes. Its status, that of
     a signal below zero, and what it printed on standard error."""
-    with tempfile.TemporaryFile(dir=cwd) as error, own(given) as opened:
-        with begun(words, stdin=opened, stdout=subprocess.PIPE, stderr=error, cwd=cwd) as call:
+    error = nameless(cwd)
+    try:
+        with own(given) as opened, begun(words, stdin=opened, stdout=PIPE, stderr=error, cwd=cwd) as call:
             assert call.stdout
             while block := os.read(call.stdout.fileno(), BLOCK):
                 take(block)
-        return call.returncode, os.pread(error.fileno(), BLOCK, 0)
+        return call.returncode, os.pread(error, BLOCK, 0)
+    finally:
+        os.close(error)
 
 
 def run(words: Sequence[str], given: str = os.devnull, cwd: str = ".") -> tuple[int, bytes, bytes]:
@@ -266,10 +268,13 @@ def place_of_copies() -> str:
 @contextmanager
 def private_folder() -> Iterator[str]:
     """A new folder (0700), which is taken away at the end."""
+    place = f"{place_of_copies()}/ntpaudit-{os.urandom(8).hex()}"
     try:
-        own = tempfile.TemporaryDirectory(prefix="ntpaudit-", dir=place_of_copies(), ignore_cleanup_errors=True)
+        make_private(place)
     except OSError as error:
         raise fault(f"no folder for private copies can be made ({error.strerror}): TMPDIR names another place",
                     DEVICE) from None
-    with own as place:
+    try:
         yield place
+    finally:
+        shutil.rmtree(place, ignore_errors=True)

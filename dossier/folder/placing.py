@@ -8,7 +8,6 @@ from __future__ import annotations
 
 import fcntl
 import os
-import secrets
 import stat
 from collections.abc import Iterable, Iterator
 from contextlib import contextmanager, suppress
@@ -95,6 +94,14 @@ def make_private(path: str) -> None:
     os.mkdir(path, 0o700)
 
 
+def nameless(place: str) -> int:
+    """A new file in a private folder, which is gone when it is closed."""
+    name = f"{place}/{os.urandom(8).hex()}"
+    file = os.open(name, os.O_RDWR | os.O_CREAT | os.O_EXCL | os.O_CLOEXEC, 0o600)
+    os.unlink(name)
+    return file
+
+
 def copy_named(path: str, to: str, most: int = MOST_OF_A_CAPTURE) -> None:
     """Makes a private copy of a file that the command line names."""
     with Copy(to) as copy:
@@ -114,7 +121,7 @@ class New:
     """A new file in a folder, without a name if the file system can, until it is put in its place."""
 
     def __init__(self, place: int, blocks: Iterable[bytes]):
-        self.place, self.name = place, f".ntpaudit-{secrets.token_hex(8)}"
+        self.place, self.name = place, f".ntpaudit-{os.urandom(8).hex()}"
         try:
             self.is_named = False
             self.file = os.open(".", os.O_TMPFILE | os.O_WRONLY | os.O_CLOEXEC, 0o666, dir_fd=place)

@@ -8,10 +8,10 @@ from __future__ import annotations
 
 import os
 from contextlib import AbstractContextManager
-from dataclasses import replace
 from typing import NamedTuple
 
 from ..fault import DEVICE, fault
+from ..records import replace
 from .entry import Made, Record
 from .files import CLAIM, Folder, sum_of
 from .placing import Journal

@@ -1,10 +1,8 @@
 """What the process of a folder hands back."""
-from __future__ import annotations
-
 from collections import Counter
-from dataclasses import dataclass, field
 from typing import Annotated
 
+from ..records import dataclass, field
 from ..schema import Count, Sum, Text, length
 from ..units import bound_ticks
 from .claim import Claim

@@ -4,9 +4,9 @@ A cell of several pieces has the extremes of what falls into it: the lowest low 
 average.
 """
 from collections.abc import Iterator
-from dataclasses import dataclass
 
 from ..folder.answers import Envelope
+from ..records import dataclass
 from ..verdict.judgement import is_beyond
 
 COLUMNS = 1000

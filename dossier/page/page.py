@@ -6,7 +6,6 @@ import time
 from collections import Counter
 from collections.abc import Iterator, Sequence
 from contextlib import suppress
-from dataclasses import replace
 from typing import NamedTuple
 
 from ..fault import REFUSED as INPUT_REFUSED, Fault, fault
@@ -23,6 +22,7 @@ from ..folder.placing import write_named
 from ..folder.registry import Known
 from ..folder.result import Result, Row, Section
 from ..premise.leap import record_by
+from ..records import replace
 from ..text import capital, count, plain
 from ..verdict.sentences import TWICE
 from . import templates

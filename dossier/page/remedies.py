@@ -1,7 +1,8 @@
 """What to do about a fault that the dossier finds by itself, in short. Of the program's own it says so itself."""
 import re
 import shlex
-from dataclasses import dataclass
+
+from ..records import dataclass
 
 
 @dataclass(frozen=True)

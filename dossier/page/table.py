@@ -3,12 +3,12 @@ import csv
 import io
 import json
 import re
-from dataclasses import asdict
 
 from ..fleet.signature import Signature
 from ..folder.entry import OPEN, WORST_FIRST, Entry
 from ..folder.registry import Judgement
 from ..folder.result import Row
+from ..records import asdict
 from ..text import plain
 from ..units import civil
 from ..verdict.alerts import warning_words

@@ -3,7 +3,6 @@ statements to sign, and kept so that these can be signed."""
 import os
 import sys
 from collections.abc import Iterator, Sequence
-from dataclasses import replace
 from itertools import groupby
 from typing import NamedTuple
 
@@ -16,6 +15,7 @@ from ..folder.files import YEAR
 from ..folder.jobs import run_all
 from ..folder.placing import write_named
 from ..folder.result import Result, Told, Year
+from ..records import replace
 from ..schema import said
 from ..text import plain
 from ..units import civil, ns_up_ms

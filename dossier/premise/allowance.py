@@ -2,11 +2,13 @@
 from __future__ import annotations
 
 from collections.abc import Callable
-from typing import NamedTuple
+from typing import TYPE_CHECKING, NamedTuple
 
-from ..capture.recorder import Recorder
 from ..folder.claim import UNKNOWN_READING
-from .measurement import Measurement
+
+if TYPE_CHECKING:
+    from ..capture.recorder import Recorder
+    from .measurement import Measurement
 
 SLIP = 1000
 """Below this, and above 0, a number was most likely meant in microseconds."""

@@ -6,9 +6,8 @@ was read of the client.
 from __future__ import annotations
 
 from collections.abc import Collection, Iterator
-from typing import NamedTuple, TypeVar
+from typing import TYPE_CHECKING, NamedTuple, TypeVar
 
-from ..capture.recorder import Recorder
 from ..fault import Fault
 from ..folder.claim import Claim
 from ..folder.entry import Alert, Leap
@@ -16,10 +15,13 @@ from ..folder.evidence import evidence, named_in
 from ..folder.files import EVIDENCE, Folder
 from ..schema import read_typed
 from ..units import SECOND
-from .correction import Correction
-from .measurement import Measurement
 
-Kind = TypeVar("Kind", Measurement, Correction, Recorder)
+if TYPE_CHECKING:
+    from ..capture.recorder import Recorder
+    from .correction import Correction
+    from .measurement import Measurement
+
+Kind = TypeVar("Kind")
 
 
 class Backing(NamedTuple):
@@ -30,7 +32,12 @@ class Backing(NamedTuple):
 
 def backing(folder: Folder, inputs: Collection[str]) -> Backing:
     """What the evidence among the inputs holds."""
-    kept = evidence(folder) if EVIDENCE in inputs else {}
+    if EVIDENCE not in inputs:
+        return Backing([], [], [])
+    from ..capture.recorder import Recorder
+    from .correction import Correction
+    from .measurement import Measurement
+    kept = evidence(folder)
 
     def named(premise: str) -> list[str]:
         return [name for name in named_in(kept.get(premise, "")) if name in inputs and name.endswith(".json")]

@@ -1,15 +1,13 @@
 """What the configuration of an NTP client says of how it may move the clock: chronyd's, or ntpd's."""
-from __future__ import annotations
-
 import math
 import os
 import re
-from dataclasses import dataclass
 from fractions import Fraction
 from typing import Annotated, Final, Literal
 
 from ..fault import fault
 from ..folder.files import piped_or_named, sum_of
+from ..records import dataclass
 from ..schema import Sum, Text, within
 
 CHRONY: Final = "chronyd"

@@ -1,13 +1,11 @@
 """How fast a clock may gain or lose by its oscillator and its client together: what a draft proposes as drift, and what
 that rests on, as JSON for evidence.json to name."""
-from __future__ import annotations
-
 import json
-from dataclasses import dataclass
 from typing import Literal
 
 from ..fault import Fault, fault
 from ..folder.claim import GREATEST_DRIFT
+from ..records import dataclass
 from ..schema import Count, Mangled, Time, said
 from ..units import seconds_of
 from . import client, tracking

@@ -9,7 +9,6 @@ import hashlib
 import json
 import os
 from collections.abc import Iterator
-from dataclasses import replace
 from typing import Final
 
 from ..capture.recording import Recording
@@ -17,6 +16,7 @@ from ..fault import Fault, fault
 from ..folder.claim import Claim
 from ..folder.entry import AGAINST, OF_LEAPS, UNSUPPORTED, YES, Alert, Entry, Leap, LeapList, Reason, Record
 from ..folder.files import data_named
+from ..records import replace
 from ..schema import said, typed
 from ..units import SECOND
 

@@ -1,12 +1,10 @@
 """What was measured of stamps, as `measure` prints it, leaves it as JSON, and a page shows it."""
-from __future__ import annotations
-
 import json
 import os
-from dataclasses import dataclass, field
 from typing import Literal
 
 from ..folder.files import data_named
+from ..records import dataclass
 from ..schema import Count, Text, Time, read_typed, said
 from ..text import count
 
@@ -29,7 +27,7 @@ class Measurement:
     kernel: Text
     made: Time
     kind: Literal["late"]
-    reason: Text = field(default="", compare=False)
+    reason: Text = ""
     """What was seen, in words."""
 
     def lines(self) -> list[str]:

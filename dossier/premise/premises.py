@@ -2,9 +2,8 @@
 claim's numbers."""
 from __future__ import annotations
 
-from dataclasses import dataclass
-
 from ..folder.claim import Claim
+from ..records import dataclass
 from ..units import ns_ms
 
 

@@ -3,16 +3,14 @@
 It is the client's own opinion, and stands as such wherever it is shown. tracking.log doesn't mark steps: an update
 whose offset is more than makestep's threshold is taken for one. chronyd's messages name them, if they are given too.
 """
-from __future__ import annotations
-
 import os
 import re
-from dataclasses import dataclass
 from datetime import datetime
 from fractions import Fraction
 
 from ..fault import fault
 from ..folder.files import sum_of
+from ..records import dataclass
 from ..schema import Count, Sum, Text, Time, is_time
 from ..text import count
 from ..units import EPOCH, FORM, seconds_of, shown_time

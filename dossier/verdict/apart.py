@@ -7,7 +7,6 @@ the clock's error, can't be that of a right server.
 from __future__ import annotations
 
 from bisect import bisect_right
-from dataclasses import replace
 from operator import gt
 from typing import NamedTuple
 
@@ -18,6 +17,7 @@ from ..folder.claim import Part
 from ..folder.entry import Gap, Hull
 from ..folder.placing import keep
 from ..folder.program import Program
+from ..records import replace
 from ..units import SECOND
 from .ranges import are_in
 

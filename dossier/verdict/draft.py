@@ -5,7 +5,6 @@ import ipaddress
 import json
 import os
 from collections import defaultdict
-from dataclasses import dataclass, replace
 
 from ..capture.captures import audited, begins
 from ..capture.recording import Recording, read_recording
@@ -20,6 +19,7 @@ from ..folder.placing import copy_named, keep
 from ..folder.program import Program
 from ..premise.allowance import Allowance, Proposal, slip
 from ..premise.leap import alerts_of, look_up
+from ..records import dataclass, replace
 from ..schema import said
 from ..text import count, listed, plain, reference as letters
 from ..units import DAY, SECOND, between, civil, ns_ms, ns_up_ms, outward, round_up

@@ -256,11 +256,11 @@ def gaps_of(claim: Claim, recording: Recording) -> list[Gap]:
     """The times within the span in which no server was heard for longer than usual, its begin and its end among
     them."""
     first, last, times = claim.first * SECOND, claim.last * SECOND, recording.times
-    lengths = list(map(sub, times[1:], times))
-    limit = max(SILENCE, UNUSUAL * sorted(lengths)[len(lengths) // 2] if lengths else 0)
     ends = [min(first, times[0]), *times, max(last, times[-1])] if times else []
-    return [(before, after) for before, after in pairwise(ends)
-            if after - before > limit and before < last and first < after]
+    wide = [(before, after) for before, after in pairwise(ends)
+            if after - before > SILENCE and before < last and first < after]
+    usual = sorted(map(sub, times[1:], times))[(len(times) - 1) // 2] if wide and len(times) > 1 else 0
+    return [(before, after) for before, after in wide if after - before > UNUSUAL * usual]
 
 
 def silences(recording: Recording, gaps: list[Gap]) -> Iterator[Alert]:

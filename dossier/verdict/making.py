@@ -8,7 +8,6 @@ from __future__ import annotations
 import re
 import time
 from collections.abc import Callable
-from dataclasses import dataclass
 
 from .. import VERSION
 from ..capture.captures import cut, thinned, unpacked
@@ -21,6 +20,7 @@ from ..folder.files import CLAIM, JOINED, MOST_OF_A_CAPTURE, Folder, is_capture,
 from ..folder.placing import copy_of, move
 from ..folder.program import Program
 from ..premise.backing import Backing, backing
+from ..records import dataclass
 from ..schema import read_typed
 from ..text import operand, plain
 from ..units import now

@@ -3,7 +3,6 @@ from __future__ import annotations
 
 from collections.abc import Callable
 from contextlib import suppress
-from dataclasses import replace
 
 from ..capture.captures import Audited, cut
 from ..capture.recording import Recording, read_recording
@@ -16,6 +15,7 @@ from ..folder.entry import NO_EVIDENCE, NOTHING_FITS, OPEN, REFUTED, YES, Alert,
 from ..folder.files import sum_of, sum_of_file
 from ..folder.placing import keep, make_private, move
 from ..folder.program import Program
+from ..records import replace
 from .apart import Seen, apart_of, seen_apart
 from .judgement import Beside, Texts, gaps_of, judge, more_drift
 from .steps import ALONE, Found, Search, stretches_of

@@ -9,7 +9,6 @@ from __future__ import annotations
 import re
 from array import array
 from collections.abc import Iterator
-from dataclasses import replace
 from typing import NamedTuple
 
 from ..capture.classic import HEADER, Classic, Extent, runs_of, write
@@ -20,6 +19,7 @@ from ..folder.entry import FEW, NOTHING_FITS, Step, Stretch
 from ..folder.files import CLAIM
 from ..folder.placing import ROOM, keep
 from ..folder.program import Program
+from ..records import replace
 from ..units import SECOND, ceil_div, civil
 from .apart import apart_of
 from .ranges import outermost

@@ -456,7 +456,7 @@ def test_measure(place: Path) -> None:
 
 def test_measuring(place: Path) -> None:
     """What stamps come to, and what is refused."""
-    from dataclasses import asdict, replace
+    from dossier.records import asdict, replace
     from dossier.fault import Fault
     from dossier.premise.measurement import Measurement
     from dossier.premise.measuring import load, matched, measurement

@@ -13,11 +13,10 @@ WRITING = {"os.write", "os.mkdir", "os.makedirs", "os.rename", "os.replace", "os
            "os.remove", "os.rmdir", "os.truncate", "os.ftruncate", "os.chmod", "os.chown", "os.utime", "os.mknod",
            "os.mkfifo", "os.fdopen", "fcntl.flock", "fcntl.lockf"}
 RUNNING = {"os.fork", "os.pipe", "os.system", "os.popen", "os.kill", "os.killpg", "os.waitpid", "os.chdir",
-           "os.setpgid", "subprocess.Popen", "tempfile.TemporaryFile", "tempfile.TemporaryDirectory", "shutil.rmtree",
-           "resource.setrlimit"}
+           "os.setpgid", "subprocess.Popen", "shutil.rmtree", "resource.setrlimit"}
 NOWHERE = ("os.walk", "os.fwalk", "os.spawn", "os.posix_spawn", "os.exec", "subprocess.run", "subprocess.call",
            "subprocess.check", "shutil.copy", "shutil.move", "pathlib", "io.open", "glob", "eval", "exec", "compile",
-           "__import__", "pickle", "importlib", "ctypes", "socket", "urllib", "http")
+           "tempfile", "__import__", "pickle", "importlib", "ctypes", "socket", "urllib", "http")
 MODULES = {"files": OPENING, "placing": OPENING | WRITING, "jobs": {"os.read", "os.pread"} | RUNNING,
            "measuring": {"os.fork", "os.kill", "os.waitpid", "open", "subprocess", "subprocess.Popen"},
            "recorder": {"os.execve"}}

@@ -1,0 +1,68 @@
+"""Records: classes of fields with types, which mypy takes for dataclasses of the standard library. Those compile the
+methods of each class whenever a command starts, and import what reads Python; these have their methods in common.
+
+What reads a record from JSON takes the kinds of its fields as they stand, so their modules don't have annotations
+become texts.
+"""
+from __future__ import annotations
+
+from collections.abc import Callable
+from functools import partial
+from typing import TYPE_CHECKING, Any
+
+NEEDED = object()
+"""What a field has that has to be given."""
+
+
+class Anew:
+    """What a field has that gets a value of its own in each record."""
+
+    def __init__(self, default_factory: Callable[[], Any]):
+        self.make = default_factory
+
+
+def default_of(default: Any) -> Any:
+    return default.make() if isinstance(default, Anew) else default
+
+
+def begin(self: Any, *given: Any, **named: Any) -> None:
+    own, named = self.own_fields, {**dict(zip(self.own_fields, given)), **named}
+    values = {name: named[name] if name in named else default_of(default) for name, default in own.items()}
+    if not named.keys() <= own.keys() or any(value is NEEDED for value in values.values()):
+        raise TypeError(f"{type(self).__name__} has other fields than {', '.join(named)}")
+    vars(self).update(values)
+    if hasattr(self, "__post_init__"):
+        self.__post_init__()
+
+
+def is_same(self: Any, other: Any) -> bool:
+    return type(self) is type(other) and vars(self) == vars(other)
+
+
+def hash_of(self: Any) -> int:
+    return hash(tuple(vars(self).values()))
+
+
+def never(self: Any, name: str, *_: Any) -> None:
+    raise AttributeError(f"{name} of {type(self).__name__} doesn't change")
+
+
+if TYPE_CHECKING:
+    from dataclasses import asdict as asdict, dataclass as dataclass, field as field, replace as replace
+else:
+    field = Anew
+
+    def dataclass(kind=None, frozen=False):
+        if kind is None:
+            return partial(dataclass, frozen=frozen)
+        kind.own_fields = {name: vars(kind).get(name, NEEDED) for name in kind.__annotations__}
+        kind.__init__, kind.__eq__, kind.__hash__ = begin, is_same, hash_of
+        if frozen:
+            kind.__setattr__ = kind.__delattr__ = never
+        return kind
+
+    def asdict(record):
+        return {name: getattr(record, name) for name in record.own_fields}
+
+    def replace(record, **changes):
+        return type(record)(**{**asdict(record), **changes})
