@@ -1,6 +1,4 @@
 """The command line of ntpaudit-dossier."""
-from __future__ import annotations
-
 import argparse
 import io
 import os
@@ -8,7 +6,7 @@ import signal
 import sys
 import time
 from collections.abc import Callable
-from typing import TYPE_CHECKING, NoReturn
+from typing import TYPE_CHECKING, Any, NamedTuple, NoReturn
 
 from . import VERSION
 from .fault import DEVICE, MEMORY, MISSING, USAGE, Fault, Stopped, fault
@@ -38,12 +36,14 @@ ABOUT = """Puts many audits by ntpaudit together: folders with a claim and captu
 
 docs/DOSSIER.md has more. Statuses are those of ntpaudit: 0 yes, 1 no yes, 2 an input is refused, 3 out of memory, 4 a
 device, 5 the command line. Of several folders it is 1 if any clock isn't shown, else the worst."""
-LEAPS = "the list of leap seconds; the system's if it is left out"
-FOLDER = "a folder with claim.json and captures, and what an audit wrote beside them"
+ON_FOLDERS = "audit page verify sign keep"
+REQUIRED, REPEATED = {"required": True}, {"action": "append"}
+JOBS = {"default": len(os.sched_getaffinity(0))}
+OUTPUT = "write the page to FILE, whole or not at all; standard output if it is left out"
 
 
 class Parser(argparse.ArgumentParser):
-    commands: dict[str, Parser]
+    commands: "dict[str, Parser]"
 
     def error(self, message: str) -> NoReturn:
         self.exit(USAGE, f"{self.prog}: {plain(message)}\n")
@@ -78,156 +78,6 @@ class Parser(argparse.ArgumentParser):
         return next((str(action.metavar) for action in self._actions if not action.option_strings), "")
 
 
-def parser() -> Parser:
-    top = Parser(prog="ntpaudit-dossier", description=ABOUT, formatter_class=argparse.RawDescriptionHelpFormatter,
-                 allow_abbrev=False)
-    top.add_argument("--version", action="store_true", help="print the versions of dossier and program")
-    commands = top.add_subparsers(dest="command", metavar="COMMAND", prog=top.prog)
-    add_draft(commands.add_parser("draft", help="print a claim to start from"))
-    audit = commands.add_parser("audit", help="audit folders")
-    page = commands.add_parser("page", help="print a page of audits that were made")
-    verify = commands.add_parser("verify", help="audit the inputs again, and compare all that stands in the folder")
-    sign = commands.add_parser("sign", help="sign audits with an ssh key")
-    keep = commands.add_parser("keep", help="keep audits for years: pack captures, and take away what was made of them")
-    for command in (audit, page, verify, sign, keep):
-        command.add_argument("folders", nargs="+", metavar="FOLDER", help=FOLDER)
-    add_year(commands.add_parser("year", help="make a calendar of a year of machines, with statements to be signed"))
-    add_audit(audit)
-    add_page(page)
-    sign.add_argument("--key", required=True, metavar="FILE",
-                      help="a private key, or the public one of a key that an agent holds")
-    for command in (page, verify):
-        command.add_argument("--signers", metavar="FILE",
-                             help="who may sign, as ssh-keygen's file of allowed signers has it: signatures are "
-                                  "checked")
-        command.add_argument("--leap-seconds", metavar="FILE", help=LEAPS)
-    verify.add_argument("--second", action="store_true",
-                        help="have the second program, ntpaudit-recheck, judge each answer too")
-    for command in (audit, page):
-        command.add_argument("--metrics", metavar="FILE",
-                             help="write what came of it to FILE too, for Prometheus, whole or not at all")
-    keep.add_argument("--years", type=in_range(1, 100), metavar="N",
-                      help="take away folders whose span ended so many years ago; none if it is left out")
-    keep.add_argument("--force", action="store_true",
-                      help="take away as many folders as there are, whatever the clock did meanwhile")
-    for command in (audit, page, verify, sign, keep, commands.choices["year"]):
-        command.add_argument("--state", metavar="DIR",
-                             help="where it is recorded which audits were made or verified here; else below "
-                                  "$XDG_STATE_HOME, or ~/.local/state")
-        command.add_argument("--limit", type=in_range(1, 1_000_000), default=SECONDS, metavar="N",
-                             help=f"seconds for each folder, which is refused after them; {SECONDS} if it is left out")
-    day = commands.add_parser("day", help="make the folders of days from what a recorder left")
-    day.add_argument("--from", required=True, dest="source", metavar="DIR", help="where the recorder's files are")
-    day.add_argument("--to", required=True, dest="target", metavar="DIR",
-                     help="where the days' folders are, with the claim of any day, and evidence")
-    day.add_argument("--date", metavar="DATE",
-                     help="the day (UTC), such as 2026-11-22; each whole day before today if it is left out")
-    add_now(commands.add_parser("now", help="say of the last minutes of a recording whether the clock is right"))
-    add_record(commands.add_parser("record", help="record an interface by tcpdump, with evidence of its stamps"))
-    own_filter = commands.add_parser("filter", help="print a recorder's filter, which names the servers of a claim")
-    own_filter.add_argument("claim", metavar="CLAIM", help="a JSON file; if it isn't there, all servers are recorded")
-    add_measure(commands.add_parser("measure", help="measure whether a packet's stamp comes after it left"))
-    picture = commands.add_parser("picture", help="print the picture of a claim and a capture, as SVG")
-    picture.add_argument("claim", metavar="CLAIM", help="a JSON file")
-    picture.add_argument("capture", metavar="CAPTURE", help="a capture")
-    picture.add_argument("--step", type=in_range(1, 86_400), default=64, metavar="N",
-                         help="seconds of each piece; 64 if it is left out")
-    own_help = commands.add_parser("help", help="print help")
-    own_help.add_argument("topic", nargs="?", choices=list(commands.choices), metavar="COMMAND", help="a command")
-    top.commands = dict(commands.choices)
-    return top
-
-
-def add_draft(draft: argparse.ArgumentParser) -> None:
-    draft.add_argument("captures", nargs="+", metavar="CAPTURE", help="captures of one client")
-    draft.add_argument("--client", metavar="ADDRESS", help="the client; the one that asks most if it is left out")
-    draft.add_argument("--day", action="store_true", help="claim whole days (UTC)")
-    draft.add_argument("--bound-ns", type=in_range(0, GREATEST_BOUND), metavar="N",
-                       help="the bound that is to be shown, in nanoseconds; the least one if it is left out")
-    draft.add_argument("--drift-ppb", type=in_range(0, GREATEST_DRIFT), metavar="N",
-                       help="oscillator and client together, in parts of 10^9; else by the client's configuration; "
-                            "else the oscillator alone")
-    client = draft.add_mutually_exclusive_group()
-    client.add_argument("--chrony", action="append", metavar="FILE",
-                        help="chronyd's configuration, which limits the drift")
-    client.add_argument("--ntpd", action="append", metavar="FILE", help="ntpd's configuration")
-    draft.add_argument("--tracking", action="append", metavar="FILE", help="chronyd's tracking.log, or its messages")
-    draft.add_argument("--oscillator-ppb", type=in_range(0, GREATEST_DRIFT), default=OSCILLATOR, metavar="N",
-                       help=f"the oscillator alone, to which the configuration adds; {OSCILLATOR} if it is left out")
-    draft.add_argument("--evidence", metavar="FILE",
-                       help="write what was read from the client's files to FILE, for evidence.json")
-    reading = draft.add_mutually_exclusive_group()
-    reading.add_argument("--reading-ns", type=in_range(0, 10**9), metavar="N",
-                         help="how long before its record's time a request may have left, or after it a reply arrived, "
-                              f"in nanoseconds; 0 if `record` recorded it, else {UNKNOWN_READING}, if it is left out")
-    reading.add_argument("--measured", metavar="FILE", help="what `measure -o` left, which has that number")
-
-
-def add_audit(audit: argparse.ArgumentParser) -> None:
-    audit.add_argument("--step", type=in_range(1, 86_400), metavar="N",
-                       help="seconds of the envelope's pieces; else as few of 1, 4, 16, .. as make no more than 10,000")
-    audit.add_argument("--days", action="store_true", help="a verdict for each day (UTC) of the span")
-    audit.add_argument("--jobs", type=in_range(1, 4096), default=0, metavar="N",
-                       help="folders side by side; as many as processors if it is left out")
-    audit.add_argument("--again", action="store_true",
-                       help="audit folders that are done, or signed, too; a signature is removed")
-    audit.add_argument("--leap-seconds", metavar="FILE", help=LEAPS)
-
-
-def add_page(page: argparse.ArgumentParser) -> None:
-    form = page.add_mutually_exclusive_group()
-    form.add_argument("--json", action="store_true", help="the table as JSON")
-    form.add_argument("--csv", action="store_true", help="the table as CSV")
-    form.add_argument("--split", metavar="DIR",
-                      help="write a page of the table into DIR (index.html), and beside it a page for each folder")
-    page.add_argument("--verify", action="store_true", help="verify the folders first; else what is known here counts")
-    page.add_argument("--title", default="Clock dossier", metavar="TEXT", help="the page's heading")
-    page.add_argument("-o", "--output", metavar="FILE",
-                      help="write the page to FILE, whole or not at all; standard output if it is left out")
-
-
-def add_measure(measure: argparse.ArgumentParser) -> None:
-    measure.add_argument("--count", type=in_range(10, 100_000), default=1000, metavar="N",
-                         help="how many packets; 1000 if left out")
-    measure.add_argument("--load", action="store_true", help="keep all processors busy meanwhile")
-    measure.add_argument("-o", "--output", metavar="FILE",
-                         help="write it as JSON to FILE too, for evidence.json to name")
-
-
-def add_year(year: argparse.ArgumentParser) -> None:
-    year.add_argument("folders", nargs="+", metavar="DAYS", help="folders of days, or of machines with such in them")
-    year.add_argument("--year", type=in_range(1971, 9999), metavar="N", help="this year if it is left out")
-    form = year.add_mutually_exclusive_group()
-    form.add_argument("--split", metavar="DIR", help="write a page of all into DIR (index.html), beside it a page for "
-                                                     "each machine, and what `sign` and `verify` take (year.json)")
-    form.add_argument("-o", "--output", metavar="FILE",
-                      help="write the page to FILE, whole or not at all; standard output if it is left out")
-    year.add_argument("--title", metavar="TEXT", help="the page's heading")
-    year.add_argument("--jobs", type=in_range(1, 4096), metavar="N",
-                      help="machines side by side; as many as processors if it is left out")
-    year.add_argument("--leap-seconds", metavar="FILE", help=LEAPS)
-
-
-def add_now(now_: argparse.ArgumentParser) -> None:
-    now_.add_argument("--from", required=True, dest="source", metavar="DIR", help="where recorders write")
-    now_.add_argument("--claim", required=True, metavar="FILE", help="the claim of any day: its span doesn't matter")
-    now_.add_argument("--minutes", type=in_range(1, 1440), default=10, metavar="N", help="how many; 10 if left out")
-    now_.add_argument("--metrics", metavar="FILE", help="write what came of it to FILE too, for Prometheus")
-    now_.add_argument("--follow", nargs="?", type=in_range(1, 3600), const=10, metavar="SECONDS",
-                      help="again and again, each 10 seconds if no number is given; on a terminal with a band of the "
-                           "last hour")
-    now_.add_argument("--no-color", action="store_true", help="no colours on a terminal")
-    now_.add_argument("--leap-seconds", metavar="FILE", help=LEAPS)
-
-
-def add_record(record: argparse.ArgumentParser) -> None:
-    record.add_argument("folder", metavar="FOLDER", help="where the captures are left; it is made if it isn't there")
-    record.add_argument("--interface", required=True, metavar="NAME", help="which interface to record")
-    record.add_argument("--hourly", action="store_true", help="begin a new file each hour, and at 1 GB")
-    record.add_argument("--claim", metavar="FILE",
-                        help="record only a claim's servers; all if it is left out, or isn't there")
-
-
 def in_range(least: int, most: int) -> Callable[[str], int]:
     """A reader of whole numbers in a range."""
     def number(word: str) -> int:
@@ -235,6 +85,142 @@ def in_range(least: int, most: int) -> Callable[[str], int]:
             raise argparse.ArgumentTypeError(f"a number from {least} to {most}")
         return int(word)
     return number
+
+
+class Option(NamedTuple):
+    """An operand or an option of some commands: of a value what it is called, or the ends of a number, and none of a
+    flag; the words of help; what else argparse takes; and among which it is the only one that may stand there."""
+
+    commands: str
+    names: str
+    value: str | tuple[int, int]
+    words: str
+    how: dict[str, Any] = {}
+    among: str = ""
+
+    def add_to(self, command: argparse._ActionsContainer) -> None:
+        how: dict[str, Any] = {"metavar": self.value} if self.value else {"action": "store_true"}
+        if isinstance(self.value, tuple):
+            how = {"metavar": "N", "type": in_range(*self.value)}
+        command.add_argument(*self.names.split(), help=self.words, **how | self.how)
+
+
+COMMANDS = {
+    "draft": "print a claim to start from",
+    "audit": "audit folders",
+    "page": "print a page of audits that were made",
+    "verify": "audit the inputs again, and compare all that stands in the folder",
+    "sign": "sign audits with an ssh key",
+    "keep": "keep audits for years: pack captures, and take away what was made of them",
+    "year": "make a calendar of a year of machines, with statements to be signed",
+    "day": "make the folders of days from what a recorder left",
+    "now": "say of the last minutes of a recording whether the clock is right",
+    "record": "record an interface by tcpdump, with evidence of its stamps",
+    "filter": "print a recorder's filter, which names the servers of a claim",
+    "measure": "measure whether a packet's stamp comes after it left",
+    "picture": "print the picture of a claim and a capture, as SVG",
+    "help": "print help",
+}
+OPTIONS = [
+    Option("draft", "captures", "CAPTURE", "captures of one client", {"nargs": "+"}),
+    Option("draft", "--client", "ADDRESS", "the client; the one that asks most if it is left out"),
+    Option("draft", "--day", "", "claim whole days (UTC)"),
+    Option("draft", "--bound-ns", (0, GREATEST_BOUND),
+           "the bound that is to be shown, in nanoseconds; the least one if it is left out"),
+    Option("draft", "--drift-ppb", (0, GREATEST_DRIFT),
+           "oscillator and client together, in parts of 10^9; else by the client's configuration; else the oscillator "
+           "alone"),
+    Option("draft", "--chrony", "FILE", "chronyd's configuration, which limits the drift", REPEATED, "client"),
+    Option("draft", "--ntpd", "FILE", "ntpd's configuration", REPEATED, "client"),
+    Option("draft", "--tracking", "FILE", "chronyd's tracking.log, or its messages", REPEATED),
+    Option("draft", "--oscillator-ppb", (0, GREATEST_DRIFT),
+           f"the oscillator alone, to which the configuration adds; {OSCILLATOR} if it is left out",
+           {"default": OSCILLATOR}),
+    Option("draft", "--evidence", "FILE", "write what was read from the client's files to FILE, for evidence.json"),
+    Option("draft", "--reading-ns", (0, 10**9),
+           "how long before its record's time a request may have left, or after it a reply arrived, in nanoseconds; 0 "
+           f"if `record` recorded it, else {UNKNOWN_READING}, if it is left out", among="reading"),
+    Option("draft", "--measured", "FILE", "what `measure -o` left, which has that number", among="reading"),
+    Option(ON_FOLDERS, "folders", "FOLDER", "a folder with claim.json and captures, and what an audit wrote beside them",
+           {"nargs": "+"}),
+    Option("year", "folders", "DAYS", "folders of days, or of machines with such in them", {"nargs": "+"}),
+    Option("year", "--year", (1971, 9999), "this year if it is left out"),
+    Option("year", "--split", "DIR",
+           "write a page of all into DIR (index.html), beside it a page for each machine, and what `sign` and `verify` "
+           "take (year.json)", among="form"),
+    Option("audit", "--step", (1, 86_400),
+           "seconds of the envelope's pieces; else as few of 1, 4, 16, .. as make no more than 10,000"),
+    Option("audit", "--days", "", "a verdict for each day (UTC) of the span"),
+    Option("audit", "--jobs", (1, 4096), "folders side by side; as many as processors if it is left out", JOBS),
+    Option("audit", "--again", "", "audit folders that are done, or signed, too; a signature is removed"),
+    Option("page", "--json", "", "the table as JSON", among="form"),
+    Option("page", "--csv", "", "the table as CSV", among="form"),
+    Option("page", "--split", "DIR",
+           "write a page of the table into DIR (index.html), and beside it a page for each folder", among="form"),
+    Option("page", "--verify", "", "verify the folders first; else what is known here counts"),
+    Option("page", "--title", "TEXT", "the page's heading", {"default": "Clock dossier"}),
+    Option("page", "-o --output", "FILE", OUTPUT),
+    Option("year", "-o --output", "FILE", OUTPUT, among="form"),
+    Option("year", "--title", "TEXT", "the page's heading"),
+    Option("year", "--jobs", (1, 4096), "machines side by side; as many as processors if it is left out", JOBS),
+    Option("sign", "--key", "FILE", "a private key, or the public one of a key that an agent holds", REQUIRED),
+    Option("page verify", "--signers", "FILE",
+           "who may sign, as ssh-keygen's file of allowed signers has it: signatures are checked"),
+    Option("now", "--from", "DIR", "where recorders write", REQUIRED | {"dest": "source"}),
+    Option("now", "--claim", "FILE", "the claim of any day: its span doesn't matter", REQUIRED),
+    Option("now", "--minutes", (1, 1440), "how many; 10 if left out", {"default": 10}),
+    Option("now", "--metrics", "FILE", "write what came of it to FILE too, for Prometheus"),
+    Option("now", "--follow", (1, 3600),
+           "again and again, each 10 seconds if no number is given; on a terminal with a band of the last hour",
+           {"metavar": "SECONDS", "nargs": "?", "const": 10}),
+    Option("now", "--no-color", "", "no colours on a terminal"),
+    Option("audit page verify year now", "--leap-seconds", "FILE",
+           "the list of leap seconds; the system's if it is left out"),
+    Option("verify", "--second", "", "have the second program, ntpaudit-recheck, judge each answer too"),
+    Option("audit page", "--metrics", "FILE",
+           "write what came of it to FILE too, for Prometheus, whole or not at all"),
+    Option("keep", "--years", (1, 100), "take away folders whose span ended so many years ago; none if it is left out"),
+    Option("keep", "--force", "", "take away as many folders as there are, whatever the clock did meanwhile"),
+    Option(f"{ON_FOLDERS} year", "--state", "DIR",
+           "where it is recorded which audits were made or verified here; else below $XDG_STATE_HOME, or "
+           "~/.local/state"),
+    Option(f"{ON_FOLDERS} year", "--limit", (1, 1_000_000),
+           f"seconds for each folder, which is refused after them; {SECONDS} if it is left out", {"default": SECONDS}),
+    Option("day", "--from", "DIR", "where the recorder's files are", REQUIRED | {"dest": "source"}),
+    Option("day", "--to", "DIR", "where the days' folders are, with the claim of any day, and evidence",
+           REQUIRED | {"dest": "target"}),
+    Option("day", "--date", "DATE",
+           "the day (UTC), such as 2026-11-22; each whole day before today if it is left out"),
+    Option("record", "folder", "FOLDER", "where the captures are left; it is made if it isn't there"),
+    Option("record", "--interface", "NAME", "which interface to record", REQUIRED),
+    Option("record", "--hourly", "", "begin a new file each hour, and at 1 GB"),
+    Option("record", "--claim", "FILE", "record only a claim's servers; all if it is left out, or isn't there"),
+    Option("filter", "claim", "CLAIM", "a JSON file; if it isn't there, all servers are recorded"),
+    Option("measure", "--count", (10, 100_000), "how many packets; 1000 if left out", {"default": 1000}),
+    Option("measure", "--load", "", "keep all processors busy meanwhile"),
+    Option("measure", "-o --output", "FILE", "write it as JSON to FILE too, for evidence.json to name"),
+    Option("picture", "claim", "CLAIM", "a JSON file"),
+    Option("picture", "capture", "CAPTURE", "a capture"),
+    Option("picture", "--step", (1, 86_400), "seconds of each piece; 64 if it is left out", {"default": 64}),
+    Option("help", "topic", "COMMAND", "a command", {"nargs": "?", "choices": list(COMMANDS)}),
+]
+
+
+def parser() -> Parser:
+    top = Parser(prog="ntpaudit-dossier", description=ABOUT, formatter_class=argparse.RawDescriptionHelpFormatter,
+                 allow_abbrev=False)
+    top.add_argument("--version", action="store_true", help="print the versions of dossier and program")
+    commands = top.add_subparsers(dest="command", metavar="COMMAND", prog=top.prog)
+    for name, words in COMMANDS.items():
+        command = commands.add_parser(name, help=words)
+        groups: dict[str, argparse._ActionsContainer] = {"": command}
+        for option in OPTIONS:
+            if name in option.commands.split():
+                if option.among not in groups:
+                    groups[option.among] = command.add_mutually_exclusive_group()
+                option.add_to(groups[option.among])
+    top.commands = dict(commands.choices)
+    return top
 
 
 def main(words: list[str]) -> int:
@@ -339,7 +325,7 @@ def run_year(given: argparse.Namespace, folders: list[str]) -> int:
     wanted = Wanted(number, Known(state_of(given.state), writes=False), read_list(given.leap_seconds),
                     int(time.time()))
     pages = Pages(given.title or f"Clocks in {number}", given.output, given.split)
-    return write_year(folders, wanted, pages, given.limit, given.jobs or len(os.sched_getaffinity(0)))
+    return write_year(folders, wanted, pages, given.limit, given.jobs)
 
 
 def run_on_folders(given: argparse.Namespace, folders: list[str]) -> int:
@@ -363,7 +349,7 @@ def run_on_folders(given: argparse.Namespace, folders: list[str]) -> int:
         from .fleet.audit import Wanted as Audit, audit_all
         from .folder.entry import Options
         wanted = Audit(Options(given.step, given.days), given.again, leaps, known, program)
-        return audit_all(folders, wanted, given.jobs or len(os.sched_getaffinity(0)), given.limit, given.metrics)
+        return audit_all(folders, wanted, given.jobs, given.limit, given.metrics)
     from .fleet.verify import Verifier, verify_all
     if given.command == "page":
         from .page.page import write_page
@@ -381,7 +367,7 @@ def tidy(folder: str) -> str:
     return folder.rstrip("/") or "/"
 
 
-def correction_of(given: argparse.Namespace) -> Correction | None:
+def correction_of(given: argparse.Namespace) -> "Correction | None":
     """What the client's configuration and log say, if they are given."""
     from .premise.client import configuration
     from .premise.correction import correction
@@ -395,7 +381,7 @@ def correction_of(given: argparse.Namespace) -> Correction | None:
     return correction(given.oscillator_ppb, found, log, now())
 
 
-def reading_of(given: argparse.Namespace) -> Proposal:
+def reading_of(given: argparse.Namespace) -> "Proposal":
     from .capture.recorder import recorders_of
     from .premise.allowance import measured, named, proposed
     from .premise.measurement import read_measurement
