@@ -34,15 +34,12 @@ class Rule(NamedTuple):
         return bool(self.is_right(value))
 
 
-pattern_of = cache(re.compile)
-
-
 def within(least: int, most: int) -> Rule:
     return Rule(lambda number: least <= number <= most, (("minimum", least), ("maximum", most)))
 
 
 def matching(pattern: str) -> Rule:
-    return Rule(lambda text: pattern_of(pattern).fullmatch(text), (("pattern", f"^(?:{pattern})$"),))
+    return Rule(lambda text: re.fullmatch(pattern, text), (("pattern", f"^(?:{pattern})$"),))
 
 
 def length(least: int, most: int) -> Rule:
