@@ -302,7 +302,7 @@ def answer_again(asked: Trial) -> None:
 
 def jobs() -> Iterator[tuple[str, Job]]:
     for name in transcript.cases():
-        if name.split("/")[0] in ("check", "refute", "settle"):
+        if name.split("/")[0] in ("check", "refute", "settle", "inputs"):
             yield name, partial(typed, name)
     for claim in files_in(DATA, "*.claim.json"):
         stem = claim.name.removesuffix(".claim.json")
