@@ -25,7 +25,6 @@ from collections import Counter
 from collections.abc import Callable, Iterator
 from functools import partial
 from pathlib import Path
-from typing import Any
 
 from tests.support import DATA, ROOT, count, files_in, program, run
 from tests.cases import transcript
@@ -35,7 +34,7 @@ from tests.second.rechecked import recheck
 from tests.tools import directed, scenes
 from tests.tools.scenes import Scene
 
-SEED, SCENES = "2026", 500
+SEED, SCENES = "2026", 250
 MOST_CAPTURE = 50_000_000
 """A transcript with more exchanges is passed over: Python would need minutes for it."""
 
