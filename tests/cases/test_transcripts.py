@@ -1,6 +1,6 @@
 """Runs the program as a user would, and compares what it prints with the transcripts in this folder.
 
-A transcript tests/cases/COMMAND.txt has one case after another, as
+A transcript tests/cases/COMMAND.txt, or inputs.txt of all commands, has one case after another, as
 
     # bad-fraction: 1000000 microseconds
     $ patched data/two-packets.pcap 134=40420f00 > bad.pcap

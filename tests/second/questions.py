@@ -30,7 +30,9 @@ LOOKED_AT = 300_000
 WAIT = 20
 """How many times its limit a call may take by the clock, where others have the processor."""
 
-FEW_COVERS = 4
+COVERS = 8
+"""As many covers are tried where no refutation was found; tests/system/test_covers.py tries every one."""
+
 FAST_REFUTATION = 200
 
 OVER = f"ntpaudit: {settlement.OVER}\n".encode()
@@ -173,10 +175,9 @@ def settle_wrong(question: Question, ran: Ran, kind: str) -> str:
 
 def refutable(question: Question, stop: Stop) -> str:
     """What is wrong where no refutation was found: that the reading has one."""
-    most = settlement.COVERS if len(question.samples) <= FAST_REFUTATION else FEW_COVERS
     if len(question.covers) > settlement.COVERS:
         return ""                              # (which of them are tried, nobody says)
-    found = settlement.refutation(question.claim, question.samples, question.covers[:most], stop)
+    found = settlement.refutation(question.claim, question.samples, question.covers[:COVERS], stop)
     return f"it isn't refuted, and there is {found}" if found else ""
 
 

@@ -25,7 +25,6 @@ from collections import Counter
 from collections.abc import Callable, Iterator
 from functools import partial
 from pathlib import Path
-from typing import Any
 
 from tests.support import DATA, ROOT, count, files_in, program, run
 from tests.cases import transcript
@@ -35,7 +34,7 @@ from tests.second.rechecked import recheck
 from tests.tools import directed, scenes
 from tests.tools.scenes import Scene
 
-SEED, SCENES = "2026", 500
+SEED, SCENES = "2026", 250
 MOST_CAPTURE = 50_000_000
 """A transcript with more exchanges is passed over: Python would need minutes for it."""
 
@@ -302,7 +301,7 @@ def answer_again(asked: Trial) -> None:
 
 def jobs() -> Iterator[tuple[str, Job]]:
     for name in transcript.cases():
-        if name.split("/")[0] in ("check", "refute", "settle"):
+        if name.split("/")[0] in ("check", "refute", "settle", "inputs"):
             yield name, partial(typed, name)
     for claim in files_in(DATA, "*.claim.json"):
         stem = claim.name.removesuffix(".claim.json")

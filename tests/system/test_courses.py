@@ -33,7 +33,8 @@ from tests.second.answers import Evidence, by_rules
 from tests.second.claims import Certificate, Claim, Piece, Refutation
 from tests.second.columns import TICKS
 from tests.second.rules import BILLION, Sample, ceiling
-from tests.tools.events import Course, FINE, PartedCourse, StampedCourse, spelled
+from tests.tools.events import Course, FINE, PartedCourse, StampedCourse
+from tests.tools.families import spelled
 
 COURSES = 1000
 

@@ -5,11 +5,11 @@ A course is made in whole numbers of a thousandth of a tick of 2^-32 s. Nothing 
 import random
 import struct
 from collections.abc import Iterable, Sequence
-from datetime import datetime, timezone
 
 from tests.second.claims import Claim
 from tests.second.columns import TICKS
 from tests.second.rules import BILLION, Sample, ceiling
+from tests.tools.families import spelled
 
 FINE = 1000                                   # parts of a tick: the fineness of every course
 EPOCH = 2208988800                            # 1970 in seconds of NTP era 0
@@ -254,7 +254,3 @@ class StampedCourse(Course):
             early, late = (way * FINE * rng.randint(TICKS // 200, TICKS // 50) for _ in range(2))
             x.request = Record(self.clock.reading(x.t1) - early, self.unit)
             x.reply = Record(self.clock.reading(x.t4) + late, self.unit)
-
-
-def spelled(second: int) -> str:
-    return datetime.fromtimestamp(second, timezone.utc).strftime("%Y-%m-%dT%H:%M:%SZ")
