@@ -34,7 +34,9 @@ class Rule(NamedTuple):
         return bool(self.is_right(value))
 
 
-pattern_of = cache(re.compile)
+@cache
+def pattern_of(pattern: str) -> re.Pattern[str]:
+    return re.compile(pattern)
 
 
 def within(least: int, most: int) -> Rule:

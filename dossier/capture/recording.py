@@ -10,6 +10,7 @@ from array import array
 from bisect import bisect_left
 from collections import Counter
 from functools import cached_property
+from operator import sub
 
 from ..folder.answers import read_counts
 from ..folder.program import Program
@@ -36,7 +37,7 @@ class Recording:
         self.counts = samples.counts
         self.by_server = {server.decode("ascii"): number for server, number in samples.by_server.items()}
         falls = [] if do_rise(own) else [k for k in range(1, len(own)) if own[k] < own[k - 1]]
-        self.first, self.last = at([min(own), max(own)] if falls else [*own[:1], *own[-1:]]) or (None, None)
+        self.first, self.last = at([min(own), max(own)] if falls else [own[0], own[-1]]) if own else (None, None)
         self.falls = len(falls)
         self.fall = next(((packets[k] if packets else k, *at(own[k - 1 : k + 1])) for k in falls), None)
         """The first record whose time falls back: its number, the time before it, and its own."""
@@ -50,6 +51,11 @@ class Recording:
     def times(self) -> list[int]:
         """When each sample's reply was recorded, in rising order."""
         return sorted(self.replies)
+
+    @cached_property
+    def widest(self) -> int:
+        """The longest time between two of these replies that follow one another."""
+        return max(map(sub, self.times[1:], self.times), default=0)
 
     def exchanges(self) -> list[int]:
         """The times between which all exchanges lie, if there are any: the first request and the last reply; or of all

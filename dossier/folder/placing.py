@@ -58,7 +58,7 @@ class Copy:
     def take(self, block: bytes) -> None:
         self.size += len(block)
         try:
-            if block[:1] in (b"", b"\0") and block.count(0) == len(block):
+            if not block.lstrip(b"\0"):
                 os.ftruncate(self.file, self.size)
                 os.lseek(self.file, self.size, os.SEEK_SET)
             else:
