@@ -4,8 +4,6 @@ methods of each class whenever a command starts, and import what reads Python; t
 What reads a record from JSON takes the kinds of its fields as they stand, so their modules don't have annotations
 become texts.
 """
-from __future__ import annotations
-
 from collections.abc import Callable
 from functools import partial
 from typing import TYPE_CHECKING, Any

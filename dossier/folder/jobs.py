@@ -4,8 +4,6 @@ Such a process has a limit of memory, of processor, of files and of time, a priv
 a group of processes, in which all that it calls is too. Whatever becomes of it (it crashes, reads without an end, takes
 all memory) is that folder's result. None outlives the call that began it.
 """
-from __future__ import annotations
-
 import gc
 import json
 import os

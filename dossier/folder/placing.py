@@ -4,8 +4,6 @@ An output is made without a name in the folder where it belongs, or where that c
 when all of them are made. Nothing is written through a link, root writes nothing into another user's folder, and
 nothing is taken away but by the name of a file that is known to be one's own.
 """
-from __future__ import annotations
-
 import fcntl
 import os
 import stat
@@ -48,7 +46,7 @@ class Copy:
     def __init__(self, path: str):
         self.path, self.size = path, 0
 
-    def __enter__(self) -> Copy:
+    def __enter__(self) -> "Copy":
         try:
             self.file = os.open(self.path, os.O_WRONLY | os.O_CREAT | os.O_TRUNC | os.O_CLOEXEC, 0o600)
         except OSError as error:
