@@ -10,7 +10,6 @@ from array import array
 from bisect import bisect_left
 from collections import Counter
 from functools import cached_property
-from operator import sub
 
 from ..folder.answers import read_counts
 from ..folder.program import Program
@@ -51,11 +50,6 @@ class Recording:
     def times(self) -> list[int]:
         """When each sample's reply was recorded, in rising order."""
         return sorted(self.replies)
-
-    @cached_property
-    def widest(self) -> int:
-        """The longest time between two of these replies that follow one another."""
-        return max(map(sub, self.times[1:], self.times), default=0)
 
     def exchanges(self) -> list[int]:
         """The times between which all exchanges lie, if there are any: the first request and the last reply; or of all

@@ -92,12 +92,13 @@ def make_private(path: str) -> None:
     os.mkdir(path, 0o700)
 
 
-def nameless(place: str) -> int:
-    """A new file in a private folder, which is gone when it is closed."""
-    name = f"{place}/{os.urandom(8).hex()}"
-    file = os.open(name, os.O_RDWR | os.O_CREAT | os.O_EXCL | os.O_CLOEXEC, 0o600)
-    os.unlink(name)
-    return file
+@contextmanager
+def nameless(place: str) -> Iterator[int]:
+    """A new file in a private folder, which is gone after a while."""
+    name = os.path.abspath(f"{place}/{os.urandom(8).hex()}")
+    with held(name, HOME, os.O_RDWR | os.O_CREAT | os.O_EXCL | os.O_CLOEXEC) as file:
+        os.unlink(name)
+        yield file
 
 
 def copy_named(path: str, to: str, most: int = MOST_OF_A_CAPTURE) -> None:

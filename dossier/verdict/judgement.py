@@ -256,9 +256,9 @@ def gaps_of(claim: Claim, recording: Recording) -> list[Gap]:
     """The times within the span in which no server was heard for longer than usual, its begin and its end among
     them."""
     first, last, times = claim.first * SECOND, claim.last * SECOND, recording.times
-    if not times or max(recording.widest, times[0] - first, last - times[-1]) <= SILENCE:
+    ends = [min(first, times[0]), *times, max(last, times[-1])] if times else []
+    if max(map(sub, ends[1:], ends), default=0) <= SILENCE:
         return []
-    ends = [min(first, times[0]), *times, max(last, times[-1])]
     wide = [(before, after) for before, after in pairwise(ends)
             if after - before > SILENCE and before < last and first < after]
     usual = sorted(map(sub, times[1:], times))[(len(times) - 1) // 2] if len(times) > 1 else 0
