@@ -28,9 +28,6 @@ class Rule(NamedTuple):
     is_right: Callable[[Any], object]
     schema: tuple[tuple[str, int | str], ...]
 
-    def __call__(self, value: Any) -> bool:
-        return bool(self.is_right(value))
-
 
 @cache
 def pattern_of(pattern: str) -> re.Pattern[str]:
