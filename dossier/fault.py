@@ -1,6 +1,4 @@
 """Faults: what gave no answer, with the line that says why and the status of the call."""
-from __future__ import annotations
-
 REFUSED, MEMORY, DEVICE, USAGE, MISSING = 2, 3, 4, 5, 70
 """Statuses: an input is refused, out of memory, a device, the command line, something isn't installed."""
 
@@ -23,7 +21,7 @@ class Fault(Exception):
         """The line without the name of who says it."""
         return self.line.removeprefix(OWN)
 
-    def of(self, what: str) -> Fault:
+    def of(self, what: str) -> "Fault":
         """The same of something that is named."""
         return fault(f"{what}: {self.words}", self.status)
 

@@ -1,28 +1,24 @@
 """Records: classes of fields with types, which mypy takes for dataclasses of the standard library. Those compile the
 methods of each class whenever a command starts, and import what reads Python; these have their methods in common.
 
-What reads a record from JSON takes the kinds of its fields as they stand, so their modules don't have annotations
-become texts.
+What reads a record from JSON takes the kinds of its fields as they stand: its module has no annotations that are texts.
 """
-from __future__ import annotations
-
 from collections.abc import Callable
 from functools import partial
-from typing import TYPE_CHECKING, Any
+from typing import TYPE_CHECKING, Any, NamedTuple
 
 NEEDED = object()
 """What a field has that has to be given."""
 
 
-class Anew:
+class Anew(NamedTuple):
     """What a field has that gets a value of its own in each record."""
 
-    def __init__(self, default_factory: Callable[[], Any]):
-        self.make = default_factory
+    default_factory: Callable[[], Any]
 
 
 def default_of(default: Any) -> Any:
-    return default.make() if isinstance(default, Anew) else default
+    return default.default_factory() if isinstance(default, Anew) else default
 
 
 def begin(self: Any, *given: Any, **named: Any) -> None:
@@ -33,14 +29,6 @@ def begin(self: Any, *given: Any, **named: Any) -> None:
     vars(self).update(values)
     if hasattr(self, "__post_init__"):
         self.__post_init__()
-
-
-def is_same(self: Any, other: Any) -> bool:
-    return type(self) is type(other) and vars(self) == vars(other)
-
-
-def hash_of(self: Any) -> int:
-    return hash(tuple(vars(self).values()))
 
 
 def never(self: Any, name: str, *_: Any) -> None:
@@ -56,7 +44,9 @@ else:
         if kind is None:
             return partial(dataclass, frozen=frozen)
         kind.own_fields = {name: vars(kind).get(name, NEEDED) for name in kind.__annotations__}
-        kind.__init__, kind.__eq__, kind.__hash__ = begin, is_same, hash_of
+        kind.__init__ = begin
+        kind.__eq__ = lambda self, other: type(self) is type(other) and vars(self) == vars(other)
+        kind.__hash__ = lambda self: hash(tuple(vars(self).values()))
         if frozen:
             kind.__setattr__ = kind.__delattr__ = never
         return kind

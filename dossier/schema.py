@@ -3,8 +3,6 @@
 The name of a field is that of the record's, without a `_` at its end (`from_` is "from"). A field that has a default is
 left out where it has it.
 """
-from __future__ import annotations
-
 import json
 import re
 from collections.abc import Callable
@@ -30,8 +28,6 @@ class Rule(NamedTuple):
     is_right: Callable[[Any], object]
     schema: tuple[tuple[str, int | str], ...]
 
-    def __call__(self, value: Any) -> bool:
-        return bool(self.is_right(value))
 
 
 def within(least: int, most: int) -> Rule:

@@ -1,6 +1,4 @@
 """Names and texts of strangers, made fit to be shown: nothing in them is interpreted by a terminal."""
-from __future__ import annotations
-
 import shlex
 import sys
 

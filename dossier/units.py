@@ -2,8 +2,6 @@
 
 A low end is rounded down and a high end up, so that what is shown never says more than the program did.
 """
-from __future__ import annotations
-
 import time
 from datetime import datetime, timedelta
 from functools import cache

@@ -1,8 +1,6 @@
 """What people have: captures that are packed, in pcapng, cut off or in several files, made into one that the program
 takes. The copies are private ones in the current folder, and what was recorded stays the evidence.
 """
-from __future__ import annotations
-
 import re
 import zlib
 from collections.abc import Callable, Iterator

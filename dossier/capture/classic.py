@@ -104,8 +104,8 @@ class Classic:
         return Extent(at, stamps if max(parts, default=0) < self.unit else array("Q"))
 
     def stamps_of(self, records: bytes, length: int) -> bytearray:
-        """The times of the first of some records, as far as they have one length: column by column of their bytes, since
-        a step for each record takes many times as long. They stand as this machine has them, the lowest byte first."""
+        """The times of the first of some records, as far as they have one length, the lowest byte first as in this
+        machine: column by column of their bytes, since a step for each record takes many times as long."""
         number = min(len(column) - len(column.lstrip(column[:1]))
                      for column in (records[place::length] for place in range(8, 12)))
         times = bytearray(8 * number)

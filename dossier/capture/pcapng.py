@@ -4,8 +4,6 @@ Its unit is nanoseconds if all of its interfaces have them, else microseconds: n
 time is cut, so its unit has to be a whole number of those that were read: then what is written may mean each time that
 what was read may mean.
 """
-from __future__ import annotations
-
 from collections.abc import Iterator
 from itertools import islice
 from struct import Struct, error

@@ -35,8 +35,8 @@ class Recording:
         own = stamps if packets is None else array("Q", map(stamps.__getitem__, packets))
         self.counts = samples.counts
         self.by_server = {server.decode("ascii"): number for server, number in samples.by_server.items()}
-        self.first, self.last = at([min(own), max(own)]) if own else (None, None)
         falls = [] if do_rise(own) else [k for k in range(1, len(own)) if own[k] < own[k - 1]]
+        self.first, self.last = at([min(own), max(own)] if falls else [own[0], own[-1]]) if own else (None, None)
         self.falls = len(falls)
         self.fall = next(((packets[k] if packets else k, *at(own[k - 1 : k + 1])) for k in falls), None)
         """The first record whose time falls back: its number, the time before it, and its own."""

@@ -5,8 +5,6 @@ bytes of a packet may look like records. But the longest record is known. Of all
 one is where a record begins; each is followed from one head to the next, and where all that can be followed have come
 together, a record begins whatever stands in the packets.
 """
-from __future__ import annotations
-
 import re
 from collections.abc import Iterator
 from heapq import heapify, heappop, heappush

@@ -1,6 +1,4 @@
 """What a capture holds of NTP: who asked, who answered whom, and which references a server named to a client."""
-from __future__ import annotations
-
 from collections import Counter, defaultdict
 from collections.abc import Iterable
 

@@ -3,8 +3,6 @@
 A reply to a request that was recorded twice is of no use, since it may be the answer to either. So a file is left out,
 and named, if larger ones have most of its requests too.
 """
-from __future__ import annotations
-
 from ..folder.answers import read_counts
 from ..folder.entry import Alert
 from ..folder.files import CLAIM

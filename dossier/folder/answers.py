@@ -1,6 +1,4 @@
 """What the program prints, taken apart by the names of its fields. A number stays the number that was printed."""
-from __future__ import annotations
-
 from typing import NamedTuple
 
 from ..schema import read_typed

@@ -6,7 +6,7 @@ from .. import VERSION
 from ..fault import DEVICE, REFUSED as INPUT_REFUSED, fault
 from ..records import dataclass, field
 from ..schema import (Address, Count, Mangled, Name, Nanoseconds, Seconds, Small, Sum, Text, Ticks, Time, is_name,
-                      is_time, length, mangled, matching, or_nothing, parsed, said, typed, within)
+                      is_time, length, mangled, matching, or_nothing, parsed, pattern_of, said, typed, within)
 from ..units import now
 from .claim import Claim
 from .files import AUDIT, CLAIM, JOINED, LEFT, LIMITS, is_capture
@@ -28,7 +28,8 @@ WORST_FIRST = (DISPUTED, REFUTED, NOTHING_FITS, UNSUPPORTED, NO_EVIDENCE, OPEN, 
 
 Hull = tuple[Ticks, Ticks] | Literal["unbounded", "empty"]
 """Two ends in ticks, or a word."""
-Day = Annotated[str, matching(r"\d{4}-\d\d-\d\d")]
+OF_A_DAY = r"\d{4}-\d\d-\d\d"
+Day = Annotated[str, matching(OF_A_DAY)]
 FEW = 8
 Few = Annotated[list[Address], length(0, FEW)]
 
@@ -43,7 +44,7 @@ def side_of(hull: Hull, bound: int) -> int:
 def is_left(name: str) -> bool:
     """Whether an audit leaves a file of this name, seen from the record's folder."""
     day, _, file = name.rpartition("/")
-    return file in LEFT | {CLAIM} and matching(r"\d{4}-\d\d-\d\d")(day) if day else file in LEFT
+    return file in LEFT | {CLAIM} and bool(pattern_of(OF_A_DAY).fullmatch(day)) if day else file in LEFT
 
 
 Left = Annotated[str, is_left]

@@ -3,8 +3,6 @@
 It is an object of texts by the names of premises. A word of such a text that is the name of a file in the folder names
 that file: its sum is taken with those of claim and captures, so a signature is for it too.
 """
-from __future__ import annotations
-
 from typing import Literal
 
 from ..schema import Text, read_typed

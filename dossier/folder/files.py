@@ -2,8 +2,6 @@
 regular file and no larger than its kind may be. What is parsed, shown, summed or handed on is what was read: its bytes,
 or a private copy of them.
 """
-from __future__ import annotations
-
 import hashlib
 import mmap
 import os
@@ -158,7 +156,7 @@ class Folder:
     def __init__(self, path: str):
         self.path, self.sums, self.kept = path, dict[str, str](), dict[str, bytes]()
 
-    def __enter__(self) -> Folder:
+    def __enter__(self) -> "Folder":
         try:
             self.opened = folder_at(self.path)
             self.place = self.opened.__enter__()

@@ -4,8 +4,6 @@ Such a process has a limit of memory, of processor, of files and of time, a priv
 a group of processes, in which all that it calls is too. Whatever becomes of it (it crashes, reads without an end, takes
 all memory) is that folder's result. None outlives the call that began it.
 """
-from __future__ import annotations
-
 import gc
 import json
 import os
@@ -90,15 +88,12 @@ def stream(words: Sequence[str], take: Callable[[bytes], object], given: str = o
            cwd: str = ".") -> tuple[int, bytes]:
     """Calls a program with a file on its standard input, and hands on what it prints, as it comes. Its status, that of
     a signal below zero, and what it printed on standard error."""
-    error = nameless(cwd)
-    try:
+    with nameless(cwd) as error:
         with own(given) as opened, begun(words, stdin=opened, stdout=PIPE, stderr=error, cwd=cwd) as call:
             assert call.stdout
             while block := os.read(call.stdout.fileno(), BLOCK):
                 take(block)
         return call.returncode, os.pread(error, BLOCK, 0)
-    finally:
-        os.close(error)
 
 
 def run(words: Sequence[str], given: str = os.devnull, cwd: str = ".") -> tuple[int, bytes, bytes]:

@@ -4,8 +4,6 @@ Since form 6 claim, verdict, figures and files have stood there as they do now. 
 seconds says have not, so of these nothing is compared, and a folder that was verified here isn't recorded as known:
 what is shown of it is made anew.
 """
-from __future__ import annotations
-
 import json
 from typing import Any
 

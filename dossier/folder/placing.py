@@ -4,8 +4,6 @@ An output is made without a name in the folder where it belongs, or where that c
 when all of them are made. Nothing is written through a link, root writes nothing into another user's folder, and
 nothing is taken away but by the name of a file that is known to be one's own.
 """
-from __future__ import annotations
-
 import fcntl
 import os
 import stat
@@ -48,7 +46,7 @@ class Copy:
     def __init__(self, path: str):
         self.path, self.size = path, 0
 
-    def __enter__(self) -> Copy:
+    def __enter__(self) -> "Copy":
         try:
             self.file = os.open(self.path, os.O_WRONLY | os.O_CREAT | os.O_TRUNC | os.O_CLOEXEC, 0o600)
         except OSError as error:
@@ -58,7 +56,7 @@ class Copy:
     def take(self, block: bytes) -> None:
         self.size += len(block)
         try:
-            if block[:1] in (b"", b"\0") and block.count(0) == len(block):
+            if not block.lstrip(b"\0"):
                 os.ftruncate(self.file, self.size)
                 os.lseek(self.file, self.size, os.SEEK_SET)
             else:
@@ -94,12 +92,13 @@ def make_private(path: str) -> None:
     os.mkdir(path, 0o700)
 
 
-def nameless(place: str) -> int:
-    """A new file in a private folder, which is gone when it is closed."""
-    name = f"{place}/{os.urandom(8).hex()}"
-    file = os.open(name, os.O_RDWR | os.O_CREAT | os.O_EXCL | os.O_CLOEXEC, 0o600)
-    os.unlink(name)
-    return file
+@contextmanager
+def nameless(place: str) -> Iterator[int]:
+    """A new file in a private folder, which is gone after a while."""
+    name = os.path.abspath(f"{place}/{os.urandom(8).hex()}")
+    with held(name, HOME, os.O_RDWR | os.O_CREAT | os.O_EXCL | os.O_CLOEXEC) as file:
+        os.unlink(name)
+        yield file
 
 
 def copy_named(path: str, to: str, most: int = MOST_OF_A_CAPTURE) -> None:

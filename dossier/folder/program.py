@@ -1,6 +1,4 @@
 """The program `ntpaudit`: where it is, and how it is called."""
-from __future__ import annotations
-
 import os
 import shutil
 from collections.abc import Callable

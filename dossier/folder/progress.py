@@ -1,6 +1,4 @@
 """How far many audits are."""
-from __future__ import annotations
-
 import sys
 import time
 

@@ -4,8 +4,6 @@ which program it was made or verified here, when, and in how many seconds.
 Nothing else makes an audit.json more than a stranger's word, and what stands in the line is what is shown. What the
 second program said of answers stands in a file beside it.
 """
-from __future__ import annotations
-
 import os
 from contextlib import AbstractContextManager
 from typing import NamedTuple

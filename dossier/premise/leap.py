@@ -3,8 +3,6 @@
 Only one's own list counts: the system's, or one that is named here. Which one an audit was made by stands in
 audit.json; whoever looks at it later looks the span up in a list of his own.
 """
-from __future__ import annotations
-
 import hashlib
 import json
 import os

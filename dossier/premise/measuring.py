@@ -2,8 +2,6 @@
 are on this machine, so that one clock makes both stamps. tcpdump records both ends. Where a packet's stamp is later at
 the end that it left than at the end where it arrived, it came too late by as much at least, or the other too early.
 """
-from __future__ import annotations
-
 import ctypes
 import os
 import signal

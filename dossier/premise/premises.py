@@ -1,7 +1,5 @@
 """What a claim grants: the premises of every yes, for a person to sign. They are those of docs/THEOREM.md, with the
 claim's numbers."""
-from __future__ import annotations
-
 from ..folder.claim import Claim
 from ..records import dataclass
 from ..units import ns_ms

@@ -1,7 +1,5 @@
 """What stands beside a person's word for a premise: what was looked up, measured, or read of the client, in sentences
 for the page."""
-from __future__ import annotations
-
 from collections.abc import Iterator
 
 from ..folder.entry import Entry, LeapList, Record

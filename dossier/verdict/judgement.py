@@ -257,9 +257,11 @@ def gaps_of(claim: Claim, recording: Recording) -> list[Gap]:
     them."""
     first, last, times = claim.first * SECOND, claim.last * SECOND, recording.times
     ends = [min(first, times[0]), *times, max(last, times[-1])] if times else []
+    if max(map(sub, ends[1:], ends), default=0) <= SILENCE:
+        return []
     wide = [(before, after) for before, after in pairwise(ends)
             if after - before > SILENCE and before < last and first < after]
-    usual = sorted(map(sub, times[1:], times))[(len(times) - 1) // 2] if wide and len(times) > 1 else 0
+    usual = sorted(map(sub, times[1:], times))[(len(times) - 1) // 2] if len(times) > 1 else 0
     return [(before, after) for before, after in wide if after - before > UNUSUAL * usual]
 
 

@@ -204,18 +204,21 @@ def test_flood(place: Path) -> None:
 
 
 def test_dead_mounts(place: Path) -> None:
-    """Folders on a mount that never answers: each is refused when its time is over, and the good one is as without."""
+    """Folders on a mount that never answers, or no more after some calls, as where a server of NFS dies: each is
+    refused when its time is over, and the good one is as without."""
     mounted, good = place / "mounted", folder_of(place / "real", "good")
     mounted.mkdir()
-    for kind in ("read", "open", "readdir", "getattr"):
+    for kind, *command in (("read", "audit", "--again"), ("open", "audit", "--again"), ("readdir", "audit", "--again"),
+                           ("getattr", "audit", "--again"), ("4", "audit", "--again"), ("9", "verify"),
+                           ("30", "verify")):
         script = ('exec 3< <("$0" "$1" "$2" "$3" 2>&1); read -r said <&3; [ "$said" = mounted ] || exit 99; '
                   'place=$2; shift 3; "$@" | cat; status=${PIPESTATUS[0]}; umount -f "$place"; exit $status')
-        words = ["audit", "--again", "--limit", "6", mounted / "good", good]
+        words = [*command, "--limit", "6", mounted / "good", good]
         ran = run(["unshare", "-m", "--propagation", "private", "bash", "-c", script, ROOT / "tests/tools/hanging",
                    place / "real", mounted, kind, SCRIPT, *words], env=ENVIRONMENT)
         if ran[0] in (1, 99, 127) and b"yes" not in ran[1]:
             skipped("folders on a mount that never answers", "nothing can be mounted by FUSE here")
             return
-        check(f"a mount that never answers a {kind}", status=(ran[0], 2))
-        ended_well(f"a mount that never answers: {kind}", ran, good,
-                   f"refused       {mounted}/good: ntpaudit-dossier: not done within 6 s (--limit)\n")
+        check(f"a mount that never answers: {kind}, {command[0]}", status=(ran[0], 2))
+        ended_well(f"a mount that never answers: {kind}, {command[0]}", ran, good,
+                   f"{mounted}/good: ntpaudit-dossier: not done within 6 s (--limit)\n")
