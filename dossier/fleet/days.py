@@ -3,8 +3,6 @@
 Each day's audit.json is looked at, and no capture. A day is what its claim's span says, whatever its folder is called.
 It counts once, and only if it is of the claim that most of the machine's days have.
 """
-from __future__ import annotations
-
 import os
 from collections import Counter
 from collections.abc import Iterator

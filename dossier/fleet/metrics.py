@@ -1,6 +1,4 @@
 """What audits come to as metrics, in Prometheus' text format, for the textfile collector of node_exporter."""
-from __future__ import annotations
-
 import os
 import re
 import sys

@@ -3,8 +3,6 @@
 It is asked as an audit asks it, of a span that begins no earlier than the records and ends with the last. What was
 recorded as long before speaks about it too. Nothing is left but metrics.
 """
-from __future__ import annotations
-
 import os
 import shutil
 import sys
@@ -31,9 +29,8 @@ from ..schema import read_typed
 from ..text import note
 from ..units import civil
 from ..verdict.judgement import piece_of
-from .band import Band
+from .band import Band, line_of, metrics_of
 from .metrics import write_metrics
-from .moment import line_of, metrics_of
 
 MINUTE, HOUR = 60, 60
 """Seconds; and minutes of the band."""

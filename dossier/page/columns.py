@@ -1,17 +1,22 @@
-"""What a picture draws of an envelope: a cell for each piece, or for each column of it if the pieces are too many.
+"""What a picture draws of an envelope: round numbers at its sides, and a cell for each piece, or for each column of it
+if the pieces are too many.
 
 A cell of several pieces has the extremes of what falls into it: the lowest low end and the highest high end, never an
 average.
 """
 from collections.abc import Iterator
 from dataclasses import dataclass
+from datetime import datetime, timezone
 
 from ..folder.answers import Envelope
+from ..units import DAY, TICKS
 from ..verdict.judgement import is_beyond
 
 COLUMNS = 1000
 MOST_STROKES = 10_000
 """Strokes in a picture; with many servers the columns are fewer."""
+SECONDS = [1, 2, 5, 10, 15, 30, 60, 120, 300, 600, 900, 1800, 3600, 7200, 10800, 21600, 43200]
+TICKS_PER_MS = TICKS / 1000
 
 
 @dataclass
@@ -68,3 +73,36 @@ def extremes(lows: list[int], highs: list[int]) -> tuple[int, int] | None:
         return (lows[0], highs[0]) if lows[0] <= highs[0] else None
     held = [(low, high) for low, high in zip(lows, highs) if low <= high]
     return (min(low for low, _ in held), max(high for _, high in held)) if held else None
+
+
+def round_step(span: float, most: int) -> float:
+    """The least step of 1, 2 or 5 times a power of ten that cuts a span into no more than so many parts."""
+    power = 10.0 ** -9
+    while True:
+        for step in (power, 2 * power, 5 * power):
+            if span / step <= most:
+                return step
+        power *= 10
+
+
+def ms_marks(low: int, high: int, most: int = 6) -> list[tuple[float, str]]:
+    """Round milliseconds between two ends in ticks: each in ticks, and as it is written."""
+    step = round_step((high - low) / TICKS_PER_MS, most)
+    decimals = max(0, len(f"{step:.9f}".rstrip("0").split(".")[1]))
+    first = -int(-low / TICKS_PER_MS // step)
+    marks = []
+    k = first
+    while k * step * TICKS_PER_MS <= high:
+        marks.append((k * step * TICKS_PER_MS, f"{k * step:,.{decimals}f}"))
+        k += 1
+    return marks
+
+
+def time_marks(first: int, last: int, most: int = 5) -> list[tuple[int, str]]:
+    """Round times between two ends in Unix seconds, and how they are written."""
+    span = last - first
+    days = next(n for n in (1, 2, 5, 10, 20, 50, 100, 200, 500, 1000, 2000, 5000, 10000) if span / (n * DAY) <= most)
+    step = next((step for step in SECONDS if span / step <= most), days * DAY)
+    form = "%m-%d" if step >= DAY else "%H:%M" if step >= 60 else "%H:%M:%S"
+    begin = -(-first // step) * step
+    return [(time, datetime.fromtimestamp(time, timezone.utc).strftime(form)) for time in range(begin, last + 1, step)]

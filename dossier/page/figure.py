@@ -21,8 +21,7 @@ from ..schema import read_typed
 from ..text import count, plain
 from ..units import bound_ticks, ns_ms, range_ms, shown_time
 from ..verdict.judgement import is_beyond
-from .columns import Cell, cells_of
-from .scale import ms_marks, time_marks
+from .columns import Cell, cells_of, ms_marks, time_marks
 from .templates import minus, text_of
 
 WIDTH, HEIGHT, TOP, STRIP, FOOT = 10_000, 300, 10, 12, 40

@@ -10,8 +10,7 @@ from typing import NamedTuple
 from ..capture.recorder import text_of
 from ..fault import fault
 from ..fleet.days import Wanted, machines_of, year_of
-from ..fleet.statements import Stated, Statements, stated_of, sums_of
-from ..fleet.year import statement
+from ..fleet.statements import Stated, Statements, stated_of, statement, sums_of
 from ..folder.files import YEAR
 from ..folder.jobs import run_all
 from ..folder.placing import write_named

@@ -1,6 +1,4 @@
 """A claim to start from, drafted out of what `list` and `samples` print of a capture."""
-from __future__ import annotations
-
 import ipaddress
 import json
 import os

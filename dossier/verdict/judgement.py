@@ -2,8 +2,6 @@
 
 This is a function of texts that the program printed; `verify` calls it again on texts of its own.
 """
-from __future__ import annotations
-
 from collections.abc import Iterator
 from itertools import groupby, pairwise
 from operator import sub
@@ -20,8 +18,7 @@ from ..premise.allowance import slip
 from ..premise.backing import Backing, against
 from ..premise.leap import entry_by, look_up, stretch
 from ..units import SECOND, bound_ticks
-from .apart import Seen as Apart, Time
-from .ranges import are_in, outermost
+from .apart import Seen as Apart, Time, are_in, outermost
 from .steps import Found
 
 FAR = 10
