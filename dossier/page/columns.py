@@ -5,8 +5,8 @@ A cell of several pieces has the extremes of what falls into it: the lowest low 
 average.
 """
 from collections.abc import Iterator
-from dataclasses import dataclass
 from datetime import datetime, timezone
+from typing import NamedTuple
 
 from ..folder.answers import Envelope
 from ..units import DAY, TICKS
@@ -19,23 +19,15 @@ SECONDS = [1, 2, 5, 10, 15, 30, 60, 120, 300, 600, 900, 1800, 3600, 7200, 10800,
 TICKS_PER_MS = TICKS / 1000
 
 
-@dataclass
-class Cell:
-    """From and to in parts of the picture's width, 0 to 1; the hull's extremes, in ticks, if any of it is bounded; what
-    fails in it; and the extremes of each server's intervals."""
+class Cell(NamedTuple):
+    """From and to in parts of the picture's width, 0 to 1; the hull's extremes, in ticks, if any of it is bounded; the
+    worst that fails in it; and the extremes of each server's intervals."""
 
     begin: float
     end: float
     hull: tuple[int, int] | None
-    empty: bool
-    unbounded: bool
-    beyond: bool
+    mark: str
     servers: list[tuple[int, int] | None]
-
-    @property
-    def mark(self) -> str | None:
-        """The worst that there is in it."""
-        return next((name for name in ("empty", "beyond", "unbounded") if getattr(self, name)), None)
 
 
 def cells_of(envelope: Envelope, bound: int) -> list[Cell]:
@@ -63,7 +55,8 @@ def cell_of(envelope: Envelope, bound: int, start: int, stop: int, begin: float,
     bounded = [hull for hull in hulls if not isinstance(hull, str)]
     lows, highs = [hull[0] for hull in bounded], [hull[1] for hull in bounded]
     hull = (min(lows), max(highs)) if bounded else None
-    return Cell(begin, end, hull, "empty" in hulls, "unbounded" in hulls, hull is not None and is_beyond(hull, bound),
+    fails = {"empty": "empty" in hulls, "beyond": hull and is_beyond(hull, bound), "unbounded": "unbounded" in hulls}
+    return Cell(begin, end, hull, next((word for word, does in fails.items() if does), ""),
                 [extremes(low[start:stop], high[start:stop]) for low, high in envelope.servers.values()])
 
 
@@ -89,9 +82,7 @@ def ms_marks(low: int, high: int, most: int = 6) -> list[tuple[float, str]]:
     """Round milliseconds between two ends in ticks: each in ticks, and as it is written."""
     step = round_step((high - low) / TICKS_PER_MS, most)
     decimals = max(0, len(f"{step:.9f}".rstrip("0").split(".")[1]))
-    first = -int(-low / TICKS_PER_MS // step)
-    marks = []
-    k = first
+    marks, k = [], -int(-low / TICKS_PER_MS // step)
     while k * step * TICKS_PER_MS <= high:
         marks.append((k * step * TICKS_PER_MS, f"{k * step:,.{decimals}f}"))
         k += 1
