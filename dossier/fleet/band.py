@@ -113,10 +113,7 @@ class Band:
                 lines.append("")
             lines[-1] += ("  " if lines[-1] else "") + words
         colour = GREEN if moment.verdict == "yes" else RED
-        return [self.coloured(colour, line) for line in lines]
-
-    def coloured(self, colour: str, words: str) -> str:
-        return f"{colour}{words}{PLAIN}" if self.has_colour else words
+        return [f"{colour}{line}{PLAIN}" for line in lines] if self.has_colour else lines
 
     def band(self, moment: Moment, width: int) -> list[str]:
         bound, end = bound_ticks(moment.bound_ns), moment.end
@@ -133,10 +130,6 @@ class Band:
         """The extremes of the pieces that end in a column, if any does."""
         own = self.hulls.get(recorder, {})
         return whole([own[second] for second in range(begin + 1, end + 1) if second in own])
-
-    def end(self) -> str:
-        """What comes before the last line."""
-        return "\n" if self.is_shown else ""
 
 
 def label(high: int, low: int, bound: int) -> str:

@@ -8,6 +8,7 @@ import shutil
 import sys
 import time
 from collections.abc import Iterator
+from contextlib import suppress
 from dataclasses import replace
 from typing import NamedTuple
 
@@ -68,7 +69,8 @@ def follow(wanted: Wanted, metrics: str | None, seconds: int, has_colour: bool) 
     looks, status = 0, 0
     try:
         if screen.is_shown:
-            screen.add(first_hour(wanted))
+            with suppress(Fault):
+                screen.add(moments(wanted._replace(minutes=HOUR)))
         while True:
             at = time.monotonic()
             try:
@@ -83,15 +85,8 @@ def follow(wanted: Wanted, metrics: str | None, seconds: int, has_colour: bool) 
             looks += 1
             time.sleep(max(0.0, at + seconds - time.monotonic()))
     except KeyboardInterrupt:
-        print(f"{screen.end()}ended after {looks} looks, the last with status {status}", flush=True)
+        print("\n" * screen.is_shown + f"ended after {looks} looks, the last with status {status}", flush=True)
         return status
-
-
-def first_hour(wanted: Wanted) -> list[Moment]:
-    try:
-        return moments(wanted._replace(minutes=HOUR))
-    except Fault:
-        return []
 
 
 def moments(wanted: Wanted) -> list[Moment]:
