@@ -29,7 +29,6 @@ class Rule(NamedTuple):
     schema: tuple[tuple[str, int | str], ...]
 
 
-
 def within(least: int, most: int) -> Rule:
     return Rule(lambda number: least <= number <= most, (("minimum", least), ("maximum", most)))
 

@@ -1,7 +1,5 @@
 """The audit of folders: of each one reused if it was made or verified here and nothing has changed since, or made and
 put in place."""
-from __future__ import annotations
-
 from collections.abc import Iterable
 from functools import partial
 
@@ -18,8 +16,8 @@ from ..folder.result import Result
 from ..premise.leap import record_by
 from ..records import dataclass
 from ..text import plain
-from ..verdict.line import line_of, refusal_of
 from ..verdict.making import Making, sums_of_inputs
+from ..verdict.sentences import line_of, refusal_of
 from .metrics import Sample, of_record, of_verdict, write_metrics
 
 

@@ -3,8 +3,6 @@
 A recorder's file has in its name when it was begun (UTC). It ends with the last packet in it, at the latest where the
 next of the same recorder begins. What a day's folder has already isn't written again.
 """
-from __future__ import annotations
-
 import os
 import time
 from collections.abc import Iterable

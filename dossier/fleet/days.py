@@ -3,8 +3,6 @@
 Each day's audit.json is looked at, and no capture. A day is what its claim's span says, whatever its folder is called.
 It counts once, and only if it is of the claim that most of the machine's days have.
 """
-from __future__ import annotations
-
 import os
 from collections import Counter
 from collections.abc import Iterator
@@ -61,7 +59,7 @@ def machines_of(folders: list[str]) -> dict[str, list[str]]:
 
 
 def year_of(wanted: Wanted, machine: str, names: list[str]) -> Year:
-    """The year of a machine, by its folder."""
+    """The year of a machine, by its folder. Of two folders with the same day the worse counts."""
     with Folder(machine) as folder:
         twice = [name for name, number in Counter(names).items() if number > 1]
         days = sorted(set(names)) or [name for name in folder.names() if is_day(name) and folder.is_folder(name)]
@@ -71,7 +69,7 @@ def year_of(wanted: Wanted, machine: str, names: list[str]) -> Year:
     begin, end = (seconds_of(f"{wanted.year + k}-01-01T00:00:00Z") for k in (0, 1))
     today = wanted.at // DAY * DAY
     kept, beside, others = dict[str, Told](), dict[str, Told](), [f"{name} is named twice" for name in twice]
-    for one in sorted(found, key=badness):
+    for one in sorted(found, key=lambda one: [*WORST_FIRST, one.told.verdict].index(one.told.verdict)):
         told, first = one.told, seconds_of(f"{one.told.date}T00:00:00Z")
         if not begin <= first < min(end, today):
             others += [f"{told.folder}: {told.date} hasn't ended yet"] if first >= today else []
@@ -87,11 +85,6 @@ def year_of(wanted: Wanted, machine: str, names: list[str]) -> Year:
     made = {one.made: None for one in found if one.made and one.told.date in kept}
     told_of_all = [kept.get(date) or beside.get(date) or Told(date, MISSING) for date in dates]
     return Year(plain(machine), told_of_all, claims.get(common), sorted(others), list(made))
-
-
-def badness(one: Found) -> int:
-    """Of two folders with the same day the worse counts."""
-    return WORST_FIRST.index(one.told.verdict) if one.told.verdict in WORST_FIRST else len(WORST_FIRST)
 
 
 def same(claim: Claim) -> str:

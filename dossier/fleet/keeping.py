@@ -4,8 +4,6 @@ A capture is taken away only after what was packed of it unpacked to the same by
 folder is counts from the newest recording among those that are kept, and not from the clock, which may be wrong for a
 night.
 """
-from __future__ import annotations
-
 import hashlib
 import os
 import sys

@@ -3,13 +3,12 @@
 It is asked as an audit asks it, of a span that begins no earlier than the records and ends with the last. What was
 recorded as long before speaks about it too. Nothing is left but metrics.
 """
-from __future__ import annotations
-
 import os
 import shutil
 import sys
 import time
 from collections.abc import Iterator
+from contextlib import suppress
 from typing import NamedTuple
 
 from ..capture.captures import audited
@@ -31,9 +30,8 @@ from ..schema import read_typed
 from ..text import note
 from ..units import civil
 from ..verdict.judgement import piece_of
-from .band import Band
+from .band import Band, line_of, metrics_of
 from .metrics import write_metrics
-from .moment import line_of, metrics_of
 
 MINUTE, HOUR = 60, 60
 """Seconds; and minutes of the band."""
@@ -71,7 +69,8 @@ def follow(wanted: Wanted, metrics: str | None, seconds: int, has_colour: bool) 
     looks, status = 0, 0
     try:
         if screen.is_shown:
-            screen.add(first_hour(wanted))
+            with suppress(Fault):
+                screen.add(moments(wanted._replace(minutes=HOUR)))
         while True:
             at = time.monotonic()
             try:
@@ -86,15 +85,8 @@ def follow(wanted: Wanted, metrics: str | None, seconds: int, has_colour: bool) 
             looks += 1
             time.sleep(max(0.0, at + seconds - time.monotonic()))
     except KeyboardInterrupt:
-        print(f"{screen.end()}ended after {looks} looks, the last with status {status}", flush=True)
+        print("\n" * screen.is_shown + f"ended after {looks} looks, the last with status {status}", flush=True)
         return status
-
-
-def first_hour(wanted: Wanted) -> list[Moment]:
-    try:
-        return moments(wanted._replace(minutes=HOUR))
-    except Fault:
-        return []
 
 
 def moments(wanted: Wanted) -> list[Moment]:

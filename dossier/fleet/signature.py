@@ -2,8 +2,6 @@
 
 It is one of ssh-keygen, beside audit.json. Who may sign stands in a file of allowed signers, as ssh-keygen has it.
 """
-from __future__ import annotations
-
 import re
 from contextlib import suppress
 from datetime import datetime

@@ -1,6 +1,4 @@
 """Signing: what an audit found is put under a person's key, by ssh-keygen."""
-from __future__ import annotations
-
 import os
 import sys
 from functools import partial

@@ -1,6 +1,4 @@
 """A year later, or at a stranger's: does an audit of the inputs alone come to what stands in the folder?"""
-from __future__ import annotations
-
 import os
 from collections import Counter
 from contextlib import suppress

@@ -1,12 +1,13 @@
 """What audit.json holds: a record of a folder, with an entry for each audit in it."""
 import json
+import re
 from typing import Annotated, Any, Final, Literal
 
 from .. import VERSION
 from ..fault import DEVICE, REFUSED as INPUT_REFUSED, fault
 from ..records import dataclass, field
 from ..schema import (Address, Count, Mangled, Name, Nanoseconds, Seconds, Small, Sum, Text, Ticks, Time, is_name,
-                      is_time, length, mangled, matching, or_nothing, parsed, pattern_of, said, typed, within)
+                      is_time, length, mangled, matching, or_nothing, parsed, said, typed, within)
 from ..units import now
 from .claim import Claim
 from .files import AUDIT, CLAIM, JOINED, LEFT, LIMITS, is_capture
@@ -44,7 +45,7 @@ def side_of(hull: Hull, bound: int) -> int:
 def is_left(name: str) -> bool:
     """Whether an audit leaves a file of this name, seen from the record's folder."""
     day, _, file = name.rpartition("/")
-    return file in LEFT | {CLAIM} and bool(pattern_of(OF_A_DAY).fullmatch(day)) if day else file in LEFT
+    return file in LEFT | {CLAIM} and bool(re.fullmatch(OF_A_DAY, day)) if day else file in LEFT
 
 
 Left = Annotated[str, is_left]

@@ -14,7 +14,7 @@ from ..premise.backing import backing
 from ..premise.premises import premises
 from ..premise.support import support
 from ..units import SECOND
-from ..verdict.ranges import ranges_of
+from ..verdict.apart import ranges_of
 from ..verdict.sentences import fit, sentence, span, to_do, warned
 from .figure import legend, picture, stroke
 from .templates import templates

@@ -21,8 +21,7 @@ from ..schema import read_typed
 from ..text import count, plain
 from ..units import bound_ticks, ns_ms, range_ms, shown_time
 from ..verdict.judgement import is_beyond
-from .columns import Cell, cells_of
-from .scale import ms_marks, time_marks
+from .columns import Cell, cells_of, ms_marks, time_marks
 from .templates import minus, text_of
 
 WIDTH, HEIGHT, TOP, STRIP, FOOT = 10_000, 300, 10, 12, 40
@@ -41,13 +40,8 @@ APART = 13
 Height = Callable[[float], float]
 """The height in the picture, in pixels from its top, of an error in ticks."""
 
-MARKS = {
-    "empty": "empty: no course of events fits",
-    "beyond": "beyond the bound",
-    "unbounded": "unbounded: nothing follows",
-}
-
-
+MARKS = {"empty": "empty: no course of events fits", "beyond": "beyond the bound",
+         "unbounded": "unbounded: nothing follows"}
 EMPTY = frozenset({"path", "rect", "line"})
 
 
@@ -79,8 +73,9 @@ def picture(envelope: Envelope, bound_ns: int, name: str, label: str, steps: Col
         return HEIGHT * (high - ticks) / (high - low)
     hull = band(cells, y)
     inner = [path("hull", hull), *strokes(cells, y), path("edge", hull)]
-    inner += [line(y(mark), "grid" if mark else "zero") for mark, _ in ms_marks(low, high)]
-    inner += [line(y(side), "bound") for side in (bound, -bound) if low <= side <= high]
+    lines = [(mark, "grid" if mark else "zero") for mark, _ in ms_marks(low, high)]
+    lines += [(side, "bound") for side in (bound, -bound) if low <= side <= high]
+    inner += [path(kind, f"M0 {y(ticks):.1f}H{WIDTH}") for ticks, kind in lines]
     inner += [path("step", f"M{x(part)} 0V{HEIGHT}") for part in parts_of(envelope, steps)]
     drawn = [element("title", words=label, id=f"{name}-t"),
              element("desc", words=described(envelope, bound_ns), id=f"{name}-d"),
@@ -184,10 +179,6 @@ def server_class(place: int) -> str:
     return f"c{place % COLOURS} d{place // COLOURS % DASHES}"
 
 
-def line(height: float, name: str) -> str:
-    return path(name, f"M0 {height:.1f}H{WIDTH}")
-
-
 def marks(cells: list[Cell]) -> list[str]:
     """A strip that marks the cells that fail, run by run."""
     drawn = []
@@ -259,22 +250,17 @@ def items(envelope: Envelope, bound_ns: int) -> list[tuple[list[str], str]]:
     """What stands for what: something drawn, and its name."""
     servers = [([path(f"server {server_class(place)}", "M0 7H26")], name)
                for place, name in enumerate(envelope.servers)]
-    fails, shows = fails_of(envelope, bound_ns), is_shown(envelope.hulls, bound_ticks(bound_ns))
+    ticks = bound_ticks(bound_ns)
+    fails = {hull if isinstance(hull, str) else "beyond" for hull in envelope.hulls
+             if isinstance(hull, str) or is_beyond(hull, ticks)}
     failing = [([path(f"mark {kind}", "M0 7H26")], text) for kind, text in MARKS.items() if kind in fails]
-    bound = f"claimed bound, {ns_ms(bound_ns)} ms{'' if shows else ': beyond this picture'}"
+    bound = f"claimed bound, {ns_ms(bound_ns)} ms{'' if is_shown(envelope.hulls, ticks) else ': beyond this picture'}"
     return [(HULL, "hull"), *servers, ([path("bound", "M0 7H26")], bound), *failing]
 
 
 def legend(envelope: Envelope, bound_ns: int) -> list[tuple[str, str]]:
     """The legend beside a picture in a page."""
     return [(swatch(drawn), text) for drawn, text in items(envelope, bound_ns)]
-
-
-def fails_of(envelope: Envelope, bound_ns: int) -> set[str]:
-    """How pieces of an envelope fail."""
-    bound = bound_ticks(bound_ns)
-    return {hull if isinstance(hull, str) else "beyond" for hull in envelope.hulls
-            if isinstance(hull, str) or is_beyond(hull, bound)}
 
 
 def standing_alone(envelope: Envelope, bound_ns: int, label: str, wide: int = 900) -> str:

@@ -1,7 +1,6 @@
 """The page: one file that needs no network, to be read on a screen or on paper."""
 import argparse
 import os
-import sys
 import time
 from collections import Counter
 from collections.abc import Iterator, Sequence
@@ -18,7 +17,6 @@ from ..folder.entry import (DISPUTED, FEW, NO_EVIDENCE, NOT_VERIFIED, NOTHING_FI
 from ..folder.files import Folder, sum_of
 from ..folder.jobs import run_all
 from ..folder.older import read_any
-from ..folder.placing import write_named
 from ..folder.registry import Known
 from ..folder.result import Result, Row, Section
 from ..premise.leap import record_by
@@ -29,6 +27,7 @@ from . import templates
 from .article import article, parts, short_article
 from .remedies import remedy
 from .table import as_csv, as_json, badness_of, row_of, row_without_verdict
+from .templates import INDEX, put
 
 MEANINGS = {
     YES: "shown: in every course of events that fits the capture",
@@ -42,7 +41,6 @@ MEANINGS = {
     DISPUTED: "the second program says something else, so neither is believed",
 }
 SIGNED = {NONE: "nobody", UNSEEN: "not looked at", UNFIT: "doesn\u2019t fit", STRANGER: "by a stranger"}
-INDEX = "index.html"
 UNKNOWN = "It was neither made nor verified here, so nothing that its audit.json says is shown"
 VERIFY = "`ntpaudit-dossier verify` the folder, or call `page --verify`."
 DIFFER = "Believe neither program, keep the folder, and report it. `verify --second` judges it again."
@@ -179,10 +177,7 @@ def write_page(folders: list[str], given: argparse.Namespace, known: Known, leap
                           for part, (section, row) in enumerate(zip(result.sections, rows))], given))
     years = years_of(folders, given, known, leaps) if given.split else []
     data = text_of(worst_first(found), given, len(folders), years)
-    if given.split or given.output:
-        write_named(os.path.join(given.split, INDEX) if given.split else given.output, data, bool(given.split))
-    else:
-        sys.stdout.buffer.write(data)
+    put(data, INDEX if given.split else given.output, given.split)
     status = write_metrics(given.metrics, metrics) if given.metrics else 0
     if not has_audit:
         raise fault("none of these folders has an audit")
@@ -209,7 +204,7 @@ def years_of(folders: list[str], given: argparse.Namespace, known: Known, leaps:
 def written(own: list[Shown], given: argparse.Namespace) -> Iterator[Shown]:
     """Writes the sections of a folder as a page of their own, and leaves their lines."""
     text = page([one._replace(file="") for one in own], given.title, 1, given.signers is not None, INDEX)
-    write_named(os.path.join(given.split, own[0].file), text, True)
+    put(text, own[0].file, given.split)
     return (one._replace(section=replace(one.section, head="", rest="")) for one in own)
 
 

@@ -8,7 +8,7 @@ from ..fleet.signature import Signature
 from ..folder.entry import OPEN, WORST_FIRST, Entry
 from ..folder.registry import Judgement
 from ..folder.result import Row
-from ..records import asdict
+from ..records import asdict, replace
 from ..text import plain
 from ..units import civil
 from ..verdict.alerts import warning_words
@@ -20,28 +20,21 @@ def badness_of(row: Row) -> tuple[int, int]:
     return WORST_FIRST.index(row.verdict), -len(row.warnings)
 
 
-def signed_row(folder: str, day: str, found: Signature) -> Row:
-    return Row(plain(folder), day, signature=found.state, signer=plain(found.signer), signed_at=plain(found.at))
-
-
 def row_without_verdict(folder: str, verdict: str, why: str, what: str, signature: Signature) -> Row:
     """A folder that has no figures: nobody audited it, or nobody verified that here."""
-    row = signed_row(folder, "", signature)
-    row.verdict, row.reason, row.to_do = verdict, plain(why), plain(what)
-    return row
+    return Row(plain(folder), "", verdict=verdict, reason=plain(why), to_do=plain(what), signature=signature.state,
+               signer=plain(signature.signer), signed_at=plain(signature.at))
 
 
 def row_of(folder: str, entry: Entry, signature: Signature, judged: Judgement | None) -> Row:
     claim, worst = entry.claim, entry.worst
-    row = signed_row(folder, "" if entry.part == "." else entry.part, signature)
-    row.verdict, row.reason, row.to_do = entry.verdict, reason(entry), to_do(entry)
-    row.warnings = [warning_words(warning) for warning in entry.warnings]
-    row.client, row.begin, row.end, row.bound_ns = claim.client, claim.from_, claim.to, claim.bound_ns
-    row.least_bound_ns, row.worst_begin, row.worst_end = entry.least_ns, civil(worst.from_), civil(worst.to)
-    row.samples, row.servers, row.groups = entry.counts["samples"], len(claim.servers), len(claim.grouped)
-    row.false_max, row.leap_seconds = claim.false_max, entry.leap.says
-    row.judged_twice_at = judged.at if judged and entry.answer != OPEN else ""
-    return row
+    return replace(
+        row_without_verdict(folder, entry.verdict, reason(entry), to_do(entry), signature),
+        day="" if entry.part == "." else entry.part, warnings=[warning_words(warning) for warning in entry.warnings],
+        client=claim.client, begin=claim.from_, end=claim.to, bound_ns=claim.bound_ns, least_bound_ns=entry.least_ns,
+        worst_begin=civil(worst.from_), worst_end=civil(worst.to), samples=entry.counts["samples"],
+        servers=len(claim.servers), groups=len(claim.grouped), false_max=claim.false_max,
+        leap_seconds=entry.leap.says, judged_twice_at=judged.at if judged and entry.answer != OPEN else "")
 
 
 def as_json(rows: list[Row]) -> str:

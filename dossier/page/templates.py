@@ -12,6 +12,7 @@ from ..fault import MISSING, fault
 from ..folder.entry import (DISPUTED, NO_EVIDENCE, NOT_VERIFIED, NOTHING_FITS, OPEN, REFUSED, REFUTED, UNSUPPORTED,
                             YES)
 from ..folder.files import own_data
+from ..folder.placing import write_named
 from ..text import capital, count, plain
 from ..units import now, ns_ms, ns_up_ms, range_ms
 
@@ -25,6 +26,7 @@ NO_JINJA = "Jinja2 isn't installed, which makes pages: apt-get install python3-j
 SIGNS = {YES: "\u2713", UNSUPPORTED: "\u2260", REFUTED: "\u2717", NOTHING_FITS: "\u2205", NO_EVIDENCE: "\u2026",
          OPEN: "?", NOT_VERIFIED: "\u2014", REFUSED: "!", DISPUTED: "\u2021", "missing": "\u00b7"}
 """A sign of each verdict, for whoever sees no colours."""
+INDEX = "index.html"
 MANY = 20
 """Lines of a table in which words can be looked for."""
 
@@ -58,6 +60,14 @@ def templates() -> "Environment":
                       "minus": minus, "ms": ns_ms, "up_ms": ns_up_ms}
     found.globals |= {"now": now, "policy": policy, "range_ms": range_ms, "sign": lambda verdict: SIGNS[verdict]}
     return found
+
+
+def put(data: bytes, file: str | None, split: str | None = None) -> None:
+    """Writes a page whole or not at all: below a folder, or to a file; to standard output if there is neither."""
+    if file:
+        write_named(os.path.join(split or "", file), data, bool(split))
+    else:
+        sys.stdout.buffer.write(data)
 
 
 def page(name: str, lines: int, **given: Any) -> bytes:

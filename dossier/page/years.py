@@ -9,22 +9,18 @@ from typing import NamedTuple
 from ..capture.recorder import text_of
 from ..fault import fault
 from ..fleet.days import Wanted, machines_of, year_of
-from ..fleet.statements import Stated, Statements, stated_of, sums_of
-from ..fleet.year import statement
+from ..fleet.statements import Stated, Statements, stated_of, statement, sums_of
 from ..folder.files import YEAR
 from ..folder.jobs import run_all
-from ..folder.placing import write_named
 from ..folder.result import Result, Told, Year
 from ..records import replace
 from ..schema import said
 from ..text import plain
 from ..units import civil, ns_up_ms
 from .figure import shade, strip
-from .templates import SIGNS, page, templates
+from .templates import INDEX, SIGNS, page, put, templates
 
 MONTHS = ("Jan", "Feb", "Mar", "Apr", "May", "Jun", "Jul", "Aug", "Sep", "Oct", "Nov", "Dec")
-INDEX = "index.html"
-SUMS = ".sums"
 
 
 class Pages(NamedTuple):
@@ -72,7 +68,10 @@ def write_year(folders: list[str], wanted: Wanted, pages: Pages, seconds: int, j
     names, worst, found, stated = machines_of(folders), 0, list[tuple[Year, str]](), list[Stated]()
     articles = list[tuple[int, Year]]()
     templates()
-    for number, (machine, result) in enumerate(looked_at(names, wanted, seconds, jobs), 1):
+
+    def work(machine: str, _: int) -> Result:
+        return Result(year=year_of(wanted, machine, names[machine]))
+    for number, (machine, result) in enumerate(run_all(list(names), work, seconds, min(jobs, len(names))), 1):
         if result.refusal or result.year is None:
             worst = max(worst, result.status)
             why = result.refusal.line if result.refusal else "nothing came of it"
@@ -80,43 +79,17 @@ def write_year(folders: list[str], wanted: Wanted, pages: Pages, seconds: int, j
             continue
         year, file = result.year, f"{number:05}.html"
         if pages.split:
-            write(pages.split, file, pages.page(f"{pages.title}: {year.machine}", [(number, year)], above=INDEX))
-            stated.append(kept(pages.split, f"{number:05}{SUMS}", year))
+            put(pages.page(f"{pages.title}: {year.machine}", [(number, year)], above=INDEX), file, pages.split)
+            sums, data = f"{number:05}.sums", sums_of(pages.split, year)
+            put(data, sums, pages.split)
+            stated.append(stated_of(year, sums, data))
             year = replace(year, days=[Told(day.date, day.verdict, least_ns=day.least_ns) for day in year.days])
         else:
             articles.append((number, year))
         found.append((year, file if pages.split else f"#m{number}"))
     if not found:
         raise fault("none of these folders has a year")
-    data = pages.page(pages.title, articles, found)
-    if not pages.split:
-        return max(worst, put(pages.output, data))
-    write(pages.split, INDEX, data)
-    write(pages.split, YEAR, text_of(said(Statements(wanted.year, civil(wanted.at), "", stated))))
+    put(pages.page(pages.title, articles, found), INDEX if pages.split else pages.output, pages.split)
+    if pages.split:
+        put(text_of(said(Statements(wanted.year, civil(wanted.at), "", stated))), YEAR, pages.split)
     return worst
-
-
-def looked_at(names: dict[str, list[str]], wanted: Wanted, seconds: int, jobs: int) -> Iterator[tuple[str, Result]]:
-    """Each machine in a process of its own."""
-    def work(machine: str, _: int) -> Result:
-        return Result(year=year_of(wanted, machine, names[machine]))
-    yield from run_all(list(names), work, seconds, min(jobs, len(names)))
-
-
-def kept(split: str, file: str, year: Year) -> Stated:
-    """Leaves the sums of a machine's days, and says what rests on them."""
-    data = sums_of(split, year)
-    write(split, file, data)
-    return stated_of(year, file, data)
-
-
-def write(split: str, name: str, data: bytes) -> None:
-    write_named(os.path.join(split, name), data, True)
-
-
-def put(path: str | None, data: bytes) -> int:
-    if path:
-        write_named(path, data)
-    else:
-        sys.stdout.buffer.write(data)
-    return 0

@@ -36,8 +36,9 @@ def falls(found: Alert) -> str:
 def silence(found: Alert) -> str:
     more = f", the longest of {found.count:,} such times" if found.count > 1 else ""
     first, last = map(shown_time, outward(found.before, found.after))
-    return (f"No server was heard from {first} to {last} ({length(found.after - found.before)}){more}: the machine, its "
-            f"recorder or the network was off, or nobody answered. {ON_DRIFT}")
+    by = length(found.after - found.before)
+    return (f"No server was heard from {first} to {last} ({by}){more}: the machine, its recorder or the network was "
+            f"off, or nobody answered. {ON_DRIFT}")
 
 
 def far(found: Alert) -> str:

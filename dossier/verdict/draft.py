@@ -1,6 +1,4 @@
 """A claim to start from, drafted out of what `list` and `samples` print of a capture."""
-from __future__ import annotations
-
 import ipaddress
 import json
 import os
@@ -179,19 +177,20 @@ class Draft:
 
     def bound(self, claim: Claim, wanted: int | None) -> int:
         """The bound that is wanted, or the least one that a certificate carries, rounded up to two digits."""
-        asked = f"{ns_ms(wanted)} ms stands there, as asked for." if wanted is not None else ""
+        asked, without = (FOR_NOW, NO_BOUND) if wanted is None else \
+            (f"{ns_ms(wanted)} ms stands there, as asked for.", wanted)
         if read_settled(self.program.run("settle", CLAIM, self.capture).text).answer == NOTHING_FITS:
-            self.remark(self.why_nothing_fits(claim), "bound_ns:", asked or FOR_NOW)
-            return NO_BOUND if wanted is None else wanted
+            self.remark(self.why_nothing_fits(claim), "bound_ns:", asked)
+            return without
         envelope = read_hulls(self.program.run("envelope", CLAIM, self.capture, "--least", "--step", LONGEST).text)
         if envelope.least_ns is None:
             begin, hull = envelope.begins[envelope.worst], envelope.hulls[envelope.worst]
-            is_word = isinstance(hull, str)
-            why = f"the piece from {civil(begin)} is {hull}" if is_word else "it is more than a claim can say"
-            self.remark(f"bound_ns: no bound is carried, since {why};", asked or FOR_NOW)
-            return NO_BOUND if wanted is None else wanted
-        least = ns_up_ms(envelope.least_ns)
-        self.remark(f"bound_ns: the least bound that a certificate carries is {least} ms;", asked or "rounded up.")
+            why = f"the piece from {civil(begin)} is {hull}" if isinstance(hull, str) else \
+                "it is more than a claim can say"
+            self.remark(f"bound_ns: no bound is carried, since {why};", asked)
+            return without
+        self.remark(f"bound_ns: the least bound that a certificate carries is {ns_up_ms(envelope.least_ns)} ms;",
+                    "rounded up." if wanted is None else asked)
         return round_up(envelope.least_ns) if wanted is None else wanted
 
     def leave_to_a_person(self, claim: Claim, wanted: Wanted, reading: Allowance) -> None:

@@ -2,8 +2,6 @@
 
 This is a function of texts that the program printed; `verify` calls it again on texts of its own.
 """
-from __future__ import annotations
-
 from collections.abc import Iterator
 from itertools import groupby, pairwise
 from operator import sub
@@ -14,14 +12,13 @@ from ..capture.traffic import Traffic, number_of
 from ..capture.twice import are_twice
 from ..folder.answers import Envelope, Settled, read_advice, read_settled
 from ..folder.claim import GREATEST_DRIFT, OSCILLATOR, Claim, Part
-from ..folder.entry import (FEW, NO_EVIDENCE, NOTHING_FITS, OPEN, REFUTED, YES, Alert, Answer, Entry, Gap, Hull,
+from ..folder.entry import (FEW, NO_EVIDENCE, NOTHING_FITS, OPEN, REFUTED, YES, Alert, Entry, Gap, Hull,
                             LeapList, Piece, Reason, Server, Stretch, side_of)
 from ..premise.allowance import slip
 from ..premise.backing import Backing, against
 from ..premise.leap import entry_by, look_up, stretch
 from ..units import SECOND, bound_ticks
-from .apart import Seen as Apart, Time
-from .ranges import are_in, outermost
+from .apart import Seen as Apart, Time, are_in, outermost
 from .steps import Found
 
 FAR = 10
@@ -84,7 +81,7 @@ def judge(part: Part, recording: Recording, beside: Beside, texts: Texts, step: 
         warned.insert(0, Alert("interleaved", servers=mode))
     if 0 < claim.drift_ppb <= OSCILLATOR and not beside.backing.read:
         warned.append(Alert("oscillator", claim.drift_ppb))
-    reason = reason_of(claim, settled, Seen(servers, envelope, recording, gaps, texts, beside.capture))
+    reason = reason_of(claim, settled, Seen(servers, recording, gaps, texts, beside.capture))
     if reason and reason.stretches and reason.apart:
         known = {server for alert in warned if alert.kind == "apart" for server in alert.servers}
         warned = [alert for alert in warned if alert.kind != "apart"]
@@ -93,7 +90,7 @@ def judge(part: Part, recording: Recording, beside: Beside, texts: Texts, step: 
         warned = [alert for alert in warned if alert.kind not in TOLD]
     return entry_by(beside.leaps, Entry(
         part=part.name,
-        verdict=verdict_of(settled, reason),
+        verdict=NO_EVIDENCE if reason and reason.why == "beside" else settled.answer,
         claim=claim,
         envelope_step=step,
         least_ns=None if settled.answer == NOTHING_FITS else envelope.least_ns,
@@ -108,11 +105,6 @@ def judge(part: Part, recording: Recording, beside: Beside, texts: Texts, step: 
     ))
 
 
-def verdict_of(settled: Settled, reason: Reason | None) -> Answer:
-    """The program's answer, but where nothing was recorded within the span."""
-    return NO_EVIDENCE if reason and reason.why == "beside" else settled.answer
-
-
 def piece_of(envelope: Envelope, k: int) -> Piece:
     return Piece(k, envelope.begins[k], envelope.ends[k], envelope.hulls[k])
 
@@ -125,7 +117,6 @@ class Seen(NamedTuple):
     """What a reason is seen in."""
 
     servers: list[Server]
-    envelope: Envelope
     recording: Recording
     gaps: list[Gap]
     texts: Texts
@@ -158,7 +149,7 @@ def silent(claim: Claim, heard: int, seen: Traffic) -> Reason:
 def why_refuted(claim: Claim, seen: Seen) -> Reason:
     """`unbounded`; `off` if a hull lies beyond the bound as a whole; `beside` if no packet lies within the span; `gap`
     if hulls go beyond the bound where nothing was heard for long; else `exceeds`."""
-    envelope, bound = seen.envelope, bound_ticks(claim.bound_ns)
+    envelope, bound = seen.texts.envelope, bound_ticks(claim.bound_ns)
     if "unbounded" in envelope.hulls:
         return Reason("unbounded")
     if off := off_piece(envelope, bound):
@@ -230,7 +221,9 @@ def warnings(claim: Claim, recording: Recording, texts: Texts, advice: dict[str,
     if recording.fall:
         record, before, after = recording.fall
         yield Alert("falls", recording.falls, record, before, after)
-    yield from silences(recording, gaps)
+    if inner := inner_gaps(recording, gaps):
+        longest = max(inner, key=lambda gap: (gap[1] - gap[0], gap))
+        yield Alert("silence", len(inner), before=longest[0], after=longest[1])
     yield from far_pieces(claim, recording, texts.envelope, gaps)
     if recording.counts.get("warnings"):
         yield Alert("leap", recording.counts["warnings"])
@@ -265,13 +258,6 @@ def gaps_of(claim: Claim, recording: Recording) -> list[Gap]:
     return [(before, after) for before, after in wide if after - before > UNUSUAL * usual]
 
 
-def silences(recording: Recording, gaps: list[Gap]) -> Iterator[Alert]:
-    """The longest gap between samples, and how many there are."""
-    if inner := inner_gaps(recording, gaps):
-        before, after = max(inner, key=lambda gap: (gap[1] - gap[0], gap))
-        yield Alert("silence", len(inner), before=before, after=after)
-
-
 def inner_gaps(recording: Recording, gaps: list[Gap]) -> list[Gap]:
     """Those between samples."""
     times = recording.times
@@ -282,7 +268,8 @@ def far_pieces(claim: Claim, recording: Recording, envelope: Envelope, gaps: lis
     """Pieces that are far from every sample, and in no gap that is named."""
     first, last = claim.first * SECOND, claim.last * SECOND
     limit = (last - first) // FAR
-    if not recording.replies or widest_gap([first, *recording.some_times(), last]) <= limit:
+    if not recording.replies or all(after - before <= limit for before, after
+                                    in pairwise([first, *recording.some_times(), last])):
         return  # (a piece can't be farther from a sample than some of the samples are from one another)
     distances = list(map(recording.nearest, envelope.begins, envelope.ends))
     inner = are_in(envelope, list(inner_gaps(recording, gaps)))
@@ -291,8 +278,3 @@ def far_pieces(claim: Claim, recording: Recording, envelope: Envelope, gaps: lis
     if farthest > limit:
         far = sum(distance > limit for distance in distances)
         yield Alert("far", far, distance=farthest, piece=piece_of(envelope, distances.index(farthest)))
-
-
-def widest_gap(times: list[int]) -> int:
-    gaps: Iterator[int] = map(sub, times[1:], times)
-    return max(gaps)

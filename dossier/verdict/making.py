@@ -3,8 +3,6 @@
 All of it is in the current folder, which is one's own. `audit` puts it into its place, and `verify` holds the folder to
 it.
 """
-from __future__ import annotations
-
 import re
 import time
 from collections.abc import Callable

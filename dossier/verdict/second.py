@@ -1,6 +1,4 @@
 """The second program, ntpaudit-recheck, which shares nothing with the first and judges the answers that it left."""
-from __future__ import annotations
-
 import os
 import shutil
 from collections.abc import Iterator

@@ -1,13 +1,11 @@
-"""What an audit comes to, in sentences: for a manager, for an auditor, and for whoever has to do something about it.
+"""What an audit comes to, in a line, and in sentences for a manager, an auditor, and whoever has to do something.
 
 No sentence says more than the program did. A yes is: in every course of events that fits the capture the error is
 within the bound. Refuted is: in one of them it isn't, so nothing in the capture shows it.
 """
-from __future__ import annotations
-
 from ..folder.claim import Claim
-from ..folder.entry import (AGAINST, NO_EVIDENCE, NOTHING_FITS, REFUTED, UNSUPPORTED, YES, Entry, Gap, Reason,
-                            Refutation, Step, side_of)
+from ..folder.entry import (AGAINST, NO_EVIDENCE, NOTHING_FITS, OPEN, REFUSED, REFUTED, UNSUPPORTED, YES, Entry, Gap,
+                            Reason, Step, side_of)
 from ..folder.files import CLAIM, REFUTATION
 from ..text import capital, count, is_or_are, listed, operand, plain
 from ..units import (SECOND, TICKS, between, bound_ticks, civil, from_to, high_ms, low_ms, ns_ms, ns_up_ms, outward,
@@ -16,15 +14,11 @@ from . import alerts
 from .alerts import warning_words
 from .judgement import is_beyond
 
-
 TWICE = "Its capture is that of another folder too, so one of them is a copy:"
 
 
 def span(claim: Claim) -> str:
-    first, last = shown_time(claim.first), shown_time(claim.last)
-    if first == last:
-        return f"at {first} UTC"
-    return f"from {first} to {last[11:] if first[:10] == last[:10] else last} UTC"
+    return f"{from_to(claim.first, claim.last)} UTC"
 
 
 def granted(claim: Claim) -> str:
@@ -36,32 +30,31 @@ def granted(claim: Claim) -> str:
     return "if its server was right" if servers == 1 else f"if none of {of} was wrong"
 
 
+SAID = {
+    UNSUPPORTED: "It isn't shown that {it}. The capture would show it, {granted}; but the folder's own evidence speaks "
+                 "against what else the claim grants.",
+    REFUTED: "The capture doesn't show that {it}, and no certificate can.",
+    NOTHING_FITS: "Whether {it} can't be said: no course of events fits the capture, so one of the premises fails in "
+                  "it.",
+    NO_EVIDENCE: "Whether {it} can't be said: the capture says nothing about this clock.",
+    OPEN: "Whether {it} stays open: no certificate shows it, and no course of events was found that fits the capture "
+          "and breaks it.",
+}
+
+
 def sentence(entry: Entry) -> str:
     """What a manager reads."""
     claim = entry.claim
-    within = f"the clock of {claim.client} was within {ns_ms(claim.bound_ns)} ms of UTC"
-    if entry.verdict == YES:
-        said = f"{capital(span(claim))} {within}, {granted(claim)} and what else the claim grants is true."
-        if entry.least_ns is None:
-            return said
-        widest = f"{ns_up_ms(entry.least_ns)} ms, {between(entry.worst.from_, entry.worst.to)}"
-        return (f"{said} Then the widest it may have been off was {widest}: no "
-                "certificate carries a lesser bound.")
-    if entry.verdict == UNSUPPORTED:
-        return (f"It isn't shown that {span(claim)} {within}. The capture would show it, {granted(claim)}; but the "
-                f"folder's own evidence speaks against what else the claim grants. {reason(entry)}")
-    if entry.reason and entry.reason.why == "off":
+    if entry.reason and entry.reason.why == "off" and entry.verdict != UNSUPPORTED:
         return capital(why_off(entry, entry.reason))
-    if entry.verdict == REFUTED:
-        return f"The capture doesn't show that {span(claim)} {within}, and no certificate can. {reason(entry)}"
-    if entry.verdict == NOTHING_FITS:
-        return (f"Whether {span(claim)} {within} can't be said: no course of events fits the capture, so one "
-                f"of the premises fails in it. {reason(entry)}")
-    if entry.verdict == NO_EVIDENCE:
-        return (f"Whether {span(claim)} {within} can't be said: the capture says nothing about this clock. "
-                f"{reason(entry)}")
-    return (f"Whether {span(claim)} {within} stays open: no certificate shows it, and no course of events was found "
-            f"that fits the capture and breaks it. {reason(entry)}")
+    within = f"the clock of {claim.client} was within {ns_ms(claim.bound_ns)} ms of UTC"
+    if entry.verdict != YES:
+        return f"{SAID[entry.verdict].format(it=f'{span(claim)} {within}', granted=granted(claim))} {reason(entry)}"
+    said = f"{capital(span(claim))} {within}, {granted(claim)} and what else the claim grants is true."
+    if entry.least_ns is None:
+        return said
+    return (f"{said} Then the widest it may have been off was {ns_up_ms(entry.least_ns)} ms, "
+            f"{between(entry.worst.from_, entry.worst.to)}: no certificate carries a lesser bound.")
 
 
 def reason(entry: Entry) -> str:
@@ -148,25 +141,26 @@ IF_TRUE = "if what the claim grants is true"
 def why_nothing_fits(entry: Entry, found: Reason) -> str:
     number = len(found.conflicts)
     conflicts, drift = count(number, "conflict"), f"with a drift of {found.drift_ppb:,} parts in 10^9"
-    apart = f"{listed(found.apart)} {is_or_are(len(found.apart))}" if found.apart else ""
+    steps = "".join(f" {alone(step)}" for step in found.steps)
     if found.why == "apart":
         contradicts = "contradicts itself" if len(found.apart) == 1 else "contradict themselves"
-        steps = "".join(f" {alone(step)}" for step in found.steps)
         all_ = "the one conflict" if number == 1 else f"each of {conflicts}"
         return f"{listed(found.apart)} {contradicts} or most others, in {all_}.{steps}"
     if found.stretches:
-        when = f"the clock was stepped {listed([between(*outward(step.after, step.by)) for step in found.steps])}"
-        said = capital(f"{when}: there {seen_by(entry, found)}.")
+        said = f"The clock was stepped {times_of(found)}: there {seen_by(entry, found)}."
         if found.why == "drift":
             said += f" Or it moved faster than the claim grants: {drift} a course of events would fit."
-        more = f" {apart} apart all the time." if apart else ""
+        more = f" {listed(found.apart)} {is_or_are(len(found.apart))} apart all the time." if found.apart else ""
         return said + around(found) + more
     if found.why == "drift":
         return f"{capital(drift)} a course of events would fit: the claim grants too little drift."
-    steps = "".join(f" {alone(step)}" for step in found.steps)
     is_two = " These times don't agree." if len(found.steps) > 1 else ""
     return f"More servers are in conflict than the claim takes for wrong: there {is_or_are(number)} {conflicts}." \
         f"{steps}{is_two}"
+
+
+def times_of(found: Reason) -> str:
+    return listed([between(*outward(step.after, step.by)) for step in found.steps])
 
 
 def seen_by(entry: Entry, found: Reason) -> str:
@@ -200,9 +194,8 @@ def in_short(entry: Entry) -> str:
     if not found or entry.verdict == UNSUPPORTED:
         return ""
     if found.stretches:
-        steps = listed([between(*outward(step.after, step.by)) for step in found.steps])
         apart = f"; {listed(found.apart)} apart" if found.apart else ""
-        return f"stepped {steps} UTC{', or too little drift granted' if found.why == 'drift' else ''}{apart}"
+        return f"stepped {times_of(found)} UTC{', or too little drift granted' if found.why == 'drift' else ''}{apart}"
     if found.why == "off" and found.piece and not isinstance(found.piece.hull, str):
         return f"{ahead(found.piece.hull)} UTC {from_to(found.piece.from_, found.piece.to)} UTC"
     if found.why == "gap":
@@ -309,20 +302,36 @@ def fit(entry: Entry) -> str:
 
 
 def course_of(entry: Entry) -> str:
-    """The course of events of a refutation."""
+    """The course of events of a refutation, with its error rounded towards zero."""
     found = entry.refutation
     if not found:
         return ""
-    at = f"at {shown_time(found.reading // TICKS)}"
-    return f"with an error of {error_of(found)} {at} and {liars_of(entry.claim, found)}"
-
-
-def error_of(found: Refutation) -> str:
-    """The error of a refutation, rounded towards zero."""
     text = high_ms(found.error) if found.error < 0 else low_ms(found.error)
-    return "under 0.001 ms" if text.strip("-") == "0.000" else f"{text} ms"
+    error = "under 0.001 ms" if text.strip("-") == "0.000" else f"{text} ms"
+    wrong = ", ".join(entry.claim.servers[number] for number in found.false) or "no server"
+    return f"with an error of {error} at {shown_time(found.reading // TICKS)} and {wrong} wrong"
 
 
-def liars_of(claim: Claim, found: Refutation) -> str:
-    wrong = [claim.servers[number] for number in found.false]
-    return f"{', '.join(wrong)} wrong" if wrong else "no server wrong"
+def refusal_of(folder: str, line: str, verdict: str = REFUSED) -> str:
+    """One line for a terminal, of a folder without a verdict."""
+    return f"{verdict:14}{plain(folder)}: {plain(line).replace('`', '')}"
+
+
+def line_of(folder: str, entry: Entry) -> str:
+    """One line for a terminal: the verdict, the folder, and the figures."""
+    name = plain(folder) + ("" if entry.part == "." else f" {entry.part}")
+    return f"{entry.verdict:14}{name}: {'; '.join(filter(None, [figures(entry), in_short(entry)]))}{against(entry)}"
+
+
+def against(entry: Entry) -> str:
+    """What takes a yes away, if anything does."""
+    if entry.verdict != UNSUPPORTED:
+        return ""
+    return f" ({'; '.join(AGAINST[warning.kind] for warning in entry.warnings if warning.kind in AGAINST)})"
+
+
+def figures(entry: Entry) -> str:
+    """The bounds, where there is a least one."""
+    if entry.least_ns is None or entry.verdict == NO_EVIDENCE:
+        return ""
+    return f"least bound {ns_up_ms(entry.least_ns)} ms, claimed {ns_ms(entry.claim.bound_ns)} ms"

@@ -1,6 +1,4 @@
 """How one claim is settled: the program's calls, in order, and the files that they leave in the current folder."""
-from __future__ import annotations
-
 from collections.abc import Callable
 from contextlib import suppress
 

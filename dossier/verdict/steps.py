@@ -4,8 +4,6 @@ Of a claim of one server, which may not be wrong, no course of events fits if tw
 other. A part of the capture is made shorter as long as that is so: what is left is the narrowest time in which the
 clock was stepped, or that server was. If most servers have such a time in common, it was the clock.
 """
-from __future__ import annotations
-
 import re
 from array import array
 from collections.abc import Iterator
@@ -21,8 +19,7 @@ from ..folder.placing import ROOM, keep
 from ..folder.program import Program
 from ..records import replace
 from ..units import SECOND, ceil_div, civil
-from .apart import apart_of
-from .ranges import outermost
+from .apart import apart_of, outermost
 
 ALONE, SOME = "alone.claim.json", "some.pcap"
 """Private files: a claim of one server, or of a stretch, and a part of the capture."""
