@@ -172,7 +172,7 @@ LIMITS = {
     "docs/THEOREM.md": 4110, "docs/DEFINITIONS.md": 4270,
     "docs/DECISIONS.md": 2190, "docs/FORMATS.md": 3780, "docs/GUIDE.md": 3130, "docs/REFUSALS.md": 1600,
     "docs/DOSSIER.md docs/AUDITING.md": 2670, "docs/FLEET.md": 1130, "docs/BOUND.md": 660,
-    "second/README.md": 395, "ARCHITECTURE.md CONTRIBUTING.md": 2112, "CHANGELOG.md": 870,
+    "second/README.md": 395, "ARCHITECTURE.md CONTRIBUTING.md": 2165, "CHANGELOG.md": 870,
     "bench/README.md": 1500, "data/README.md": 950,
 }
 
