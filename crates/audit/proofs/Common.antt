@@ -29,7 +29,7 @@ pub use Rattle.byte_stream.specs.State.{FeedState, SinkState}
 pub use Rattle.certificate.specs.Certificate.{CertificateData, PieceData, max_pieces}
 pub use Rattle.certificate.specs.Refutation.{RefutationData, data_of}
 pub use Rattle.checker.proofs.Exchange.{are_samples}
-pub use Rattle.checker.proofs.Part.{by_test}
+pub use Rattle.lemma_base.proofs.Bool.{by_test}
 pub use Rattle.checker.specs.Course.{Course, Fits, FitsInWindows, IsClientMoment}
 pub use Rattle.checker.specs.Refutation.{HasCourse, IsAgainst, IsRefuted, SharesRequests}
 pub use Rattle.checker.specs.Stretch.{begin_of, stretch_of, stretches_from}

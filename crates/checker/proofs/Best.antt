@@ -1,10 +1,7 @@
 -- What a server's best samples say is said by samples of that server.
-use Rattle.checker.proofs.Common.{◌≡◌, ℕ, suc, ◌+◌, ℤ, int_lt, nat_eq, true, false, cond, neg_ℤ, List, [], ◌∷◌, length, Option, Some, None, refl, sym, ◌∙◌, subst, arith, All, slice_get, filter_map, cons_option, option_map, option_and_then, nat_tests, All-nil, All-cons, ClaimData, Interval, Sample, moved_low, moved_high, piece_interval_of, said_by, best_part, best_parts, IsOfSamples, numbers_below, Part, Stretch}
+use Rattle.checker.proofs.Common.{◌≡◌, ℕ, suc, ◌+◌, ℤ, int_lt, nat_eq, true, false, cond, neg_ℤ, List, [], ◌∷◌, length, Option, Some, None, refl, sym, ◌∙◌, subst, arith, All, slice_get, filter_map, option_map, option_and_then, All-nil, ClaimData, Interval, Sample, moved_low, moved_high, piece_interval_of, said_by, best_part, best_parts, IsOfSamples, numbers_below, Part, Stretch, eqb-true, All-cons_option}
 use Rattle.span_cover.specs.Best.{better, best_from, first_best_of, best_of, pair_of}
 use Rattle.span_cover.specs.Gathering.{best_interval, interval_between}
-
-same_number : (a b : ℕ) → nat_eq a b ≡ true → a ≡ b
-same_number a b h = grind (arith, nat_tests)
 
 module _ (merit : Sample → ℤ) (server : ℕ) where
   -- the sample of this number is the server's, with samples numbered from n on
@@ -49,7 +46,7 @@ module _ (merit : Sample → ℤ) (server : ℕ) where
       let rest = best_from merit server (n + 1) samples in
       elim (nat_eq s.server server) as
       (λ t. nat_eq s.server server ≡ t → Chosen n (s ∷ samples) (cond t (better n (merit s) rest) rest)) [
-        | true ↦ λ e. one_of n s samples rest (same_number s.server server e) (chosen (n + 1) samples)
+        | true ↦ λ e. one_of n s samples rest (eqb-true s.server server e) (chosen (n + 1) samples)
         | false ↦ λ e. later n s samples rest (chosen (n + 1) samples)
       ] refl
 
@@ -140,16 +137,10 @@ module _ (samples : List Sample) (stretch : Stretch) (ppb server : ℕ) where
       → IsOfSamples samples stretch ppb part
   best_part_is part e = part_from_interval _ refl part e
 
--- what holds of each that is given holds of all
-given_step : {Y : Type 0} (P : Y → Type 0) (o : Option Y) (ys : List Y) → ((y : Y) → o ≡ Some y → P y) → All P ys
-    → All P (cons_option o ys)
-given_step P None ys each rest = rest
-given_step P (Some y) ys each rest = All-cons P y ys (each y refl) rest
-
 given_all : {X Y : Type 0} (f : X → Option Y) (P : Y → Type 0) (xs : List X)
     → ((x : X) (y : Y) → f x ≡ Some y → P y) → All P (filter_map f xs)
 given_all f P [] each = All-nil P
-given_all f P (x ∷ xs) each = given_step P (f x) (filter_map f xs) (each x) (given_all f P xs each)
+given_all f P (x ∷ xs) each = All-cons_option P (f x) (filter_map f xs) (each x) (given_all f P xs each)
 
 pub best_parts_are : (claim : ClaimData) (samples : List Sample) (stretch : Stretch)
     → All (IsOfSamples samples stretch claim.drift_ppb) (best_parts claim samples stretch)

@@ -4,10 +4,12 @@ pub use Rattle.std.proofs.Common.{cond, count_by, drop, false, get_or, if◌then
 pub use Rattle.std.proofs.Common.{map, nat_eq, nat_lt, neg_ℤ, negsuc, not, of_z, pos, refl, rules, subst, suc, sym}
 pub use Rattle.std.proofs.Common.{take, to_z, true, true≢false, unsigned_abs, zero, ℕ, ℤ, ⊎_elim, ◌&&◌, ◌*ℤ◌, ◌*◌, ◌++◌}
 pub use Rattle.std.proofs.Common.{◌+ℤ◌, ◌+◌, ◌-ℤ◌, ◌-◌, ◌<ℤ◌, ◌<◌, ◌^◌, ◌||◌, ◌↔◌, ◌∙◌, ◌∷◌, ◌≡◌, ◌≢◌, ◌≤ℤ◌, ◌≤◌, ◌⊎◌}
+pub use Rattle.std.proofs.Math.Bool.{or-false, or_assoc}
 pub use Rattle.std.proofs.lemmas.Bool.{and_from, and_left, and_parts, and_right, cond-false, cond-true, not-true}
-pub use Rattle.std.proofs.lemmas.Bool.{or_from, or_left, or_right, true_from_ne_false}
+pub use Rattle.std.proofs.lemmas.Bool.{eqb-true, ne_eqb, or_from, or_left, or_parts, or_right, true_from_ne_false}
+pub use Rattle.std.proofs.lemmas.Bool.{le-leb, leb-true, lt-ltb, ltb-true}
 pub use Rattle.std.proofs.lemmas.Bool.Decides.{nat_tests}
-pub use Rattle.std.proofs.lemmas.Int.{by_lt_z, clamps, fits_signed_from_abs, ints, to_z-of_z}
+pub use Rattle.std.proofs.lemmas.Int.{by_lt_z, clamps, fits_signed_from_abs, ints, to_z-of_z, unsigned_abs-mul}
 pub use Rattle.std.proofs.lemmas.List.{append-nil, append_assoc, get_or-map, get_or_default, length-map}
 pub use Rattle.std.proofs.lemmas.List.Elements.{All-cons, All-get_or, All-map, All-nil, All-push, AllZip-get_or}
 pub use Rattle.std.proofs.lemmas.List.Elements.{AllZip-push, filter-append, length_all_zip, recursion_from_All}
@@ -78,3 +80,9 @@ pub use Rattle.checker.specs.declared.verdict.Verdict.TheVariants.{No, Yes}
 pub use Rattle.checker.specs.declared.verdict.Why.{Why}
 pub use Rattle.checker.specs.declared.verdict.Why.TheVariants.{BadSample, Contradiction, Cut, Exceeds, MixedServers}
 pub use Rattle.checker.specs.declared.verdict.Why.TheVariants.{RepeatedServer, Uncovered}
+pub use Rattle.intersection.proofs.Fractions.{le_from_times, neg_times}
+pub use Rattle.lemma_base.proofs.Bool.{by_test, cond-le_one, or_rest}
+pub use Rattle.lemma_base.proofs.Int.{int_le-true, int_max-least, le-int_le, ≤ℤ-sub, ≤ℤ_trans, ≤ℤ_trans_twice}
+pub use Rattle.lemma_base.proofs.Int.{int_lt-false, int_lt-true, w128_keeps, ≤ℤ-<ℤ_trans, ≤ℤ-from_lt}
+pub use Rattle.lemma_base.proofs.List.{All-cons_option, All-slice_get}
+pub use Rattle.lemma_base.proofs.Nat.{and-from_equal}

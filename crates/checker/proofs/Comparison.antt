@@ -1,6 +1,5 @@
 -- How verdicts compare if fewer points are admissible.
-use Rattle.checker.proofs.Common.{◌≡◌, ℕ, ◌+◌, ◌<◌, ◌≤◌, ℤ, pos, neg_ℤ, ◌≤ℤ◌, Bool, true, false, cond, ◌&&◌, ◌||◌, int_lt, int_le, nat_lt, ◌⊎◌, inl, inr, ⊎_elim, List, [], ◌∷◌, length, Option, Some, None, Result, Ok, Err, refl, sym, ap, ◌∙◌, subst, arith, AllZip, int_eq, ints, cond-true, cond-false, PieceData, CertificateData, ClaimData, IsAdmissible, IsHull, hull_of, Interval, Hull, Unbounded, Empty, Bounded, Sample, IsYesOr, IsContradiction, group_intervals, piece_hull, parts_after, hull_fault, parts_fault, piece_fault, verdict_after, verdict_from, verdict_of, Part, Stretch, Verdict, Yes, No, Why, Cut, Contradiction, Exceeds, Uncovered}
-use Rattle.checker.proofs.Part.{by_test}
+use Rattle.checker.proofs.Common.{◌≡◌, ℕ, ◌+◌, ◌<◌, ◌≤◌, ℤ, pos, neg_ℤ, ◌≤ℤ◌, Bool, true, false, cond, ◌&&◌, ◌||◌, int_lt, int_le, nat_lt, ◌⊎◌, inl, inr, ⊎_elim, List, [], ◌∷◌, length, Option, Some, None, Result, Ok, Err, refl, sym, ap, ◌∙◌, subst, arith, AllZip, int_eq, ints, cond-true, cond-false, PieceData, CertificateData, ClaimData, IsAdmissible, IsHull, hull_of, Interval, Hull, Unbounded, Empty, Bounded, Sample, IsYesOr, IsContradiction, group_intervals, piece_hull, parts_after, hull_fault, parts_fault, piece_fault, verdict_after, verdict_from, verdict_of, Part, Stretch, Verdict, Yes, No, Why, Cut, Contradiction, Exceeds, Uncovered, by_test}
 use Rattle.checker.proofs.VerdictPieces.{yes_step}
 
 -- no fault, or such a one

@@ -1,12 +1,7 @@
 -- Of the groups that have an entry, only those that hold a false server can leave the error out.
-use Rattle.checker.proofs.Common.{◌≡◌, ℕ, zero, suc, ◌+◌, ◌<◌, ◌≤◌, ℤ, pos, ◌*ℤ◌, ◌≤ℤ◌, Bool, true, false, cond, ◌&&◌, ◌||◌, int_lt, List, [], ◌∷◌, ◌++◌, length, Option, Some, None, IfSome, count_by, refl, subst, arith, All, slice_index, ◌==◌, fold, filter, filter_map, list_any, cons_option, AllByRecursion, ints, cond-true, cond-false, nat_tests, sum_by-cons, recursion_from_All, HoldsFraction, leaves_fraction_out, IsAdmissibleFraction, Interval, holds_false, false_group_count, numbers_below, meet_of, narrowed, group_interval, group_intervals, Part}
-use Rattle.checker.proofs.Part.{by_test}
+use Rattle.checker.proofs.Common.{◌≡◌, ℕ, zero, suc, ◌+◌, ◌<◌, ◌≤◌, ℤ, pos, ◌*ℤ◌, ◌≤ℤ◌, Bool, true, false, cond, ◌&&◌, int_lt, List, [], ◌∷◌, ◌++◌, length, Option, Some, None, IfSome, count_by, refl, subst, arith, All, slice_index, ◌==◌, fold, filter, filter_map, list_any, cons_option, AllByRecursion, ints, cond-true, cond-false, nat_tests, sum_by-cons, recursion_from_All, HoldsFraction, leaves_fraction_out, IsAdmissibleFraction, Interval, holds_false, false_group_count, numbers_below, meet_of, narrowed, group_interval, group_intervals, Part, by_test, or_parts, true_from_ne_false}
 
 -- ---- tests that fail
-
-either_fails : (a b : Bool) → (a || b) ≡ false → (a ≡ false) × (b ≡ false)
-either_fails true b h = absurd cc
-either_fails false b h = (refl, h)
 
 pub second_fails : (a b : Bool) → (a && b) ≡ false → a ≡ true → b ≡ false
 second_fails true b h yes' = h
@@ -14,9 +9,9 @@ second_fails false b h yes' = absurd cc
 
 none_of : (p : ℕ → Bool) (xs : List ℕ) (k : ℕ) → list_any p (xs ++ k ∷ []) ≡ false
     → (list_any p xs ≡ false) × (p k ≡ false)
-none_of p [] k h = let parts = either_fails (p k) false h in (refl, parts.0)
+none_of p [] k h = let parts = or_parts (p k) false h in (refl, parts.0)
 none_of p (x ∷ xs) k h =
-    let parts = either_fails (p x) (list_any p (xs ++ k ∷ [])) h in
+    let parts = or_parts (p x) (list_any p (xs ++ k ∷ [])) h in
     let rest = none_of p xs k parts.1 in
     (rw (parts.0, rest.0) refl, rest.1)
 
@@ -28,6 +23,11 @@ fails_below p (suc n) k below h =
     by_test (k == n)
     (λ same. let is : n ≡ k = grind (arith, nat_tests) in subst (λ (m : ℕ). p m ≡ false) is parts.1)
     (λ other. fails_below p n k (grind (arith, nat_tests)) parts.0)
+
+-- a number that passes is found
+pub found_below : (p : ℕ → Bool) (n k : ℕ) → k < n → p k ≡ true → list_any p (numbers_below n) ≡ true
+found_below p n k below passes = true_from_ne_false (list_any p (numbers_below n))
+    (λ none. let fails = fails_below p n k below none in cc)
 
 -- ---- the meet of intervals that hold a fraction
 

@@ -1,12 +1,9 @@
 -- Pieces that share their ends hold every reading of the span, fractions of a tick too.
-use Rattle.checker.proofs.Common.{◌≡◌, ℕ, zero, suc, ◌<◌, ℤ, pos, ◌*ℤ◌, ◌<ℤ◌, ◌≤ℤ◌, List, [], ◌∷◌, length, Some, refl, ap, arith, slice_get, IsSomeAnd, ints, by_lt_z, PieceData, IsInWindow, stretches_from, begin_of, last_end, SomeHoldsReading, Stretch}
+use Rattle.checker.proofs.Common.{◌≡◌, ℕ, zero, suc, ◌<◌, ℤ, pos, ◌*ℤ◌, List, [], ◌∷◌, length, Some, refl, ap, arith, slice_get, IsSomeAnd, by_lt_z, PieceData, IsInWindow, stretches_from, begin_of, last_end, SomeHoldsReading, Stretch, ≤ℤ-from_lt}
 
 later : (n : ℕ) (reading : ℤ) (first : Stretch) (stretches : List Stretch) → SomeHoldsReading stretches n reading
     → SomeHoldsReading (first ∷ stretches) n reading
 later n reading first stretches (k, holds) = (suc k, holds)
-
-le_from_lt : (a b : ℤ) → a <ℤ b → a ≤ℤ b
-le_from_lt a b h = omega (arith, ints)
 
 pub covered : (n : ℕ) (reading begin : ℤ) (piece : PieceData) (pieces : List PieceData)
     → IsInWindow n begin (last_end begin (piece ∷ pieces)) reading
@@ -14,7 +11,7 @@ pub covered : (n : ℕ) (reading begin : ℤ) (piece : PieceData) (pieces : List
 covered n reading begin piece [] inside = (0, inside)
 covered n reading begin piece (next ∷ pieces) inside = by_lt_z (pos piece.upto *ℤ pos n) reading
     (λ after. later n reading _ (stretches_from (pos piece.upto) (next ∷ pieces))
-    (covered n reading (pos piece.upto) next pieces (le_from_lt (pos piece.upto *ℤ pos n) reading after, inside.1)))
+    (covered n reading (pos piece.upto) next pieces (≤ℤ-from_lt (pos piece.upto *ℤ pos n) reading after, inside.1)))
     (λ before. (0, (inside.0, before)))
 
 pub all_covered : (n : ℕ) (reading begin : ℤ) (pieces : List PieceData) → 0 < length pieces

@@ -1,8 +1,8 @@
 -- What the entries of a piece say, all in their order, and that no server says it twice.
-use Rattle.checker.proofs.Common.{◌≡◌, ◌≢◌, ℕ, suc, ◌<◌, Bool, true, false, cond, not, List, [], ◌∷◌, ◌++◌, Option, Some, None, Result, Ok, Err, length, get_or, refl, sym, ap, ◌∙◌, subst, arith, All, AllPairs, slice_get, ◌==◌, AllZip, list_any, nat_tests, append-nil, append_assoc, All-cons, All-nil, list_any_at, list_any_none, Sample, IsSaidBy, AreSaidBy, part_of, part_from, parts_after, unless_refused, Part, Stretch, Why, MixedServers, RepeatedServer}
+use Rattle.checker.proofs.Common.{◌≡◌, ◌≢◌, ℕ, suc, ◌<◌, Bool, true, false, cond, not, List, [], ◌∷◌, ◌++◌, Option, Some, None, Result, Ok, Err, length, get_or, refl, sym, ap, ◌∙◌, subst, arith, All, AllPairs, slice_get, ◌==◌, AllZip, list_any, nat_tests, append-nil, append_assoc, All-cons, All-nil, list_any_at, list_any_none, Sample, IsSaidBy, AreSaidBy, part_of, part_from, parts_after, unless_refused, Part, Stretch, Why, MixedServers, RepeatedServer, by_test, ne_eqb}
 use Rattle.std.proofs.lemmas.Grind.{common_steps}
 use Rattle.std.proofs.lemmas.List.Quantifiers.{all_pairs_push}
-use Rattle.checker.proofs.Part.{by_test, same_server, accepted}
+use Rattle.checker.proofs.Part.{same_server, accepted}
 
 -- what follows of each pair of two lists holds of all of the second
 pub zip_all : {X Y : Type 0} (R : X → Y → Type 0) (P : Y → Type 0) (xs : List X) (ys : List Y) → AllZip R xs ys
@@ -20,9 +20,6 @@ AreApart part later = part.server ≢ later.server
 
 differ : (a b : ℕ) → (a == b) ≡ false → a ≢ b
 differ a b h = λ same. grind (arith, nat_tests)
-
-fails_from : (a b : ℕ) → a ≢ b → (a == b) ≡ false
-fails_from a b h = by_test (a == b) (λ same. absurd (h (grind (arith, nat_tests)))) (λ other. other)
 
 -- a server that isn't named yet is apart from all that are
 apart_from : (server : ℕ) (earlier : List Part) → list_any (λ part. part.server == server) earlier ≡ false
@@ -43,7 +40,7 @@ new_from earlier later part apart =
     let front : get_or all k d ≡ get_or earlier k d = grind (arith, common_steps) in
     let here : get_or all (length earlier) d ≡ part = grind (arith, common_steps) in
     let within : length earlier < length all = grind (arith, common_steps) in
-    fails_from (get_or earlier k d).server part.server
+    ne_eqb (get_or earlier k d).server part.server
     (subst (λ (p : Part). p.server ≢ part.server) front
     (subst (λ (p : Part). (get_or all k d).server ≢ p.server) here (apart k (length earlier) d below within))))
 

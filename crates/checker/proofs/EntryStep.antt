@@ -1,6 +1,5 @@
 -- One more entry in a piece leaves no more points admissible.
-use Rattle.checker.proofs.Common.{◌≡◌, ℕ, ◌≤◌, ℤ, pos, ◌≤ℤ◌, Bool, true, false, cond, ◌⊎◌, inl, inr, ⊎_elim, List, [], ◌∷◌, ◌++◌, length, Option, Some, None, Result, Ok, Err, refl, sym, ap, ◌∙◌, subst, arith, ⊤, slice_get, slice_index, ◌==◌, fold, filter, filter_map, AllZip, cons_option, ints, clamps, cond-true, cond-false, sum_by-cons, fold-append, filter-append, PieceData, CertificateData, ClaimData, leaves_out, count_leaving_out, Interval, Sample, IsYesOr, IsContradiction, IsRefusedEntry, HasOneMoreEntry, numbers_below, meet_of, narrowed, group_interval, part_from, parts_after, unless_refused, parts_fault, verdict_from, verdict_of, Part, Stretch, Yes, Why, BadSample, MixedServers, RepeatedServer}
-use Rattle.checker.proofs.Part.{by_test}
+use Rattle.checker.proofs.Common.{◌≡◌, ℕ, ◌≤◌, ℤ, pos, ◌≤ℤ◌, Bool, true, false, cond, ◌⊎◌, inl, inr, ⊎_elim, List, [], ◌∷◌, ◌++◌, length, Option, Some, None, Result, Ok, Err, refl, sym, ap, ◌∙◌, subst, arith, ⊤, slice_get, slice_index, ◌==◌, fold, filter, filter_map, AllZip, cons_option, ints, clamps, cond-true, cond-false, sum_by-cons, fold-append, filter-append, PieceData, CertificateData, ClaimData, leaves_out, count_leaving_out, Interval, Sample, IsYesOr, IsContradiction, IsRefusedEntry, HasOneMoreEntry, numbers_below, meet_of, narrowed, group_interval, part_from, parts_after, unless_refused, parts_fault, verdict_from, verdict_of, Part, Stretch, Yes, Why, BadSample, MixedServers, RepeatedServer, by_test}
 use Rattle.checker.proofs.Comparison.{FaultIs, Follows, verdict_follows, all_follow, piece_follows, EveryHull, hull_follows}
 
 -- if there is a first, there is a second too, and it leaves out whatever the first leaves out

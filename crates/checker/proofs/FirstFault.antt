@@ -1,13 +1,10 @@
 -- The first fault of a piece and of a certificate, step by step.
-use Rattle.checker.proofs.Common.{◌≡◌, ◌≢◌, ℕ, suc, ◌+◌, ◌<◌, ◌≤◌, ◌^◌, ℤ, pos, ◌≤ℤ◌, ◌<ℤ◌, Bool, true, false, ◌&&◌, ◌||◌, int_lt, nat_lt, if◌then◌else◌, List, [], ◌∷◌, length, map, drop, get_or, Option, Some, None, Result, refl, sym, ap, ap₂, ◌∙◌, subst, add-one, arith, int_eq, cond-true, cond-false, nat_tests, ints, PieceData, piece_data, ClaimData, Sample, parts_after, parts_fault, piece_fault, verdict_after, verdict_from, IsPiece, Part, Verdict, Yes, No, Why, Cut, Uncovered}
+use Rattle.checker.proofs.Common.{◌≡◌, ◌≢◌, ℕ, suc, ◌+◌, ◌<◌, ◌≤◌, ◌^◌, ℤ, pos, ◌≤ℤ◌, ◌<ℤ◌, Bool, true, false, ◌&&◌, ◌||◌, int_lt, nat_lt, if◌then◌else◌, List, [], ◌∷◌, length, map, drop, get_or, Option, Some, None, Result, refl, sym, ap, ap₂, ◌∙◌, subst, add-one, arith, int_eq, cond-true, cond-false, nat_tests, ints, PieceData, piece_data, ClaimData, Sample, parts_after, parts_fault, piece_fault, verdict_after, verdict_from, IsPiece, Part, Verdict, Yes, No, Why, Cut, Uncovered, int_lt-false}
 use Rattle.std.proofs.Math.ListN.{drop_of_length-le}
 use Rattle.std.proofs.Math.Seq.{drop-cons}
 use Rattle.certificate.specs.declared.certificate.Piece.{Piece}
 
 -- ---- a piece
-
-not_less : (a b : ℤ) → int_lt a b ≡ false → b ≤ℤ a
-not_less a b fails = grind (arith, ints)
 
 -- a piece with its begin, its end and the last reading of the span, as a program holds them
 module _ (samples : List Sample) (claim : ClaimData) (begin : ℤ) (piece : PieceData) (b e l : ℤ)
@@ -40,11 +37,11 @@ module _ (samples : List Sample) (claim : ClaimData) (begin : ℤ) (piece : Piec
   pub uncut_piece : pos 0 ≤ℤ begin → claim.last <ℤ pos (2 ^ 64) → int_lt e b ≡ false → int_lt l e ≡ false
       → IsPiece b e
   uncut_piece begins ends before after =
-      let most : e ≤ℤ l = not_less l e after in
+      let most : e ≤ℤ l = int_lt-false l e after in
       let below : l <ℤ pos (2 ^ 64) = subst (λ z. z <ℤ pos (2 ^ 64)) (sym is_l) ends in
       record {
         from_zero = subst (λ z. pos 0 ≤ℤ z) (sym is_b) begins;
-        in_order = not_less e b before;
+        in_order = int_lt-false e b before;
         in_range = omega (arith, ints);
       }
 

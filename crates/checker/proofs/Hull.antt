@@ -1,6 +1,5 @@
 -- Why a hull holds the error: from what entries name of a course to the hull of what they say.
-use Rattle.checker.proofs.Common.{◌≡◌, ℕ, ◌<◌, ◌≤◌, ℤ, pos, ◌*ℤ◌, ◌≤ℤ◌, Bool, false, List, [], ◌∷◌, length, Option, Some, None, refl, sym, ap, ◌∙◌, subst, arith, All, slice_get, option_map, slice_get-map, ClaimData, IsLawful, HoldsFraction, IsAdmissibleFraction, HullHoldsFraction, IsHull, hull_of, Interval, Hull, Exchange, Moment, error_of, DriftsWithin, DriftsWithinByReading, IsInWindow, IsWithinDistance, IsOffAtLeast, IsOffAtMost, sample_of, least_error, greatest_error, IsLawfulSample, IsRate, billion, request_start, reply_end, Sample, piece_interval_of, IsSaidBy, AreSaidBy, IsOfSamples, Course, Fits, false_group_count, group_intervals, piece_hull, FitsPiece, AreSamplesOf, samples_of, IsObservedIn, IsInHull, HoldsError, HoldsErrorOfPiece, Part, Stretch}
-use Rattle.checker.proofs.Part.{All-slice_get}
+use Rattle.checker.proofs.Common.{◌≡◌, ℕ, ◌<◌, ◌≤◌, ℤ, pos, ◌*ℤ◌, ◌≤ℤ◌, Bool, false, List, [], ◌∷◌, length, Option, Some, None, refl, sym, ap, ◌∙◌, subst, arith, All, slice_get, option_map, slice_get-map, ClaimData, IsLawful, HoldsFraction, IsAdmissibleFraction, HullHoldsFraction, IsHull, hull_of, Interval, Hull, Exchange, Moment, error_of, DriftsWithin, DriftsWithinByReading, IsInWindow, IsWithinDistance, IsOffAtLeast, IsOffAtMost, sample_of, least_error, greatest_error, IsLawfulSample, IsRate, billion, request_start, reply_end, Sample, piece_interval_of, IsSaidBy, AreSaidBy, IsOfSamples, Course, Fits, false_group_count, group_intervals, piece_hull, FitsPiece, AreSamplesOf, samples_of, IsObservedIn, IsInHull, HoldsError, HoldsErrorOfPiece, Part, Stretch, All-slice_get}
 use Rattle.checker.proofs.Counting.{few_leave_it_out}
 use Rattle.checker.proofs.PieceFit.{counts_as_false, count_from_few, true_if_uncounted, fits_piece}
 use Rattle.checker.proofs.EntryStatement.{zip_all}

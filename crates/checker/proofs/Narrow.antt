@@ -1,6 +1,6 @@
 -- Narrower intervals of the same servers, and more of them, leave no more points admissible.
-use Rattle.checker.proofs.Common.{◌≡◌, ℕ, ◌≤◌, ℤ, Bool, true, cond, ◌&&◌, ◌⊎◌, inl, inr, ⊎_elim, List, [], length, Some, None, Ok, count_by, refl, sym, ap, ◌∙◌, subst, arith, All, slice_index, ◌==◌, Any, ints, cond-true, cond-false, and_parts, and_from, Any-from_list_any, sum_by-le-sum_by, All-get_or, any_passes_from_place, slice_get_read, leaves_out, Interval, Empty, Sample, IsContradiction, IsNarrower, AreNarrower, IsOfSamples, numbers_below, group_interval, group_intervals, piece_hull, parts_after, hull_fault, Part, Stretch}
-use Rattle.checker.proofs.Part.{by_test, all_parts}
+use Rattle.checker.proofs.Common.{◌≡◌, ℕ, ◌≤◌, ℤ, Bool, true, cond, ◌&&◌, ◌⊎◌, inl, inr, ⊎_elim, List, [], length, Some, None, Ok, count_by, refl, sym, ap, ◌∙◌, subst, arith, All, slice_index, ◌==◌, Any, ints, cond-true, cond-false, and_parts, and_from, Any-from_list_any, sum_by-le-sum_by, All-get_or, any_passes_from_place, slice_get_read, leaves_out, Interval, Empty, Sample, IsContradiction, IsNarrower, AreNarrower, IsOfSamples, numbers_below, group_interval, group_intervals, piece_hull, parts_after, hull_fault, Part, Stretch, by_test}
+use Rattle.checker.proofs.Part.{all_parts}
 use Rattle.checker.proofs.Comparison.{FaultIs, EveryHull, hull_follows}
 use Rattle.checker.proofs.VerdictPieces.{empty_hull}
 use Rattle.checker.proofs.Separation.{IsOfEither, passes, group_passes, counted, meet_leaves_it_out, all_counted}
@@ -38,7 +38,7 @@ module _ (p : Interval → Bool) (either : IsOfEither p)
       (λ fails. omega (arith, cond-false {A = ℕ} (passes p (group_interval groups parts g)) 1 0 fails))
 
   -- so no fewer groups pass
-  no_fewer_groups : count_by p (group_intervals groups parts) ≤ count_by p (group_intervals groups next)
+  pub no_fewer_groups : count_by p (group_intervals groups parts) ≤ count_by p (group_intervals groups next)
   no_fewer_groups =
       let numbers = numbers_below (length groups) in
       let before = counted p either (group_interval groups parts) numbers in
@@ -47,7 +47,7 @@ module _ (p : Interval → Bool) (either : IsOfEither p)
       (λ g. cond (passes p (group_interval groups next g)) 1 0) numbers no_more_at in
       omega (arith, before, after, step)
 
-still_left_out : (point : ℤ) (part next : Part) → IsNarrower part next → leaves_out part.interval point ≡ true
+pub still_left_out : (point : ℤ) (part next : Part) → IsNarrower part next → leaves_out part.interval point ≡ true
     → leaves_out next.interval point ≡ true
 still_left_out point part next is out = let a = is.low in let b = is.high in grind (arith, ints)
 

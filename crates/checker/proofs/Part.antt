@@ -1,19 +1,9 @@
 -- What the entries of a piece say, each by itself.
-use Rattle.checker.proofs.Common.{◌≡◌, ◌≢◌, ℕ, ◌<◌, Bool, true, false, cond, not, List, [], ◌∷◌, ◌++◌, Option, Some, None, Result, Ok, Err, length, refl, sym, ◌∙◌, subst, arith, All, slice_get, ◌==◌, list_any, cond-true, cond-false, nat_tests, All-push, All-nil, get_or_from_slice_get, slice_get_within, Sample, part_of, part_from, parts_after, unless_refused, Part, Stretch, Why, MixedServers, RepeatedServer}
-
-pub by_test : {P : Type 0} (b : Bool) → (b ≡ true → P) → (b ≡ false → P) → P
-by_test true f g = f refl
-by_test false f g = g refl
+use Rattle.checker.proofs.Common.{◌≡◌, ◌≢◌, ℕ, ◌<◌, Bool, true, false, cond, not, List, [], ◌∷◌, ◌++◌, Option, Some, None, Result, Ok, Err, length, refl, sym, ◌∙◌, subst, arith, All, slice_get, ◌==◌, list_any, cond-true, cond-false, nat_tests, All-push, All-nil, Sample, part_of, part_from, parts_after, unless_refused, Part, Stretch, Why, MixedServers, RepeatedServer, All-slice_get}
 
 -- one server: the test on two samples fails
 pub same_server : (a b : ℕ) → not (a == b) ≡ false → a ≡ b
 same_server a b h = grind (arith, nat_tests)
-
--- what holds of all holds of the one at a place
-pub All-slice_get : {X : Type 0} (P : X → Type 0) (xs : List X) (k : ℕ) (x : X) → All P xs → slice_get xs k ≡ Some x
-    → P x
-All-slice_get P xs k x all is =
-    subst P (get_or_from_slice_get xs k x x is) (all k x (slice_get_within xs k x is))
 
 -- the tests on two samples pass
 test_fails : (a b : ℕ) → a ≡ b → not (a == b) ≡ false

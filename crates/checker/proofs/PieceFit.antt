@@ -1,7 +1,6 @@
 -- A course that fits a capture fits what any entries name of it.
-use Rattle.checker.proofs.Common.{◌≡◌, ℕ, zero, suc, ◌+◌, ◌<◌, ◌≤◌, Bool, true, false, cond, ◌&&◌, List, [], ◌∷◌, ◌++◌, length, Some, count_by, refl, sym, ap, ◌∙◌, subst, inl, inr, arith, slice_get, slice_index, ◌==◌, range_with_len, cond-true, cond-false, and_parts, and_from, nat_tests, Any-from_list_any, sum_by-le-sum_by, get_or_from_slice_get, slice_get-get_or, slice_get_within, ClaimData, Exchange, DriftsWithin, Course, Fits, holds_false, false_group_count, numbers_below, HasFewFalse, OfEachEntry, FitsPiece}
+use Rattle.checker.proofs.Common.{◌≡◌, ℕ, zero, suc, ◌+◌, ◌<◌, ◌≤◌, Bool, true, false, cond, ◌&&◌, List, [], ◌∷◌, ◌++◌, length, Some, count_by, refl, sym, ap, ◌∙◌, subst, inl, inr, arith, slice_get, slice_index, ◌==◌, range_with_len, cond-true, cond-false, and_parts, and_from, nat_tests, Any-from_list_any, sum_by-le-sum_by, get_or_from_slice_get, slice_get-get_or, slice_get_within, ClaimData, Exchange, DriftsWithin, Course, Fits, holds_false, false_group_count, numbers_below, HasFewFalse, OfEachEntry, FitsPiece, by_test}
 use Rattle.checker.proofs.Counting.{fails_below}
-use Rattle.checker.proofs.Part.{by_test}
 
 -- ---- numbers
 

@@ -1,8 +1,7 @@
 -- The course that an accepted refutation stands for.
-use Rattle.checker.proofs.Common.{◌≡◌, ℕ, ◌<◌, ℤ, pos, ◌+ℤ◌, ◌-ℤ◌, ◌*ℤ◌, ◌≤ℤ◌, ◌<ℤ◌, unsigned_abs, false, ⊎_elim, List, length, Option, Some, None, refl, sym, ap, ◌∙◌, subst, arith, All, AllPairs, slice_get, int_max, slice_index_or, ints, clamps, nat_tests, get_or_from_slice_get, slice_get_within, RefutationData, ClaimData, SameRequest, Exchange, Moment, error_of, error_change, DriftsWithin, IsInWindow, IsWithinDistance, request_start, reply_end, Course, Fits, FitsInWindows, IsClientMoment, ReadsInWindows, ComesInOrder, KeepsRootDistance, is_liar, AdmitsError, Admits, IsRefuted, SharesRequests, HasCourse, SomeCourseFits, IsObservedIn, IsTraceable, samples_of, moment_with}
+use Rattle.checker.proofs.Common.{◌≡◌, ℕ, ◌<◌, ℤ, pos, ◌+ℤ◌, ◌-ℤ◌, ◌*ℤ◌, ◌≤ℤ◌, ◌<ℤ◌, unsigned_abs, false, ⊎_elim, List, length, Option, Some, None, refl, sym, ap, ◌∙◌, subst, arith, All, AllPairs, slice_get, int_max, slice_index_or, ints, clamps, nat_tests, get_or_from_slice_get, slice_get_within, RefutationData, ClaimData, SameRequest, Exchange, Moment, error_of, error_change, DriftsWithin, IsInWindow, IsWithinDistance, request_start, reply_end, Course, Fits, FitsInWindows, IsClientMoment, ReadsInWindows, ComesInOrder, KeepsRootDistance, is_liar, AdmitsError, Admits, IsRefuted, SharesRequests, HasCourse, SomeCourseFits, IsObservedIn, IsTraceable, samples_of, moment_with, by_test, All-slice_get, int_max-least, ≤ℤ-sub, ≤ℤ-<ℤ_trans}
 use Rattle.std.specs.Prelude.{nat_lt}
 use Rattle.pairing.specs.Exchange.{IsLawful as IsLawfulExchange}
-use Rattle.checker.proofs.Part.{by_test}
 
 -- ---- bounds
 
@@ -11,12 +10,6 @@ first_comes a b = omega (arith, ints, clamps)
 
 second_comes : (a b : ℤ) → b ≤ℤ int_max a b
 second_comes a b = omega (arith, ints, clamps)
-
-no_later : (a b u : ℤ) → a ≤ℤ u → b ≤ℤ u → int_max a b ≤ℤ u
-no_later a b u p q = omega (arith, ints, clamps)
-
-shifted : (a b e : ℤ) → a ≤ℤ b → (a -ℤ e) ≤ℤ (b -ℤ e)
-shifted a b e h = omega (arith, ints)
 
 pub around : (stamp distance : ℤ) → pos 0 ≤ℤ distance → (stamp -ℤ distance) ≤ℤ (stamp +ℤ distance)
 around stamp distance some = omega (arith, ints)
@@ -38,18 +31,18 @@ module _ (start end t2 t3 distance error : ℤ) where
   in_order : AdmitsError start end t2 t3 distance error
       → ((start -ℤ error) ≤ℤ receipt_time) × (receipt_time ≤ℤ answer_time) × (answer_time ≤ℤ (end -ℤ error))
   in_order room =
-      let leaves = shifted start end error room.leaves_before_arrival in
+      let leaves = ≤ℤ-sub start end error room.leaves_before_arrival in
       let receives = room.receives_before_arrival in
       let answers = room.answers_before_arrival in
-      (first_comes _ _, first_comes _ _, no_later _ _ _ (no_later _ _ _ leaves receives) answers)
+      (first_comes _ _, first_comes _ _, int_max-least _ _ _ (int_max-least _ _ _ leaves receives) answers)
 
   near_stamps : AdmitsError start end t2 t3 distance error → pos 0 ≤ℤ distance
       → IsWithinDistance 1 t2 distance receipt_time × IsWithinDistance 1 t3 distance answer_time
   near_stamps room some =
-      let receipt = no_later (start -ℤ error) (t2 -ℤ distance) (t2 +ℤ distance) room.leaves_before_receipt
+      let receipt = int_max-least (start -ℤ error) (t2 -ℤ distance) (t2 +ℤ distance) room.leaves_before_receipt
       (around t2 distance some) in
-      let answer = no_later receipt_time (t3 -ℤ distance) (t3 +ℤ distance)
-      (no_later _ _ _ room.leaves_before_answer room.receives_before_answer) (around t3 distance some) in (
+      let answer = int_max-least receipt_time (t3 -ℤ distance) (t3 +ℤ distance)
+      (int_max-least _ _ _ room.leaves_before_answer room.receives_before_answer) (around t3 distance some) in (
         within t2 distance receipt_time (second_comes _ _) receipt,
         within t3 distance answer_time (second_comes _ _) answer,
       )
@@ -83,9 +76,6 @@ widened low high allowance forward some = omega (arith, ints)
 -- ---- elements of a list
 
 module _ {X : Type 0} where
-  each_at : (P : X → Type 0) (xs : List X) (k : ℕ) (x : X) → All P xs → slice_get xs k ≡ Some x → P x
-  each_at P xs k x all at = subst P (get_or_from_slice_get xs k x x at) (all k x (slice_get_within xs k x at))
-
   module _ (R : X → X → Type 0) (xs : List X) (all : AllPairs R xs) where
     pair_at : (i j : ℕ) (x y : X) → i < j → slice_get xs i ≡ Some x → slice_get xs j ≡ Some y → R x y
     pair_at i j x y before at_i at_j =
@@ -149,7 +139,7 @@ module _ (claim : ClaimData) (xs : List Exchange) (r : RefutationData) where
       (refuted : IsRefuted claim xs r) where
     windows : (k : ℕ) (x : Exchange) → slice_get xs k ≡ Some x → ReadsInWindows claim.reading course k x
     windows k x at =
-        let lawful = each_at (IsLawfulExchange servers) xs k x each at in
+        let lawful = All-slice_get (IsLawfulExchange servers) xs k x each at in
         let request = widened x.t1_low x.t1_high claim.reading lawful.t1_ordered some in
         let reply = widened x.t4_low x.t4_high claim.reading lawful.t4_ordered some in
         rw at (at_start _ _ request, at_end _ _ reply)
@@ -157,7 +147,7 @@ module _ (claim : ClaimData) (xs : List Exchange) (r : RefutationData) where
     room : (k : ℕ) (x : Exchange) → slice_get xs k ≡ Some x → is_liar r.liars x.server ≡ false
         → Admits claim.reading r.error x
     room k x at =
-        each_at (λ y. is_liar r.liars y.server ≡ false → Admits claim.reading r.error y) xs k x refuted.admits at
+        All-slice_get (λ y. is_liar r.liars y.server ≡ false → Admits claim.reading r.error y) xs k x refuted.admits at
 
     order : (k : ℕ) (x : Exchange) → slice_get xs k ≡ Some x → is_liar r.liars x.server ≡ false
         → ComesInOrder course k x
@@ -166,7 +156,7 @@ module _ (claim : ClaimData) (xs : List Exchange) (r : RefutationData) where
     distances : (k : ℕ) (x : Exchange) → slice_get xs k ≡ Some x → is_liar r.liars x.server ≡ false
         → KeepsRootDistance course k x
     distances k x at true' =
-        let lawful = each_at (IsLawfulExchange servers) xs k x each at in
+        let lawful = All-slice_get (IsLawfulExchange servers) xs k x each at in
         rw at (near_stamps (start_of x) (end_of x) x.t2 x.t3 x.distance r.error (room k x at true')
         lawful.distance_not_negative)
 
@@ -245,9 +235,6 @@ module _ (claim : ClaimData) (bound : ℤ) (bound_ns : ℕ) (xs : List Exchange)
       let found = some_fits (record claim { bound = bound; bound_ns = bound_ns }) xs r some servers each refuted in
       (found.0, other_bound_in_windows found.0 found.1, found.2)
 
-further : (bound narrower error : ℤ) → narrower ≤ℤ bound → bound <ℤ error → narrower <ℤ error
-further bound narrower error p q = omega (arith, ints)
-
 pub refuted_with_less : (claim : ClaimData) (narrower : ℤ) (drift_ppb : ℕ) (xs : List Exchange) (r : RefutationData)
     → narrower ≤ℤ claim.bound → IsRefuted claim xs r
     → IsRefuted (record claim { bound = narrower; drift_ppb = drift_ppb }) xs r
@@ -255,7 +242,7 @@ refuted_with_less claim narrower drift_ppb xs r less h =
     let against = h.against in
     record {
       against = record {
-        beyond_bound = further claim.bound narrower (pos (unsigned_abs r.error)) less against.beyond_bound;
+        beyond_bound = ≤ℤ-<ℤ_trans narrower claim.bound (pos (unsigned_abs r.error)) less against.beyond_bound;
         in_span = against.in_span;
         liars_listed = against.liars_listed;
         liars_differ = against.liars_differ;

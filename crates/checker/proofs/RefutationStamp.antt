@@ -1,26 +1,7 @@
 -- What a course that a refutation stands for says about the stamps and the claim.
-use Rattle.checker.proofs.Common.{◌≡◌, ℕ, ◌*◌, ◌<◌, ℤ, pos, negsuc, ◌+ℤ◌, ◌-ℤ◌, ◌*ℤ◌, ◌≤ℤ◌, ◌<ℤ◌, unsigned_abs, false, inl, inr, List, Some, refl, sym, arith, slice_get, slice_index_or, ints, slice_get-get_or, slice_get_within, RefutationData, ClaimData, times_le, times-add, Exchange, Moment, error_of, request_start, reply_end, Course, is_liar, AdmitsError, Admits, IsAgainst, IsRefuted, IsCourseOf, ShowsThroughout, IsObservedIn, IsWithin}
-use Rattle.std.specs.Prelude.{int_le}
-use Rattle.checker.proofs.Part.{by_test}
+use Rattle.checker.proofs.Common.{◌≡◌, ℕ, ◌*◌, ◌<◌, ℤ, pos, ◌+ℤ◌, ◌-ℤ◌, ◌*ℤ◌, ◌≤ℤ◌, ◌<ℤ◌, unsigned_abs, false, inl, inr, List, Some, refl, sym, arith, slice_get, slice_index_or, ints, slice_get-get_or, slice_get_within, RefutationData, ClaimData, times_le, times-add, Exchange, Moment, error_of, request_start, reply_end, Course, is_liar, AdmitsError, Admits, IsAgainst, IsRefuted, IsCourseOf, ShowsThroughout, IsObservedIn, IsWithin, le_from_times, ≤ℤ_trans, ≤ℤ_trans_twice, unsigned_abs-mul}
 
 -- ---- what a course says about the stamps
-
--- n times an order gives the order
-cancel : (a b : ℤ) (n : ℕ) → 0 < n → (a *ℤ pos n) ≤ℤ (b *ℤ pos n) → a ≤ℤ b
-cancel a b n some h =
-    by_test (int_le a b) (λ holds. grind (arith, ints))
-    (λ fails.
-    let above : (b +ℤ pos 1) ≤ℤ a = grind (arith, ints) in
-    let scaled = times_le (b +ℤ pos 1) a n above in
-    let sum = times-add (b +ℤ pos 1) b (pos 1) n refl in
-    let unit : (pos 1 *ℤ pos n) ≡ pos n = omega (arith, ints) in
-    absurd (omega (arith, ints)))
-
-joined : (a b c : ℤ) → a ≤ℤ b → b ≤ℤ c → a ≤ℤ c
-joined a b c p q = omega (arith, ints)
-
-chained : (a b c d : ℤ) → a ≤ℤ b → b ≤ℤ c → c ≤ℤ d → a ≤ℤ d
-chained a b c d p q r = omega (arith, ints)
 
 unshifted : (a b e : ℤ) → (a -ℤ e) ≤ℤ (b -ℤ e) → a ≤ℤ b
 unshifted a b e h = omega (arith, ints)
@@ -73,12 +54,12 @@ module _ (start end t2 t3 distance error : ℤ) (request reply : Moment) (receiv
   scaled_room =
       let (o1, o2, o3) = order in
       record {
-        receipt = chained _ _ _ _ leaves o1 receipt_to;
-        answer = chained _ _ _ _ leaves o1 (joined _ _ _ o2 answer_to);
-        arrival = unshifted start end error (chained _ _ _ _ leaves o1 (chained _ _ _ _ o2 o3 arrives));
-        receipt_answer = chained _ _ _ _ receipt_from o2 answer_to;
-        receipt_arrival = chained _ _ _ _ receipt_from o2 (joined _ _ _ o3 arrives);
-        answer_arrival = chained _ _ _ _ answer_from o3 arrives;
+        receipt = ≤ℤ_trans_twice _ _ _ _ leaves o1 receipt_to;
+        answer = ≤ℤ_trans_twice _ _ _ _ leaves o1 (≤ℤ_trans _ _ _ o2 answer_to);
+        arrival = unshifted start end error (≤ℤ_trans_twice _ _ _ _ leaves o1 (≤ℤ_trans_twice _ _ _ _ o2 o3 arrives));
+        receipt_answer = ≤ℤ_trans_twice _ _ _ _ receipt_from o2 answer_to;
+        receipt_arrival = ≤ℤ_trans_twice _ _ _ _ receipt_from o2 (≤ℤ_trans _ _ _ o3 arrives);
+        answer_arrival = ≤ℤ_trans_twice _ _ _ _ answer_from o3 arrives;
       }
 
 -- room n times over is room
@@ -87,16 +68,16 @@ module _ (start end t2 t3 distance error : ℤ) (n : ℕ) (some : 0 < n) where
       (error *ℤ pos n)
       → AdmitsError start end t2 t3 distance error
   room_once h = record {
-    leaves_before_receipt = cancel _ _ n some
+    leaves_before_receipt = le_from_times _ _ n some
         (rw (minus_times start error n, plus_times t2 distance n) at h.receipt);
-    leaves_before_answer = cancel _ _ n some
+    leaves_before_answer = le_from_times _ _ n some
         (rw (minus_times start error n, plus_times t3 distance n) at h.answer);
-    leaves_before_arrival = cancel _ _ n some h.arrival;
-    receives_before_answer = cancel _ _ n some
+    leaves_before_arrival = le_from_times _ _ n some h.arrival;
+    receives_before_answer = le_from_times _ _ n some
         (rw (minus_times t2 distance n, plus_times t3 distance n) at h.receipt_answer);
-    receives_before_arrival = cancel _ _ n some
+    receives_before_arrival = le_from_times _ _ n some
         (rw (minus_times t2 distance n, minus_times end error n) at h.receipt_arrival);
-    answers_before_arrival = cancel _ _ n some
+    answers_before_arrival = le_from_times _ _ n some
         (rw (minus_times t3 distance n, minus_times end error n) at h.answer_arrival);
   }
 
@@ -127,10 +108,6 @@ module _ (claim : ClaimData) (xs : List Exchange) (r : RefutationData) (against 
 
 -- ---- the course breaks the claim
 
-abs_times : (e : ℤ) (n : ℕ) → unsigned_abs (e *ℤ pos n) ≡ unsigned_abs e * n
-abs_times (pos e) n = omega (arith, ints)
-abs_times (negsuc e) n = omega (arith, ints)
-
 module _ (claim : ClaimData) (xs : List Exchange) (r : RefutationData) (course : Course)
     (against : IsAgainst claim r) (of : IsCourseOf claim xs r course) where
   pub course_in_span : IsObservedIn course claim.first claim.last
@@ -144,7 +121,7 @@ module _ (claim : ClaimData) (xs : List Exchange) (r : RefutationData) (course :
       let n = course.fineness in
       let error = of.off_throughout.one_error course.observation (inl refl) in
       let abs : pos (unsigned_abs r.error * n) ≤ℤ (claim.bound *ℤ pos n) =
-      rw (error, abs_times r.error n) at within' in
+      rw (error, unsigned_abs-mul r.error (pos n)) at within' in
       let scaled : (pos (unsigned_abs r.error) *ℤ pos n) ≡ pos (unsigned_abs r.error * n) = omega (arith, ints) in
-      let near = cancel (pos (unsigned_abs r.error)) claim.bound n of.fits.fits.some_fineness (rw scaled abs) in
+      let near = le_from_times (pos (unsigned_abs r.error)) claim.bound n of.fits.fits.some_fineness (rw scaled abs) in
       not_both claim.bound (pos (unsigned_abs r.error)) against.beyond_bound near

@@ -2,13 +2,13 @@
 --
 -- A group leaves a point out if one of its parts does, and that part's finer group leaves it out too. Finer groups
 -- of different groups are different, so at least as many of them leave the point out.
-use Rattle.checker.proofs.Common.{◌≡◌, ℕ, zero, suc, ◌+◌, ◌<◌, ◌≤◌, ℤ, Bool, true, false, cond, not, ◌&&◌, ◌||◌, List, [], ◌∷◌, length, Option, Some, None, Result, Ok, Err, count_by, refl, sym, ap, ◌∙◌, subst, arith, All, slice_index, ◌==◌, fold, filter, filter_map, list_any, cons_option, ints, clamps, cond-true, cond-false, and_parts, and_from, and_left, and_right, not-true, true_from_ne_false, or_left, or_right, or_from, nat_tests, Any-from_list_any, sum_by-cons, sum_by-append, All-get_or, any_passes_from_place, slice_get_read, CertificateData, ClaimData, leaves_out, Interval, Sample, IsYesOr, IsContradiction, IsTakenApart, numbers_below, meet_of, narrowed, group_interval, parts_after, parts_fault, verdict_of, Part, Stretch, Yes, Why}
+use Rattle.checker.proofs.Common.{◌≡◌, ℕ, zero, suc, ◌+◌, ◌<◌, ◌≤◌, ℤ, Bool, true, false, cond, not, ◌&&◌, ◌||◌, List, [], ◌∷◌, length, Option, Some, None, Result, Ok, Err, count_by, refl, sym, ap, ◌∙◌, subst, arith, All, slice_index, ◌==◌, fold, filter, filter_map, list_any, cons_option, ints, clamps, cond-true, cond-false, and_parts, and_from, and_left, and_right, not-true, or_left, or_right, or_from, nat_tests, Any-from_list_any, sum_by-cons, sum_by-append, All-get_or, any_passes_from_place, slice_get_read, CertificateData, ClaimData, leaves_out, Interval, Sample, IsYesOr, IsContradiction, IsTakenApart, numbers_below, meet_of, narrowed, group_interval, parts_after, parts_fault, verdict_of, Part, Stretch, Yes, Why, by_test, or_rest, cond-le_one, or-false, or_assoc}
 use Rattle.std.specs.Prelude.{nat_lt}
-use Rattle.checker.proofs.Part.{by_test, listed_parts}
-use Rattle.checker.proofs.Counting.{fails_below}
+use Rattle.checker.proofs.Part.{listed_parts}
 use Rattle.checker.proofs.Comparison.{FaultIs, verdict_follows, all_follow, piece_follows, EveryHull, hull_follows}
 use Rattle.checker.proofs.EntryStep.{held_ends, held_test, meet_leaves_out}
 use Rattle.checker.proofs.Order.{meet_turned}
+use Rattle.checker.proofs.Counting.{found_below}
 
 -- ---- counts of the numbers below n
 
@@ -47,14 +47,6 @@ without_one q m (suc n) =
     (grind (arith, nat_tests)) (λ same. grind (arith, nat_tests)) in
     omega (arith, push, push', step)
 
-rest_holds : (a rest : Bool) → (a || rest) ≡ true → a ≡ false → rest ≡ true
-rest_holds true rest h fails = absurd cc
-rest_holds false rest h fails = h
-
-at_most_one : (b : Bool) → cond b 1 0 ≤ 1
-at_most_one true = omega arith
-at_most_one false = omega arith
-
 -- if each number that passes q is `whole` of one that passes r, no more pass q than r
 pub counted_through : (whole : ℕ → ℕ) (r : ℕ → Bool) (n : ℕ) (js : List ℕ) (q : ℕ → Bool)
     → ((k : ℕ) → k < n → q k ≡ true → list_any (λ j. r j && (whole j == k)) js ≡ true)
@@ -70,14 +62,14 @@ counted_through whole r n (j ∷ js) q each =
     let rest : count_by fewer (numbers_below n) ≤ count_by r js = counted_through whole r n js fewer
     (λ k below both.
     let parts = and_parts (q k) (not (whole j == k)) both in
-    rest_holds (r j && (whole j == k)) (list_any (λ i. r i && (whole i == k)) js) (each k below parts.0)
+    or_rest (r j && (whole j == k)) (list_any (λ i. r i && (whole i == k)) js) (each k below parts.0)
     (and_right (r j) (whole j == k) (not-true (whole j == k) parts.1))) in
     let step = without_one q (whole j) n in
-    omega (arith, rest, step, count, cond-true {A = ℕ} (r j) 1 0 passes, at_most_one (nat_lt (whole j) n)))
+    omega (arith, rest, step, count, cond-true {A = ℕ} (r j) 1 0 passes, cond-le_one (nat_lt (whole j) n)))
     (λ fails.
     let rest : count_by q (numbers_below n) ≤ count_by r js = counted_through whole r n js q
     (λ k below holds.
-    rest_holds (r j && (whole j == k)) (list_any (λ i. r i && (whole i == k)) js) (each k below holds)
+    or_rest (r j && (whole j == k)) (list_any (λ i. r i && (whole i == k)) js) (each k below holds)
     (and_left (r j) (whole j == k) fails)) in
     omega (arith, rest, count, cond-false {A = ℕ} (r j) 1 0 fails))
 
@@ -92,14 +84,6 @@ abbrev pub passes : (Interval → Bool) → Option Interval → Bool
 passes p None = false
 passes p (Some interval) = p interval
 
-or_false : (a : Bool) → (a || false) ≡ a
-or_false true = refl
-or_false false = refl
-
-or_assoc : (a b c : Bool) → ((a || b) || c) ≡ (a || (b || c))
-or_assoc true b c = refl
-or_assoc false b c = refl
-
 module _ (p : Interval → Bool) (either : IsOfEither p) where
   narrowed_passes : (o : Option Interval) (part : Part) → passes p (narrowed o part) ≡ (passes p o || p part.interval)
   narrowed_passes None part = refl
@@ -108,7 +92,7 @@ module _ (p : Interval → Bool) (either : IsOfEither p) where
   fold_passes : (test : Part → Bool) (o : Option Interval) (parts : List Part)
       → passes p (fold narrowed o (filter test parts))
       ≡ (passes p o || list_any (λ part. test part && p part.interval) parts)
-  fold_passes test o [] = sym (or_false (passes p o))
+  fold_passes test o [] = sym (or-false (passes p o))
   fold_passes test o (part ∷ parts) =
       let rest : Bool = list_any (λ (other : Part). test other && p other.interval) parts in
       elim (test part) as (λ t. passes p (fold narrowed o (cond t (part ∷ filter test parts) (filter test parts)))
@@ -140,11 +124,6 @@ module _ (p : Interval → Bool) (either : IsOfEither p) where
 
 -- ---- groups, and the finer ones
 
--- a test that one number below n passes
-passes_below : (test : ℕ → Bool) (n j : ℕ) → j < n → test j ≡ true → list_any test (numbers_below n) ≡ true
-passes_below test n j below holds = true_from_ne_false (list_any test (numbers_below n))
-    (λ none. let fails = fails_below test n j below none in cc)
-
 module _ (p : Interval → Bool) (either : IsOfEither p) (groups finer : List ℕ) (apart : IsTakenApart groups finer)
     (parts : List Part) (listed : All (λ part. part.server < length groups) parts) where
   -- the interval of this finer group passes, and it is a part of this group
@@ -175,7 +154,7 @@ module _ (p : Interval → Bool) (either : IsOfEither p) (groups finer : List �
       let count = apart.same_servers in
       let below : j < length groups =
       All-get_or (λ g. g < length groups) finer part.server 0 (omega arith) apart.in_range in
-      passes_below (finer_passes k) (length groups) j below
+      found_below (finer_passes k) (length groups) j below
       (and_from (passes p (group_interval finer parts j)) (apart.whole j == k) finer_holds whole_is)
 
   -- so no fewer finer groups pass

@@ -1,7 +1,6 @@
 -- A shorter piece has narrower intervals, so what is left of a certificate in a span shows no less.
-use Rattle.checker.proofs.Common.{◌≡◌, ℕ, ◌+◌, ◌<◌, ◌≤◌, ℤ, pos, ◌≤ℤ◌, ◌<ℤ◌, Bool, true, false, cond, not, ◌&&◌, ◌||◌, int_lt, nat_lt, inl, List, [], ◌∷◌, ◌++◌, length, Option, Some, None, Result, Ok, Err, refl, sym, ap, ◌∙◌, subst, arith, get_or, All, slice_get, ◌==◌, nat_le, AllZip, int_eq, ints, cond-true, cond-false, nat_tests, get_or_default, AllZip-push, AllZip-get_or, length_all_zip, PieceData, CertificateData, ClaimData, IsLawfulSample, billion, Sample, moved_low, moved_high, IsYesOr, IsContradiction, IsNarrower, AreNarrower, part_of, part_from, parts_after, parts_fault, piece_fault, verdict_from, verdict_of, Part, Stretch, Yes, No, Why, Cut, MixedServers, RepeatedServer, Uncovered}
+use Rattle.checker.proofs.Common.{◌≡◌, ℕ, ◌+◌, ◌<◌, ◌≤◌, ℤ, pos, ◌≤ℤ◌, ◌<ℤ◌, Bool, true, false, cond, not, ◌&&◌, ◌||◌, int_lt, nat_lt, inl, List, [], ◌∷◌, ◌++◌, length, Option, Some, None, Result, Ok, Err, refl, sym, ap, ◌∙◌, subst, arith, get_or, All, slice_get, ◌==◌, nat_le, AllZip, int_eq, ints, cond-true, cond-false, nat_tests, get_or_default, AllZip-push, AllZip-get_or, length_all_zip, PieceData, CertificateData, ClaimData, IsLawfulSample, billion, Sample, moved_low, moved_high, IsYesOr, IsContradiction, IsNarrower, AreNarrower, part_of, part_from, parts_after, parts_fault, piece_fault, verdict_from, verdict_of, Part, Stretch, Yes, No, Why, Cut, MixedServers, RepeatedServer, Uncovered, by_test, All-slice_get}
 use Rattle.checker.specs.Span.{IsSpanWithin, claim_within, pieces_within, certificate_within}
-use Rattle.checker.proofs.Part.{All-slice_get, by_test}
 use Rattle.checker.proofs.VerdictPieces.{yes_step, yes_end}
 use Rattle.checker.proofs.Comparison.{FaultIs, fails_here, EveryHull}
 use Rattle.checker.proofs.Narrow.{narrower_hull}

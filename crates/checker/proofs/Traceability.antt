@@ -1,5 +1,5 @@
 -- Why a yes can be relied on: from the hulls of the pieces to the bound on the error over the span.
-use Rattle.checker.proofs.Common.{◌≡◌, ℕ, zero, suc, ◌*◌, ◌<◌, ◌≤◌, ℤ, pos, negsuc, neg_ℤ, ◌*ℤ◌, ◌≤ℤ◌, unsigned_abs, List, length, Option, Some, None, inl, refl, sym, subst, arith, All, slice_get, IsSomeAnd, ints, ticks_per_second, CertificateData, ClaimData, IsLawful, times_le, Hull, Unbounded, Empty, Bounded, Exchange, error_of, Sample, AreSaidBy, Course, Fits, piece_hull, FitsPiece, AreSamplesOf, begin_of, last_end, stretch_of, stretches_of, IsObservedIn, IsWithin, IsWithinNanoseconds, IsInHull, IsTraceable, IsTraceableByPieces, IsContradicted, HoldsErrorOfPiece, HasHull, IsOfHull, IsRefusedByHull, hull_fault, verdict_of, Part, Stretch, Yes, No, Why, Contradiction}
+use Rattle.checker.proofs.Common.{◌≡◌, ℕ, ◌*◌, ◌≤◌, ℤ, pos, negsuc, neg_ℤ, ◌*ℤ◌, ◌≤ℤ◌, unsigned_abs, List, Option, Some, None, inl, refl, sym, subst, arith, slice_get, IsSomeAnd, ints, ticks_per_second, CertificateData, ClaimData, IsLawful, times_le, Hull, Unbounded, Empty, Bounded, Exchange, error_of, Sample, AreSaidBy, Course, Fits, piece_hull, FitsPiece, AreSamplesOf, begin_of, last_end, stretch_of, stretches_of, IsObservedIn, IsWithin, IsWithinNanoseconds, IsInHull, IsTraceable, IsTraceableByPieces, IsContradicted, HoldsErrorOfPiece, HasHull, IsOfHull, IsRefusedByHull, hull_fault, verdict_of, Part, Stretch, Yes, No, Why, Contradiction, neg_times}
 use Rattle.std.proofs.Math.Nat.{mul-le-mul_right}
 use Rattle.era_unfold.specs.Nanoseconds.{nanoseconds_per_second, ticks_down}
 use Rattle.checker.proofs.Cover.{all_covered, piece_at, stretch_of_piece}
@@ -8,10 +8,6 @@ use Rattle.checker.proofs.EntryStatement.{said_from}
 use Rattle.checker.proofs.VerdictPieces.{HullGives, empty_hull, inside_from, from_hull, tested, yes_end, no_at}
 
 -- ---- bounds
-
-neg_times : (b n : ℕ) → (neg_ℤ (pos b) *ℤ pos n) ≡ neg_ℤ (pos (b * n))
-neg_times zero n = omega (arith, ints)
-neg_times (suc b) n = omega (arith, ints)
 
 -- between n times -bound and n times bound
 inside_at : (b n : ℕ) (lo hi e : ℤ) → (lo *ℤ pos n) ≤ℤ e → e ≤ℤ (hi *ℤ pos n) → neg_ℤ (pos b) ≤ℤ lo → hi ≤ℤ pos b

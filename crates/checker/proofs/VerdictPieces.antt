@@ -1,6 +1,5 @@
 -- What a verdict says about the pieces.
-use Rattle.checker.proofs.Common.{◌≡◌, ℕ, suc, ◌+◌, ◌<◌, ℤ, pos, neg_ℤ, ◌≤ℤ◌, Bool, true, false, cond, ◌&&◌, ◌||◌, int_le, int_lt, nat_lt, List, [], ◌∷◌, ◌++◌, length, Option, Some, None, Result, Ok, Err, inl, inr, refl, sym, ap, ◌∙◌, subst, arith, slice_get, int_eq, ints, cond-true, cond-false, nat_tests, PieceData, ClaimData, Hull, Unbounded, Empty, Bounded, Sample, piece_hull, begin_of, last_end, IsOfHull, part_from, parts_after, unless_refused, hull_fault, parts_fault, piece_fault, verdict_after, verdict_from, Part, Stretch, Verdict, Yes, No, Why, Cut, BadSample, MixedServers, RepeatedServer, Contradiction, Exceeds, Uncovered}
-use Rattle.checker.proofs.Part.{by_test}
+use Rattle.checker.proofs.Common.{◌≡◌, ℕ, suc, ◌+◌, ◌<◌, ℤ, pos, neg_ℤ, ◌≤ℤ◌, Bool, true, false, cond, ◌&&◌, ◌||◌, int_le, int_lt, nat_lt, List, [], ◌∷◌, ◌++◌, length, Option, Some, None, Result, Ok, Err, inl, inr, refl, sym, ap, ◌∙◌, subst, arith, slice_get, int_eq, ints, cond-true, cond-false, nat_tests, PieceData, ClaimData, Hull, Unbounded, Empty, Bounded, Sample, piece_hull, begin_of, last_end, IsOfHull, part_from, parts_after, unless_refused, hull_fault, parts_fault, piece_fault, verdict_after, verdict_from, Part, Stretch, Verdict, Yes, No, Why, Cut, BadSample, MixedServers, RepeatedServer, Contradiction, Exceeds, Uncovered, by_test, and_parts}
 
 pub empty_hull : (bound : ℤ) (hull : Hull) → hull_fault bound hull ≡ Some Contradiction → hull ≡ Empty
 empty_hull bound Unbounded e = absurd cc
@@ -15,16 +14,12 @@ empty_hull bound (Bounded lo hi) e = by_test (int_le (neg_ℤ bound) lo && int_l
     sym (cond-false (int_le (neg_ℤ bound) lo && int_le hi bound) None (Some Exceeds) outside) ∙ e in
     cc))
 
-both : (a b : Bool) → (a && b) ≡ true → (a ≡ true) × (b ≡ true)
-both true b h = (refl, h)
-both false b h = absurd cc
-
 -- a bounded hull gives no fault exactly if it lies inside the bound
 pub inside_from : (bound lo hi : ℤ) → hull_fault bound (Bounded lo hi) ≡ None
     → (neg_ℤ bound ≤ℤ lo) × (hi ≤ℤ bound)
 inside_from bound lo hi e = by_test (int_le (neg_ℤ bound) lo && int_le hi bound)
     (λ inside.
-    let tests = both (int_le (neg_ℤ bound) lo) (int_le hi bound) inside in
+    let tests = and_parts (int_le (neg_ℤ bound) lo) (int_le hi bound) inside in
     (grind (arith, ints), grind (arith, ints)))
     (λ outside. absurd (
     let no : Some Exceeds ≡ None =
@@ -129,7 +124,7 @@ module _ (samples : List Sample) (claim : ClaimData) where
       → (0 < k) × (begin ≡ claim.last)
   covers_test k begin e = by_test (nat_lt 0 k && int_eq begin claim.last)
       (λ passes.
-      let parts = both (nat_lt 0 k) (int_eq begin claim.last) passes in
+      let parts = and_parts (nat_lt 0 k) (int_eq begin claim.last) passes in
       (grind (arith, nat_tests), same_number begin claim.last parts.1))
       (λ fails. absurd (
       let no : No k Uncovered ≡ Yes =

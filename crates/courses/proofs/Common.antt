@@ -6,12 +6,14 @@ pub use Rattle.std.proofs.Common.{min, negsuc, not, of_z, pos, pow-suc, refl, ru
 pub use Rattle.std.proofs.Common.{to_z, true, true≢false, unsigned_abs, w32, zero, ℕ, ℤ, ⊎_elim, ◌%◌, ◌&&◌, ◌*ℤ◌, ◌*◌}
 pub use Rattle.std.proofs.Common.{◌++◌, ◌+ℤ◌, ◌+◌, ◌-ℤ◌, ◌-◌, ◌/◌, ◌<ℤ◌, ◌<◌, ◌^◌, ◌||◌, ◌∙◌, ◌∷◌, ◌≡◌, ◌≢◌, ◌≤ℤ◌, ◌≤◌}
 pub use Rattle.std.proofs.Common.{◌⊎◌}
+pub use Rattle.std.proofs.Math.Bool.{and-true, or-false, or_comm}
 pub use Rattle.std.proofs.Math.ListN.{drop_of_length-le, get_or-append, length-append}
 pub use Rattle.std.proofs.Math.Nat.{le_of_mul-le-mul_left, le_of_mul-le-mul_right, lt_of_mul-lt-mul_right}
-pub use Rattle.std.proofs.Math.Nat.{mul-le-mul_left, mul-le-mul_right}
+pub use Rattle.std.proofs.Math.Nat.{mul-le-mul_left, mul-le-mul_right, mul-pos}
 pub use Rattle.std.proofs.Math.Seq.{append_snoc, drop-cons, get_or-append_seam}
 pub use Rattle.std.proofs.lemmas.Bool.{and_parts, and_right, cases_lt, cond-false, cond-true, lt-ltb, ltb-true}
-pub use Rattle.std.proofs.lemmas.Bool.{not-true, or_cases, or_left, or_right}
+pub use Rattle.std.proofs.lemmas.Bool.{and_from, ne_eqb, not-true, or_cases, or_from, or_left, or_parts, or_right}
+pub use Rattle.std.proofs.lemmas.Bool.{false_from_ne_true}
 pub use Rattle.std.proofs.lemmas.Bool.Decides.{nat_tests}
 pub use Rattle.std.proofs.lemmas.Grind.{get_or_default_zero}
 pub use Rattle.std.proofs.lemmas.Int.{by_lt_z, clamps, ints, unsigned_abs-mul}
@@ -26,14 +28,13 @@ pub use Rattle.std.proofs.lemmas.Nat.Bits.{bit_at_ones_above, bit_at_or}
 pub use Rattle.std.proofs.lemmas.Option.{get_or_from_slice_get, slice_get-get_or, slice_get_within}
 pub use Rattle.std.proofs.lemmas.Result.{IfOk-weaker}
 pub use Rattle.std.specs.Int.{bit_at, bit_not, int_max, int_min}
+pub use Rattle.std.specs.Int.Signed.{≤ℤ_refl}
 pub use Rattle.std.specs.List.{list_all, list_any, slice_index_or}
 pub use Rattle.std.specs.Prelude.{All, AllPairs, Any, IsTrue, MatchOption, filter, fold, if◌then◌else◌, int_le, nat_lt}
 pub use Rattle.std.specs.Prelude.{slice_index, ◌==◌, ◌↔◌}
 pub use Rattle.certificate.specs.Refutation.{RefutationData}
 pub use Rattle.checker.proofs.Counting.{counted, fails_below, second_fails}
 pub use Rattle.checker.proofs.Exchange.{are_samples}
-pub use Rattle.checker.proofs.Part.{by_test}
-pub use Rattle.checker.proofs.RefutationTests.{both_true, le_from, le_to}
 pub use Rattle.checker.proofs.Separation.{count_push}
 pub use Rattle.checker.specs.Course.{ComesInOrder, Course, Fits, FitsInWindows, IsClientMoment, KeepsRootDistance}
 pub use Rattle.checker.specs.Course.{ReadsInWindows}
@@ -84,3 +85,12 @@ pub use Rattle.courses.specs.TrueMarks.{AreAllCompatible, DoAgree, FitsWithFalse
 pub use Rattle.courses.specs.declared.groups.Groups.{Groups}
 pub use Rattle.courses.specs.declared.kept_marks.KeptMarks.{KeptMarks}
 pub use Rattle.courses.specs.declared.shown_conflicts.Conflict.{Conflict}
+pub use Rattle.intersection.proofs.Fractions.{le_from_times}
+pub use Rattle.lemma_base.proofs.Bool.{by_test}
+pub use Rattle.lemma_base.proofs.Int.{int_le-true, int_max-least, ≤ℤ-from_equal, ≤ℤ_antisymm, ≤ℤ_trans, ≤ℤ_trans_twice}
+pub use Rattle.lemma_base.proofs.Int.{le-int_le, ≤ℤ-<ℤ_trans}
+pub use Rattle.lemma_base.proofs.List.{All-map_back, All-slice_get, slice_get-below}
+pub use Rattle.lemma_base.proofs.Nat.{lt_next_cases, not_lt_zero}
+pub use Rattle.marks.proofs.Compatibility.{compatible_in_order}
+pub use Rattle.marks.proofs.MarkPair.{not_both}
+pub use Rattle.marks.proofs.Rate.{falls_faster}

@@ -1,8 +1,8 @@
 -- What a course that fits keeps: the marks of each exchange with a server that isn't false, and
 -- those of its observation. So they agree.
-use Rattle.courses.proofs.Common.{◌≡◌, ℕ, ◌≤◌, ℤ, pos, ◌-ℤ◌, ◌*ℤ◌, ◌≤ℤ◌, Bool, false, inl, inr, List, Some, length, refl, sym, arith, All, ints, slice_get_within, ClaimData, RefutationData, Exchange, Mark, low_mark, high_mark, IsPossible, AreCompatible, Moment, error_of, request_start, reply_end, Course, Fits, IsClientMoment, is_liar, IsAgainst, KeepsLow, KeepsHigh, low_marks, high_marks, DoAgree, mark_of, IsRefutedWithDrift, Shows}
+use Rattle.courses.proofs.Common.{◌≡◌, ℕ, ◌≤◌, ℤ, pos, ◌-ℤ◌, ◌*ℤ◌, Bool, false, inl, inr, List, Some, length, refl, sym, arith, All, ints, slice_get_within, ClaimData, RefutationData, Exchange, Mark, low_mark, high_mark, IsPossible, AreCompatible, Moment, error_of, request_start, reply_end, Course, Fits, IsClientMoment, is_liar, IsAgainst, KeepsLow, KeepsHigh, low_marks, high_marks, DoAgree, mark_of, IsRefutedWithDrift, Shows, le_from_times, ≤ℤ_trans_twice, ≤ℤ-from_equal}
 use Rattle.std.specs.Prelude.{slice_get}
-use Rattle.courses.proofs.Scaling.{times-sub, cancel}
+use Rattle.courses.proofs.Scaling.{times-sub}
 use Rattle.courses.proofs.KeptMarks.{moments_in_order, kept_are_compatible}
 use Rattle.courses.proofs.ServedExchange.{Times, AreServed, leaves_in_time, arrives_in_time, stamps_in_order, goes_on}
 use Rattle.courses.proofs.TrueExchanges.{all_true, all_marks, all_pairs}
@@ -12,9 +12,6 @@ at_reading : (n : ℕ) (reading error place time : ℤ) → place ≡ reading *�
 at_reading n reading error place time shows off =
     let difference = times-sub (reading -ℤ error) reading error n refl in
     omega (arith, ints, difference)
-
-through : (a b c d : ℤ) → a ≤ℤ b → b ≤ℤ c → c ≤ℤ d → a ≤ℤ d
-through a b c d p q r = omega (arith, ints)
 
 module _ (claim : ClaimData) (xs : List Exchange) (course : Course) (k : ℕ) (x : Exchange)
     (at : slice_get xs k ≡ Some x) where
@@ -63,8 +60,8 @@ module _ (claim : ClaimData) (xs : List Exchange) (course : Course) (k : ℕ) (x
         let readings = moments_in_order claim.drift_ppb (course.request k) (course.reply k) (omega arith)
         (fits.drift (course.request k) (course.reply k) is_request is_reply) forth in
         record {
-          leaves_before_arrival = cancel start (reply_end x claim.reading) course.fineness fits.some_fineness
-              (through _ _ _ _ (fits.leaves_after_stamp k x at) readings (fits.arrives_before_stamp k x at));
+          leaves_before_arrival = le_from_times start (reply_end x claim.reading) course.fineness fits.some_fineness
+              (≤ℤ_trans_twice _ _ _ _ (fits.leaves_after_stamp k x at) readings (fits.arrives_before_stamp k x at));
           receives_before_answer = stamps_in_order course.fineness start x.t2 x.t3 x.distance times served
               fits.some_fineness;
         }
@@ -106,20 +103,17 @@ module _ {claim : ClaimData} {xs : List Exchange} {course : Course} (slow : clai
           (is_request claim xs course i x at_i) (inl refl)
           (keeps_low claim xs course i x at_i fits (others x.server true_x)) high)
 
-same_le : (a b : ℤ) → a ≡ b → a ≤ℤ b
-same_le a b e = omega (arith, ints)
-
 module _ (n : ℕ) (mark : Mark) (moment : Moment) (shown : moment.reading ≡ mark.place *ℤ pos n)
     (off : error_of moment ≡ mark.error *ℤ pos n) where
   pub observed_low : KeepsLow n mark moment
   observed_low =
       let time = at_reading n mark.place mark.error moment.reading moment.time shown off in
-      (same_le _ _ (sym shown), same_le _ _ time)
+      (≤ℤ-from_equal _ _ (sym shown), ≤ℤ-from_equal _ _ time)
 
   pub observed_high : KeepsHigh n mark moment
   observed_high =
       let time = at_reading n mark.place mark.error moment.reading moment.time shown off in
-      (same_le _ _ shown, same_le _ _ (sym time))
+      (≤ℤ-from_equal _ _ shown, ≤ℤ-from_equal _ _ (sym time))
 
 pub refuted_where_shown : (claim : ClaimData) (xs : List Exchange) (r : RefutationData) (course : Course)
     → claim.drift_ppb ≤ 500000000 → IsAgainst claim r → Shows claim xs r course → IsRefutedWithDrift claim xs r

@@ -1,7 +1,6 @@
 -- The course that an accepted refutation stands for, and what it does to the claim.
-use Rattle.courses.proofs.Common.{◌≡◌, ℕ, ◌<◌, ◌*◌, ℤ, pos, ◌*ℤ◌, ◌≤ℤ◌, ◌<ℤ◌, unsigned_abs, List, length, refl, arith, All, AllPairs, ints, unsigned_abs-mul, RefutationData, ClaimData, times_le, IsLawful as IsLawfulExchange, SameRequest, Exchange, error_of, Course, Fits, FitsInWindows, is_liar, IsAgainst, IsObservedIn, IsWithin, IsTraceable, samples_of, low_marks, lowest_course, mark_of, IsRefutedWithDrift, IsObservedOff, Shows, HasDriftCourse}
+use Rattle.courses.proofs.Common.{◌≡◌, ℕ, ◌<◌, ◌*◌, ℤ, pos, ◌*ℤ◌, ◌≤ℤ◌, ◌<ℤ◌, unsigned_abs, List, length, refl, arith, All, AllPairs, ints, unsigned_abs-mul, RefutationData, ClaimData, times_le, IsLawful as IsLawfulExchange, SameRequest, Exchange, error_of, Course, Fits, FitsInWindows, is_liar, IsAgainst, IsObservedIn, IsWithin, IsTraceable, samples_of, low_marks, lowest_course, mark_of, IsRefutedWithDrift, IsObservedOff, Shows, HasDriftCourse, le_from_times}
 use Rattle.claim_file.specs.Claim.{IsLawful}
-use Rattle.courses.proofs.Scaling.{cancel}
 use Rattle.courses.proofs.LowestMarks.{first_is_met}
 use Rattle.courses.proofs.LowestCourse.{Needs, lowest_fits, lowest_shares}
 
@@ -12,7 +11,7 @@ pub beyond : (bound error found : ℤ) (n : ℕ) → 0 < n → bound <ℤ pos (u
 beyond bound error found n some far off within =
     let size : unsigned_abs found ≡ unsigned_abs error * n = rw off (unsigned_abs-mul error (pos n)) in
     let scaled : (pos (unsigned_abs error) *ℤ pos n) ≤ℤ (bound *ℤ pos n) = omega (arith, ints) in
-    let least = cancel (pos (unsigned_abs error)) bound n some scaled in
+    let least = le_from_times (pos (unsigned_abs error)) bound n some scaled in
     omega (arith, ints)
 
 module _ (claim : ClaimData) (r : RefutationData) (course : Course) (against : IsAgainst claim r)

@@ -1,5 +1,5 @@
 -- The test of a refutation with drift is true exactly if it is accepted.
-use Rattle.courses.proofs.Common.{◌≡◌, ℕ, zero, suc, ◌-◌, ℤ, pos, ◌-ℤ◌, ◌*ℤ◌, ◌≤ℤ◌, ◌<ℤ◌, Bool, true, false, true≢false, List, ◌∷◌, refl, sym, ◌∙◌, arith, int_le, All, if◌then◌else◌, IsTrue, ◌↔◌, list_all, slice_index_or, ints, AllPass-from_list_all, list_all-from_AllPass, RefutationData, is_liar, IsAgainst, ClaimData, IsRefutedWithDrift, mark_of, is_possible, are_compatible, all_compatible, do_agree, is_refuted_with_drift, true_exchanges, low_marks, high_marks, AreAllCompatible, IsPossible, AreCompatible, Mark, Exchange, billion, both_true, le_from, le_to}
+use Rattle.courses.proofs.Common.{◌≡◌, ℕ, zero, suc, ◌-◌, ℤ, pos, ◌-ℤ◌, ◌*ℤ◌, ◌≤ℤ◌, ◌<ℤ◌, Bool, true, false, true≢false, List, ◌∷◌, refl, sym, ◌∙◌, arith, int_le, All, if◌then◌else◌, IsTrue, ◌↔◌, list_all, slice_index_or, ints, AllPass-from_list_all, list_all-from_AllPass, RefutationData, is_liar, IsAgainst, ClaimData, IsRefutedWithDrift, mark_of, is_possible, are_compatible, all_compatible, do_agree, is_refuted_with_drift, true_exchanges, low_marks, high_marks, AreAllCompatible, IsPossible, AreCompatible, Mark, Exchange, billion, and_parts, int_le-true, le-int_le}
 use Rattle.checker.specs.RefutationTest.{is_against}
 
 -- ---- tests
@@ -24,25 +24,25 @@ branch_to false yes' no' h k = k refl
 
 pub possible_from : (allowance : ℤ) (x : Exchange) → is_possible allowance x ≡ true → IsPossible allowance x
 possible_from allowance x e =
-    let (a, b) = both_true _ _ e in
-    record { leaves_before_arrival = le_from _ _ a; receives_before_answer = le_from _ _ b }
+    let (a, b) = and_parts _ _ e in
+    record { leaves_before_arrival = int_le-true _ _ a; receives_before_answer = int_le-true _ _ b }
 
 pub possible_to : (allowance : ℤ) (x : Exchange) → IsPossible allowance x → is_possible allowance x ≡ true
-possible_to allowance x h = rw (le_to _ _ h.leaves_before_arrival, le_to _ _ h.receives_before_answer) refl
+possible_to allowance x h = rw (le-int_le _ _ h.leaves_before_arrival, le-int_le _ _ h.receives_before_answer) refl
 
 compatible_from : (ppb : ℕ) (low high : Mark) → are_compatible ppb low high ≡ true → AreCompatible ppb low high
 compatible_from ppb low high e =
     let parts = branch_from (int_le low.place high.place) _ _ e in
     record {
-      falls = λ before. le_from _ _ (parts.0 (le_to _ _ before));
-      rises = λ after. le_from _ _ (parts.1 (le_fails _ _ after));
+      falls = λ before. int_le-true _ _ (parts.0 (le-int_le _ _ before));
+      rises = λ after. int_le-true _ _ (parts.1 (le_fails _ _ after));
     }
 
 compatible_to : (ppb : ℕ) (low high : Mark) → AreCompatible ppb low high → are_compatible ppb low high ≡ true
 compatible_to ppb low high h =
     branch_to (int_le low.place high.place) _ _
-    (λ before. le_to _ _ (h.falls (le_from _ _ before)))
-    (λ after. le_to _ _ (h.rises (lt_from_failure _ _ after)))
+    (λ before. le-int_le _ _ (h.falls (int_le-true _ _ before)))
+    (λ after. le-int_le _ _ (h.rises (lt_from_failure _ _ after)))
 
 -- ---- lists of marks
 
@@ -87,8 +87,8 @@ module _ (claim : ClaimData) (xs : List Exchange) (r : RefutationData) where
   pub refuted_from : is_refuted_with_drift claim xs r ≡ true → (is_against claim r ≡ true → IsAgainst claim r)
       → IsRefutedWithDrift claim xs r
   refuted_from e against_from =
-      let (against, agree) = both_true _ _ e in
-      let (possible, compatible) = both_true _ _ agree in
+      let (against, agree) = and_parts _ _ e in
+      let (possible, compatible) = and_parts _ _ agree in
       let is_false = is_liar r.liars in
       let lows = low_marks claim.reading is_false xs in
       let highs = high_marks claim.reading is_false xs in
@@ -142,5 +142,5 @@ module _ (claim : ClaimData) (xs : List Exchange) (r : RefutationData) (against 
   agreement is_so agree is = (
     (λ passes. refuted_from claim xs r (rw (sym tested ∙ is_so, sym is ∙ passes) refl)
         (λ says. exact.0 (tested ∙ says))),
-    λ refuted. is ∙ (both_true _ _ (refuted_to claim xs r refuted (λ says. sym tested ∙ exact.1 says))).1,
+    λ refuted. is ∙ (and_parts _ _ (refuted_to claim xs r refuted (λ says. sym tested ∙ exact.1 says))).1,
   )

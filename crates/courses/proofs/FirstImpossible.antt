@@ -1,9 +1,6 @@
 -- The first exchange of a group that is impossible by itself, as it is looked for.
-use Rattle.courses.proofs.Common.{◌≡◌, ℕ, ◌+◌, ◌<◌, ◌≤◌, ◌⊎◌, inl, inr, ⊎_elim, Bool, true, false, true≢false, List, Some, length, slice_get, sym, ap, ◌∙◌, subst, arith, ◌==◌, cases_lt, slice_get_within, ClaimData, IsPossible, Exchange, group_of, IsImpossibleAt}
-use Rattle.courses.proofs.GroupMarks.{equal_from, equal_to}
-
-last_of : (k n : ℕ) → k < n + 1 → (k < n) ⊎ (k ≡ n)
-last_of k n h = ⊎_elim (λ (lt : k < n). inl lt) (λ (le : n ≤ k). inr (omega arith)) (cases_lt k n)
+use Rattle.courses.proofs.Common.{◌≡◌, ℕ, ◌+◌, ◌<◌, ◌≤◌, ⊎_elim, Bool, true, false, true≢false, List, Some, length, slice_get, sym, ap, ◌∙◌, subst, arith, ◌==◌, cases_lt, slice_get_within, ClaimData, IsPossible, Exchange, group_of, IsImpossibleAt, lt_next_cases, eq-eqb}
+use Rattle.courses.proofs.GroupMarks.{equal_from}
 
 is_twice : (b : Bool) → b ≡ true → b ≡ false → ⊥
 is_twice b t f = true≢false (sym t ∙ f)
@@ -24,7 +21,7 @@ module _ (claim : ClaimData) (xs : List Exchange) (group : ℕ) where
   pub not_of_group : (k : ℕ) (x : Exchange) → slice_get xs k ≡ Some x → (group_of claim x == group) ≡ false
       → IsImpossibleAt claim xs group k → ⊥
   not_of_group k x at isnt h =
-      is_twice (group_of claim x == group) (equal_to (group_of claim x) group
+      is_twice (group_of claim x == group) (eq-eqb (group_of claim x) group
       (ap (group_of claim) (one_exchange k x h.exchange at h.stands) ∙ h.in_group)) isnt
 
   pub possible_here : (k : ℕ) (x : Exchange) → slice_get xs k ≡ Some x → IsPossible claim.reading x
@@ -35,7 +32,7 @@ module _ (claim : ClaimData) (xs : List Exchange) (group : ℕ) where
   pub none_so_far : (n : ℕ) → ((k : ℕ) → k < n → IsImpossibleAt claim xs group k → ⊥)
       → (IsImpossibleAt claim xs group n → ⊥) → (k : ℕ) → k < n + 1 → IsImpossibleAt claim xs group k → ⊥
   none_so_far n before not_this k below h = ⊎_elim (λ (lt : k < n). before k lt h)
-      (λ (same : k ≡ n). not_this (subst (IsImpossibleAt claim xs group) same h)) (last_of k n below)
+      (λ (same : k ≡ n). not_this (subst (IsImpossibleAt claim xs group) same h)) (lt_next_cases k n below)
 
   pub none_at_all : (n m : ℕ) → ((k : ℕ) → k < n → IsImpossibleAt claim xs group k → ⊥) → length xs ≡ m → m ≤ n
       → (k : ℕ) → IsImpossibleAt claim xs group k → ⊥

@@ -1,11 +1,11 @@
 -- The first marks of two groups that aren't compatible are of the first two exchanges that contradict each other.
-use Rattle.courses.proofs.Common.{◌≡◌, ◌≢◌, ℕ, ◌+◌, ◌<◌, ◌≤◌, ◌⊎◌, inl, inr, ⊎_elim, Bool, true, false, List, Option, None, Some, length, map, get_or, slice_get, pos, refl, sym, ap, ◌∙◌, subst, arith, ◌==◌, slice_index, MatchOption, cond-true, cond-false, cases_lt, nat_tests, get_or-map, length-map, get_or_from_slice_get, slice_get_within, ClaimData, low_mark, high_mark, AreCompatible, Mark, Exchange, Pair, IsContradiction, IsNoLater, group_of, group_exchanges, group_lows, group_highs, group_numbers, IsFirstApart, AreNumberedOf, IsFirstIfAny, IsImpossibleAt, IsFirstImpossible, pair_of, is_no_later, earlier, twice, by_test}
+use Rattle.courses.proofs.Common.{◌≡◌, ◌≢◌, ℕ, ◌+◌, ◌<◌, ◌≤◌, ◌⊎◌, inl, inr, ⊎_elim, Bool, true, false, List, Option, None, Some, length, map, get_or, slice_get, pos, refl, sym, ap, ◌∙◌, subst, arith, ◌==◌, slice_index, MatchOption, cond-true, cond-false, cases_lt, nat_tests, get_or-map, length-map, get_or_from_slice_get, slice_get_within, ClaimData, low_mark, high_mark, AreCompatible, Mark, Exchange, Pair, IsContradiction, IsNoLater, group_of, group_exchanges, group_lows, group_highs, group_numbers, IsFirstApart, AreNumberedOf, IsFirstIfAny, IsImpossibleAt, IsFirstImpossible, pair_of, is_no_later, earlier, twice, by_test, eq-eqb, slice_get-below}
 use Rattle.marks.specs.Compatible.{AllCompatible}
 use Rattle.marks.specs.Conflict.{IsFirstConflict}
 use Rattle.courses.specs.declared.contradiction.Contradiction.{Contradiction}
 use Rattle.courses.specs.declared.numbered_marks.NumberedMarks.{NumberedMarks}
-use Rattle.courses.proofs.GroupMarks.{equal_from, equal_to, never_both}
-use Rattle.courses.proofs.PassingNumbers.{Found, exchange_at, found, no_less, one_there, placed, rising}
+use Rattle.courses.proofs.GroupMarks.{equal_from, never_both}
+use Rattle.courses.proofs.PassingNumbers.{Found, found, no_less, one_there, placed, rising}
 
 -- ---- pairs, in their order
 
@@ -76,7 +76,7 @@ within_map f xs k x at = rw (length-map xs f) (slice_get_within xs k x at)
 
 mapped_at : (f : Exchange → Mark) (xs : List Exchange) (k : ℕ) → k < length (map f xs)
     → (x : Exchange) × (slice_get xs k ≡ Some x)
-mapped_at f xs k below = exchange_at xs k (subst (λ (n : ℕ). k < n) (length-map xs f) below)
+mapped_at f xs k below = slice_get-below xs k (subst (λ (n : ℕ). k < n) (length-map xs f) below)
 
 module _ (claim : ClaimData) (xs : List Exchange) (a b : ℕ) where
   abbrev is_of : ℕ → Exchange → Bool
@@ -203,9 +203,9 @@ module _ (claim : ClaimData) (xs : List Exchange) (a b : ℕ) where
       no_later_than_others : (other : Pair) → IsApart claim xs a b other → IsNoLater pair other
       no_later_than_others other h =
           let (i', at_i, is_i) =
-          placed (is_of a) 0 xs other.low h.low h.low_stands (equal_to (group_of claim h.low) a h.in_low) in
+          placed (is_of a) 0 xs other.low h.low h.low_stands (eq-eqb (group_of claim h.low) a h.in_low) in
           let (j', at_j, is_j) =
-          placed (is_of b) 0 xs other.high h.high h.high_stands (equal_to (group_of claim h.high) b h.in_high) in
+          placed (is_of b) 0 xs other.high h.high h.high_stands (eq-eqb (group_of claim h.high) b h.in_high) in
           these_no_later other h i' j' at_i at_j is_i is_j
 
       these_first : IsFirstOf (IsApart claim xs a b) pair

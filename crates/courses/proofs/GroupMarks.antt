@@ -1,6 +1,6 @@
 -- The marks of groups tell which groups are broken and which two conflict.
-use Rattle.courses.proofs.Common.{◌≡◌, ◌≢◌, ℕ, zero, suc, ◌<◌, Bool, true, false, true≢false, ◌⊎◌, inl, inr, ⊎_elim, List, [], ◌∷◌, Some, length, slice_get, refl, sym, ◌∙◌, subst, arith, All, filter, ◌==◌, cond-true, cond-false, nat_tests, All-nil, All-cons, All-map, ClaimData, Exchange, low_mark, high_mark, IsPossible, AreCompatible, AreAllCompatible, group_of, HasImpossible, Contradicts, IsBroken, DoConflict, group_exchanges, group_lows, group_highs, IsSound, DoGroupsAgree, IsConflictTable, by_test}
-use Rattle.courses.proofs.TrueExchanges.{at_passing, All-unmap}
+use Rattle.courses.proofs.Common.{◌≡◌, ◌≢◌, ℕ, zero, suc, ◌<◌, Bool, true, false, true≢false, ◌⊎◌, inl, inr, ⊎_elim, List, [], ◌∷◌, Some, length, slice_get, refl, sym, ◌∙◌, subst, arith, All, filter, ◌==◌, cond-true, cond-false, nat_tests, All-nil, All-cons, All-map, ClaimData, Exchange, low_mark, high_mark, IsPossible, AreCompatible, AreAllCompatible, group_of, HasImpossible, Contradicts, IsBroken, DoConflict, group_exchanges, group_lows, group_highs, IsSound, DoGroupsAgree, IsConflictTable, by_test, eq-eqb, All-map_back}
+use Rattle.courses.proofs.TrueExchanges.{at_passing}
 use Rattle.courses.proofs.Covers.{is_possible_or_not, are_compatible_or_not}
 
 -- ---- a search among the elements that pass
@@ -35,9 +35,6 @@ module _ {X : Type 0} (p : X → Bool) (P F : X → Type 0) (decide : (x : X) �
 
 pub equal_from : (a b : ℕ) → (a == b) ≡ true → a ≡ b
 equal_from a b test = grind (arith, nat_tests)
-
-pub equal_to : (a b : ℕ) → a ≡ b → (a == b) ≡ true
-equal_to a b same = grind (arith, nat_tests)
 
 -- ---- groups
 
@@ -92,21 +89,21 @@ module _ (claim : ClaimData) (xs : List Exchange) where
   pub never_both : (a b : ℕ) → AreAllCompatible claim.drift_ppb (group_lows claim xs a) (group_highs claim xs b)
       → Contradicts claim xs a b → ⊥
   never_both a b all h =
-      let of_low = All-unmap (λ low. All (AreCompatible claim.drift_ppb low) (group_highs claim xs b))
+      let of_low = All-map_back (λ low. All (AreCompatible claim.drift_ppb low) (group_highs claim xs b))
       (low_mark claim.reading) (group_exchanges claim xs a) all in
       let highs = at_passing (is_of a)
       (λ x. All (AreCompatible claim.drift_ppb (low_mark claim.reading x)) (group_highs claim xs b)) xs h.low_number
-      h.low of_low h.low_stands (equal_to (group_of claim h.low) a h.in_low_group) in
-      let of_high = All-unmap (AreCompatible claim.drift_ppb (low_mark claim.reading h.low)) (high_mark claim.reading)
+      h.low of_low h.low_stands (eq-eqb (group_of claim h.low) a h.in_low_group) in
+      let of_high = All-map_back (AreCompatible claim.drift_ppb (low_mark claim.reading h.low)) (high_mark claim.reading)
       (group_exchanges claim xs b) highs in
       h.not_compatible (at_passing (is_of b) (Compatible h.low) xs h.high_number h.high of_high h.high_stands
-      (equal_to (group_of claim h.high) b h.in_high_group))
+      (eq-eqb (group_of claim h.high) b h.in_high_group))
 
   never_impossible : (group : ℕ) → All (IsPossible claim.reading) (group_exchanges claim xs group)
       → HasImpossible claim xs group → ⊥
   never_impossible group all h =
       h.impossible (at_passing (is_of group) (IsPossible claim.reading) xs h.number h.exchange all h.stands
-      (equal_to (group_of claim h.exchange) group h.in_group))
+      (eq-eqb (group_of claim h.exchange) group h.in_group))
 
   pub sound_or_broken : (group : ℕ) → IsSound claim xs group ⊎ IsBroken claim xs group
   sound_or_broken group = ⊎_elim
@@ -133,7 +130,8 @@ module _ (claim : ClaimData) (xs : List Exchange) where
   -- ---- a table by tests
 
   broken_by_test : (group : ℕ) (t : Bool) → (t ≡ false → IsSound claim xs group)
-      → (IsSound claim xs group → t ≡ false) → (t ≡ true → IsBroken claim xs group) × (IsBroken claim xs group → t ≡ true)
+      → (IsSound claim xs group → t ≡ false)
+      → (t ≡ true → IsBroken claim xs group) × (IsBroken claim xs group → t ≡ true)
   broken_by_test group t sound test = (
     λ is. ⊎_elim (λ s. absurd (true≢false (sym is ∙ test s))) (λ h. h) (sound_or_broken group),
     λ h. by_test t (λ is. is) (λ isnt. absurd (sound_isnt_broken group (sound isnt) h)),

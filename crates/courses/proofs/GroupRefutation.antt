@@ -1,12 +1,12 @@
 -- A refutation whose liars are the servers of some groups: it stands exactly if these are a cover, and its own
 -- mark is compatible with those of the other groups.
-use Rattle.courses.proofs.Common.{◌≡◌, ℕ, ◌+◌, ◌<◌, ◌≤◌, Bool, true, false, true≢false, cond, not, ◌&&◌, List, [], ◌∷◌, length, map, slice_get, Some, refl, sym, ap, ap₂, ◌∙◌, subst, arith, All, ◌==◌, ◌↔◌, IsTrue, list_any, nat_tests, All-head, All-tail, All-map, slice_get_within, RefutationData, is_liar, IsAgainst, ClaimData, IsConflictTable, ConflictData, IsCover, is_of, servers_of, IsCompatibleWith, IsRefutedWithDrift, mark_of, true_exchanges, AreAllCompatible, DoAgree, low_mark, high_mark, IsPossible, AreCompatible, Mark, IsLawful as IsLawfulExchange, Exchange, numbers_below, by_test, fails_below}
+use Rattle.courses.proofs.Common.{◌≡◌, ℕ, ◌+◌, ◌<◌, ◌≤◌, Bool, true, false, true≢false, cond, not, ◌&&◌, List, [], ◌∷◌, length, map, slice_get, Some, refl, sym, ap, ap₂, ◌∙◌, subst, arith, All, ◌==◌, ◌↔◌, IsTrue, list_any, nat_tests, All-head, All-tail, All-map, slice_get_within, RefutationData, is_liar, IsAgainst, ClaimData, IsConflictTable, ConflictData, IsCover, is_of, servers_of, IsCompatibleWith, IsRefutedWithDrift, mark_of, true_exchanges, AreAllCompatible, DoAgree, low_mark, high_mark, IsPossible, AreCompatible, Mark, IsLawful as IsLawfulExchange, Exchange, numbers_below, by_test, fails_below, All-map_back}
 use Rattle.std.proofs.lemmas.Map.Views.{any-filter_same}
 use Rattle.claim_file.specs.Claim.{IsLawful}
 use Rattle.courses.proofs.ConflictTables.{by_table, from_table}
 use Rattle.courses.proofs.Covers.{agree_outside, cover_by_agreement}
 use Rattle.courses.proofs.TableCovers.{from_table as to_conflicts, to_table}
-use Rattle.courses.proofs.TrueExchanges.{All-unmap, all_true}
+use Rattle.courses.proofs.TrueExchanges.{all_true}
 
 -- ---- the servers of groups
 
@@ -83,9 +83,9 @@ module _ (claim : ClaimData) (xs : List Exchange) (lawful : IsLawful claim)
 
     own_fits : All (IsCompatibleWith claim (mark_of r)) outside
     own_fits =
-        let low = All-unmap (AreCompatible claim.drift_ppb (mark_of r)) (high_mark claim.reading)
+        let low = All-map_back (AreCompatible claim.drift_ppb (mark_of r)) (high_mark claim.reading)
         (true_exchanges (is_liar r.liars) xs) refuted.reading_low in
-        let high = All-unmap (λ low. AreCompatible claim.drift_ppb low (mark_of r)) (low_mark claim.reading)
+        let high = All-map_back (λ low. AreCompatible claim.drift_ppb low (mark_of r)) (low_mark claim.reading)
         (true_exchanges (is_liar r.liars) xs) refuted.reading_high in
         subst (All (IsCompatibleWith claim (mark_of r))) same
         (λ k x below. record { as_low = low k x below; as_high = high k x below })

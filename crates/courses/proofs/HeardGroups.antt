@@ -2,7 +2,7 @@
 -- mark is left, and the lowest course of one mark of its own fits.
 use Rattle.std.proofs.Common.{◌==◌}
 use Rattle.std.specs.Prelude.{slice_get}
-use Rattle.courses.proofs.Common.{◌≡◌, ℕ, zero, suc, ◌≤◌, ℤ, pos, ◌+ℤ◌, ◌*ℤ◌, ◌≤ℤ◌, ◌<ℤ◌, unsigned_abs, Bool, true, false, ◌||◌, List, [], ◌∷◌, length, Some, refl, sym, ap, ◌∙◌, true≢false, eq-eqb, arith, All, slice_index, list_any, ints, ClaimData, times_le, IsLawful as IsLawfulExchange, Exchange, Mark, low_mark, high_mark, IsPossible, AreCompatible, Course, IsObservedIn, IsTraceable, samples_of, error_of, group_of, has_exchange, count_with_exchange, IsPossibleError, IsNoEvidence, lowest_course, low_marks}
+use Rattle.courses.proofs.Common.{◌≡◌, ℕ, zero, suc, ◌≤◌, ℤ, pos, ◌+ℤ◌, ◌*ℤ◌, ◌≤ℤ◌, ◌<ℤ◌, unsigned_abs, Bool, true, false, ◌||◌, List, [], ◌∷◌, length, Some, refl, sym, ap, ◌∙◌, true≢false, eq-eqb, arith, All, slice_index, list_any, ints, ClaimData, times_le, IsLawful as IsLawfulExchange, Exchange, Mark, low_mark, high_mark, IsPossible, AreCompatible, Course, IsObservedIn, IsTraceable, samples_of, error_of, group_of, has_exchange, count_with_exchange, IsPossibleError, IsNoEvidence, lowest_course, low_marks, ≤ℤ_refl, or-false, or_left, or_right}
 use Rattle.claim_file.specs.Claim.{IsLawful}
 use Rattle.courses.proofs.Covers.{few_by_cover}
 use Rattle.courses.proofs.DriftCourse.{beyond}
@@ -10,22 +10,14 @@ use Rattle.courses.proofs.LowestCourse.{Needs, lowest_fits, lowest_shares}
 use Rattle.courses.proofs.LowestMarks.{first_is_met}
 use Rattle.courses.proofs.TrueExchanges.{all_true, all_marks, all_pairs}
 
-either_left : (a b : Bool) → a ≡ true → (a || b) ≡ true
-either_left true b h = refl
-either_left false b h = absurd cc
-
-either_right : (a b : Bool) → b ≡ true → (a || b) ≡ true
-either_right true b h = refl
-either_right false b h = h
-
 module _ {X : Type 0} (p : X → Bool) where
   any_at : (xs : List X) (k : ℕ) (x : X) → slice_get xs k ≡ Some x → p x ≡ true → list_any p xs ≡ true
   any_at [] k x at passes = absurd cc
   any_at (y ∷ ys) zero x at passes =
       let same : y ≡ x = cc in
       let first : p y ≡ true = rw same passes in
-      either_left (p y) (list_any p ys) first
-  any_at (y ∷ ys) (suc k) x at passes = either_right (p y) (list_any p ys) (any_at ys k x at passes)
+      or_left (p y) (list_any p ys) first
+  any_at (y ∷ ys) (suc k) x at passes = or_right (p y) (list_any p ys) (any_at ys k x at passes)
 
 pub has_own : (claim : ClaimData) (xs : List Exchange) (k : ℕ) (x : Exchange) → slice_get xs k ≡ Some x
     → has_exchange claim xs (group_of claim x) ≡ true
@@ -80,14 +72,11 @@ module _ (claim : ClaimData) (xs : List Exchange) where
 above : (bound : ℤ) → pos 0 ≤ℤ bound → bound <ℤ pos (unsigned_abs (bound +ℤ pos 1))
 above bound from_zero = omega (arith, ints)
 
-itself : (a : ℤ) → a ≤ℤ a
-itself a = omega (arith, ints)
-
 module _ (claim : ClaimData) (xs : List Exchange) (lawful : IsLawful claim) where
   seen_in_span : (course : Course) → course.observation.reading ≡ claim.first *ℤ pos course.fineness
       → IsObservedIn course claim.first claim.last
   seen_in_span course is =
-      let from = times_le claim.first claim.first course.fineness (itself claim.first) in
+      let from = times_le claim.first claim.first course.fineness (≤ℤ_refl claim.first) in
       let to = times_le claim.first claim.last course.fineness lawful.span_forward in
       rw is (from, to)
 
@@ -110,10 +99,6 @@ moved all true false rest is = is
 moved all false true rest is = is
 moved all false false rest is = is
 
-no_more : (b : Bool) → (b || false) ≡ b
-no_more true = refl
-no_more false = refl
-
 module _ (claim : ClaimData) (xs : List Exchange) where
   pub one_more_heard : (x : Exchange) (left rest : List Exchange) (is_in is_now : ℕ → Bool) (own : ℕ)
       → left ≡ x ∷ rest → own ≡ group_of claim x → ((group : ℕ) → is_now group ≡ ((group == own) || is_in group))
@@ -128,4 +113,4 @@ module _ (claim : ClaimData) (xs : List Exchange) where
 
   pub all_heard : (is_in : ℕ → Bool) → AreHeardTo claim xs [] is_in
       → (group : ℕ) → is_in group ≡ has_exchange claim xs group
-  all_heard is_in heard' group = sym (heard'.all group ∙ no_more (is_in group))
+  all_heard is_in heard' group = sym (heard'.all group ∙ or-false (is_in group))

@@ -1,5 +1,5 @@
 -- Lists of kept marks, as they are gathered.
-use Rattle.courses.proofs.Common.{◌≡◌, ℕ, ◌+◌, ◌<◌, suc, drop, length, Some, subst, ℤ, Bool, true, false, not, List, [], ◌∷◌, ◌++◌, map, refl, sym, ap, ap₂, ◌∙◌, arith, All, slice_index, ◌==◌, nat_tests, get_or_default_zero, is_outside, list_all, slice_index_or, cond-true, cond-false, All-append, All-cons, All-nil, append_snoc, drop-cons, get_or_from_slice_get, slice_get-get_or, slice_get_within, get_or-map, length-map, Mark, IsWithinRange, low_mark, high_mark, IsLawful as IsLawfulExchange, Exchange, is_possible, true_exchanges, low_marks, high_marks}
+use Rattle.courses.proofs.Common.{◌≡◌, ℕ, ◌+◌, ◌<◌, suc, drop, length, Some, subst, ℤ, Bool, true, false, not, List, [], ◌∷◌, ◌++◌, map, refl, sym, ap, ap₂, ◌∙◌, arith, All, slice_index, ◌==◌, get_or_default_zero, is_outside, list_all, slice_index_or, cond-true, cond-false, All-append, All-cons, All-nil, append_snoc, drop-cons, get_or_from_slice_get, slice_get-get_or, slice_get_within, get_or-map, length-map, Mark, IsWithinRange, low_mark, high_mark, IsLawful as IsLawfulExchange, Exchange, is_possible, true_exchanges, low_marks, high_marks, ne_eqb, eq-eqb}
 use Rattle.std.specs.Prelude.{slice_get}
 
 -- ---- what the element at a place shows
@@ -100,19 +100,13 @@ module _ (allowance : ℤ) (is_false : ℕ → Bool) (x : Exchange) (rest : List
 pub within_groups : (server servers groups len : ℕ) → server < servers → groups ≡ servers → len ≡ groups → server < len
 within_groups server servers groups len below same is = omega arith
 
-same_number : (n : ℕ) → (n == n) ≡ true
-same_number n = grind (arith, nat_tests)
-
-other_number : (a b : ℕ) → (a ≡ b → ⊥) → (a == b) ≡ false
-other_number a b differ = grind (arith, nat_tests)
-
 module _ (groups : List ℕ) (group server read : ℕ) (below : server < length groups)
     (is : read ≡ slice_index_or groups server read) where
   pub read_is : slice_index groups server ≡ read
   read_is = sym (is ∙ get_or_default_zero groups server read below)
 
   pub is_inside : read ≡ group → is_outside groups group server ≡ false
-  is_inside same = ap not (ap (λ (n : ℕ). n == group) (read_is ∙ same) ∙ same_number group)
+  is_inside same = ap not (ap (λ (n : ℕ). n == group) (read_is ∙ same) ∙ eq-eqb group group refl)
 
   pub isnt_inside : (read ≡ group → ⊥) → is_outside groups group server ≡ true
-  isnt_inside apart = ap not (ap (λ (n : ℕ). n == group) read_is ∙ other_number read group apart)
+  isnt_inside apart = ap not (ap (λ (n : ℕ). n == group) read_is ∙ ne_eqb read group apart)

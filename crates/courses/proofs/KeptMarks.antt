@@ -1,5 +1,5 @@
 -- Two marks that moments of one clock keep are compatible, and each holds at its place.
-use Rattle.courses.proofs.Common.{◌≡◌, ℕ, ◌+◌, ◌-◌, ◌*◌, ◌<◌, ◌≤◌, ℤ, pos, ◌+ℤ◌, ◌-ℤ◌, ◌*ℤ◌, ◌≤ℤ◌, ◌<ℤ◌, unsigned_abs, refl, subst, arith, ints, le_of_mul-le-mul_right, mul-le-mul_right, Mark, AreCompatible, Moment, error_of, error_change, DriftsWithin, billion, time_of, KeepsLow, KeepsHigh}
+use Rattle.courses.proofs.Common.{◌≡◌, ℕ, ◌+◌, ◌-◌, ◌*◌, ◌<◌, ◌≤◌, ℤ, pos, ◌+ℤ◌, ◌-ℤ◌, ◌*ℤ◌, ◌≤ℤ◌, ◌<ℤ◌, unsigned_abs, refl, subst, arith, ints, le_of_mul-le-mul_right, mul-le-mul_right, Mark, AreCompatible, Moment, error_of, error_change, DriftsWithin, billion, time_of, KeepsLow, KeepsHigh, ≤ℤ_trans}
 use Rattle.courses.proofs.Scaling.{times-sub, scaled_beyond, bounded}
 use Rattle.courses.proofs.Steps.{Drifts, Drifts-turned, rises_by, falls_by, readings_go_on, times_go_on}
 use Rattle.courses.proofs.Agreement.{TwoKept, ahead, behind}
@@ -65,9 +65,6 @@ module _ (n : ℕ) (place error time : ℤ) where
       let difference = times-sub (place -ℤ error) place error n refl in
       omega (arith, ints, difference)
 
-through : (a b c : ℤ) → a ≤ℤ b → b ≤ℤ c → a ≤ℤ c
-through a b c p q = omega (arith, ints)
-
 module _ (ppb n : ℕ) (mark : Mark) (kept at_place : Moment) (slow : ppb < billion)
     (h : DriftsWithin ppb kept at_place) (there : at_place.reading ≡ mark.place *ℤ pos n) where
   -- when the clock reads a low mark's place, the error is no less than the mark's
@@ -75,14 +72,14 @@ module _ (ppb n : ℕ) (mark : Mark) (kept at_place : Moment) (slow : ppb < bill
   low_holds keeps =
       let first : at_place.reading ≤ℤ kept.reading = rw there keeps.0 in
       let time = times_go_on (Drifts-turned (parts_of ppb kept at_place slow h)) first in
-      rw there (no_less_than_mark n mark.place mark.error at_place.time (through _ _ _ time keeps.1))
+      rw there (no_less_than_mark n mark.place mark.error at_place.time (≤ℤ_trans _ _ _ time keeps.1))
 
   -- when it reads a high mark's place, the error is no more than the mark's
   pub high_holds : KeepsHigh n mark kept → error_of at_place ≤ℤ (mark.error *ℤ pos n)
   high_holds keeps =
       let last : kept.reading ≤ℤ at_place.reading = rw there keeps.0 in
       let time = times_in_order ppb kept at_place slow h last in
-      rw there (no_more_than_mark n mark.place mark.error at_place.time (through _ _ _ keeps.1 time))
+      rw there (no_more_than_mark n mark.place mark.error at_place.time (≤ℤ_trans _ _ _ keeps.1 time))
 
 -- ---- two marks that are kept
 

@@ -1,10 +1,10 @@
 -- The lowest course fits: the servers that aren't false receive and answer in time.
-use Rattle.courses.proofs.Common.{◌≡◌, ℕ, ◌+◌, ◌-◌, ◌*◌, ◌<◌, ◌≤◌, ℤ, pos, ◌+ℤ◌, ◌-ℤ◌, ◌*ℤ◌, ◌≤ℤ◌, Bool, false, ⊎_elim, List, Some, length, refl, ap, arith, All, AllPairs, int_max, int_min, ints, clamps, mul-le-mul_left, times_le, times-add, ClaimData, Exchange, Mark, IsLawful as IsLawfulExchange, SameRequest, low_mark, high_mark, IsPossible, AreCompatible, Moment, DriftsWithin, IsWithinDistance, billion, request_start, request_end, reply_start, reply_end, Course, FitsInWindows, IsClientMoment, ReadsInWindows, ComesInOrder, KeepsRootDistance, false_group_count, SharesRequests, KeepsLow, KeepsHigh, low_marks, high_marks, DoAgree, fineness_of, lowest_moment, of_exchange, lowest_course}
+use Rattle.courses.proofs.Common.{◌≡◌, ℕ, ◌<◌, ◌≤◌, ℤ, pos, ◌+ℤ◌, ◌-ℤ◌, ◌*ℤ◌, ◌≤ℤ◌, Bool, false, ⊎_elim, List, Some, length, refl, ap, arith, All, AllPairs, int_max, int_min, ints, clamps, times_le, times-add, ClaimData, Exchange, Mark, IsLawful as IsLawfulExchange, SameRequest, low_mark, high_mark, IsPossible, AreCompatible, Moment, DriftsWithin, IsWithinDistance, request_start, request_end, reply_start, reply_end, Course, FitsInWindows, IsClientMoment, ReadsInWindows, ComesInOrder, KeepsRootDistance, false_group_count, SharesRequests, KeepsLow, KeepsHigh, low_marks, high_marks, DoAgree, fineness_of, lowest_moment, of_exchange, lowest_course, ≤ℤ_refl, All-slice_get, mul-pos}
 use Rattle.std.specs.Prelude.{slice_get}
 use Rattle.claim_file.specs.Claim.{IsLawful}
 use Rattle.checker.proofs.RefutationCourse.{around, widened, one_start}
 use Rattle.courses.proofs.Scaling.{times-sub}
-use Rattle.courses.proofs.TrueExchanges.{each_at, true_at, marks_at, all_marks, pair_at}
+use Rattle.courses.proofs.TrueExchanges.{true_at, marks_at, all_marks, pair_at}
 use Rattle.courses.proofs.LowestError.{lowest_drifts, lowest_time_goes_on}
 use Rattle.courses.proofs.LowestMarks.{keeps_others, keeps_high}
 
@@ -61,14 +61,6 @@ near n stamp distance time between =
     let most = times-add (stamp +ℤ distance) stamp distance n refl in
     omega (arith, ints, least, most, between)
 
-same_le : (a : ℤ) → a ≤ℤ a
-same_le a = omega (arith, ints)
-
-some_product : (g s : ℕ) → 0 < g → 0 < s → 0 < g * s
-some_product g s some_g some_s =
-    let one : g * 1 ≤ g * s = mul-le-mul_left g some_s in
-    omega arith
-
 -- ---- the course
 
 -- what the lowest course of a first mark needs: lawful exchanges that agree, with that mark too
@@ -95,7 +87,7 @@ module _ {claim : ClaimData} {is_false : ℕ → Bool} {first : Mark} {xs : List
   some_fineness : 0 < fineness_of claim.drift_ppb
   some_fineness =
       let slow = needs.lawful.drift_in_range in
-      some_product (billion - claim.drift_ppb) (billion + claim.drift_ppb) (omega arith) (omega arith)
+      mul-pos (omega arith) (omega arith)
 
   -- each moment of the client is one of the lowest moments
   at_some_reading : (m : Moment) → IsClientMoment course (length xs) m → (c : ℤ) × (m ≡ moment c)
@@ -114,13 +106,13 @@ module _ {claim : ClaimData} {is_false : ℕ → Bool} {first : Mark} {xs : List
 
   windows : (k : ℕ) (x : Exchange) → slice_get xs k ≡ Some x → ReadsInWindows claim.reading course k x
   windows k x at =
-      let lawful = each_at (IsLawfulExchange (length claim.servers)) xs k x needs.each at in
+      let lawful = All-slice_get (IsLawfulExchange (length claim.servers)) xs k x needs.each at in
       let some = needs.lawful.reading_not_negative in
       let request = widened x.t1_low x.t1_high claim.reading lawful.t1_ordered some in
       let reply = widened x.t4_low x.t4_high claim.reading lawful.t4_ordered some in
       rw at (
-        (same_le _, times_le (request_start x claim.reading) (request_end x claim.reading) n request),
-        (times_le (reply_start x claim.reading) (reply_end x claim.reading) n reply, same_le _),
+        (≤ℤ_refl _, times_le (request_start x claim.reading) (request_end x claim.reading) n request),
+        (times_le (reply_start x claim.reading) (reply_end x claim.reading) n reply, ≤ℤ_refl _),
       )
 
   -- an exchange with a server that isn't false
@@ -144,7 +136,7 @@ module _ {claim : ClaimData} {is_false : ℕ → Bool} {first : Mark} {xs : List
         ((x.t2 -ℤ x.distance) *ℤ pos n) ((x.t2 +ℤ x.distance) *ℤ pos n)
         ((x.t3 -ℤ x.distance) *ℤ pos n) ((x.t3 +ℤ x.distance) *ℤ pos n)
     room =
-        let lawful = each_at (IsLawfulExchange (length claim.servers)) xs k x needs.each at in
+        let lawful = All-slice_get (IsLawfulExchange (length claim.servers)) xs k x needs.each at in
         let possible = true_at is_false xs (IsPossible claim.reading) k x needs.agree.possible at true' in
         let start = request_start x claim.reading in
         let end = reply_end x claim.reading in

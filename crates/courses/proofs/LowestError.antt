@@ -1,5 +1,5 @@
 -- The lowest error rises and falls no faster than it may, and keeps every mark.
-use Rattle.courses.proofs.Common.{◌≡◌, ℕ, ◌+◌, ◌-◌, ◌*◌, ◌≤◌, ℤ, pos, ◌+ℤ◌, ◌-ℤ◌, ◌*ℤ◌, ◌≤ℤ◌, unsigned_abs, List, [], ◌∷◌, arith, All, fold, int_max, ints, clamps, by_lt_z, All-nil, All-cons, All-head, All-tail, mul-le-mul_left, Mark, DriftsWithin, billion, fineness_of, most_rise, most_fall, error_left, lowest_error, lowest_moment}
+use Rattle.courses.proofs.Common.{◌≡◌, ℕ, ◌+◌, ◌-◌, ◌*◌, ◌≤◌, ℤ, pos, ◌+ℤ◌, ◌-ℤ◌, ◌*ℤ◌, ◌≤ℤ◌, unsigned_abs, List, [], ◌∷◌, arith, All, fold, int_max, ints, clamps, by_lt_z, All-nil, All-cons, All-head, All-tail, mul-le-mul_left, Mark, DriftsWithin, billion, fineness_of, most_rise, most_fall, error_left, lowest_error, lowest_moment, ≤ℤ_refl, int_max-least}
 use Rattle.courses.proofs.Scaling.{scaled_beyond}
 use Rattle.courses.proofs.Slope.{Changes, Changes-asked, Changes-greatest}
 use Rattle.courses.proofs.AllowedDrift.{drifts, drifts_back, no_sooner}
@@ -12,16 +12,10 @@ first_of_two a b c h = omega (arith, ints, clamps)
 second_of_two : (a b c : ℤ) → int_max a b ≤ℤ c → b ≤ℤ c
 second_of_two a b c h = omega (arith, ints, clamps)
 
-both_below : (a b c : ℤ) → a ≤ℤ c → b ≤ℤ c → int_max a b ≤ℤ c
-both_below a b c p q = omega (arith, ints, clamps)
-
-same_below : (a : ℤ) → a ≤ℤ a
-same_below a = omega (arith, ints)
-
 module _ {X : Type 0} (f : X → ℤ) where
   -- it is no less than the first
   pub first_at_most : (a : ℤ) (xs : List X) → a ≤ℤ fold (λ c x. int_max c (f x)) a xs
-  first_at_most a [] = same_below a
+  first_at_most a [] = ≤ℤ_refl a
   first_at_most a (x ∷ xs) = first_of_two a (f x) _ (first_at_most (int_max a (f x)) xs)
 
   -- nor than any other
@@ -37,7 +31,7 @@ module _ {X : Type 0} (f : X → ℤ) where
       → fold (λ c x. int_max c (f x)) a xs ≤ℤ c
   all_at_most a c [] first all = first
   all_at_most a c (x ∷ xs) first all =
-      all_at_most (int_max a (f x)) c xs (both_below a (f x) c first (All-head (λ x. f x ≤ℤ c) x xs all))
+      all_at_most (int_max a (f x)) c xs (int_max-least a (f x) c first (All-head (λ x. f x ≤ℤ c) x xs all))
       (All-tail (λ x. f x ≤ℤ c) x xs all)
 
 -- ---- its rise and fall

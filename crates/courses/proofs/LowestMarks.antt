@@ -1,6 +1,6 @@
 -- The lowest course keeps every mark: it is no lower than a low mark, and no higher than a high
 -- mark with which each low mark is compatible.
-use Rattle.courses.proofs.Common.{◌≡◌, ℕ, ◌+◌, ◌-◌, ◌*◌, ◌≤◌, ℤ, pos, ◌+ℤ◌, ◌-ℤ◌, ◌*ℤ◌, ◌≤ℤ◌, ◌<ℤ◌, unsigned_abs, List, refl, ◌∙◌, arith, All, slice_index_or, ints, by_lt_z, All-weaker, mul-le-mul_left, times_le, times-add, Mark, AreCompatible, error_of, billion, KeepsLow, KeepsHigh, fineness_of, most_rise, most_fall, error_left, lowest_error, lowest_moment}
+use Rattle.courses.proofs.Common.{◌≡◌, ℕ, ◌+◌, ◌-◌, ◌*◌, ◌≤◌, ℤ, pos, ◌+ℤ◌, ◌-ℤ◌, ◌*ℤ◌, ◌≤ℤ◌, ◌<ℤ◌, unsigned_abs, List, refl, ◌∙◌, arith, All, slice_index_or, ints, by_lt_z, All-weaker, mul-le-mul_left, times_le, times-add, Mark, AreCompatible, error_of, billion, KeepsLow, KeepsHigh, fineness_of, most_rise, most_fall, error_left, lowest_error, lowest_moment, ≤ℤ_refl, ≤ℤ_antisymm}
 use Rattle.courses.proofs.Scaling.{times-sub, product_from, bounded}
 use Rattle.courses.proofs.Slope.{asked_after, asked_before}
 use Rattle.courses.proofs.LowestError.{first_at_most, each_at_most, all_at_most}
@@ -77,12 +77,6 @@ nothing k x p none = rw none (omega arith)
 no_lower : (a b c : ℤ) → a ≡ b → a ≤ℤ c → b ≤ℤ c
 no_lower a b c e h = omega (arith, ints)
 
-equal_from : (a b : ℤ) → a ≤ℤ b → b ≤ℤ a → a ≡ b
-equal_from a b p q = omega (arith, ints)
-
-same_le : (a : ℤ) → a ≤ℤ a
-same_le a = omega (arith, ints)
-
 shown_error : (a b : ℤ) → a -ℤ (a -ℤ b) ≡ b
 shown_error a b = omega (arith, ints)
 
@@ -113,7 +107,7 @@ module _ (ppb : ℕ) (first : Mark) (others : List Mark) where
 
   pub keeps_first : KeepsLow (fineness_of ppb) first (lowest_moment ppb first others first.place)
   keeps_first = (
-    same_le _,
+    ≤ℤ_refl _,
     late_enough (fineness_of ppb) first.place first.error (lowest_error ppb first others first.place)
         no_lower_than_first,
   )
@@ -122,7 +116,7 @@ module _ (ppb : ℕ) (first : Mark) (others : List Mark) where
       → error_left ppb mark.place mark ≤ℤ lowest_error ppb first others mark.place
       → KeepsLow (fineness_of ppb) mark (lowest_moment ppb first others mark.place)
   keeps_other mark h = (
-    same_le _,
+    ≤ℤ_refl _,
     late_enough (fineness_of ppb) mark.place mark.error (lowest_error ppb first others mark.place)
         (no_lower _ _ _ (own_place ppb mark) h),
   )
@@ -145,7 +139,7 @@ module _ (ppb : ℕ) (first : Mark) (others : List Mark) where
   pub keeps_high : (high : Mark) → AreCompatible ppb first high → All (λ low. AreCompatible ppb low high) others
       → KeepsHigh (fineness_of ppb) high (lowest_moment ppb first others high.place)
   keeps_high high agrees all = (
-    same_le _,
+    ≤ℤ_refl _,
     soon_enough (fineness_of ppb) high.place high.error (lowest_error ppb first others high.place)
         (no_higher high agrees all),
   )
@@ -154,5 +148,5 @@ module _ (ppb : ℕ) (first : Mark) (others : List Mark) where
   pub first_is_met : All (λ low. AreCompatible ppb low first) others
       → error_of (lowest_moment ppb first others first.place) ≡ first.error *ℤ pos (fineness_of ppb)
   first_is_met all =
-      let error = equal_from _ _ (no_higher first (with_itself ppb first) all) no_lower_than_first in
+      let error = ≤ℤ_antisymm _ _ (no_higher first (with_itself ppb first) all) no_lower_than_first in
       shown_error _ _ ∙ error

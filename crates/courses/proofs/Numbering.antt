@@ -1,5 +1,5 @@
 -- The numbers and marks of a group, as they are gathered.
-use Rattle.courses.proofs.Common.{◌≡◌, ℕ, ◌+◌, ◌<◌, ◌⊎◌, ⊎_elim, List, [], ◌∷◌, ◌++◌, drop, length, map, Bool, true, false, refl, sym, ap, ◌∙◌, subst, get_or, arith, All, ◌==◌, filter, get_or-append, length-append, append_snoc, get_or-append_seam, ClaimData, low_mark, high_mark, IsWithinRange, Mark, Exchange, group_of, group_lows, group_highs, numbers_from, group_numbers}
+use Rattle.courses.proofs.Common.{◌≡◌, ℕ, ◌+◌, ◌<◌, ◌⊎◌, ⊎_elim, List, [], ◌∷◌, ◌++◌, drop, length, map, Bool, true, false, refl, sym, ap, ◌∙◌, subst, get_or, arith, All, ◌==◌, filter, get_or-append, length-append, append_snoc, get_or-append_seam, ClaimData, low_mark, high_mark, IsWithinRange, Mark, Exchange, group_of, group_lows, group_highs, numbers_from, group_numbers, not_lt_zero}
 use Rattle.courses.proofs.KeptMarkLists.{with_last}
 use Rattle.courses.proofs.PassingNumbers.{kept, left_out, counted, not_counted}
 
@@ -76,15 +76,12 @@ module _ (claim : ClaimData) (group : ℕ) (xs : List Exchange) where
 before_or_last : (k n m : ℕ) → k < m → m ≡ n + 1 → (k < n) ⊎ (k ≡ n)
 before_or_last k n m lt eq = grind arith
 
-none_below : (k : ℕ) → k < 0 → ⊥
-none_below k lt = omega arith
-
 module _ {X : Type 0} (P : ℕ → X → Type 0) where
   abbrev EachInOrder : List X → Type 0
   EachInOrder items = (k : ℕ) (d : X) → k < length items → P k (get_or items k d)
 
   pub none_in_order : (items : List X) → items ≡ [] → EachInOrder items
-  none_in_order items is k d below = absurd (none_below k (subst (λ (ms : List X). k < length ms) is below))
+  none_in_order items is k d below = absurd (not_lt_zero k (subst (λ (ms : List X). k < length ms) is below))
 
   module _ (before : List X) (last : X) (items : List X) (is : items ≡ before ++ last ∷ []) where
     pub one_longer : (n : ℕ) → length before ≡ n → length items ≡ n + 1

@@ -1,5 +1,5 @@
 -- A refutation's own mark among the others, and what it refutes besides.
-use Rattle.courses.proofs.Common.{◌≡◌, ℕ, ◌+◌, ◌-◌, ◌*◌, ◌<◌, ◌≤◌, ℤ, pos, ◌-ℤ◌, ◌≤ℤ◌, ◌<ℤ◌, unsigned_abs, List, ◌∷◌, arith, All, slice_index_or, ints, All-cons, All-head, All-tail, le_of_mul-le-mul_left, mul-le-mul_left, mul-le-mul_right, RefutationData, ClaimData, Exchange, billion, Mark, AreCompatible, is_liar, low_marks, high_marks, mark_of, IsRefutedWithDrift, IsRefutedByMarks}
+use Rattle.courses.proofs.Common.{◌≡◌, ℕ, ◌+◌, ◌-◌, ◌*◌, ◌<◌, ◌≤◌, ℤ, pos, ◌-ℤ◌, ◌≤ℤ◌, unsigned_abs, List, ◌∷◌, arith, All, slice_index_or, ints, All-cons, All-head, All-tail, le_of_mul-le-mul_left, mul-le-mul_left, RefutationData, ClaimData, Exchange, billion, Mark, AreCompatible, is_liar, low_marks, high_marks, mark_of, IsRefutedWithDrift, IsRefutedByMarks, falls_faster, ≤ℤ-<ℤ_trans}
 use Rattle.courses.proofs.Scaling.{bounded, product_from}
 use Rattle.courses.proofs.LowestMarks.{with_itself}
 
@@ -41,13 +41,6 @@ module _ (claim : ClaimData) (xs : List Exchange) (r : RefutationData) where
 
 -- ---- a faster drift, and a narrower bound
 
--- b is a billion, s and f the slower and the faster rate
-falls_faster : (b s f x d : ℕ) → s ≤ f → f ≤ b → (b - s) * x ≤ s * d → (b - f) * x ≤ f * d
-falls_faster b s f x d le below h =
-    let less : (b - f) * x ≤ (b - s) * x = mul-le-mul_right x (omega arith) in
-    let more : s * d ≤ f * d = mul-le-mul_right d le in
-    omega arith
-
 rises_faster : (b s m x d : ℕ) → 0 < b → (b + s) * x ≤ s * d → (b + (s + m)) * x ≤ (s + m) * d
 rises_faster b s m x d some h =
     let most : (b + s) * x ≤ (b + s) * d = omega arith in
@@ -78,9 +71,6 @@ module _ (slow fast : ℕ) (le : slow ≤ fast) (below : fast ≤ billion) (low 
         rw (← sum) at h);
   }
 
-further : (bound narrower error : ℤ) → narrower ≤ℤ bound → bound <ℤ error → narrower <ℤ error
-further bound narrower error p q = omega (arith, ints)
-
 pub refuted_with_more : (claim : ClaimData) (narrower : ℤ) (faster : ℕ) (xs : List Exchange) (r : RefutationData)
     → narrower ≤ℤ claim.bound → claim.drift_ppb ≤ faster → faster ≤ billion → IsRefutedWithDrift claim xs r
     → IsRefutedWithDrift (record claim { bound = narrower; drift_ppb = faster }) xs r
@@ -88,7 +78,7 @@ refuted_with_more claim narrower faster xs r less le below refuted =
     let against = refuted.against in
     record {
       against = record {
-        beyond_bound = further claim.bound narrower (pos (unsigned_abs r.error)) less against.beyond_bound;
+        beyond_bound = ≤ℤ-<ℤ_trans narrower claim.bound (pos (unsigned_abs r.error)) less against.beyond_bound;
         in_span = against.in_span;
         liars_listed = against.liars_listed;
         liars_differ = against.liars_differ;

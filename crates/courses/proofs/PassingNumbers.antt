@@ -1,10 +1,5 @@
 -- The numbers of the elements that pass a test, and the elements that stand under them.
-use Rattle.courses.proofs.Common.{◌≡◌, ℕ, zero, suc, ◌+◌, ◌<◌, ◌≤◌, ⊎_elim, Bool, true, false, List, [], ◌∷◌, Some, length, slice_get, refl, sym, ap, ◌∙◌, subst, arith, filter, cond-true, cond-false, cases_lt, numbers_from, by_test}
-
-pub exchange_at : {X : Type 0} (xs : List X) (k : ℕ) → k < length xs → (x : X) × (slice_get xs k ≡ Some x)
-exchange_at [] k below = absurd (omega arith)
-exchange_at (x ∷ xs) zero below = (x, refl)
-exchange_at (x ∷ xs) (suc k) below = exchange_at xs k (omega arith)
+use Rattle.courses.proofs.Common.{◌≡◌, ℕ, zero, suc, ◌+◌, ◌<◌, ◌≤◌, ⊎_elim, Bool, true, false, List, [], ◌∷◌, Some, slice_get, sym, ap, ◌∙◌, subst, arith, filter, cond-true, cond-false, cases_lt, numbers_from, by_test}
 
 pub at_same : {X : Type 0} (xs ys : List X) (k : ℕ) (x : X) → xs ≡ ys → slice_get ys k ≡ Some x
     → slice_get xs k ≡ Some x

@@ -1,5 +1,5 @@
 -- Whole numbers of ticks times a natural number, and their order.
-use Rattle.courses.proofs.Common.{◌≡◌, ℕ, ◌*◌, ◌<◌, ◌≤◌, ℤ, pos, negsuc, ◌+ℤ◌, ◌-ℤ◌, ◌*ℤ◌, ◌≤ℤ◌, refl, arith, ints, by_lt_z, times_le, times-add}
+use Rattle.courses.proofs.Common.{◌≡◌, ℕ, ◌*◌, ◌≤◌, ℤ, pos, negsuc, ◌+ℤ◌, ◌-ℤ◌, ◌*ℤ◌, ◌≤ℤ◌, refl, arith, ints, times-add}
 
 -- n times a difference
 pub times-sub : (c a b : ℤ) (n : ℕ) → c ≡ a -ℤ b → (c *ℤ pos n) ≡ (a *ℤ pos n) -ℤ (b *ℤ pos n)
@@ -7,16 +7,6 @@ times-sub c a b n e =
     let back : a ≡ c +ℤ b = omega (arith, ints) in
     let sum = times-add a c b n back in
     omega (arith, ints, sum)
-
--- an order is one of the numbers of ticks if it is one of n times these
-pub cancel : (a b : ℤ) (n : ℕ) → 0 < n → (a *ℤ pos n) ≤ℤ (b *ℤ pos n) → a ≤ℤ b
-cancel a b n some h = by_lt_z b a
-    (λ less.
-    let more : (b +ℤ pos 1) ≤ℤ a = omega (arith, ints) in
-    let scaled = times_le (b +ℤ pos 1) a n more in
-    let sum = times-add (b +ℤ pos 1) b (pos 1) n refl in
-    absurd (omega (arith, ints, scaled, sum)))
-    (λ no_less. no_less)
 
 pub scaled_beyond : (a b : ℤ) (d n : ℕ) → b ≡ a +ℤ pos d → (b *ℤ pos n) ≡ (a *ℤ pos n) +ℤ pos (d * n)
 scaled_beyond a b d n e = times-add b a (pos d) n e

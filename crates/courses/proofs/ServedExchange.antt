@@ -1,6 +1,6 @@
 -- An exchange with a server that isn't false: its four moments keep its two marks.
-use Rattle.courses.proofs.Common.{ℕ, ◌<◌, ℤ, pos, ◌+ℤ◌, ◌-ℤ◌, ◌*ℤ◌, ◌≤ℤ◌, true, false, cond, int_lt, refl, arith, int_max, int_min, ints, times-add, IsWithinDistance}
-use Rattle.courses.proofs.Scaling.{times-sub, cancel}
+use Rattle.courses.proofs.Common.{ℕ, ◌<◌, ℤ, pos, ◌+ℤ◌, ◌-ℤ◌, ◌*ℤ◌, ◌≤ℤ◌, true, false, cond, int_lt, refl, arith, int_max, int_min, ints, times-add, IsWithinDistance, le_from_times}
+use Rattle.courses.proofs.Scaling.{times-sub}
 
 -- the true times of the four moments
 pub record Times : Type 0 where
@@ -51,7 +51,7 @@ module _ (n : ℕ) (place t2 t3 distance : ℤ) (times : Times) (served : AreSer
   stamps_in_order some =
       let first = times-sub (t2 -ℤ distance) t2 distance n refl in
       let last = times-add (t3 +ℤ distance) t3 distance n refl in
-      cancel (t2 -ℤ distance) (t3 +ℤ distance) n some (omega (arith, ints, served, first, last))
+      le_from_times (t2 -ℤ distance) (t3 +ℤ distance) n some (omega (arith, ints, served, first, last))
 
   pub goes_on : times.leaves ≤ℤ times.arrives
   goes_on = omega (arith, ints, served)

@@ -1,6 +1,6 @@
 -- Marks of groups, gathered and sorted.
 use Rattle.std.proofs.Common.{IsTrue, ◌↔◌}
-use Rattle.courses.proofs.Common.{◌≡◌, ℕ, ◌+◌, ◌<◌, ◌⊎◌, ⊎_elim, get_or, Vec, Global, Bool, true, false, true≢false, not, List, [], ◌∷◌, ◌++◌, map, length, IsPermutation, refl, sym, ap, ◌∙◌, subst, arith, All, filter, slice_index, ◌==◌, list_all, AllPass-from_list_all, list_all-from_AllPass, with_items_is, IsWithinRange, get_or-append, length-append, get_or-append_seam, ClaimData, Mark, Exchange, is_possible, is_outside, group_exchanges, group_lows, group_highs, IsSound, DoGroupsAgree, AreMarksOf, AreSorted, AreAllSorted, AreOfGroupsInOrder, true_exchanges, low_marks, high_marks, AreAllCompatible, low_mark, high_mark, get_or_default, KeptMarks}
+use Rattle.courses.proofs.Common.{◌≡◌, ℕ, ◌+◌, ◌<◌, ◌⊎◌, ⊎_elim, get_or, Vec, Global, Bool, true, false, true≢false, not, List, [], ◌∷◌, ◌++◌, map, length, IsPermutation, refl, sym, ap, ◌∙◌, subst, arith, All, filter, slice_index, ◌==◌, list_all, AllPass-from_list_all, list_all-from_AllPass, with_items_is, IsWithinRange, get_or-append, length-append, get_or-append_seam, ClaimData, Mark, Exchange, is_possible, is_outside, group_exchanges, group_lows, group_highs, IsSound, DoGroupsAgree, AreMarksOf, AreSorted, AreAllSorted, AreOfGroupsInOrder, true_exchanges, low_marks, high_marks, AreAllCompatible, low_mark, high_mark, get_or_default, KeptMarks, not_lt_zero}
 use Rattle.std.specs.Vec.{with_items}
 use Rattle.std.proofs.lemmas.List.Sorted.{All-permutation, IsPermutation-sym, length_permutation}
 use Rattle.marks.specs.Direction.{IsInOrder}
@@ -77,16 +77,13 @@ module _ (claim : ClaimData) (xs : List Exchange) (a b : ℕ) (ms ns : SortedMar
 
 -- ---- the marks of the groups, one after another
 
-below_none : (k : ℕ) → k < 0 → ⊥
-below_none k h = omega arith
-
 long : (a b n : ℕ) → n ≡ a + b → b ≡ 1 → n ≡ a + 1
 long a b n is one = omega arith
 
 pub none_yet : (claim : ClaimData) (xs : List Exchange) (items : List SortedMarks) → items ≡ [] →
     AreOfGroupsInOrder claim xs items
 none_yet claim xs items is group d below =
-    absurd (below_none group (subst (λ (ms : List SortedMarks). group < length ms) is below))
+    absurd (not_lt_zero group (subst (λ (ms : List SortedMarks). group < length ms) is below))
 
 before_or_last : (k n m : ℕ) → k < m → m ≡ n + 1 → (k < n) ⊎ (k ≡ n)
 before_or_last k n m lt eq = grind (arith)

@@ -1,8 +1,8 @@
 -- Refutations of which the error never changes, among those of which it may drift.
-use Rattle.courses.proofs.Common.{◌≡◌, ℕ, ◌+◌, ◌-◌, ◌*◌, ◌≤◌, ℤ, pos, ◌+ℤ◌, ◌-ℤ◌, ◌≤ℤ◌, unsigned_abs, false, List, Some, subst, arith, slice_index_or, int_min, int_max, ints, clamps, by_lt_z, slice_get-get_or, ClaimData, RefutationData, Exchange, Mark, low_mark, high_mark, IsPossible, AreCompatible, billion, request_start, reply_end, is_liar, AdmitsError, Admits, IsRefuted, mark_of, IsRefutedWithDrift}
+use Rattle.courses.proofs.Common.{◌≡◌, ℕ, ◌+◌, ◌-◌, ◌*◌, ◌≤◌, ℤ, pos, ◌+ℤ◌, ◌-ℤ◌, ◌≤ℤ◌, unsigned_abs, false, List, Some, subst, arith, slice_index_or, int_min, int_max, ints, clamps, by_lt_z, slice_get-get_or, ClaimData, RefutationData, Exchange, Mark, low_mark, high_mark, IsPossible, AreCompatible, billion, request_start, reply_end, is_liar, AdmitsError, Admits, IsRefuted, mark_of, IsRefutedWithDrift, ≤ℤ_trans, All-slice_get, compatible_in_order}
 use Rattle.std.specs.Prelude.{slice_get}
-use Rattle.courses.proofs.Scaling.{bounded, product_from}
-use Rattle.courses.proofs.TrueExchanges.{each_at, true_at, all_true, marks_at, all_marks, all_pairs}
+use Rattle.courses.proofs.Scaling.{product_from}
+use Rattle.courses.proofs.TrueExchanges.{true_at, all_true, marks_at, all_marks, all_pairs}
 
 -- ---- marks in order
 
@@ -11,19 +11,6 @@ none_above low high x h at = omega (arith, ints)
 
 nothing : (k p d x : ℕ) → x ≡ 0 → k * x ≤ p * d
 nothing k p d x none = rw none (omega arith)
-
--- a low mark that isn't above a high one is compatible with it, whatever the rate
-pub compatible_in_order : (ppb : ℕ) (low high : Mark) → low.error ≤ℤ high.error → AreCompatible ppb low high
-compatible_in_order ppb low high h = record {
-  falls = λ forth.
-      let d : ℕ = unsigned_abs (high.place -ℤ low.place) in
-      bounded (billion - ppb) ppb d (low.error -ℤ high.error) (high.place -ℤ low.place) (omega (arith, ints))
-      (λ x at. nothing (billion - ppb) ppb d x (none_above low.error high.error x h at));
-  rises = λ back.
-      let d : ℕ = unsigned_abs (low.place -ℤ high.place) in
-      bounded (billion + ppb) ppb d (low.error -ℤ high.error) (low.place -ℤ high.place) (omega (arith, ints))
-      (λ x at. nothing (billion + ppb) ppb d x (none_above low.error high.error x h at));
-}
 
 ordered_by : (low high : ℤ) (x : ℕ) → low -ℤ high ≡ pos x → billion * x ≤ 0 → low ≤ℤ high
 ordered_by low high x at h = omega (arith, ints)
@@ -73,15 +60,12 @@ module _ (start end t2 t3 distance error : ℤ) where
     answers_before_arrival = omega (arith, ints, clamps);
   }
 
-through : (a b c : ℤ) → a ≤ℤ b → b ≤ℤ c → a ≤ℤ c
-through a b c p q = omega (arith, ints)
-
 module _ (claim : ClaimData) (xs : List Exchange) (r : RefutationData) where
   module _ (refuted : IsRefuted claim xs r) where
     room_at : (k : ℕ) (x : Exchange) → slice_get xs k ≡ Some x → is_liar r.liars x.server ≡ false
         → Admits claim.reading r.error x
     room_at k x at true' =
-        each_at (λ y. is_liar r.liars y.server ≡ false → Admits claim.reading r.error y) xs k x refuted.admits at true'
+        All-slice_get (λ y. is_liar r.liars y.server ≡ false → Admits claim.reading r.error y) xs k x refuted.admits at true'
 
     low_at : (k : ℕ) (x : Exchange) → slice_get xs k ≡ Some x → is_liar r.liars x.server ≡ false
         → (low_mark claim.reading x).error ≤ℤ r.error
@@ -108,7 +92,7 @@ module _ (claim : ClaimData) (xs : List Exchange) (r : RefutationData) where
         compatible = all_pairs (is_liar r.liars) xs claim.drift_ppb claim.reading
             (λ i j x y at_i at_j true_x true_y.
             compatible_in_order claim.drift_ppb (low_mark claim.reading x) (high_mark claim.reading y)
-            (through _ _ _ (low_at i x at_i true_x) (high_at j y at_j true_y)));
+            (≤ℤ_trans _ _ _ (low_at i x at_i true_x) (high_at j y at_j true_y)));
       };
       reading_low = all_marks (is_liar r.liars) xs (AreCompatible claim.drift_ppb (mark_of r))
           (high_mark claim.reading)

@@ -1,10 +1,6 @@
 -- What holds of the exchanges with servers that aren't false, one by one and as a list.
-use Rattle.courses.proofs.Common.{◌≡◌, ℕ, zero, suc, ℤ, Bool, true, false, not, List, [], ◌∷◌, map, Some, refl, sym, subst, All, filter, cond-true, cond-false, All-nil, All-cons, All-head, All-tail, All-map, get_or_from_slice_get, slice_get_within, Exchange, Mark, low_mark, high_mark, AreCompatible, true_exchanges, low_marks, high_marks, AreAllCompatible, by_test}
+use Rattle.courses.proofs.Common.{◌≡◌, ℕ, zero, suc, ℤ, Bool, true, false, not, List, [], ◌∷◌, map, Some, refl, sym, subst, All, filter, cond-true, cond-false, All-nil, All-cons, All-head, All-tail, All-map, Exchange, Mark, low_mark, high_mark, AreCompatible, true_exchanges, low_marks, high_marks, AreAllCompatible, by_test, not-true, All-map_back}
 use Rattle.std.specs.Prelude.{slice_get}
-
--- what holds of each holds of the one at a place
-pub each_at : {X : Type 0} (P : X → Type 0) (xs : List X) (k : ℕ) (x : X) → All P xs → slice_get xs k ≡ Some x → P x
-each_at P xs k x all at = subst P (get_or_from_slice_get xs k x x at) (all k x (slice_get_within xs k x at))
 
 module _ {X : Type 0} (p : X → Bool) (P : X → Type 0) where
   -- what holds of each that passes holds of the one at a place, if it passes
@@ -30,19 +26,9 @@ module _ {X : Type 0} (p : X → Bool) (P : X → Type 0) where
       (λ first. subst (All P) (sym (cond-false (p y) (y ∷ filter p ys) (filter p ys) first))
       (all_passing ys (λ k x at. each (suc k) x at)))
 
-module _ {X Y : Type 0} (P : Y → Type 0) (f : X → Y) where
-  pub All-unmap : (xs : List X) → All P (map f xs) → All (λ x. P (f x)) xs
-  All-unmap [] all = All-nil (λ x. P (f x))
-  All-unmap (x ∷ xs) all =
-      All-cons (λ x. P (f x)) x xs (All-head P (f x) (map f xs) all) (All-unmap xs (All-tail P (f x) (map f xs) all))
-
 passes : (b : Bool) → b ≡ false → not b ≡ true
 passes true e = absurd cc
 passes false e = refl
-
-pub isnt : (b : Bool) → not b ≡ true → b ≡ false
-isnt true e = absurd cc
-isnt false e = refl
 
 module _ (is_false : ℕ → Bool) (xs : List Exchange) where
   pub true_at : (P : Exchange → Type 0) (k : ℕ) (x : Exchange) → All P (true_exchanges is_false xs)
@@ -54,12 +40,12 @@ module _ (is_false : ℕ → Bool) (xs : List Exchange) where
       → ((k : ℕ) (x : Exchange) → slice_get xs k ≡ Some x → is_false x.server ≡ false → P x)
       → All P (true_exchanges is_false xs)
   all_true P each =
-      all_passing (λ x. not (is_false x.server)) P xs (λ k x at ok. each k x at (isnt (is_false x.server) ok))
+      all_passing (λ x. not (is_false x.server)) P xs (λ k x at ok. each k x at (not-true (is_false x.server) ok))
 
   pub marks_at : (P : Mark → Type 0) (f : Exchange → Mark) (k : ℕ) (x : Exchange)
       → All P (map f (true_exchanges is_false xs)) → slice_get xs k ≡ Some x → is_false x.server ≡ false → P (f x)
   marks_at P f k x all at true' =
-      true_at (λ x. P (f x)) k x (All-unmap P f (true_exchanges is_false xs) all) at true'
+      true_at (λ x. P (f x)) k x (All-map_back P f (true_exchanges is_false xs) all) at true'
 
   pub all_marks : (P : Mark → Type 0) (f : Exchange → Mark)
       → ((k : ℕ) (x : Exchange) → slice_get xs k ≡ Some x → is_false x.server ≡ false → P (f x))

@@ -1,5 +1,5 @@
 -- The two exchanges an hour apart.
-use Rattle.courses.proofs.Common.{◌≡◌, ℕ, ◌+◌, ◌-◌, ◌<◌, ◌≤◌, ℤ, pos, ◌+ℤ◌, ◌-ℤ◌, ◌*ℤ◌, ◌≤ℤ◌, ◌<ℤ◌, Bool, true, false, inr, [], ◌∷◌, count_by, refl, arith, All, int_le, ints, All-nil, All-cons, billion, IsRefuted, Mark, low_mark, high_mark, IsPossible, AreCompatible, mark_of, IsRefutedWithDrift, Contradicts, SomeCourse, le_from}
+use Rattle.courses.proofs.Common.{◌≡◌, ℕ, ◌+◌, ◌-◌, ◌<◌, ◌≤◌, ℤ, pos, ◌+ℤ◌, ◌-ℤ◌, ◌*ℤ◌, ◌≤ℤ◌, ◌<ℤ◌, Bool, true, false, inr, [], ◌∷◌, count_by, refl, arith, All, int_le, ints, All-nil, All-cons, billion, IsRefuted, Mark, low_mark, high_mark, IsPossible, AreCompatible, mark_of, IsRefutedWithDrift, Contradicts, SomeCourse, int_le-true, not_both}
 use Rattle.checker.specs.WorkedCourse.{worked_exchange}
 use Rattle.checker.specs.WorkedRefutation.{claim_with, refutation_with}
 use Rattle.courses.specs.WorkedDrift.{later_exchange, both_exchanges, drifting_claim}
@@ -10,15 +10,12 @@ use Rattle.courses.proofs.Covers.{small_cover}
 not_le_from : (a b : ℤ) → int_le a b ≡ false → b <ℤ a
 not_le_from a b e = grind (arith, ints)
 
-not_both : (a b : ℤ) → a ≤ℤ b → b <ℤ a → ⊥
-not_both a b p q = omega (arith, ints)
-
 ahead : (ppb : ℕ) (low high : Mark) → int_le low.place high.place ≡ true
     → int_le (pos (billion - ppb) *ℤ (low.error -ℤ high.error)) (pos ppb *ℤ (high.place -ℤ low.place)) ≡ true
     → AreCompatible ppb low high
 ahead ppb low high place test = record {
-  falls = λ forth. le_from _ _ test;
-  rises = λ back. absurd (not_both _ _ (le_from _ _ place) back);
+  falls = λ forth. int_le-true _ _ test;
+  rises = λ back. absurd (not_both _ _ (int_le-true _ _ place) back);
 }
 
 behind : (ppb : ℕ) (low high : Mark) → int_le low.place high.place ≡ false
@@ -26,7 +23,7 @@ behind : (ppb : ℕ) (low high : Mark) → int_le low.place high.place ≡ false
     → AreCompatible ppb low high
 behind ppb low high place test = record {
   falls = λ forth. absurd (not_both _ _ forth (not_le_from _ _ place));
-  rises = λ back. le_from _ _ test;
+  rises = λ back. int_le-true _ _ test;
 }
 
 too_far : (ppb : ℕ) (low high : Mark) → int_le low.place high.place ≡ false
@@ -57,8 +54,8 @@ all_two P a b at_a at_b = All-cons P a (b ∷ []) at_a (All-cons P b [] at_b (Al
 
 each_is_possible : All (IsPossible (pos 0)) both_exchanges
 each_is_possible = all_two (IsPossible (pos 0)) worked_exchange later_exchange
-    (record { leaves_before_arrival = le_from _ _ refl; receives_before_answer = le_from _ _ refl })
-    (record { leaves_before_arrival = le_from _ _ refl; receives_before_answer = le_from _ _ refl })
+    (record { leaves_before_arrival = int_le-true _ _ refl; receives_before_answer = int_le-true _ _ refl })
+    (record { leaves_before_arrival = int_le-true _ _ refl; receives_before_answer = int_le-true _ _ refl })
 
 pub drift_explains : IsRefuted (claim_with 42953967 0) (worked_exchange ∷ []) (refutation_with (pos 42953968) [])
     → IsRefutedWithDrift (drifting_claim 100000) both_exchanges (refutation_with (pos 42953968) [])

@@ -72,7 +72,8 @@ as_is_quiet : (b : Bool) (c : ℕ) → is_obeyed c ≡ b →
     IsQuiet (if b then codes "\\u{" ++ digits 16 false c ++ codes "}" else encode_utf8 c)
 as_is_quiet true c is =
     quiet_append (codes "\\u{") _ (visible_is_quiet (codes "\\u{") tt)
-    (quiet_append (digits 16 false c) (codes "}") (digits_are_quiet 16 (omega arith) (omega arith) c) (visible_is_quiet (codes "}") tt))
+    (quiet_append (digits 16 false c) (codes "}") (digits_are_quiet 16 (omega arith) (omega arith) c)
+    (visible_is_quiet (codes "}") tt))
 as_is_quiet false c is = (c ∷ [], append-nil (encode_utf8 c), (is, tt))
 
 pub shown_char_is_quiet : (c : ℕ) → IsQuiet (shown_char c)

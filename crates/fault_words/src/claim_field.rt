@@ -25,6 +25,30 @@ pub fn field_name(code: u8) -> &'static str
     }
 }
 
+/// What has to stand in a field that holds one number, of this code; the last is `reading_ns`.
+fn number_sentence(code: u8) -> Sentence
+    ensures { IsSentence result }
+{
+    match code {
+        3 => says(
+            "has to be a whole number from 0 to 31",
+            "write how many groups of servers may be wrong, as a bare whole number",
+        ),
+        6 => says(
+            "has to be a whole number from 0 to 10^15",
+            remedy::WRITE_NANOSECONDS,
+        ),
+        7 => says(
+            "has to be a whole number from 0 to 500000000",
+            "write parts of 10^9 as a bare whole number: 100 ppm are 100000",
+        ),
+        _ => says(
+            "has to be a whole number from 0 to 10^9",
+            remedy::WRITE_NANOSECONDS,
+        ),
+    }
+}
+
 /// What has to stand in the field of this code, and how it is mended; for another number, that no
 /// field has that name.
 pub(crate) fn field_sentence(code: u8) -> Sentence
@@ -36,10 +60,7 @@ pub(crate) fn field_sentence(code: u8) -> Sentence
             "has to be an array of 1 to 32 IPv4 addresses",
             remedy::WRITE_AN_ADDRESS,
         ),
-        3 => says(
-            "has to be a whole number from 0 to 31",
-            "write how many groups of servers may be wrong, as a bare whole number",
-        ),
+        3 | 6..=8 => number_sentence(code),
         4 => says(
             "has to be a time of UTC, no later than \"to\"",
             remedy::WRITE_A_TIME,
@@ -47,18 +68,6 @@ pub(crate) fn field_sentence(code: u8) -> Sentence
         5 => says(
             "has to be a time of UTC, no earlier than \"from\"",
             remedy::WRITE_A_TIME,
-        ),
-        6 => says(
-            "has to be a whole number from 0 to 10^15",
-            remedy::WRITE_NANOSECONDS,
-        ),
-        7 => says(
-            "has to be a whole number from 0 to 500000000",
-            "write parts of 10^9 as a bare whole number: 100 ppm are 100000",
-        ),
-        8 => says(
-            "has to be a whole number from 0 to 10^9",
-            remedy::WRITE_NANOSECONDS,
         ),
         9 => says(
             "has to be an array of arrays of server numbers",

@@ -57,7 +57,8 @@ fn add_subject(text: &mut String, names: &Names<'_>, input: Option<Input>) -> Re
 
 /// Adds the name of a field of the claim, if it is one.
 fn add_field(text: &mut String, field: u8) -> Result<(), AllocError>
-    ensures { OnOk result (string_bytes text.new ≡ string_bytes text.old ++ spec.field_words field) }
+    ensures { OnOk result
+        (string_bytes text.new ≡ string_bytes text.old ++ spec.field_words field) }
 {
     if field != 0 {
         text.push_str("\"")?;

@@ -12,7 +12,7 @@ use pcap_reader::{Capture, CaptureFault, RecordSource};
 use std::alloc::{AllocError, Global};
 
 /// One more than the records that a capture has at most: its end.
-const MOST_CALLS: u32 = 4_000_001;
+pub(crate) const MOST_CALLS: u32 = 4_000_001;
 
 /// How many whole records a source gives before this fault, if it has it.
 fn whole_records<S: RecordSource>(source: &mut S, fault: &CaptureFault) -> Option<u32>

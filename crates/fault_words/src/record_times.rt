@@ -3,13 +3,11 @@
 ghost use Rattle.std.specs.Prelude.{◌^◌, ◌-◌, ◌<◌, ◌≤◌, IfSome};
 ghost use Rattle.byte_stream.specs.State.{IsReadable};
 
+use crate::record_count::MOST_CALLS;
 use crate::slip::Recorded;
 use byte_stream::Feed;
 use pcap_reader::{Capture, RecordSource};
 use std::alloc::Global;
-
-/// One more than the records that a capture has at most: its end.
-const MOST_CALLS: u32 = 4_000_001;
 
 /// The same with a record of this second more.
 fn with_second(seen: Option<Recorded>, second: u32) -> Recorded

@@ -1,11 +1,11 @@
 -- What is found, and what that says.
-use Rattle.finder.proofs.Common.{◌≡◌, ℕ, ◌<◌, ◌≤◌, nat_lt, true, not, length, Option, Some, None, Ok, Err, inl, inr, refl, sym, ap, ◌∙◌, subst, arith, ◌↔◌, IsErrAnd, cond-true, cond-false, length-map-range_with_len, CertificateData, max_pieces, ClaimData, IsLawful, Hull, Sample, HoldsError, verdict_of, Yes, is_inside, Finds, IsFirstFailing, pieces_from, piece_at, hull_at, passes, first_failing, found_without, found_of, IsPieceCount, count_of, stretch_at, AreSamplesOf, FindFault, TooManyPieces, Memory}
+use Rattle.finder.proofs.Common.{◌≡◌, ℕ, ◌<◌, ◌≤◌, nat_lt, true, not, length, Option, Some, None, Ok, Err, inl, inr, refl, sym, ap, ◌∙◌, subst, arith, ◌↔◌, IsErrAnd, cond-true, cond-false, length-map-range_with_len, CertificateData, max_pieces, ClaimData, IsLawful, Hull, Sample, HoldsError, verdict_of, Yes, is_inside, Finds, IsFirstFailing, pieces_from, piece_at, hull_at, passes, first_failing, found_without, found_of, IsPieceCount, count_of, stretch_at, AreSamplesOf, FindFault, TooManyPieces, Memory, not-true, not-false}
 use Rattle.std.specs.Prelude.{◌⊎◌, List, Result}
 use Rattle.certificate.specs.Certificate.{data_of as certificate_data}
 use Rattle.finder.specs.Found.{data_of}
 use Rattle.finder.specs.declared.found.Found.{Found}
 use Rattle.finder.specs.declared.found.Found.TheVariants.{Certificate, Nothing}
-use Rattle.finder.proofs.List.{find_is_first, find_is_none, was, was_not}
+use Rattle.finder.proofs.List.{find_is_first, find_is_none}
 use Rattle.finder.proofs.SpanPieces.{is_few, is_many}
 use Rattle.finder.proofs.Refusal.{Laws, contradicted, none_accepted}
 use Rattle.finder.proofs.Verdict.{all_accepted}
@@ -60,7 +60,7 @@ module _ (samples : List Sample) (claim : ClaimData) (step : ℕ) where
           → (verdict_of samples claim found ≡ Yes) × (length found.pieces ≤ max_pieces)
       finds_certificate found none e =
           let pass : (k : ℕ) → k < count_of claim step → passes samples claim step k ≡ true =
-          λ k below. was_not (passes samples claim step k)
+          λ k below. not-false (passes samples claim step k)
           (find_is_none (λ j. not (passes samples claim step j)) 0 (count_of claim step) none k (omega arith)
           (omega (arith, below))) in
           let count = length-map-range_with_len (piece_at samples claim step) 0 (count_of claim step) in (
@@ -78,9 +78,9 @@ module _ (samples : List Sample) (claim : ClaimData) (step : ℕ) where
           record {
             of_span = rw number (omega (arith, found.to));
             its_hull = of_it ∙ ap (hull_at samples claim step) (sym number);
-            fails = ap (is_inside claim.bound) of_it ∙ was (passes samples claim step k) found.passes;
+            fails = ap (is_inside claim.bound) of_it ∙ not-true (passes samples claim step k) found.passes;
             others_pass = λ j below.
-                was_not (passes samples claim step j) (found.others_fail j (omega arith) (rw number at below));
+                not-false (passes samples claim step j) (found.others_fail j (omega arith) (rw number at below));
           }
 
       finds_at : (found : Found) (o : Option ℕ) → first_failing samples claim step ≡ o

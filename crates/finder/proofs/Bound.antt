@@ -1,5 +1,5 @@
 -- The least bound of hulls.
-use Rattle.finder.proofs.Common.{◌≡◌, inl, inr, ℕ, zero, suc, ◌+◌, ◌-◌, ◌*◌, ◌/◌, ◌%◌, ◌<◌, ◌≤◌, max, ℤ, pos, neg_ℤ, int_le, nat_lt, Bool, true, false, ◌&&◌, refl, sym, ap, ◌∙◌, subst, ⊎_elim, arith, add-one, mul-le-mul_right, cases_lt, nat_tests, div_ceil_times, ints, clamps, div-mul-add, div_ceil, nanoseconds_per_second, ticks_down, IsCeiling, ceiling_of, ticks_per_second, Hull, Unbounded, Empty, Bounded, IsInside, HasNoEnds, AreInside, IsLeastBound, IsFirstInNeed, IsFirstWithout, IsLeast, reach_of, nanoseconds_of, with_need, with_piece, least_of, LeastBound, Holds, NoneHolds}
+use Rattle.finder.proofs.Common.{◌≡◌, inl, inr, ℕ, zero, suc, ◌+◌, ◌-◌, ◌*◌, ◌/◌, ◌%◌, ◌<◌, ◌≤◌, max, ℤ, pos, neg_ℤ, int_le, Bool, true, false, ◌&&◌, refl, sym, ap, ◌∙◌, subst, ⊎_elim, arith, add-one, mul-le-mul_right, cases_lt, div_ceil_times, ints, clamps, div-mul-add, div_ceil, nanoseconds_per_second, ticks_down, IsCeiling, ceiling_of, ticks_per_second, Hull, Unbounded, Empty, Bounded, IsInside, HasNoEnds, AreInside, IsLeastBound, IsFirstInNeed, IsFirstWithout, IsLeast, reach_of, nanoseconds_of, with_need, with_piece, least_of, LeastBound, Holds, NoneHolds, lt-ltb, le-ltb}
 
 -- ---- the number that the code computes
 
@@ -29,12 +29,6 @@ pub record Roundings : Type 0 where
 both : (a b : Bool) → a && b ≡ true → (a ≡ true) × (b ≡ true)
 both true b e = (refl, e)
 both false b e = absurd cc
-
-is_less : (a b : ℕ) → a < b → nat_lt a b ≡ true
-is_less a b h = grind (arith, nat_tests)
-
-is_no_less : (a b : ℕ) → b ≤ a → nat_lt a b ≡ false
-is_no_less a b h = grind (arith, nat_tests)
 
 reaches : (lo hi : ℤ) (t : ℕ) → int_le (neg_ℤ (pos t)) lo ≡ true → int_le hi (pos t) ≡ true → reach_of lo hi ≤ t
 reaches lo hi t low high = grind (arith, ints, clamps)
@@ -136,8 +130,8 @@ module _ (roundings : Roundings) where
       bounded_more : (n j : ℕ) → HoldsSoFar hulls count n j
           → SoFar hulls (count + 1) (with_need n j count (nanoseconds_of (reach_of lo hi)))
       bounded_more n j so_far = ⊎_elim
-          (λ less. rw (is_less n (nanoseconds_of (reach_of lo hi)) less) (more_needed n j so_far less))
-          (λ le. rw (is_no_less n (nanoseconds_of (reach_of lo hi)) le) (no_more_needed n j so_far le))
+          (λ less. rw (lt-ltb n (nanoseconds_of (reach_of lo hi)) less) (more_needed n j so_far less))
+          (λ le. rw (le-ltb n (nanoseconds_of (reach_of lo hi)) le) (no_more_needed n j so_far le))
           (cases_lt n (nanoseconds_of (reach_of lo hi)))
 
     without_ends : (n j : ℕ) → HoldsSoFar hulls count n j → HasNoEnds (hulls count)

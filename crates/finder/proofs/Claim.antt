@@ -1,42 +1,15 @@
 -- The numbers of a claim that keeps its limits, as 128 bits hold them.
-use Rattle.finder.proofs.Common.{◌≡◌, ℕ, ◌<◌, ◌≤◌, ◌^◌, pos, ◌-ℤ◌, ◌≤ℤ◌, ◌<ℤ◌, unsigned_abs, length, to_z, of_z, Fits, w8, arith, ints, fits_signed_from_abs, non_neg, yes_non_neg, T, w128, SFits, ClaimData, IsLawful}
-use Rattle.finder.proofs.NoOverflow.{kept, kept_difference}
+use Rattle.finder.proofs.Common.{◌≡◌, ℕ, ◌<◌, ◌≤◌, ◌^◌, pos, ◌-ℤ◌, ◌≤ℤ◌, ◌<ℤ◌, unsigned_abs, length, to_z, of_z, Fits, w8, arith, ints, fits_signed_from_abs, non_neg, yes_non_neg, T, w128, SFits, ClaimData, IsLawful, w128_keeps_difference, first_kept, last_kept}
 
 module _ (claim : ClaimData) (lawful : IsLawful claim) where
-  pub first_kept : to_z w128 (of_z w128 claim.first) ≡ claim.first
-  first_kept =
-      let begins = lawful.span_begins in
-      let forward = lawful.span_forward in
-      let ends = lawful.span_ends in
-      kept claim.first (omega (arith, ints))
-
-  pub last_kept : to_z w128 (of_z w128 claim.last) ≡ claim.last
-  last_kept =
-      let begins = lawful.span_begins in
-      let forward = lawful.span_forward in
-      let ends = lawful.span_ends in
-      kept claim.last (omega (arith, ints))
-
-  pub bound_kept : to_z w128 (of_z w128 claim.bound) ≡ claim.bound
-  bound_kept =
-      let not_below = lawful.bound_not_negative in
-      let not_above = lawful.bound_in_range in
-      kept claim.bound (omega (arith, ints))
-
-  pub reading_kept : to_z w128 (of_z w128 claim.reading) ≡ claim.reading
-  reading_kept =
-      let from = lawful.reading_not_negative in
-      let to = lawful.reading_in_range in
-      kept claim.reading (omega (arith, ints))
-
   pub first_from_zero : pos 0 ≤ℤ to_z w128 (of_z w128 claim.first)
-  first_from_zero = rw first_kept lawful.span_begins
+  first_from_zero = rw (first_kept claim lawful) lawful.span_begins
 
   pub span_in_order : to_z w128 (of_z w128 claim.first) ≤ℤ to_z w128 (of_z w128 claim.last)
-  span_in_order = rw (first_kept, last_kept) lawful.span_forward
+  span_in_order = rw (first_kept claim lawful, last_kept claim lawful) lawful.span_forward
 
   pub last_in_range : to_z w128 (of_z w128 claim.last) <ℤ pos (2 ^ 64)
-  last_in_range = rw last_kept lawful.span_ends
+  last_in_range = rw (last_kept claim lawful) lawful.span_ends
 
   -- ---- the length of its span
 
@@ -46,14 +19,14 @@ module _ (claim : ClaimData) (lawful : IsLawful claim) where
       let begins = lawful.span_begins in
       let forward = lawful.span_forward in
       let ends = lawful.span_ends in
-      kept_difference claim.last claim.first (omega (arith, ints)) (omega (arith, ints))
+      w128_keeps_difference claim.last claim.first (omega (arith, ints)) (omega (arith, ints))
 
   pub length_fits : SFits w128 (to_z w128 (of_z w128 claim.last) -ℤ to_z w128 (of_z w128 claim.first))
   length_fits =
       let begins = lawful.span_begins in
       let forward = lawful.span_forward in
       let ends = lawful.span_ends in
-      rw (last_kept, first_kept) (fits_signed_from_abs w128 (claim.last -ℤ claim.first) (omega (arith, ints)))
+      rw (last_kept claim lawful, first_kept claim lawful) (fits_signed_from_abs w128 (claim.last -ℤ claim.first) (omega (arith, ints)))
 
   pub length_below : unsigned_abs (claim.last -ℤ claim.first) < 2 ^ 64
   length_below =

@@ -6,21 +6,23 @@ pub use Rattle.std.proofs.Common.{nat_lt, neg_ℤ, negsuc, not, of_z, pos, refl,
 pub use Rattle.std.proofs.Common.{take, to_z, true, true≢false, unsigned_abs, vec_len, w32, w64, w8, zero, ℕ, ℤ, ⊎_elim}
 pub use Rattle.std.proofs.Common.{◌%◌, ◌&&◌, ◌*ℤ◌, ◌*◌, ◌++◌, ◌+ℤ◌, ◌+◌, ◌-ℤ◌, ◌-◌, ◌/◌, ◌<ℤ◌, ◌<◌, ◌^◌, ◌||◌, ◌∙◌, ◌∷◌}
 pub use Rattle.std.proofs.Common.{◌≡◌, ◌≢◌, ◌≤ℤ◌, ◌≤◌, ◌⊎◌}
+pub use Rattle.std.proofs.Math.Bool.{or-false, or_comm}
 pub use Rattle.std.proofs.Math.Dec.{T}
-pub use Rattle.std.proofs.Math.Nat.{le-div_iff_mul-le, mod-lt, mul-le-mul_right}
+pub use Rattle.std.proofs.Math.Nat.{le-div_iff_mul-le, mod-lt, mul-le-mul_right, mul-pos}
 pub use Rattle.std.proofs.lemmas.Bool.{and_from, and_parts, cases_lt, cond-false, cond-true, lt-ltb, or_cases, or_from}
-pub use Rattle.std.proofs.lemmas.Bool.{or_left, or_right}
+pub use Rattle.std.proofs.lemmas.Bool.{eq-eqb, le-leb, le-ltb, leb-true, ne_eqb, not-false, not-true, or_left, or_right}
+pub use Rattle.std.proofs.lemmas.Bool.{or_parts}
 pub use Rattle.std.proofs.lemmas.Bool.Decides.{nat_tests}
 pub use Rattle.std.proofs.lemmas.Grind.{common_steps, div_ceil_times}
 pub use Rattle.std.proofs.lemmas.Int.{clamps, fits_signed_from_abs, ints, to_z-of_z}
 pub use Rattle.std.proofs.lemmas.List.{append-nil, get_or-map, get_or-replicate, get_or-set_other, get_or-set_same}
 pub use Rattle.std.proofs.lemmas.List.{length-map, length-set, map-append, take_all, take_more}
-pub use Rattle.std.proofs.lemmas.List.Elements.{All-append, All-cons, All-filter, All-get_or, All-head, All-nil}
+pub use Rattle.std.proofs.lemmas.List.Elements.{All-append, All-cons, All-filter, All-head, All-nil}
 pub use Rattle.std.proofs.lemmas.List.Elements.{All-push, All-tail, filter-append, filter_map-append}
 pub use Rattle.std.proofs.lemmas.List.Folds.{Any-from_list_any, list_any-append, list_any-from_Any}
 pub use Rattle.std.proofs.lemmas.List.FromFn.{get_or-map-range_with_len, length-map-range_with_len}
 pub use Rattle.std.proofs.lemmas.List.FromFn.{map-range_with_len_more}
-pub use Rattle.std.proofs.lemmas.List.Sums.{sum_by-append, sum_by-cons, sum_by-le-sum_by}
+pub use Rattle.std.proofs.lemmas.List.Sums.{sum_by-append}
 pub use Rattle.std.proofs.lemmas.Nat.{div-add-mod', div-mul-add}
 pub use Rattle.std.proofs.lemmas.Option.{get_or_from_slice_get, slice_get-get_or, slice_get_read, slice_get_within}
 pub use Rattle.std.specs.Int.{div_ceil, int_max, int_min}
@@ -28,10 +30,15 @@ pub use Rattle.std.specs.Int.Signed.{non_neg, yes_non_neg}
 pub use Rattle.std.specs.List.{cons_option, filter_map, find, list_any, range_with_len}
 pub use Rattle.std.specs.Ordering.{int_eq}
 pub use Rattle.std.specs.Prelude.{All, AllPairs, Any, IfNone, IsErrAnd, IsSomeAnd, IsTrue, MatchOption, count_by}
-pub use Rattle.std.specs.Prelude.{filter, fold, option_map, slice_get, slice_index, ◌==◌, ◌↔◌}
+pub use Rattle.std.specs.Prelude.{filter, option_map, slice_get, slice_index, ◌==◌, ◌↔◌}
 pub use Rattle.certificate.specs.Certificate.{CertificateData, PieceData, max_pieces, piece_data}
 pub use Rattle.certificate.specs.Refutation.{RefutationData}
 pub use Rattle.certificate.specs.declared.certificate.Certificate.{Certificate}
+pub use Rattle.checker.proofs.Comparison.{EveryHull}
+pub use Rattle.checker.proofs.Counting.{found_below}
+pub use Rattle.checker.proofs.Narrow.{no_fewer_groups, still_left_out}
+pub use Rattle.checker.proofs.NoOverflow.{bound_kept, first_kept, last_kept, reading_kept}
+pub use Rattle.checker.proofs.Separation.{all_counted, meet_leaves_it_out}
 pub use Rattle.checker.specs.Comparison.{AreNarrower, IsNarrower, IsOfSamples}
 pub use Rattle.checker.specs.Course.{Course}
 pub use Rattle.checker.specs.Groups.{false_group_count, holds_false}
@@ -66,7 +73,7 @@ pub use Rattle.sample_interval.specs.Sample.{IsLawfulSample, sample_of}
 pub use Rattle.sample_interval.specs.Widening.{billion}
 pub use Rattle.sample_interval.specs.declared.kinds.Sample.{Sample}
 pub use Rattle.span_cover.specs.Gathering.{Gathered, Gathering}
-pub use Rattle.span_cover.specs.Group.{group_interval, group_intervals, is_inside, meet_of, narrowed, numbers_below}
+pub use Rattle.span_cover.specs.Group.{group_intervals, is_inside, numbers_below}
 pub use Rattle.span_cover.specs.Group.{piece_hull}
 pub use Rattle.span_cover.specs.Part.{part_of}
 pub use Rattle.span_cover.specs.Piece.{IsPiece, moved_high, moved_low, piece_interval_of}
@@ -112,3 +119,7 @@ pub use Rattle.finder.specs.declared.least.LeastBound.{LeastBound}
 pub use Rattle.finder.specs.declared.least.LeastBound.TheVariants.{Holds, NoneHolds}
 pub use Rattle.finder.specs.declared.side.Side.{Side}
 pub use Rattle.finder.specs.declared.side.Side.TheVariants.{Above, Below}
+pub use Rattle.lemma_base.proofs.Bool.{by_test, or_rest}
+pub use Rattle.lemma_base.proofs.Int.{int_lt-false, w128_keeps, w128_keeps_difference, ≤ℤ-from_equal, ≤ℤ_antisymm}
+pub use Rattle.lemma_base.proofs.List.{All-cons_option, All-map_back, All-slice_get, range_with_len_more}
+pub use Rattle.lemma_base.proofs.Nat.{lt_next_cases, not_lt_zero}

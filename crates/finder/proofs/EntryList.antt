@@ -1,7 +1,7 @@
 -- The entries of a piece, one after another.
-use Rattle.finder.proofs.Common.{◌≡◌, ℕ, ◌<◌, List, [], ◌∷◌, length, Option, Some, None, refl, sym, ap, All, slice_get, cons_option, All-nil, All-cons, slice_get_within, ClaimData, servers_of, Sample, part_of, Part, Stretch, AreNamed, best_over, best_entries, part_between, part_named, parts_named}
+use Rattle.finder.proofs.Common.{◌≡◌, ℕ, ◌<◌, List, [], ◌∷◌, length, Option, Some, None, refl, sym, ap, All, slice_get, cons_option, All-nil, All-cons, slice_get_within, ClaimData, servers_of, Sample, part_of, Part, Stretch, AreNamed, best_over, best_entries, part_between, part_named, parts_named, All-slice_get}
 use Rattle.finder.proofs.Best.{BestLaw, best_of_is}
-use Rattle.finder.proofs.List.{All-slice_get, All-filter_map}
+use Rattle.finder.proofs.List.{All-filter_map}
 
 -- the same if what is said was computed
 pub part_computed : (samples : List Sample) (claim : ClaimData) (stretch : Stretch) (entry : ℕ × ℕ) (low high : Sample)

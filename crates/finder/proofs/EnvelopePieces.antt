@@ -1,18 +1,11 @@
 -- The pieces of an envelope, one after another.
-use Rattle.finder.proofs.Common.{◌≡◌, ℕ, zero, suc, ◌+◌, ◌<◌, ◌≤◌, nat_lt, List, [], ◌∷◌, ◌++◌, length, map, Ok, Err, inl, inr, refl, sym, ap, ◌∙◌, arith, add-one, subst, All, ◌↔◌, IsErrAnd, range_with_len, cond-true, cond-false, get_or-map, length-map, All-nil, All-cons, map-range_with_len_more, max_pieces, ClaimData, IsLawful, Hull, Sample, FindsEnvelope, EnvelopeData, PieceHullData, IsLawfulEnvelope, IsLawfulPiece, IsLeast, piece_hull_at, piece_hulls, least_of, with_piece, envelope_of, envelope_to, hull_at, count_of, stretch_at, FindFault, TooManyPieces, Memory, LeastBound}
+use Rattle.finder.proofs.Common.{◌≡◌, ℕ, zero, suc, ◌+◌, ◌<◌, ◌≤◌, nat_lt, List, [], ◌∷◌, ◌++◌, length, map, Ok, Err, inl, inr, refl, sym, ap, ◌∙◌, arith, add-one, All, ◌↔◌, IsErrAnd, range_with_len, cond-true, cond-false, All-nil, All-cons, map-range_with_len_more, max_pieces, ClaimData, IsLawful, Hull, Sample, FindsEnvelope, EnvelopeData, PieceHullData, IsLawfulEnvelope, IsLawfulPiece, IsLeast, piece_hull_at, piece_hulls, least_of, with_piece, envelope_of, envelope_to, hull_at, count_of, stretch_at, FindFault, TooManyPieces, Memory, LeastBound}
 use Rattle.std.specs.Prelude.{Result, ◌⊎◌}
 use Rattle.finder.specs.Envelope.{data_of}
 use Rattle.finder.specs.declared.envelope.Envelope.{Envelope}
 use Rattle.finder.proofs.Best.{BestLaw}
 use Rattle.finder.proofs.EntryList.{entries_there}
 use Rattle.finder.proofs.SpanPieces.{is_few, is_many, piece_of_claim}
-
--- what holds of what f gives of each holds of each
-pub All-from_map : {X Y : Type 0} (P : Y → Type 0) (f : X → Y) (xs : List X) → All P (map f xs)
-    → All (λ x. P (f x)) xs
-All-from_map P f xs all k d within =
-    let same = length-map xs f in
-    subst P (get_or-map f xs k d (f d) within) (all k (f d) (omega (arith, same, within)))
 
 module _ (samples : List Sample) (claim : ClaimData) (step : ℕ) where
   pub envelope_of_many : max_pieces < count_of claim step → envelope_of samples claim step ≡ Err TooManyPieces

@@ -1,20 +1,8 @@
 -- The errors for which exchanges leave room.
 use Rattle.std.proofs.Common.{◌↔◌}
-use Rattle.finder.proofs.Common.{◌≡◌, ◌⊎◌, inl, inr, ◌≤◌, ◌^◌, ℤ, pos, ◌+ℤ◌, ◌-ℤ◌, ◌≤ℤ◌, ◌<ℤ◌, int_le, int_lt, unsigned_abs, to_z, of_z, Bool, true, false, not, ◌||◌, refl, sym, ap, ◌∙◌, ⊎_elim, arith, int_max, int_min, ints, clamps, w128, leaves_out, Interval, Exchange, IsInRange, Admits, admits, IsNear}
+use Rattle.finder.proofs.Common.{◌≡◌, ◌⊎◌, inl, inr, ◌≤◌, ◌^◌, ℤ, pos, ◌+ℤ◌, ◌-ℤ◌, ◌≤ℤ◌, ◌<ℤ◌, int_lt, unsigned_abs, to_z, of_z, true, false, not, ◌||◌, refl, sym, ap, ◌∙◌, ⊎_elim, arith, int_max, int_min, ints, clamps, w128, leaves_out, Interval, Exchange, IsInRange, Admits, admits, IsNear, by_test, or_from, w128_keeps}
 use Rattle.sample_interval.specs.Exchange.{IsOfSomeClaim}
 use Rattle.sample_interval.specs.Window.{request_start, reply_end}
-use Rattle.finder.proofs.NoOverflow.{kept}
-use Rattle.finder.proofs.List.{by_test}
-
-neither : (a b : Bool) → a ≡ false → b ≡ false → (a || b) ≡ false
-neither true b e f = absurd cc
-neither false b e f = f
-
-le_from : (a b : ℤ) → int_le a b ≡ true → a ≤ℤ b
-le_from a b e = grind (arith, ints)
-
-le_to : (a b : ℤ) → a ≤ℤ b → int_le a b ≡ true
-le_to a b h = grind (arith, ints)
 
 -- ---- one interval
 
@@ -25,7 +13,7 @@ is_left_out lo hi e h = by_test (int_lt e lo)
 
 is_inside : (lo hi e : ℤ) → lo ≤ℤ e → e ≤ℤ hi → leaves_out (record { lo = lo; hi = hi }) e ≡ false
 is_inside lo hi e from to =
-    neither (int_lt e lo) (int_lt hi e) (grind (arith, ints)) (grind (arith, ints))
+    or_from (int_lt e lo) (int_lt hi e) (grind (arith, ints)) (grind (arith, ints))
 
 not_left_out : (lo hi e : ℤ) → leaves_out (record { lo = lo; hi = hi }) e ≡ false → (lo ≤ℤ e) × (e ≤ℤ hi)
 not_left_out lo hi e h = by_test (int_lt e lo)
@@ -57,7 +45,7 @@ left_out_of_either al ah bl bh e =
     let ends = not_left_out (int_max al bl) (int_min ah bh) e inside in
     let low = ends.0 in
     let high = ends.1 in
-    inside ∙ sym (neither _ _ (is_inside al ah e (omega (arith, ints, clamps)) (omega (arith, ints, clamps)))
+    inside ∙ sym (or_from _ _ (is_inside al ah e (omega (arith, ints, clamps)) (omega (arith, ints, clamps)))
     (is_inside bl bh e (omega (arith, ints, clamps)) (omega (arith, ints, clamps)))))
 
 -- ---- one exchange
@@ -161,7 +149,7 @@ pub record IsKept (computed is : ℤ) : Type 0 where
   pub small : unsigned_abs is ≤ 2 ^ 72
 
 is_kept : (a b : ℤ) → a ≡ b → unsigned_abs b ≤ 2 ^ 72 → IsKept a b
-is_kept a b same small = record { same = same; kept = ap bits same ∙ kept b (omega arith); small = small }
+is_kept a b same small = record { same = same; kept = ap bits same ∙ w128_keeps b (omega arith); small = small }
 
 -- a number whose sums and differences are computed
 pub record IsSmall (a : ℤ) : Type 0 where
@@ -170,7 +158,7 @@ pub record IsSmall (a : ℤ) : Type 0 where
 
 is_small : (a : ℤ) → unsigned_abs a ≤ 2 ^ 70 → IsSmall a
 is_small a h =
-    let same : bits a ≡ a = kept a (omega arith) in
+    let same : bits a ≡ a = w128_keeps a (omega arith) in
     record { in_sum = rw same (omega arith); in_difference = rw same (omega arith) }
 
 pub time_small : (a : ℤ) → IsInRange a → IsSmall a
@@ -185,7 +173,7 @@ kept_small a b is =
     record { in_sum = rw is.kept small; in_difference = rw is.kept (omega arith) }
 
 pub end_small : (a : ℤ) → unsigned_abs a ≤ 2 ^ 74 → unsigned_abs (bits a) ≤ 2 ^ 80
-end_small a h = rw (kept a (omega arith)) (omega arith)
+end_small a h = rw (w128_keeps a (omega arith)) (omega arith)
 
 module _ (x : Exchange) (allowance : ℤ) (c : Computed x allowance) where
   t1 : unsigned_abs x.t1_low ≤ 2 ^ 70
@@ -209,12 +197,12 @@ module _ (x : Exchange) (allowance : ℤ) (c : Computed x allowance) where
   difference_kept : (a b : ℤ) → unsigned_abs a ≤ 2 ^ 71 → unsigned_abs b ≤ 2 ^ 71 → (d : ℤ) → d ≡ bits a -ℤ bits b
       → IsKept d (a -ℤ b)
   difference_kept a b p q d is =
-      is_kept d (a -ℤ b) (rw (kept a (omega (arith, p)), kept b (omega (arith, q))) at is) (omega (arith, ints, p, q))
+      is_kept d (a -ℤ b) (rw (w128_keeps a (omega (arith, p)), w128_keeps b (omega (arith, q))) at is) (omega (arith, ints, p, q))
 
   sum_kept : (a b : ℤ) → unsigned_abs a ≤ 2 ^ 71 → unsigned_abs b ≤ 2 ^ 71 → (d : ℤ) → d ≡ bits a +ℤ bits b
       → IsKept d (a +ℤ b)
   sum_kept a b p q d is =
-      is_kept d (a +ℤ b) (rw (kept a (omega (arith, p)), kept b (omega (arith, q))) at is) (omega (arith, ints, p, q))
+      is_kept d (a +ℤ b) (rw (w128_keeps a (omega (arith, p)), w128_keeps b (omega (arith, q))) at is) (omega (arith, ints, p, q))
 
   pub request_kept : IsKept c.request (request_start x allowance)
   request_kept =
@@ -231,16 +219,16 @@ module _ (x : Exchange) (allowance : ℤ) (c : Computed x allowance) where
 
   pub earlier_kept : (a : ℤ) → a ≡ int_min (bits x.t2) (bits x.t3) → IsKept a (int_min x.t2 x.t3)
   earlier_kept a is =
-      is_kept a (int_min x.t2 x.t3) (rw (kept x.t2 (omega (arith, t2)), kept x.t3 (omega (arith, t3))) at is)
+      is_kept a (int_min x.t2 x.t3) (rw (w128_keeps x.t2 (omega (arith, t2)), w128_keeps x.t3 (omega (arith, t3))) at is)
       (omega (arith, ints, clamps, t2, t3))
 
   pub later_kept : (a : ℤ) → a ≡ int_max (bits x.t2) (bits x.t3) → IsKept a (int_max x.t2 x.t3)
   later_kept a is =
-      is_kept a (int_max x.t2 x.t3) (rw (kept x.t2 (omega (arith, t2)), kept x.t3 (omega (arith, t3))) at is)
+      is_kept a (int_max x.t2 x.t3) (rw (w128_keeps x.t2 (omega (arith, t2)), w128_keeps x.t3 (omega (arith, t3))) at is)
       (omega (arith, ints, clamps, t2, t3))
 
   distance_kept : bits x.distance ≡ x.distance
-  distance_kept = kept x.distance (omega (arith, distance))
+  distance_kept = w128_keeps x.distance (omega (arith, distance))
 
   pub after_kept : (earlier a : ℤ) → bits earlier ≡ int_min x.t2 x.t3 → a ≡ bits earlier +ℤ bits x.distance
       → IsKept a (int_min x.t2 x.t3 +ℤ x.distance)
@@ -258,12 +246,12 @@ module _ (x : Exchange) (allowance : ℤ) (c : Computed x allowance) where
       → bits lo ≡ request_start x allowance -ℤ (int_min x.t2 x.t3 +ℤ x.distance)
   low_kept s lo k is =
       ap bits (rw (request_kept.kept, k.kept) at is)
-      ∙ kept (request_start x allowance -ℤ (int_min x.t2 x.t3 +ℤ x.distance))
+      ∙ w128_keeps (request_start x allowance -ℤ (int_min x.t2 x.t3 +ℤ x.distance))
       (omega (arith, ints, request_kept.small, k.small))
 
   pub high_kept : (d hi : ℤ) → IsKept d (int_max x.t2 x.t3 -ℤ x.distance) → hi ≡ bits c.reply -ℤ bits d
       → bits hi ≡ reply_end x allowance -ℤ (int_max x.t2 x.t3 -ℤ x.distance)
   high_kept d hi k is =
       ap bits (rw (reply_kept.kept, k.kept) at is)
-      ∙ kept (reply_end x allowance -ℤ (int_max x.t2 x.t3 -ℤ x.distance))
+      ∙ w128_keeps (reply_end x allowance -ℤ (int_max x.t2 x.t3 -ℤ x.distance))
       (omega (arith, ints, reply_kept.small, k.small))

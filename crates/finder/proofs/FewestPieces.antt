@@ -1,5 +1,5 @@
 -- What the longest pieces say of certificates: theirs is accepted, and no accepted one has fewer pieces.
-use Rattle.finder.proofs.Common.{◌≡◌, ◌≢◌, ℕ, suc, ◌+◌, ◌<◌, ℤ, pos, ◌≤ℤ◌, int_lt, nat_lt, unsigned_abs, Bool, true, false, true≢false, cond, ◌&&◌, ◌||◌, ⊎_elim, List, [], ◌∷◌, ◌++◌, length, Option, Some, None, refl, sym, ap, ◌∙◌, subst, arith, All, slice_get, IsSomeAnd, int_eq, cond-true, nat_tests, ints, clamps, slice_get_within, PieceData, CertificateData, ClaimData, IsLawful, Hull, Empty, Sample, is_inside, IsPiece, Stretch, last_end, stretches_from, HoldsError, parts_after, parts_fault, piece_fault, verdict_after, verdict_from, verdict_of, PassBelow, Yes, No, Why, Cut, Uncovered, best_entries, best_hull, AreLongest, IsLongest, IsNoWider, end_after, hull_over, next_tick, piece_over, pieces_over, shows, stretch_over, HoldsWhole, AreSamplesOf}
+use Rattle.finder.proofs.Common.{◌≡◌, ◌≢◌, ℕ, suc, ◌+◌, ◌<◌, ℤ, pos, ◌≤ℤ◌, int_lt, nat_lt, unsigned_abs, Bool, true, false, true≢false, cond, ◌&&◌, ◌||◌, ⊎_elim, List, [], ◌∷◌, ◌++◌, length, Option, Some, None, refl, sym, ap, ◌∙◌, subst, arith, slice_get, IsSomeAnd, int_eq, cond-true, nat_tests, ints, clamps, slice_get_within, PieceData, CertificateData, ClaimData, IsLawful, Hull, Empty, Sample, is_inside, IsPiece, Stretch, last_end, stretches_from, HoldsError, parts_after, parts_fault, piece_fault, verdict_after, verdict_from, verdict_of, PassBelow, Yes, No, Why, Cut, Uncovered, best_entries, best_hull, AreLongest, IsLongest, IsNoWider, end_after, hull_over, next_tick, piece_over, pieces_over, shows, stretch_over, HoldsWhole, AreSamplesOf, int_lt-false}
 use Rattle.finder.proofs.Best.{BestLaw}
 use Rattle.finder.proofs.Narrow.{NarrowLaw, WithinLaw}
 use Rattle.finder.proofs.Nearest.{int_cases}
@@ -32,9 +32,6 @@ not_cut : (cut late : Bool) (rest : Option Why) → cond (cut || late) (Some Cut
 not_cut true late rest e = absurd cc
 not_cut false true rest e = absurd cc
 not_cut false false rest e = refl
-
-not_late : (a b : ℤ) → int_lt a b ≡ false → b ≤ℤ a
-not_late a b e = grind (arith, ints)
 
 -- a reading of the span
 pub record InSpan (claim : ClaimData) (p : ℤ) : Type 0 where
@@ -128,7 +125,7 @@ module _ (laws : Laws) (samples : List Sample) (claim : ClaimData) (lawful : IsL
   no_further a p q t is earlier long passes = ⊎_elim
       (λ beyond. absurd (
       let end : ℤ = pos t.upto in
-      let within : end ≤ℤ claim.last = not_late claim.last end
+      let within : end ≤ℤ claim.last = int_lt-false claim.last end
       (not_cut (int_lt end a) (int_lt claim.last end) _ passes) in
       let shown = shows_piece samples claim a t passes in
       let forward = longest_forward p q is long in

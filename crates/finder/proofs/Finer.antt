@@ -1,5 +1,5 @@
 -- Pieces that are cut finer.
-use Rattle.finder.proofs.Common.{◌≡◌, ◌≢◌, inl, inr, ℕ, zero, suc, ◌+◌, ◌-◌, ◌*◌, ◌/◌, ◌<◌, ◌≤◌, ℤ, pos, ◌+ℤ◌, ◌≤ℤ◌, ◌<ℤ◌, List, Ok, refl, sym, ◌∙◌, ⊎_elim, arith, mod-lt, mul-le-mul_right, cases_lt, ints, clamps, div-add-mod', ticks_per_second, ClaimData, IsLawful, Hull, Unbounded, Empty, Sample, IsPiece, piece_end_of, Stretch, best_entries, best_hull, AreInside, EnvelopeData, IsInside, envelope_of, with_bound, hull_at, IsPieceCount, count_of, piece_begin_of, stretch_at, HoldsWhole, AreSamplesOf, Holds, NoneHolds}
+use Rattle.finder.proofs.Common.{◌≡◌, ◌≢◌, inl, inr, ℕ, zero, suc, ◌+◌, ◌-◌, ◌*◌, ◌/◌, ◌<◌, ◌≤◌, ℤ, pos, ◌+ℤ◌, ◌≤ℤ◌, ◌<ℤ◌, List, Ok, refl, sym, ◌∙◌, ⊎_elim, arith, mod-lt, mul-le-mul_right, cases_lt, ints, clamps, div-add-mod', ticks_per_second, ClaimData, IsLawful, Hull, Unbounded, Empty, Sample, IsPiece, piece_end_of, Stretch, best_entries, best_hull, AreInside, EnvelopeData, IsInside, envelope_of, with_bound, hull_at, IsPieceCount, count_of, piece_begin_of, stretch_at, HoldsWhole, AreSamplesOf, Holds, NoneHolds, mul-pos}
 use Rattle.finder.proofs.Bound.{Roundings, none_inside}
 use Rattle.finder.proofs.OtherBounds.{least_is}
 use Rattle.finder.proofs.Best.{BestLaw}
@@ -38,9 +38,6 @@ module _ (laws : Laws) (samples : List Sample) (claim : ClaimData) (lawful : IsL
         (record { lawful = are.lawful; listed = are.listed }) piece whole passes))
 
 -- ---- a piece inside another
-
-product : (a b : ℕ) → 0 < a → 0 < b → 0 < a * b
-product a b p q = let h : 1 * b ≤ a * b = mul-le-mul_right b (omega arith) in omega (arith, h, q)
 
 quotient : (k d : ℕ) → 0 < d → (k / d * d ≤ k) × (k < (k / d + 1) * d)
 quotient k d some =
@@ -125,7 +122,7 @@ module _ (laws : Laws) (samples : List Sample) (claim : ClaimData) (lawful : IsL
       let parts = quotient k times some in
       let there : q < count_of claim (step * times) =
       count_more claim.first claim.last forward step times k q parts.0 parts.1 (count_of claim (step * times))
-      (count_of claim step) (counted (step * times) (product step times some_step some)) (counted step some_step)
+      (count_of claim step) (counted (step * times) (mul-pos some_step some)) (counted step some_step)
       some below in
       inner_inside laws samples claim lawful are (stretch_at claim (step * times) q) (stretch_at claim step k) n
       (piece_of_claim claim lawful step k) (

@@ -1,40 +1,12 @@
 -- Groups that hold a server of some kind.
 use Rattle.std.proofs.Common.{count_by}
-use Rattle.finder.proofs.Common.{◌≡◌, ℕ, zero, suc, ◌+◌, ◌<◌, ◌≤◌, Bool, true, false, true≢false, cond, ◌&&◌, ◌||◌, List, [], ◌∷◌, length, refl, sym, ◌∙◌, ⊎_elim, arith, ◌==◌, slice_index, list_any, cases_lt, nat_tests, list_any-append, sum_by-append, holds_false, false_group_count, numbers_below}
-use Rattle.finder.proofs.List.{by_test}
-
-either_right : (a b : Bool) → b ≡ true → (a || b) ≡ true
-either_right true b e = refl
-either_right false b e = e
-
-either_left : (a b : Bool) → a ≡ true → (a || b) ≡ true
-either_left true b e = refl
-either_left false b e = absurd cc
-
-one_of : (a b : Bool) → (a || b) ≡ true → a ≡ false → b ≡ true
-one_of true b e f = absurd cc
-one_of false b e f = e
+use Rattle.finder.proofs.Common.{◌≡◌, ℕ, zero, suc, ◌+◌, ◌<◌, ◌≤◌, Bool, true, false, true≢false, cond, ◌&&◌, ◌||◌, List, [], ◌∷◌, length, refl, sym, ◌∙◌, arith, ◌==◌, slice_index, list_any, list_any-append, sum_by-append, holds_false, false_group_count, numbers_below, by_test, and_parts, and_from, or_left, or_right, or_rest}
 
 one_passes : (p : ℕ → Bool) (n : ℕ) → p n ≡ true → list_any p (n ∷ []) ≡ true
 one_passes p n e = rw e refl
 
 one_fails : (p : ℕ → Bool) (n : ℕ) → p n ≡ false → list_any p (n ∷ []) ≡ false
 one_fails p n e = rw e refl
-
--- a number that passes is found
-pub found_below : (p : ℕ → Bool) (n k : ℕ) → k < n → p k ≡ true → list_any p (numbers_below n) ≡ true
-found_below p zero k below passes = absurd (omega arith)
-found_below p (suc n) k below passes =
-    list_any-append p (numbers_below n) (n ∷ [])
-    ∙ ⊎_elim
-    (λ less. either_left _ _ (found_below p n k less passes))
-    (λ le. either_right (list_any p (numbers_below n)) (list_any p (n ∷ []))
-    (let same : n ≡ k = omega arith in one_passes p n (rw same passes)))
-    (cases_lt k n)
-
--- a number is the other, and a test passes
-pub both_pass : (a b : ℕ) (t : Bool) → a ≡ b → t ≡ true → ((a == b) && t) ≡ true
-both_pass a b t same passes = rw (same, passes) (grind (arith, nat_tests))
 
 -- ---- a kind that is narrower
 
@@ -46,13 +18,13 @@ any_weaker p q (suc n) implies e =
     sym (list_any-append p (numbers_below n) (n ∷ [])) ∙ e in
     list_any-append q (numbers_below n) (n ∷ [])
     ∙ by_test (list_any p (numbers_below n))
-    (λ before. either_left (list_any q (numbers_below n)) (list_any q (n ∷ []))
+    (λ before. or_left (list_any q (numbers_below n)) (list_any q (n ∷ []))
     (any_weaker p q n (λ k below. implies k (omega arith)) before))
-    (λ not_before. either_right (list_any q (numbers_below n)) (list_any q (n ∷ []))
+    (λ not_before. or_right (list_any q (numbers_below n)) (list_any q (n ∷ []))
     (by_test (p n)
     (λ here. one_passes q n (implies n (omega arith) here))
     (λ not_here. absurd (
-    let last = one_of (list_any p (numbers_below n)) (list_any p (n ∷ [])) parts not_before in
+    let last = or_rest (list_any p (numbers_below n)) (list_any p (n ∷ [])) parts not_before in
     true≢false (sym last ∙ one_fails p n not_here)))))
 
 count_more : (p : ℕ → Bool) (n : ℕ)
@@ -72,14 +44,6 @@ count_weaker p q (suc n) implies =
     let last = one_no_more p q n (implies n (omega arith)) in
     rw (count_more p n, count_more q n) (omega arith)
 
-pub both_true : (a b : Bool) → (a && b) ≡ true → (a ≡ true) × (b ≡ true)
-both_true true b e = (refl, e)
-both_true false b e = absurd cc
-
-pub both_to : (a b : Bool) → a ≡ true → b ≡ true → (a && b) ≡ true
-both_to true b e f = f
-both_to false b e f = absurd cc
-
 -- no more groups hold a server of a kind that is narrower
 pub no_more_groups : (groups : List ℕ) (p q : ℕ → Bool) → ((k : ℕ) → k < length groups → p k ≡ true → q k ≡ true)
     → false_group_count groups p ≤ false_group_count groups q
@@ -89,8 +53,8 @@ no_more_groups groups p q implies =
     (λ server. (slice_index groups server == group) && p server)
     (λ server. (slice_index groups server == group) && q server) (length groups)
     (λ server below e.
-    let parts = both_true (slice_index groups server == group) (p server) e in
-    both_to (slice_index groups server == group) (q server) parts.0 (implies server below parts.1)))
+    let parts = and_parts (slice_index groups server == group) (p server) e in
+    and_from (slice_index groups server == group) (q server) parts.0 (implies server below parts.1)))
 
 -- as many hold one of a kind that is the same
 pub as_many_groups : (groups : List ℕ) (p q : ℕ → Bool) → ((k : ℕ) → k < length groups → p k ≡ q k)

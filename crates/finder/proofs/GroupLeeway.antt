@@ -1,8 +1,6 @@
 -- The leeways of groups, from one exchange to the next.
 use Rattle.std.proofs.Common.{get_or-set_other, get_or-set_same}
-use Rattle.finder.proofs.Common.{◌≡◌, ℕ, zero, suc, ◌+◌, ◌-◌, ◌*◌, ◌/◌, ◌<◌, ◌≤◌, ℤ, pos, negsuc, neg_ℤ, ◌+ℤ◌, ◌-ℤ◌, ◌*ℤ◌, ◌≤ℤ◌, ◌<ℤ◌, unsigned_abs, Bool, true, false, true≢false, ◌||◌, ◌⊎◌, inl, inr, ⊎_elim, List, [], ◌∷◌, Some, replicate, length, get_or, set, refl, sym, ap, ap₂, ◌∙◌, subst, arith, to_z, of_z, ◌^◌, w128, ◌↔◌, ◌==◌, slice_get, int_min, list_any, All-cons, All-nil, ints, nat_tests, le-div_iff_mul-le, ClaimData, group_of, low_mark, AreCompatible, Mark, Exchange, billion, Side, Below, Lets, DoLet, AreLeeways, IsNarrowed, IsTightest, IsUnlimited, leeway_in, mark_at, no_limit, turned}
-use Rattle.finder.proofs.NoOverflow.{kept}
-use Rattle.finder.proofs.List.{by_test}
+use Rattle.finder.proofs.Common.{◌≡◌, ℕ, zero, suc, ◌+◌, ◌-◌, ◌*◌, ◌/◌, ◌<◌, ◌≤◌, ℤ, pos, negsuc, neg_ℤ, ◌+ℤ◌, ◌-ℤ◌, ◌*ℤ◌, ◌≤ℤ◌, ◌<ℤ◌, unsigned_abs, Bool, true, false, ◌||◌, inl, inr, ⊎_elim, List, [], ◌∷◌, Some, replicate, length, get_or, set, refl, sym, ap, ap₂, ◌∙◌, subst, arith, to_z, of_z, ◌^◌, w128, ◌↔◌, ◌==◌, slice_get, int_min, list_any, All-cons, All-nil, ints, nat_tests, le-div_iff_mul-le, ClaimData, group_of, low_mark, AreCompatible, Mark, Exchange, billion, Side, Below, Lets, DoLet, AreLeeways, IsNarrowed, IsTightest, IsUnlimited, leeway_in, mark_at, no_limit, turned, by_test, not_lt_zero, lt_next_cases, or_parts, w128_keeps, or-false}
 
 -- ---- the greatest error under one mark
 
@@ -74,7 +72,7 @@ pub negative_kept : (z : ℤ) → unsigned_abs z ≤ 2 ^ 73
     → to_z w128 (of_z w128 (pos 0 -ℤ to_z w128 (of_z w128 z))) ≡ neg_ℤ z
 negative_kept z small =
     let negative : pos 0 -ℤ z ≡ neg_ℤ z = omega (arith, ints) in
-    rw (kept z (omega arith)) (kept (pos 0 -ℤ z) (omega (arith, ints)) ∙ negative)
+    rw (w128_keeps z (omega arith)) (w128_keeps (pos 0 -ℤ z) (omega (arith, ints)) ∙ negative)
 
 module _ (ppb : ℕ) (a b : Mark) where
   abbrev mirrored : Mark → Mark
@@ -156,18 +154,12 @@ still_kept leeways at now within kept' before group below = by_test (group == at
 
 -- ---- one exchange more
 
-pub no_number_below : (k : ℕ) → k < 0 → ⊥
-no_number_below k below = omega arith
-
-pub below_or_at : (k n : ℕ) → k < n + 1 → (k < n) ⊎ (k ≡ n)
-below_or_at k n h = grind (arith)
-
 module _ (claim : ClaimData) (xs : List Exchange) (side : Side) (reading : ℤ) where
   pub none_yet : (leeways : List ℤ) → ((group : ℕ) → group < 32 → leeway_in leeways group ≡ no_limit)
       → AreLeeways claim xs 0 side reading leeways
   none_yet leeways are = record {
     exact = λ group below ticks few. (
-      λ _ k x first. absurd (no_number_below k first),
+      λ _ k x first. absurd (not_lt_zero k first),
       λ _. rw (are group below) (omega (arith, ints, few)),
     );
   }
@@ -190,7 +182,7 @@ module _ (claim : ClaimData) (xs : List Exchange) (side : Side) (reading : ℤ) 
         (λ same.
         let is = same_exchange k y same at_k in
         subst (Lets claim side reading ticks) is (last (ap (group_of claim) is ∙ of_group)))
-        (below_or_at k n below)
+        (lt_next_cases k n below)
 
     one_fewer : (group : ℕ) (ticks : ℤ) → DoLet claim xs (n + 1) side reading group ticks
         → DoLet claim xs n side reading group ticks
@@ -252,7 +244,7 @@ module _ (leeways : List ℤ) (left_out : ℕ → Bool) where
       least_of = λ other below out. ⊎_elim
           (λ earlier. let le = before.least_of other earlier out in omega (arith, ints, less, le))
           (λ same. subst (λ (k : ℕ). leeway_in leeways n ≤ℤ leeway_in leeways k) (sym same) (omega (arith, ints)))
-          (below_or_at other n below);
+          (lt_next_cases other n below);
     }
 
     pub no_tighter : (left_out n ≡ false → least ≤ℤ leeway_in leeways n)
@@ -264,14 +256,10 @@ module _ (leeways : List ℤ) (left_out : ℕ → Bool) where
           (λ earlier. before.least_of other earlier out)
           (λ same. subst (λ (k : ℕ). least ≤ℤ leeway_in leeways k) (sym same)
           (last (subst (λ (k : ℕ). left_out k ≡ false) same out)))
-          (below_or_at other n below);
+          (lt_next_cases other n below);
     }
 
 -- ---- groups that are added to a cover
-
-or_none : (a : Bool) → a ≡ (a || false)
-or_none true = refl
-or_none false = refl
 
 added_last : (a b c : Bool) → (a || (b || c)) ≡ (b || (a || c))
 added_last true true c = refl
@@ -281,15 +269,11 @@ added_last false b c = refl
 turned_test : (a b : ℕ) → (a == b) ≡ (b == a)
 turned_test a b = by_test (a == b) (λ t. grind (arith, nat_tests)) (λ t. grind (arith, nat_tests))
 
-neither : (a b : Bool) → (a || b) ≡ false → (a ≡ false) × (b ≡ false)
-neither true b h = absurd (true≢false h)
-neither false b h = (refl, h)
-
 module _ (leeways : List ℤ) (cover : ℕ → Bool) where
   pub none_added : IsNarrowed leeways 0 cover cover
   none_added = record {
     added = [];
-    join = λ group. or_none (cover group);
+    join = λ group. sym (or-false (cover group));
     below = All-nil (λ a. a < 32);
     once = refl;
     others = All-nil (λ a. cover a ≡ false);
@@ -318,9 +302,9 @@ module _ (leeways : List ℤ) (cover : ℕ → Bool) where
       join = λ k. is k ∙ ap₂ (λ (a b : Bool). a || b) (turned_test k group) (before.join k)
           ∙ added_last (group == k) (cover k) (list_any (λ a. a == k) before.added);
       below = All-cons (λ a. a < 32) group before.added tightest.below before.below;
-      once = rw ((neither (cover group) (list_any (λ a. a == group) before.added) absent).1, before.once) refl;
+      once = rw ((or_parts (cover group) (list_any (λ a. a == group) before.added) absent).1, before.once) refl;
       others = All-cons (λ a. cover a ≡ false) group before.added
-          (neither (cover group) (list_any (λ a. a == group) before.added) absent).0 before.others;
+          (or_parts (cover group) (list_any (λ a. a == group) before.added) absent).0 before.others;
       least = All-cons (λ a. (other : ℕ) → other < 32 → now other ≡ false
           → leeway_in leeways a ≤ℤ leeway_in leeways other) group before.added
           (λ other below outside. tightest.least other below (left other outside))
@@ -334,7 +318,7 @@ module _ (leeways : List ℤ) (cover : ℕ → Bool) where
     }
       where
         left : (other : ℕ) → now other ≡ false → found other ≡ false
-        left other outside = (neither (other == group) (found other) (sym (is other) ∙ outside)).1
+        left other outside = (or_parts (other == group) (found other) (sym (is other) ∙ outside)).1
 
         absent : (cover group || list_any (λ a. a == group) before.added) ≡ false
         absent = sym (before.join group) ∙ tightest.outside

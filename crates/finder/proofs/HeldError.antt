@@ -1,7 +1,7 @@
 -- Where nothing beyond the bound is let be, no course is beyond it.
 use Rattle.std.proofs.Common.{◌==◌}
 use Rattle.std.specs.Prelude.{nat_lt}
-use Rattle.finder.proofs.Common.{◌≡◌, ℕ, zero, suc, ◌+◌, ◌-◌, ◌<◌, ◌≤◌, ℤ, pos, neg_ℤ, ◌+ℤ◌, ◌-ℤ◌, ◌*ℤ◌, ◌≤ℤ◌, ◌<ℤ◌, Bool, true, false, not, ◌&&◌, ◌||◌, inl, inr, is_some, ◌⊎◌, ⊎_elim, Option, None, Some, List, [], ◌∷◌, length, get_or, refl, sym, ap, ◌∙◌, subst, arith, ◌↔◌, All, Any, IfNone, count_by, slice_index, AllPairs, int_min, list_any, clamps, ints, and_parts, lt-ltb, or_cases, nat_tests, All-cons, All-head, All-nil, All-tail, list_any-append, slice_get_within, RefutationData, ClaimData, IsLawful, max_bound, Exchange, low_mark, high_mark, Course, holds_false, are_different, IsCover, size_of, AreApart, HoldsOne, HoldsOneOr64, holds, numbers_below, AreHeld, AreLeeways, DoLet, HasFalse, HoldsFor, IsBounded, IsCandidate, IsHeld, IsHeldAtAll, IsMade, IsNarrowed, IsOff, IsRounded, greatest_of, leeway_in, mark_at, no_limit, turned, IsErrorOf64Bits, Side, Above, Below}
+use Rattle.finder.proofs.Common.{◌≡◌, ℕ, zero, suc, ◌+◌, ◌-◌, ◌<◌, ◌≤◌, ℤ, pos, neg_ℤ, ◌+ℤ◌, ◌-ℤ◌, ◌*ℤ◌, ◌≤ℤ◌, ◌<ℤ◌, Bool, true, false, not, ◌&&◌, ◌||◌, inl, inr, is_some, ◌⊎◌, ⊎_elim, Option, None, Some, List, [], ◌∷◌, length, get_or, refl, sym, ap, ◌∙◌, subst, arith, ◌↔◌, All, Any, IfNone, count_by, slice_index, AllPairs, int_min, list_any, clamps, ints, and_parts, lt-ltb, or_cases, nat_tests, All-cons, All-head, All-nil, All-tail, list_any-append, slice_get_within, RefutationData, ClaimData, IsLawful, max_bound, Exchange, low_mark, high_mark, Course, holds_false, are_different, IsCover, size_of, AreApart, HoldsOne, HoldsOneOr64, holds, numbers_below, AreHeld, AreLeeways, DoLet, HasFalse, HoldsFor, IsBounded, IsCandidate, IsHeld, IsHeldAtAll, IsMade, IsNarrowed, IsOff, IsRounded, greatest_of, leeway_in, mark_at, no_limit, turned, IsErrorOf64Bits, Side, Above, Below, by_test, not-true, lt_next_cases, ≤ℤ-from_equal, or_from, and_from, or-false}
 use Rattle.pairing.specs.Exchange.{IsLawful as IsLawfulExchange}
 use Rattle.checker.specs.Course.{Fits}
 use Rattle.courses.specs.Conflicts.{ConflictData, group_count, HoldsNoLess as HoldsNoLessBy, IsCover as IsCoverBy}
@@ -10,15 +10,14 @@ use Rattle.courses.specs.LeastCovers.{AreLeastCovers}
 use Rattle.courses.specs.Members.{LieWithin, passing}
 use Rattle.courses.specs.declared.groups.Groups.{Groups}
 use Rattle.courses.proofs.Converse.{keeps_low, keeps_high}
-use Rattle.courses.proofs.CoverCounts.{both_hold, passing_one, passing_same}
+use Rattle.courses.proofs.CoverCounts.{passing_one, passing_same}
 use Rattle.courses.proofs.CoverList.{passing_both, passing_within}
 use Rattle.courses.proofs.CoverWithin.{passing_below}
 use Rattle.courses.proofs.Covers.{listed_in_groups, server_is_true}
 use Rattle.courses.proofs.KeptMarks.{kept_are_compatible}
 use Rattle.courses.proofs.Scaling.{times-sub}
 use Rattle.finder.specs.declared.drift_refutation.Place.{Place}
-use Rattle.finder.proofs.GroupLeeway.{below_or_at, same_default}
-use Rattle.finder.proofs.List.{by_test, was}
+use Rattle.finder.proofs.GroupLeeway.{same_default}
 
 pub if_none : {A : Type 0} (o : Option A) (P : Type 0) → P → IfNone o P
 if_none None P p = p
@@ -43,9 +42,6 @@ off_below n reading ticks place time shows off =
     let difference = times-sub (reading -ℤ ticks) reading ticks n refl in
     omega (arith, ints, difference)
 
-same_le : (a b : ℤ) → a ≡ b → a ≤ℤ b
-same_le a b e = omega (arith, ints)
-
 module _ (claim : ClaimData) (lawful : IsLawful claim) (xs : List Exchange)
     (each : All (IsLawfulExchange (length claim.servers)) xs) (course : Course) (fits : Fits claim xs course) where
   -- which groups hold a false server
@@ -62,7 +58,7 @@ module _ (claim : ClaimData) (lawful : IsLawful claim) (xs : List Exchange)
       kept_are_compatible claim.drift_ppb course.fineness (mark_at reading ticks) (high_mark claim.reading x)
       course.observation (course.reply k) fits.some_fineness lawful.drift_in_range
       (fits.drift course.observation (course.reply k) (inl refl) (inr (k, slice_get_within xs k x at, inr refl))) (
-        same_le _ _ (sym shows),
+        ≤ℤ-from_equal _ _ (sym shows),
         off_above course.fineness reading ticks course.observation.reading course.observation.time shows off,
       )
       (keeps_high claim xs course k x at fits is_true)
@@ -73,7 +69,7 @@ module _ (claim : ClaimData) (lawful : IsLawful claim) (xs : List Exchange)
       (course.request k) course.observation fits.some_fineness lawful.drift_in_range
       (fits.drift (course.request k) course.observation (inr (k, slice_get_within xs k x at, inl refl)) (inl refl))
       (keeps_low claim xs course k x at fits is_true) (
-        same_le _ _ shows,
+        ≤ℤ-from_equal _ _ shows,
         off_below course.fineness reading (neg_ℤ ticks) course.observation.reading course.observation.time shows off,
       )
 
@@ -108,7 +104,7 @@ module _ (claim : ClaimData) (lawful : IsLawful claim) (xs : List Exchange)
   few_false =
       let below = passing_below false_in (length claim.groups) few_groups in
       let within = passing_within false_in (λ k. false_in k && nat_lt k (length claim.groups))
-      (λ k is. both_hold (false_in k) (nat_lt k (length claim.groups)) is
+      (λ k is. and_from (false_in k) (nat_lt k (length claim.groups)) is
       (lt-ltb k (length claim.groups) (in_range k is))) in
       let few = fits.few_false in
       omega arith
@@ -122,14 +118,6 @@ reordered false a r = refl
 
 turned_test : (a b : ℕ) → (a == b) ≡ (b == a)
 turned_test a b = by_test (a == b) (λ s. grind (arith, nat_tests)) (λ s. grind (arith, nat_tests))
-
-or_none : (b : Bool) → b ≡ (b || false)
-or_none true = refl
-or_none false = refl
-
-none_of_both : (a b : Bool) → a ≡ false → b ≡ false → (a || b) ≡ false
-none_of_both true b h k = absurd cc
-none_of_both false b h k = k
 
 any_of : (q : ℕ → Bool) (xs : List ℕ) → list_any q xs ≡ true
     → (k : ℕ) × (x : ℕ) × (k < length xs) × (q x ≡ true) × (get_or xs k x ≡ x)
@@ -177,7 +165,7 @@ counts_added : (cover : ℕ → Bool) (added : List ℕ) → are_different added
     → All (λ a. a < 32) added
     → passing (λ k. cover k || list_any (λ a. a == k) added) ≡ passing cover + length added
 counts_added cover [] once others below =
-    let same = passing_same (λ k. cover k || false) cover (λ k. sym (or_none (cover k))) in
+    let same = passing_same (λ k. cover k || false) cover (λ k. or-false (cover k)) in
     omega arith
 counts_added cover (a ∷ added) once others below =
     let parts = and_parts (not (list_any (λ b. b == a) added)) (are_different added) once in
@@ -193,8 +181,8 @@ counts_added cover (a ∷ added) once others below =
     (λ k same.
     let is : k ≡ a = grind (arith, nat_tests) in
     subst (λ (n : ℕ). (cover n || list_any (λ b. b == n) added) ≡ false) (sym is)
-    (none_of_both (cover a) (list_any (λ b. b == a) added) (All-head (λ b. cover b ≡ false) a added others)
-    (was (list_any (λ b. b == a) added) parts.0))) in
+    (or_from (cover a) (list_any (λ b. b == a) added) (All-head (λ b. cover b ≡ false) a added others)
+    (not-true (list_any (λ b. b == a) added) parts.0))) in
     omega arith
 
 module _ (claim : ClaimData) (lawful : IsLawful claim) (xs : List Exchange)
@@ -331,7 +319,7 @@ module _ {X : Type 0} (IsTried : X → Type 0) (xs : List X) where
       (λ earlier. before k d earlier)
       (λ same.
       subst IsTried (same_default xs n other d within ∙ ap (λ (i : ℕ). get_or xs i d) (sym same)) tried)
-      (below_or_at k n below)
+      (lt_next_cases k n below)
 
   pub all_tried : (n : ℕ) → length xs ≤ n → AreTriedTo n → All IsTried xs
   all_tried n past tried k d below = tried k d (omega (arith, past, below))

@@ -1,12 +1,10 @@
 -- The servers that a refutation has to name.
-use Rattle.finder.proofs.Common.{◌≡◌, ◌≢◌, ℕ, zero, suc, ◌<◌, ◌≤◌, ℤ, pos, ◌<ℤ◌, unsigned_abs, Bool, true, false, true≢false, cond, not, ◌&&◌, List, [], ◌∷◌, ◌++◌, length, get_or, refl, sym, ap, ◌∙◌, arith, ◌==◌, filter, All, AllPairs, Any-from_list_any, list_any-from_Any, list_any, nat_tests, ints, append-nil, All-nil, All-cons, All-append, All-filter, filter-append, get_or_from_slice_get, slice_get-get_or, RefutationData, ClaimData, IsLawful, Exchange, false_group_count, numbers_below, Admits, IsRefuted, is_liar, admits, refuses, is_possible, refutation_at}
+use Rattle.finder.proofs.Common.{◌≡◌, ◌≢◌, ℕ, zero, suc, ◌<◌, ◌≤◌, ℤ, pos, ◌<ℤ◌, unsigned_abs, Bool, true, false, true≢false, cond, not, ◌&&◌, List, [], ◌∷◌, ◌++◌, length, get_or, refl, sym, ap, ◌∙◌, arith, ◌==◌, filter, All, AllPairs, Any-from_list_any, list_any-from_Any, list_any, nat_tests, ints, append-nil, All-nil, All-cons, All-append, All-filter, filter-append, get_or_from_slice_get, slice_get-get_or, RefutationData, ClaimData, IsLawful, Exchange, false_group_count, numbers_below, Admits, IsRefuted, is_liar, admits, refuses, is_possible, refutation_at, by_test, and_parts, and_from, found_below, leb-true, le-leb}
 use Rattle.std.specs.List.{Any}
 use Rattle.std.proofs.lemmas.List.Quantifiers.{all_pairs_push}
 use Rattle.std.proofs.lemmas.Map.Views.{any-filter_same}
 use Rattle.pairing.specs.Exchange.{IsLawful as IsLawfulExchange}
-use Rattle.finder.proofs.Group.{as_many_groups, both_to, both_true, found_below, no_more_groups}
-use Rattle.finder.proofs.List.{by_test}
-use Rattle.finder.proofs.Nearest.{at_most_from, at_most_to}
+use Rattle.finder.proofs.Group.{as_many_groups, no_more_groups}
 use Rattle.finder.proofs.ErrorRoom.{RoomLaw}
 
 -- ---- the numbers that pass a test
@@ -89,7 +87,7 @@ module _ (allowance error : ℤ) where
       let x = get_or xs k d in
       let same : (x.server == x.server) ≡ true = grind (arith, nat_tests) in
       let test : Exchange → Bool = λ y. (y.server == x.server) && not (admits allowance error y) in
-      let here : test x ≡ true = both_to (x.server == x.server) (not (admits allowance error x)) same (rw fails refl) in
+      let here : test x ≡ true = and_from (x.server == x.server) (not (admits allowance error x)) same (rw fails refl) in
       let at = get_or_from_slice_get xs k x x (slice_get-get_or xs k d within) in
       list_any-from_Any test xs (k, x, within, at, here)
 
@@ -109,7 +107,7 @@ module _ (law : RoomLaw) (claim : ClaimData) (lawful : IsLawful claim) (xs : Lis
   few_named error possible =
       let fewer = no_more_groups claim.groups (is_liar (refusing error)) (refuses claim.reading xs error)
       (λ server below. named_pass (refuses claim.reading xs error) (length claim.servers) server) in
-      let most = at_most_from _ _ possible in
+      let most = leb-true _ _ possible in
       omega (arith, fewer, most)
 
   others_admit : (error : ℤ) → All
@@ -145,7 +143,7 @@ module _ (law : RoomLaw) (claim : ClaimData) (lawful : IsLawful claim) (xs : Lis
   named_by other refuted server refused =
       let one = refused_by_one claim.reading other.error xs server refused in
       let x = one.1 in
-      let parts = both_true (x.server == server) (not (admits claim.reading other.error x)) one.4 in
+      let parts = and_parts (x.server == server) (not (admits claim.reading other.error x)) one.4 in
       let same : x.server ≡ server = (let e = parts.0 in grind (arith, nat_tests)) in
       by_test (is_liar other.liars server) (λ e. e) (λ e.
       let there : is_liar other.liars x.server ≡ false = ap (is_liar other.liars) same ∙ e in
@@ -164,4 +162,4 @@ module _ (law : RoomLaw) (claim : ClaimData) (lawful : IsLawful claim) (xs : Lis
       let fewer = no_more_groups claim.groups (refuses claim.reading xs other.error) (is_liar other.liars)
       (λ server below. named_by other refuted server) in
       let most = refuted.against.few_false in
-      at_most_to _ _ (omega (arith, fewer, most))
+      le-leb _ _ (omega (arith, fewer, most))

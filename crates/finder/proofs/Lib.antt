@@ -1,5 +1,4 @@
 mod Common
-pub mod NoOverflow
 pub mod Claim
 pub mod List
 pub mod Best

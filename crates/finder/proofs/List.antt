@@ -1,24 +1,5 @@
 -- Lists that loops make.
-use Rattle.finder.proofs.Common.{◌≡◌, ℕ, zero, suc, ◌+◌, ◌<◌, ◌≤◌, Bool, true, false, not, List, [], ◌∷◌, ◌++◌, length, take, get_or, Option, Some, None, ⊎_elim, refl, sym, ap, ◌∙◌, add-one, subst, arith, All, slice_get, filter_map, cons_option, find, range_with_len, cases_lt, append-nil, take_more, All-nil, All-cons, filter_map-append, get_or_from_slice_get, slice_get_within}
-
-pub by_test : {P : Type 0} (b : Bool) → (b ≡ true → P) → (b ≡ false → P) → P
-by_test true f g = f refl
-by_test false f g = g refl
-
--- a test that isn't passed, or is, by its opposite
-pub was : (b : Bool) → not b ≡ true → b ≡ false
-was true e = absurd cc
-was false e = refl
-
-pub was_not : (b : Bool) → not b ≡ false → b ≡ true
-was_not true e = refl
-was_not false e = absurd cc
-
--- what holds of all holds of the one at a place
-pub All-slice_get : {X : Type 0} (P : X → Type 0) (xs : List X) (k : ℕ) (x : X) → All P xs → slice_get xs k ≡ Some x
-    → P x
-All-slice_get P xs k x all is =
-    subst P (get_or_from_slice_get xs k x x is) (all k x (slice_get_within xs k x is))
+use Rattle.finder.proofs.Common.{◌≡◌, ℕ, zero, suc, ◌+◌, ◌<◌, ◌≤◌, Bool, true, false, List, [], ◌∷◌, ◌++◌, length, take, get_or, Option, Some, None, ⊎_elim, refl, sym, ap, ◌∙◌, subst, arith, All, filter_map, cons_option, find, range_with_len, cases_lt, append-nil, take_more, All-nil, filter_map-append, by_test, range_with_len_more, All-cons_option}
 
 -- one more element of which h gives something
 pub filter_map_more : {X Y : Type 0} (h : X → Option Y) (xs : List X) (i : ℕ) (d : X) (y : Y) (old new : List Y)
@@ -32,17 +13,10 @@ filter_map_more h xs i d y old new so_far within gives pushed =
 
 -- ---- numbers from one on
 
-pub range_more : (a n j : ℕ) → a + n ≡ j → range_with_len a (n + 1) ≡ range_with_len a n ++ j ∷ []
-range_more a n j e = rw add-one (pushed a n j e)
-  where
-    pushed : (a n j : ℕ) → a + n ≡ j → range_with_len a (suc n) ≡ range_with_len a n ++ j ∷ []
-    pushed a zero j e = ap (λ (k : ℕ). k ∷ []) (let same : a ≡ j = omega (arith, e) in same)
-    pushed a (suc n) j e = ap (λ (ks : List ℕ). a ∷ ks) (pushed (a + 1) n j (omega (arith, e)))
-
 module _ {Y : Type 0} (h : ℕ → Option Y) (n : ℕ) where
   pub one_more : filter_map h (range_with_len 0 (n + 1)) ≡ filter_map h (range_with_len 0 n) ++ cons_option (h n) []
   one_more =
-      ap (filter_map h) (range_more 0 n n (omega arith)) ∙ filter_map-append h (range_with_len 0 n) (n ∷ [])
+      ap (filter_map h) (range_with_len_more 0 n n (omega arith)) ∙ filter_map-append h (range_with_len 0 n) (n ∷ [])
 
   pub without : (old : List Y) → old ≡ filter_map h (range_with_len 0 n) → h n ≡ None
       → old ≡ filter_map h (range_with_len 0 (n + 1))
@@ -116,13 +90,8 @@ module _ (test : ℕ → Bool) where
 
 -- ---- what holds of whatever h gives
 
-one_given : {Y : Type 0} (P : Y → Type 0) (o : Option Y) (ys : List Y) → ((y : Y) → o ≡ Some y → P y) → All P ys
-    → All P (cons_option o ys)
-one_given P None ys holds all = all
-one_given P (Some y) ys holds all = All-cons P y ys (holds y refl) all
-
 pub All-filter_map : {X Y : Type 0} (h : X → Option Y) (P : Y → Type 0) → ((x : X) (y : Y) → h x ≡ Some y → P y)
     → (xs : List X) → All P (filter_map h xs)
 All-filter_map h P holds [] = All-nil P
 All-filter_map h P holds (x ∷ xs) =
-    one_given P (h x) (filter_map h xs) (holds x) (All-filter_map h P holds xs)
+    All-cons_option P (h x) (filter_map h xs) (holds x) (All-filter_map h P holds xs)

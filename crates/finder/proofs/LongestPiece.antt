@@ -1,15 +1,12 @@
 -- Where the longest piece ends, by halving; and the longest pieces, one after another.
-use Rattle.finder.proofs.Common.{◌≡◌, ℕ, zero, suc, ◌+◌, ◌-◌, ◌<◌, ◌≤◌, ◌^◌, ℤ, pos, ◌+ℤ◌, ◌≤ℤ◌, ◌<ℤ◌, unsigned_abs, true, false, true≢false, List, [], ◌∷◌, ◌++◌, length, take, vec_len, length-append, Vec, Global, get_or, Some, refl, sym, ap, ◌∙◌, subst, arith, to_z, of_z, Fits, w64, int_min, ints, clamps, w128, T, take_more, non_neg, yes_non_neg, PieceData, max_pieces, ClaimData, IsLawful, Sample, IsPiece, ArePieces, IsPieceAt, best_entries, AreLongest, IsLongest, end_after, next_tick, piece_over, pieces_over, shows, stretch_over, AreSamplesOf}
-use Rattle.finder.proofs.Claim.{first_kept, last_kept}
+use Rattle.finder.proofs.Common.{◌≡◌, ℕ, zero, suc, ◌+◌, ◌-◌, ◌<◌, ◌≤◌, ◌^◌, ℤ, pos, ◌+ℤ◌, ◌≤ℤ◌, ◌<ℤ◌, unsigned_abs, true, false, true≢false, List, [], ◌∷◌, ◌++◌, length, take, vec_len, length-append, Vec, Global, get_or, Some, refl, sym, ap, ◌∙◌, subst, arith, to_z, of_z, Fits, w64, int_min, ints, clamps, w128, T, take_more, non_neg, yes_non_neg, PieceData, max_pieces, ClaimData, IsLawful, Sample, IsPiece, ArePieces, IsPieceAt, best_entries, AreLongest, IsLongest, end_after, next_tick, piece_over, pieces_over, shows, stretch_over, AreSamplesOf, by_test, w128_keeps, first_kept, last_kept}
 use Rattle.finder.proofs.FewestPieces.{InSpan, Laws, end_in_span, longest_forward, piece_to, shown_before}
-use Rattle.finder.proofs.NoOverflow.{kept}
-use Rattle.finder.proofs.List.{by_test}
 use Rattle.finder.proofs.Verdict.{from_zero_kept}
 
 -- ---- ticks as 128 bits hold them
 
 pub tick_kept : (n : ℕ) (z : ℤ) → n < 2 ^ 64 → z ≡ pos n → to_z w128 (of_z w128 z) ≡ pos n
-tick_kept n z below is = ap (λ (x : ℤ). to_z w128 (of_z w128 x)) is ∙ kept (pos n) (omega (arith, ints))
+tick_kept n z below is = ap (λ (x : ℤ). to_z w128 (of_z w128 x)) is ∙ w128_keeps (pos n) (omega (arith, ints))
 
 pub last_is : (claim : ClaimData) → IsLawful claim
     → pos (unsigned_abs (to_z w128 (of_z w128 claim.last))) ≡ claim.last
@@ -156,7 +153,7 @@ end_kept p q is =
     let from_zero = is.from_zero in
     let in_order = is.in_order in
     let in_range = is.in_range in
-    kept q (omega (arith, ints))
+    w128_keeps q (omega (arith, ints))
 
 pub fits_64 : (p q : ℤ) → IsPiece p q → T (non_neg q) × Fits w64 (unsigned_abs q)
 fits_64 p q is =

@@ -1,9 +1,8 @@
 -- What the best entries of a piece show, if others show something of a stretch that has the whole of it.
-use Rattle.finder.proofs.Common.{◌≡◌, ℕ, zero, suc, ◌+◌, ◌<◌, ◌≤◌, ℤ, ◌≤ℤ◌, true, ◌⊎◌, inl, inr, ⊎_elim, get_or, List, [], ◌∷◌, length, Option, Some, None, Result, Ok, Err, refl, sym, subst, arith, All, Any, slice_get, cons_option, range_with_len, cases_lt, ints, ClaimData, max_drift_ppb, Empty, IsLawfulSample, billion, Sample, is_inside, piece_hull, part_of, IsPiece, moved_low, moved_high, Part, Stretch, IsNarrower, AreNarrower, IsOfSamples, parts_after, hull_fault, parts_fault, Why, best_over, best_entries, best_hull, part_named, parts_named, HoldsWhole, AreSamplesOf, IsNoWider}
+use Rattle.finder.proofs.Common.{◌≡◌, ℕ, zero, suc, ◌+◌, ◌<◌, ◌≤◌, ℤ, ◌≤ℤ◌, true, ◌⊎◌, inl, inr, ⊎_elim, get_or, List, [], ◌∷◌, length, Option, Some, None, Result, Ok, Err, refl, sym, subst, arith, All, Any, slice_get, cons_option, range_with_len, cases_lt, ints, ClaimData, max_drift_ppb, Empty, IsLawfulSample, billion, Sample, is_inside, piece_hull, part_of, IsPiece, moved_low, moved_high, Part, Stretch, IsNarrower, AreNarrower, IsOfSamples, parts_after, hull_fault, parts_fault, Why, best_over, best_entries, best_hull, part_named, parts_named, HoldsWhole, AreSamplesOf, IsNoWider, All-slice_get, EveryHull}
 use Rattle.std.specs.Prelude.{filter_map}
 use Rattle.finder.proofs.Best.{BestLaw, best_of_is, best_of_none}
-use Rattle.finder.proofs.List.{All-slice_get}
-use Rattle.finder.proofs.GroupHull.{EveryHull, narrower_is_no_wider}
+use Rattle.finder.proofs.GroupHull.{narrower_is_no_wider}
 use Rattle.finder.proofs.Verdict.{entries_accepted, passes_inside}
 
 -- the law on it

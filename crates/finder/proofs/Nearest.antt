@@ -1,13 +1,6 @@
 -- The nearest error that few enough groups refuse.
-use Rattle.finder.proofs.Common.{◌≡◌, ◌⊎◌, inl, inr, ℕ, zero, suc, ◌+◌, ◌<◌, ◌≤◌, ℤ, pos, ◌+ℤ◌, ◌≤ℤ◌, ◌<ℤ◌, int_lt, nat_le, true, false, true≢false, ◌||◌, List, length, refl, sym, ap, ◌∙◌, ⊎_elim, arith, add-one, cases_lt, nat_tests, ints, ClaimData, Interval, room_at, refused_by, possible_by, IsFirstBeyond}
+use Rattle.finder.proofs.Common.{◌≡◌, ◌⊎◌, inl, inr, ℕ, zero, suc, ◌+◌, ◌<◌, ◌≤◌, ℤ, pos, ◌+ℤ◌, ◌≤ℤ◌, ◌<ℤ◌, int_lt, true, false, true≢false, ◌||◌, List, length, refl, sym, ap, ◌∙◌, ⊎_elim, arith, add-one, cases_lt, ints, ClaimData, Interval, room_at, refused_by, possible_by, IsFirstBeyond, by_test, leb-true, le-leb}
 use Rattle.finder.proofs.Group.{no_more_groups}
-use Rattle.finder.proofs.List.{by_test}
-
-pub at_most_from : (a b : ℕ) → nat_le a b ≡ true → a ≤ b
-at_most_from a b e = grind (arith, nat_tests)
-
-pub at_most_to : (a b : ℕ) → a ≤ b → nat_le a b ≡ true
-at_most_to a b h = grind (arith, nat_tests)
 
 pub int_cases : (a b : ℤ) → (a <ℤ b) ⊎ (b ≤ℤ a)
 int_cases a b = by_test (int_lt a b) (λ e. inl (grind (arith, ints))) (λ e. inr (grind (arith, ints)))
@@ -119,8 +112,8 @@ module _ (rooms : List Interval) where
     candidate_possible start error c possible =
         let fewer = no_more_groups claim.groups (refused_by rooms c.number) (refused_by rooms error)
         (λ server below. refused_up start error c server (omega arith)) in
-        let most = at_most_from _ _ possible in
-        at_most_to _ _ (omega arith)
+        let most = leb-true _ _ possible in
+        le-leb _ _ (omega arith)
 
     -- what is known of the first that was found
     module _ (first : ℤ) (next_fails : possible_by rooms claim (claim.bound +ℤ pos 1) ≡ false)

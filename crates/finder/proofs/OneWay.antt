@@ -1,7 +1,5 @@
 -- The longest pieces end in one of three ways, and in no two of them.
-use Rattle.finder.proofs.Common.{◌≡◌, ◌⊎◌, inl, inr, ⊎_elim, ℕ, zero, suc, ◌<◌, ◌≤◌, ℤ, pos, ◌+ℤ◌, ◌-ℤ◌, ◌≤ℤ◌, ◌<ℤ◌, unsigned_abs, Bool, true, false, true≢false, List, [], ◌∷◌, ◌++◌, length, refl, sym, ap, ◌∙◌, subst, arith, ints, clamps, CertificateData, PieceData, max_pieces, ClaimData, Hull, Sample, is_inside, GetStuck, IsCarried, AreLongest, IsLongest, IsOfLongest, IsStuck, IsTooLong, end_after, hull_over, next_tick, pieces_over, shows}
-use Rattle.finder.proofs.GroupLeeway.{below_or_at}
-use Rattle.finder.proofs.List.{by_test}
+use Rattle.finder.proofs.Common.{◌≡◌, ◌⊎◌, inl, inr, ⊎_elim, ℕ, zero, suc, ◌<◌, ◌≤◌, ℤ, pos, ◌+ℤ◌, ◌-ℤ◌, ◌≤ℤ◌, ◌<ℤ◌, unsigned_abs, Bool, true, false, true≢false, List, [], ◌∷◌, ◌++◌, length, refl, sym, ap, ◌∙◌, subst, arith, ints, clamps, CertificateData, PieceData, max_pieces, ClaimData, Hull, Sample, is_inside, GetStuck, IsCarried, AreLongest, IsLongest, IsOfLongest, IsStuck, IsTooLong, end_after, hull_over, next_tick, pieces_over, shows, by_test, lt_next_cases, ≤ℤ_antisymm}
 use Rattle.finder.proofs.Nearest.{int_cases}
 
 -- ---- the greatest number that passes a test
@@ -35,7 +33,7 @@ greatest test first (suc n) = by_test (test (suc n))
       others_fail = λ k more to. ⊎_elim
           (λ earlier. rest.others_fail k more (omega (arith, earlier)))
           (λ same. subst (λ (j : ℕ). test j ≡ false) (sym same) fails)
-          (below_or_at k (suc n) (omega (arith, to)));
+          (lt_next_cases k (suc n) (omega (arith, to)));
     })
 
 -- ---- readings by their distance from one
@@ -57,9 +55,6 @@ farther a b n h = omega (arith, ints)
 
 nearer : (a b c : ℤ) → a ≤ℤ b → b ≤ℤ c → unsigned_abs (b -ℤ a) ≤ unsigned_abs (c -ℤ a)
 nearer a b c forward more = omega (arith, ints)
-
-both_ways : (a b : ℤ) → a ≤ℤ b → b ≤ℤ a → a ≡ b
-both_ways a b p q = omega (arith, ints)
 
 module _ (samples : List Sample) (claim : ClaimData) where
   next_in_span : (p : ℤ) → next_tick samples claim p ≤ℤ claim.last
@@ -120,7 +115,7 @@ module _ (samples : List Sample) (claim : ClaimData) where
       (λ reaches. inl (
         [],
         tt,
-        subst (IsLongest samples claim p) (both_ways long.0 claim.last long.1.in_span reaches)
+        subst (IsLongest samples claim p) (≤ℤ_antisymm long.0 claim.last long.1.in_span reaches)
             long.1,
         omega arith,
       ))
@@ -163,7 +158,7 @@ module _ (samples : List Sample) (claim : ClaimData) where
       (λ less. absurd (true≢false (sym b.shown ∙ a.no_longer r less b.in_span)))
       (λ le. ⊎_elim
       (λ less. absurd (true≢false (sym a.shown ∙ b.no_longer q less a.in_span)))
-      (λ ge. both_ways q r ge le)
+      (λ ge. ≤ℤ_antisymm q r ge le)
       (int_cases r q))
       (int_cases q r)
 

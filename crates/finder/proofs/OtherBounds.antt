@@ -1,9 +1,9 @@
 -- What is found with other bounds.
-use Rattle.finder.proofs.Common.{◌≡◌, ℕ, ◌<◌, ◌≤◌, pos, not, List, Option, Some, None, Ok, Err, refl, sym, ap, ◌∙◌, ⊎_elim, arith, cases_lt, ticks_down, max_pieces, ClaimData, Sample, is_inside, best_hull, EnvelopeData, IsInside, IsLeast, IsCertified, IsNotCertified, envelope_of, envelope_to, least_of, with_bound, hull_at, passes, first_failing, found_without, found_of, count_of, piece_count_of, LeastBound, Holds, NoneHolds}
+use Rattle.finder.proofs.Common.{◌≡◌, ℕ, ◌<◌, ◌≤◌, pos, not, List, Option, Some, None, Ok, Err, refl, sym, ap, ◌∙◌, ⊎_elim, arith, cases_lt, ticks_down, max_pieces, ClaimData, Sample, is_inside, best_hull, EnvelopeData, IsInside, IsLeast, IsCertified, IsNotCertified, envelope_of, envelope_to, least_of, with_bound, hull_at, passes, first_failing, found_without, found_of, count_of, piece_count_of, LeastBound, Holds, NoneHolds, not-false}
 use Rattle.finder.proofs.Answer.{found_of_few}
 use Rattle.finder.proofs.Bound.{Roundings, least_is_least, none_inside, wider}
 use Rattle.finder.proofs.EnvelopePieces.{envelope_of_few, envelope_of_many}
-use Rattle.finder.proofs.List.{find_none, find_is_none, was_not}
+use Rattle.finder.proofs.List.{find_none, find_is_none}
 
 module _ (samples : List Sample) (claim : ClaimData) (step m : ℕ) where
   -- the bound plays no part in the hulls
@@ -33,7 +33,7 @@ module _ (samples : List Sample) (claim : ClaimData) (step m : ℕ) where
       → IsNotCertified (found_of samples (with_bound claim m) step)
   not_carried_at None is outside few = absurd (outside (λ k below.
       sym (passes_is k)
-      ∙ was_not (passes samples (with_bound claim m) step k)
+      ∙ not-false (passes samples (with_bound claim m) step k)
       (find_is_none (λ j. not (passes samples (with_bound claim m) step j)) 0 (count_of claim step) is k (omega arith)
       (omega (arith, below)))))
   not_carried_at (Some k) is outside few = (

@@ -1,9 +1,8 @@
 -- What servers say at one reading of the clock, one server after another.
 use Rattle.std.proofs.Common.{append-nil}
 use Rattle.std.specs.Prelude.{filter_map}
-use Rattle.finder.proofs.Common.{zero, suc, ◌≡◌, ◌∙◌, ℕ, ℤ, ◌+◌, ◌<◌, ◌≤◌, ◌++◌, List, [], ◌∷◌, length, take, Option, Some, None, refl, sym, ap, subst, add-one, arith, length-append, slice_get, All, cons_option, range_with_len, take_more, filter_map-append, All-push, get_or_from_slice_get, slice_get_within, Sample, Gathered, Gathering, Part, numbers_below, piece_hull, ClaimData, servers_of, best_entries, best_hull, parts_named, stretch_over, best_part, best_parts}
+use Rattle.finder.proofs.Common.{zero, suc, ◌≡◌, ◌∙◌, ℕ, ℤ, ◌+◌, ◌<◌, ◌≤◌, ◌++◌, List, [], ◌∷◌, length, take, Option, Some, None, refl, sym, ap, subst, add-one, arith, length-append, slice_get, All, cons_option, range_with_len, take_more, filter_map-append, All-push, get_or_from_slice_get, slice_get_within, Sample, Gathered, Gathering, Part, numbers_below, piece_hull, ClaimData, servers_of, best_entries, best_hull, parts_named, stretch_over, best_part, best_parts, range_with_len_more}
 use Rattle.finder.proofs.Best.{BestLaw}
-use Rattle.finder.proofs.List.{range_more}
 use Rattle.finder.proofs.Part.{parts_said}
 
 -- one sample more was taken
@@ -62,7 +61,7 @@ numbers_are : (n : ℕ) → numbers_below n ≡ servers_of n
 numbers_are zero = refl
 numbers_are (suc n) =
     let one : numbers_below n ++ n ∷ [] ≡ range_with_len 0 (n + 1) =
-    ap (λ (ks : List ℕ). ks ++ n ∷ []) (numbers_are n) ∙ sym (range_more 0 n n (omega arith)) in
+    ap (λ (ks : List ℕ). ks ++ n ∷ []) (numbers_are n) ∙ sym (range_with_len_more 0 n n (omega arith)) in
     subst (λ (m : ℕ). numbers_below n ++ n ∷ [] ≡ range_with_len 0 m) (add-one n) one
 
 module _ (law : BestLaw) (samples : List Sample) (claim : ClaimData) (tick : ℤ) where

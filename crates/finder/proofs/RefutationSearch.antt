@@ -1,8 +1,8 @@
 -- Which refutation is found.
-use Rattle.finder.proofs.Common.{◌≡◌, ℕ, ◌-◌, ◌<◌, ◌^◌, ℤ, pos, neg_ℤ, ◌-ℤ◌, ◌≤ℤ◌, ◌<ℤ◌, int_lt, nat_le, unsigned_abs, Bool, true, false, ◌||◌, List, Some, None, refl, sym, ap, ◌∙◌, arith, option_map, find, range_with_len, ints, ClaimData, IsLawful, Exchange, Interval, AreMirrored, AreRooms, IsNear, possible_by, refused_by, refuses, room_at, IsFirstBeyond, after, greatest_error, is_possible, least_error_below, nearest, nearest_error}
+use Rattle.finder.proofs.Common.{◌≡◌, ℕ, ◌-◌, ◌<◌, ◌^◌, ℤ, pos, neg_ℤ, ◌-ℤ◌, ◌≤ℤ◌, ◌<ℤ◌, int_lt, nat_le, unsigned_abs, Bool, true, false, ◌||◌, List, Some, None, refl, sym, ap, ◌∙◌, arith, option_map, find, range_with_len, ints, ClaimData, IsLawful, Exchange, Interval, AreMirrored, AreRooms, IsNear, possible_by, refused_by, refuses, room_at, IsFirstBeyond, after, greatest_error, is_possible, least_error_below, nearest, nearest_error, by_test, or_comm}
 use Rattle.finder.proofs.Claim.{few_groups}
 use Rattle.finder.proofs.Group.{as_many_groups}
-use Rattle.finder.proofs.List.{by_test, find_first, find_none}
+use Rattle.finder.proofs.List.{find_first, find_none}
 
 -- ---- the nearest number as a value
 
@@ -39,12 +39,6 @@ possible_is claim lawful xs rooms are error near =
     (as_many_groups claim.groups (refused_by rooms error) (refuses claim.reading xs error)
     (λ server below. (are server (omega arith)).leaves_out_refused error near))
 
-or_turned : (a b : Bool) → (a || b) ≡ (b || a)
-or_turned true true = refl
-or_turned true false = refl
-or_turned false true = refl
-or_turned false false = refl
-
 lt_turned : (a b : ℤ) → int_lt a (neg_ℤ b) ≡ int_lt b (neg_ℤ a)
 lt_turned a b = by_test (int_lt a (neg_ℤ b))
     (λ e. let f : int_lt b (neg_ℤ a) ≡ true = grind (arith, ints) in e ∙ sym f)
@@ -63,7 +57,7 @@ module _ (claim : ClaimData) (lawful : IsLawful claim) (xs : List Exchange) (roo
       rw (turned.low server below, turned.high server below)
       (ap (λ b. b || int_lt (neg_ℤ (room_at rooms server).lo) error) (lt_turned error (room_at rooms server).hi)
       ∙ ap (λ b. int_lt (room_at rooms server).hi (neg_ℤ error) || b) (lt_turned_back (room_at rooms server).lo error)
-      ∙ or_turned (int_lt (room_at rooms server).hi (neg_ℤ error)) (int_lt (neg_ℤ error) (room_at rooms server).lo))
+      ∙ or_comm (int_lt (room_at rooms server).hi (neg_ℤ error)) (int_lt (neg_ℤ error) (room_at rooms server).lo))
 
   pub possible_turned : (error : ℤ) → IsNear error
       → possible_by mirrored claim error ≡ is_possible claim xs (neg_ℤ error)

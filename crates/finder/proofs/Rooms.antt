@@ -1,9 +1,7 @@
 -- The intervals of all servers, exchange by exchange.
-use Rattle.finder.proofs.Common.{◌≡◌, ◌≢◌, ℕ, ◌+◌, ◌<◌, ◌≤◌, ◌^◌, ℤ, pos, neg_ℤ, ◌-ℤ◌, int_lt, unsigned_abs, Bool, true, false, not, ◌&&◌, ◌||◌, List, [], ◌∷◌, ◌++◌, length, take, set, replicate, get_or, refl, sym, ap, ◌∙◌, subst, ⊎_elim, arith, ◌==◌, All, cases_lt, nat_tests, ints, get_or-map, get_or-replicate, get_or-set_same, get_or-set_other, length-map, take_more, list_any-append, leaves_out, Interval, Exchange, admits, AreRooms, IsNear, IsRoom, refuses, room_at}
+use Rattle.finder.proofs.Common.{◌≡◌, ◌≢◌, ℕ, ◌+◌, ◌<◌, ◌≤◌, ◌^◌, ℤ, pos, neg_ℤ, ◌-ℤ◌, int_lt, unsigned_abs, false, not, ◌&&◌, ◌||◌, List, [], ◌∷◌, ◌++◌, length, take, set, replicate, get_or, refl, sym, ap, ◌∙◌, subst, ⊎_elim, arith, ◌==◌, All, cases_lt, nat_tests, ints, get_or-map, get_or-replicate, get_or-set_same, get_or-set_other, length-map, take_more, list_any-append, leaves_out, Interval, Exchange, admits, AreRooms, IsNear, IsRoom, refuses, room_at, by_test, eq-eqb, ne_eqb, or-false, w128_keeps}
 use Rattle.std.specs.Prelude.{map}
 use Rattle.pairing.specs.Exchange.{IsLawful}
-use Rattle.finder.proofs.NoOverflow.{kept}
-use Rattle.finder.proofs.List.{by_test}
 use Rattle.finder.proofs.ErrorRoom.{bits}
 
 abbrev none : Interval
@@ -32,16 +30,6 @@ rooms_of_none allowance rooms is server below =
 
 -- ---- one more exchange
 
-same_number : (a b : ℕ) → a ≡ b → (a == b) ≡ true
-same_number a b h = grind (arith, nat_tests)
-
-other_number : (a b : ℕ) → a ≢ b → (a == b) ≡ false
-other_number a b h = grind (arith, nat_tests)
-
-or_false : (a : Bool) → (a || false) ≡ a
-or_false true = refl
-or_false false = refl
-
 module _ (allowance : ℤ) (xs : List Exchange) (x : Exchange) where
   refuses_more : (error : ℤ) (server : ℕ) → refuses allowance (xs ++ x ∷ []) error server
       ≡ (refuses allowance xs error server || (((x.server == server) && not (admits allowance error x)) || false))
@@ -54,16 +42,16 @@ module _ (allowance : ℤ) (xs : List Exchange) (x : Exchange) where
   of_server error server same =
       refuses_more error server
       ∙ ap (λ b. refuses allowance xs error server || ((b && not (admits allowance error x)) || false))
-      (same_number x.server server same)
-      ∙ ap (λ b. refuses allowance xs error server || b) (or_false (not (admits allowance error x)))
+      (eq-eqb x.server server same)
+      ∙ ap (λ b. refuses allowance xs error server || b) (or-false (not (admits allowance error x)))
 
   of_other : (error : ℤ) (server : ℕ) → x.server ≢ server
       → refuses allowance (xs ++ x ∷ []) error server ≡ refuses allowance xs error server
   of_other error server other =
       refuses_more error server
       ∙ ap (λ b. refuses allowance xs error server || ((b && not (admits allowance error x)) || false))
-      (other_number x.server server other)
-      ∙ or_false (refuses allowance xs error server)
+      (ne_eqb x.server server other)
+      ∙ or-false (refuses allowance xs error server)
 
   module _ (rooms : List Interval) (count : length rooms ≡ 32) (are : AreRooms allowance xs rooms)
       (listed : x.server < 32) (new : Interval)
@@ -127,7 +115,7 @@ module _ (rooms mirrored : List Interval) (n : ℕ) (within : n < length mirrore
 pub negative_kept : (a : ℤ) → unsigned_abs a ≤ 2 ^ 80 → bits (pos 0 -ℤ bits a) ≡ neg_ℤ a
 negative_kept a small =
     let turned : pos 0 -ℤ a ≡ neg_ℤ a = omega (arith, ints) in
-    rw (kept a (omega (arith, small))) (kept (pos 0 -ℤ a) (omega (arith, ints, small)) ∙ turned)
+    rw (w128_keeps a (omega (arith, small))) (w128_keeps (pos 0 -ℤ a) (omega (arith, ints, small)) ∙ turned)
 
 -- ---- the exchange at a place of the list that says them
 

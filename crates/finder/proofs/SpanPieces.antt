@@ -1,7 +1,5 @@
 -- The pieces of a span.
-use Rattle.finder.proofs.Common.{◌≡◌, ℕ, zero, suc, ◌+◌, ◌-◌, ◌*◌, ◌/◌, ◌%◌, ◌<◌, ◌≤◌, min, max, ◌^◌, ℤ, pos, ◌+ℤ◌, ◌-ℤ◌, ◌≤ℤ◌, ◌<ℤ◌, nat_lt, true, false, unsigned_abs, List, [], ◌∷◌, ◌++◌, sym, ap, ◌∙◌, ⊎_elim, arith, to_z, of_z, Fits, w32, w64, w128, mul-le-mul_right, cases_lt, nat_tests, div_ceil_times, ints, clamps, map-range_with_len_more, div-mul-add, div_ceil, non_neg, yes_non_neg, T, max_pieces, ClaimData, IsLawful, IsCeiling, ceiling_of, ticks_per_second, IsPiece, piece_end_of, Stretch, IsPieceCount, piece_count_of, piece_begin_of, ends_of, stretch_at}
-use Rattle.finder.proofs.Claim.{first_kept, last_kept}
-use Rattle.finder.proofs.NoOverflow.{kept}
+use Rattle.finder.proofs.Common.{◌≡◌, ℕ, zero, suc, ◌+◌, ◌-◌, ◌*◌, ◌/◌, ◌%◌, ◌<◌, ◌≤◌, min, max, ◌^◌, ℤ, pos, ◌+ℤ◌, ◌-ℤ◌, ◌≤ℤ◌, ◌<ℤ◌, nat_lt, true, false, unsigned_abs, List, [], ◌∷◌, ◌++◌, sym, ap, ◌∙◌, ⊎_elim, arith, to_z, of_z, Fits, w32, w64, w128, mul-le-mul_right, cases_lt, nat_tests, div_ceil_times, ints, clamps, map-range_with_len_more, div-mul-add, div_ceil, non_neg, yes_non_neg, T, max_pieces, ClaimData, IsLawful, IsCeiling, ceiling_of, ticks_per_second, IsPiece, piece_end_of, Stretch, IsPieceCount, piece_count_of, piece_begin_of, ends_of, stretch_at, w128_keeps, first_kept, last_kept}
 
 -- a quotient that is rounded up by its remainder
 pub div_ceil-ceiling_of : (n d : ℕ) → 0 < d → div_ceil n d ≡ ceiling_of n d
@@ -154,7 +152,7 @@ module _ (claim : ClaimData) (lawful : IsLawful claim) (step k : ℕ) where
       let from_first = end_from_first claim.first claim.last forward step k in
       let to_last = end_to_last claim.first claim.last forward step k in
       ap (λ (z : ℤ). to_z w128 (of_z w128 z)) is
-      ∙ kept (piece_end_of claim.first claim.last step k) (omega (arith, ints))
+      ∙ w128_keeps (piece_end_of claim.first claim.last step k) (omega (arith, ints))
 
   -- also as the code computes it
   pub end_computed : (end : ℤ)

@@ -4,7 +4,7 @@ pub use Rattle.std.proofs.Common.{arith, cond, count_by, drop, false, get_or, in
 pub use Rattle.std.proofs.Common.{neg_ℤ, negsuc, not, of_z, pos, refl, reverse, rules, subst, suc, sym, take, to_z}
 pub use Rattle.std.proofs.Common.{true, zero, ℕ, ℤ, ⊎_elim, ◌&&◌, ◌*ℤ◌, ◌*◌, ◌++◌, ◌+ℤ◌, ◌+◌, ◌-◌, ◌/◌, ◌<ℤ◌, ◌<◌, ◌||◌}
 pub use Rattle.std.proofs.Common.{◌↔◌, ◌∙◌, ◌∷◌, ◌≡◌, ◌≤ℤ◌, ◌≤◌, ◌⊎◌}
-pub use Rattle.std.proofs.lemmas.Bool.{and_from, and_left, and_right, cond-false, cond-true, not_from_false}
+pub use Rattle.std.proofs.lemmas.Bool.{and_from, and_left, and_right, cond-false, cond-true, leb-true, not_from_false}
 pub use Rattle.std.proofs.lemmas.Bool.{not_from_true}
 pub use Rattle.std.proofs.lemmas.Bool.Decides.{nat_tests}
 pub use Rattle.std.proofs.lemmas.Int.{by_lt_z, clamps, ints, to_z-of_z}
@@ -30,3 +30,4 @@ pub use Rattle.intersection.specs.declared.ends.Side.TheVariants.{High, Low}
 pub use Rattle.intersection.specs.declared.kinds.Hull.{Hull}
 pub use Rattle.intersection.specs.declared.kinds.Hull.TheVariants.{Bounded, Empty, Unbounded}
 pub use Rattle.intersection.specs.declared.kinds.Interval.{Interval}
+pub use Rattle.lemma_base.proofs.Bool.{by_test}

@@ -1,15 +1,11 @@
 -- If a point is admissible, so are an end that is not above it and one that is not below it.
-use Rattle.intersection.proofs.Common.{◌≡◌, ℕ, ◌+◌, ◌<◌, ◌≤◌, ℤ, ◌≤ℤ◌, Bool, true, false, cond, nat_le, ◌⊎◌, inl, inr, ⊎_elim, List, [], ◌∷◌, length, refl, sym, ap, ◌∙◌, subst, arith, filter, fold, int_max, int_min, ints, clamps, sum_by-cons, cond-true, cond-false, nat_tests, leaves_out, count_leaving_out, IsAdmissible, IsHull, end_points, admissible_ends, range_of, hull_of, Interval, Unbounded}
+use Rattle.intersection.proofs.Common.{◌≡◌, ℕ, ◌+◌, ◌<◌, ◌≤◌, ℤ, ◌≤ℤ◌, Bool, true, false, cond, nat_le, ◌⊎◌, inl, inr, ⊎_elim, List, [], ◌∷◌, length, refl, sym, ap, ◌∙◌, subst, arith, filter, fold, int_max, int_min, ints, clamps, sum_by-cons, cond-true, cond-false, nat_tests, leaves_out, count_leaving_out, IsAdmissible, IsHull, end_points, admissible_ends, range_of, hull_of, Interval, Unbounded, by_test, leb-true}
 use Rattle.intersection.proofs.Intervals.{int_max_or, int_min_or}
 
 -- a point stands in a list
 abbrev pub StandsIn : List ℤ → ℤ → Type 0
 StandsIn [] q = ⊥
 StandsIn (p ∷ ps) q = (q ≡ p) ⊎ StandsIn ps q
-
-by_test : {P : Type 0} (b : Bool) → (b ≡ true → P) → (b ≡ false → P) → P
-by_test true f g = f refl
-by_test false f g = g refl
 
 count_yes : (interval : Interval) (list : List Interval) (p : ℤ) → leaves_out interval p ≡ true
     → count_leaving_out (interval ∷ list) p ≡ 1 + count_leaving_out list p
@@ -322,9 +318,6 @@ module _ (list : List Interval) (f : ℕ) (below : f < length list) where
         ),
       )
 
-le_from_test : (m n : ℕ) → nat_le m n ≡ true → m ≤ n
-le_from_test m n h = grind (arith, nat_tests)
-
 lt_from_test : (m n : ℕ) → nat_le m n ≡ false → n < m
 lt_from_test m n h = grind (arith, nat_tests)
 
@@ -332,6 +325,6 @@ pub IsHull-hull_of : (list : List Interval) (f : ℕ) → IsHull list f (hull_of
 unfolding hull_of
 IsHull-hull_of list f = by_test (nat_le (length list) f)
     (λ all. rw (cond-true (nat_le (length list) f) Unbounded (range_of (admissible_ends list f)) all)
-    (le_from_test (length list) f all))
+    (leb-true (length list) f all))
     (λ some. rw (cond-false (nat_le (length list) f) Unbounded (range_of (admissible_ends list f)) some)
     (range_is_hull list f (lt_from_test (length list) f some) (admissible_ends list f) refl))

@@ -15,7 +15,7 @@ next_times (negsuc x) (negsuc y) n h = let is : x ≡ suc y = omega (arith, ints
 times_next : (a : ℤ) (n : ℕ) → ((a +ℤ pos 1) *ℤ pos n) ≡ (a *ℤ pos n) +ℤ pos n
 times_next a n = next_times a (a +ℤ pos 1) n refl
 
-neg_times : (k n : ℕ) → (neg_ℤ (pos k) *ℤ pos n) ≡ neg_ℤ (pos (k * n))
+pub neg_times : (k n : ℕ) → (neg_ℤ (pos k) *ℤ pos n) ≡ neg_ℤ (pos (k * n))
 neg_times zero n = omega (arith, ints)
 neg_times (suc k) n = omega (arith, ints)
 

@@ -2,7 +2,7 @@
 --
 -- Of the ends before a point p in the walk, those that enter an interval are counted by `entered_by`, and those that
 -- leave one by `left_by`: p lies in as many intervals as the one is above the other.
-use Rattle.intersection.proofs.Common.{◌≡◌, ℕ, suc, ◌+◌, ◌-◌, ◌<◌, ◌≤◌, ℤ, ◌<ℤ◌, int_lt, int_le, nat_le, Bool, true, false, cond, not, ◌&&◌, List, [], ◌∷◌, length, count_by, reverse, Option, Some, IfSome, refl, sym, ap, ◌∙◌, subst, arith, ⊤, AllPairs, AllByRecursion, ints, sum_by-cons, and_left, and_right, and_from, not_from_true, not_from_false, cond-true, cond-false, nat_tests, MayPrecede, is_low, enters, first_reached, End, Side, Low, High}
+use Rattle.intersection.proofs.Common.{◌≡◌, ℕ, suc, ◌+◌, ◌-◌, ◌<◌, ◌≤◌, ℤ, ◌<ℤ◌, int_lt, int_le, nat_le, Bool, true, false, cond, not, ◌&&◌, List, [], ◌∷◌, length, count_by, reverse, Option, Some, IfSome, refl, sym, ap, ◌∙◌, subst, arith, ⊤, AllPairs, AllByRecursion, ints, sum_by-cons, and_left, and_right, and_from, not_from_true, not_from_false, cond-true, cond-false, nat_tests, MayPrecede, is_low, enters, first_reached, End, Side, Low, High, by_test}
 use Rattle.std.proofs.lemmas.List.{get_or-reverse, length-reverse}
 use Rattle.std.proofs.lemmas.List.Elements.{recursion_from_All}
 
@@ -116,10 +116,6 @@ none_counted q (x ∷ xs) h = sum_by-cons _ x xs ∙ rw (h.0, none_counted q xs 
 weaker : (P Q : End → Type 0) → ((x : End) → P x → Q x) → (xs : List End) → AllByRecursion P xs → AllByRecursion Q xs
 weaker P Q f [] h = tt
 weaker P Q f (x ∷ xs) h = (f x h.0, weaker P Q f xs h.1)
-
-by_test : {P : Type 0} (b : Bool) → (b ≡ true → P) → (b ≡ false → P) → P
-by_test true f g = f refl
-by_test false f g = g refl
 
 count_yes : (q : End → Bool) (x : End) (xs : List End) → q x ≡ true → count_by q (x ∷ xs) ≡ 1 + count_by q xs
 count_yes q x xs h = sum_by-cons _ x xs ∙ ap (λ n. n + count_by q xs) (cond-true (q x) 1 0 h)

@@ -111,7 +111,12 @@ module _ {start : SourceState} {sink : SinkState} where
         (λ whole rest given. (u.done, lines_of rest.records, first_lines given, u.put));
     can_close = u.ready;
     stops = omega (arith, u.sink_faults);
-    device = record { claim = refl; second = refl; capture = step.counts_fault ∙ ap (λ n. n + 1) u.same_faults; sums = refl };
+    device = record {
+      claim = refl;
+      second = refl;
+      capture = step.counts_fault ∙ ap (λ n. n + 1) u.same_faults;
+      sums = refl;
+    };
     takes = TakesFrom-trans start.supply s.supply s'.supply u.takes step.takes;
     in_memory = λ wrong. cc;
   }

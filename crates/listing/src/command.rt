@@ -13,8 +13,8 @@ use byte_stream::{Feed, Sink};
 use report::{Conclusion, conclude};
 use std::alloc::Global;
 
-/// Lists a capture on `out` as `run_list` does, and reports a fault on `err`. Beside the feed
-/// stands what that comes to.
+/// Lists a capture on `out` as `run_list` does, and reports a fault on `err`. Gives the feed back,
+/// and the exit status with the fault that was reported.
 pub fn answer_list<F: Feed, S: Sink, E: Sink>(
     alloc: Global,
     capture: F,

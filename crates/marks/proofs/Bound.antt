@@ -1,5 +1,5 @@
 -- The marks of an exchange, as the code computes them.
-use Rattle.marks.proofs.Common.{◌≡◌, ◌^◌, ◌≤◌, ℤ, pos, ◌+ℤ◌, ◌-ℤ◌, ◌≤ℤ◌, unsigned_abs, to_z, of_z, arith, ◌↔◌, IsTrue, ◌∙◌, refl, true, false, w128, le_z, ints, clamps, kept, stamp_is, kept_sum, kept_difference, low_mark, high_mark, IsPossible, IsWithinRange, Mark}
+use Rattle.marks.proofs.Common.{◌≡◌, ◌^◌, ◌≤◌, ℤ, pos, ◌+ℤ◌, ◌-ℤ◌, ◌≤ℤ◌, unsigned_abs, to_z, of_z, arith, ◌↔◌, IsTrue, ◌∙◌, refl, true, false, w128, le_z, ints, clamps, stamp_is, kept_sum, low_mark, high_mark, IsPossible, IsWithinRange, Mark, w128_keeps, w128_keeps_difference}
 use Rattle.std.specs.Int.{int_max, int_min}
 use Rattle.pairing.specs.Exchange.{IsInRange}
 use Rattle.pairing.specs.declared.exchange.Exchange.{Exchange}
@@ -13,7 +13,7 @@ same_mark p e = rw (p, e) refl
 
 -- an allowance is kept as it is
 pub allowance_is : (a : ℤ) → pos 0 ≤ℤ a → a ≤ℤ pos (2 ^ 32) → to_z w128 (of_z w128 a) ≡ a
-allowance_is a from to = kept a (omega (arith, ints))
+allowance_is a from to = w128_keeps a (omega (arith, ints))
 
 -- an end of a window, before it is kept
 module _ (t a : ℤ) (tick : IsInRange t) (from : pos 0 ≤ℤ a) (to : a ≤ℤ pos (2 ^ 32)) where
@@ -77,7 +77,7 @@ module _ (x : Exchange) (a : ℤ) (h : IsOfSomeClaim x) (from : pos 0 ≤ℤ a) 
       }
 
 pub kept_place : (a : ℤ) → unsigned_abs a ≤ 2 ^ 71 → to_z w128 (of_z w128 a) ≡ a
-kept_place a h = kept a (omega arith)
+kept_place a h = w128_keeps a (omega arith)
 
 -- ---- an exchange by itself
 kept_start : (t a : ℤ) → IsInRange t → pos 0 ≤ℤ a → a ≤ℤ pos (2 ^ 32) →
@@ -105,7 +105,7 @@ module _ (x : Exchange) (a : ℤ) (h : IsOfSomeClaim x) (from : pos 0 ≤ℤ a) 
       (rw (kept_start x.t1_low a h.lawful.t1_low from to, kept_end x.t4_high a h.lawful.t4_high from to) at leaves) in
       let both = tests (x.t2 -ℤ x.distance) (x.t3 +ℤ x.distance) in
       rw (
-        kept_difference x.t2 x.distance (tick_small x.t2 h.lawful.t2) (tick_small x.distance h.lawful.distance),
+        w128_keeps_difference x.t2 x.distance (tick_small x.t2 h.lawful.t2) (tick_small x.distance h.lawful.distance),
         kept_sum x.t3 x.distance (tick_small x.t3 h.lawful.t3) (tick_small x.distance h.lawful.distance),
       ) (
         λ t. record { leaves_before_arrival = first; receives_before_answer = both.0 t },

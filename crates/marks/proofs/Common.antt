@@ -9,8 +9,12 @@ pub use Rattle.std.proofs.lemmas.Int.{by_lt_z, clamps, fits_signed_from_abs, int
 pub use Rattle.std.proofs.lemmas.List.{get_or-drop, get_or-take, get_or_default, length-drop, length-take-le}
 pub use Rattle.std.proofs.lemmas.List.Elements.{AllWithin-more}
 pub use Rattle.std.proofs.lemmas.List.Sorted.{All-permutation, IsPermutation-sym, answers_always, ranks_by, sorted_far}
+pub use Rattle.std.specs.Int.Signed.{≤ℤ_refl}
 pub use Rattle.std.specs.List.{All, AllWithin, HoldsAt}
-pub use Rattle.sample_interval.proofs.NoOverflow.{kept, kept_difference, kept_sum, less_fits, less_is, more_fits}
+pub use Rattle.lemma_base.proofs.Int.{w128_keeps, ≤ℤ-from_equal, ≤ℤ-from_lt, ≤ℤ-sub, ≤ℤ_antisymm, ≤ℤ_trans}
+pub use Rattle.lemma_base.proofs.Int.{w128_keeps_difference}
+pub use Rattle.lemma_base.proofs.Nat.{lt_next_cases}
+pub use Rattle.sample_interval.proofs.NoOverflow.{kept_sum, less_fits, less_is, more_fits}
 pub use Rattle.sample_interval.proofs.NoOverflow.{more_is, rest_fits, stamp_is}
 pub use Rattle.sample_interval.specs.Widening.{IsRate, billion}
 pub use lib.Signed.{le_z}

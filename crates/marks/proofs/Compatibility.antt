@@ -1,8 +1,7 @@
 -- Marks are compatible exactly if both ways through them keep the lines below.
-use Rattle.marks.proofs.Common.{◌≡◌, ℕ, zero, suc, ◌+◌, ◌-◌, ◌*◌, ◌<◌, ◌≤◌, ℤ, pos, negsuc, ◌-ℤ◌, ◌*ℤ◌, ◌≤ℤ◌, ◌<ℤ◌, neg_ℤ, ◌↔◌, Bool, true, false, IsTrue, List, IsPermutation, get_or, sym, ◌∙◌, arith, All, ints, by_lt_z, All-permutation, IsPermutation-sym, mul-le-mul_left, billion, IsRate, AllCompatible, KeepsBelow, AllKeepBelow, rising_line, AreCompatible, Mark}
+use Rattle.marks.proofs.Common.{◌≡◌, ℕ, zero, suc, ◌+◌, ◌-◌, ◌*◌, ◌<◌, ◌≤◌, ℤ, pos, negsuc, ◌-ℤ◌, ◌*ℤ◌, ◌≤ℤ◌, neg_ℤ, ◌↔◌, Bool, true, false, IsTrue, List, IsPermutation, get_or, sym, ◌∙◌, arith, All, ints, by_lt_z, All-permutation, IsPermutation-sym, mul-le-mul_left, billion, IsRate, AllCompatible, KeepsBelow, AllKeepBelow, rising_line, AreCompatible, Mark, ≤ℤ_trans, ≤ℤ_antisymm, ≤ℤ-from_equal, ≤ℤ-from_lt}
 use Rattle.marks.specs.declared.direction.Direction.TheVariants.{Falling, Rising}
 use Rattle.marks.proofs.MarkPair.{falls_line, rises_line, rising_lines}
-use Rattle.marks.proofs.Passage.{up_to}
 
 pub no_truth : IsTrue false → ⊥
 no_truth t = cc
@@ -33,15 +32,6 @@ no_less a b h = omega (arith, ints)
 pub none_between : (a b : ℤ) → a ≡ b → (b -ℤ a) ≡ pos 0
 none_between a b h = omega (arith, ints)
 
-both_ways : (a b : ℤ) → a ≤ℤ b → b ≤ℤ a → a ≡ b
-both_ways a b p q = omega (arith, ints)
-
-as_far : (a b : ℤ) → a ≡ b → a ≤ℤ b
-as_far a b e = omega (arith, ints)
-
-no_further : (a b : ℤ) → a <ℤ b → a ≤ℤ b
-no_further a b h = omega (arith, ints)
-
 upright : (a b : ℤ) → neg_ℤ b ≤ℤ neg_ℤ a → a ≤ℤ b
 upright a b h = omega (arith, ints)
 
@@ -53,12 +43,12 @@ ahead : (a b : ℤ) → a ≤ℤ b → pos 0 ≤ℤ (b -ℤ a)
 ahead a b h = omega (arith, ints)
 
 -- a low mark that is no higher is compatible wherever it stands
-pub no_higher : (ppb : ℕ) (low high : Mark) → low.error ≤ℤ high.error → AreCompatible ppb low high
-no_higher ppb low high le = record {
-  falls = λ before. up_to _ (pos 0) _
+pub compatible_in_order : (ppb : ℕ) (low high : Mark) → low.error ≤ℤ high.error → AreCompatible ppb low high
+compatible_in_order ppb low high le = record {
+  falls = λ before. ≤ℤ_trans _ (pos 0) _
       (none_above (billion - ppb) (low.error -ℤ high.error) (no_less low.error high.error le))
       (some_ahead ppb (high.place -ℤ low.place) (ahead low.place high.place before));
-  rises = λ after. up_to _ (pos 0) _
+  rises = λ after. ≤ℤ_trans _ (pos 0) _
       (none_above (billion + ppb) (low.error -ℤ high.error) (no_less low.error high.error le))
       (some_ahead ppb (low.place -ℤ high.place) (omega (arith, ints)));
 }
@@ -70,8 +60,8 @@ at_one_place ppb low high rate same = (
   λ fits. no_more low.error high.error
       (some_above (billion - ppb) (low.error -ℤ high.error) (omega arith)
       (rw (no_advance ppb (high.place -ℤ low.place) (none_between low.place high.place same)) at
-      (fits.falls (as_far low.place high.place same)))),
-  no_higher ppb low high,
+      (fits.falls (≤ℤ-from_equal low.place high.place same)))),
+  compatible_in_order ppb low high,
 )
 
 -- and then its rising line lies no higher
@@ -91,8 +81,8 @@ both ppb low high rate fits = (
   λ before. (falls_line ppb low high before).1 fits,
   λ behind. upside_down (rising_line ppb low) (rising_line ppb high) (by_lt_z high.place low.place
       (λ after. (rises_line ppb low high after).1 fits)
-      (λ before. equal_rises ppb low high (both_ways low.place high.place before behind)
-      ((at_one_place ppb low high rate (both_ways low.place high.place before behind)).0 fits))),
+      (λ before. equal_rises ppb low high (≤ℤ_antisymm low.place high.place before behind)
+      ((at_one_place ppb low high rate (≤ℤ_antisymm low.place high.place before behind)).0 fits))),
 )
 
 pub from_both : (ppb : ℕ) (low high : Mark) → KeepsBelow Falling ppb low high → KeepsBelow Rising ppb high low →
@@ -100,7 +90,7 @@ pub from_both : (ppb : ℕ) (low high : Mark) → KeepsBelow Falling ppb low hig
 from_both ppb low high falling rising =
     by_lt_z high.place low.place
     (λ after. (rises_line ppb low high after).0
-    (upright (rising_line ppb low) (rising_line ppb high) (rising (no_further high.place low.place after))))
+    (upright (rising_line ppb low) (rising_line ppb high) (rising (≤ℤ-from_lt high.place low.place after))))
     (λ before. (falls_line ppb low high before).0 (falling before))
 
 module _ (ppb : ℕ) (rate : IsRate ppb) (lows highs : List Mark) (falling : Bool)

@@ -1,14 +1,14 @@
 -- The lines through a mark, as the code computes them.
-use Rattle.marks.proofs.Common.{◌≡◌, ℕ, ◌+◌, ◌-◌, ◌*◌, ◌^◌, ◌≤◌, ℤ, pos, ◌+ℤ◌, ◌-ℤ◌, ◌*ℤ◌, unsigned_abs, to_z, of_z, FitsSigned, arith, w128, ints, unsigned_abs-mul, fits_signed_from_abs, mul-le-mul_left, billion, IsRate, kept, falling_line, rising_line, IsWithinRange, Mark}
+use Rattle.marks.proofs.Common.{◌≡◌, ℕ, ◌+◌, ◌-◌, ◌*◌, ◌^◌, ◌≤◌, ℤ, pos, ◌+ℤ◌, ◌-ℤ◌, ◌*ℤ◌, unsigned_abs, to_z, of_z, FitsSigned, arith, w128, ints, unsigned_abs-mul, fits_signed_from_abs, mul-le-mul_left, billion, IsRate, falling_line, rising_line, IsWithinRange, Mark, w128_keeps}
 
 -- what is left of 10^9, and what is more
 parts_left : (r : ℤ) (ppb : ℕ) → IsRate ppb → r ≡ pos ppb →
     to_z w128 (of_z w128 (pos 1000000000 -ℤ to_z w128 (of_z w128 r))) ≡ pos (billion - ppb)
-parts_left r ppb h is = rw (is, kept (pos ppb) (omega arith)) (omega (arith, ints))
+parts_left r ppb h is = rw (is, w128_keeps (pos ppb) (omega arith)) (omega (arith, ints))
 
 parts_more : (r : ℤ) (ppb : ℕ) → IsRate ppb → r ≡ pos ppb →
     to_z w128 (of_z w128 (pos 1000000000 +ℤ to_z w128 (of_z w128 r))) ≡ pos (billion + ppb)
-parts_more r ppb h is = rw (is, kept (pos ppb) (omega arith)) (omega (arith, ints))
+parts_more r ppb h is = rw (is, w128_keeps (pos ppb) (omega arith)) (omega (arith, ints))
 
 small_product : (n : ℕ) (a : ℤ) → n ≤ 2 ^ 31 → unsigned_abs a ≤ 2 ^ 73 → unsigned_abs (pos n *ℤ a) ≤ 2 ^ 104
 small_product n a p q =
@@ -20,7 +20,7 @@ kept_product : (n : ℕ) (a : ℤ) → n ≤ 2 ^ 31 → unsigned_abs a ≤ 2 ^ 7
     to_z w128 (of_z w128 (pos n *ℤ to_z w128 (of_z w128 a))) ≡ pos n *ℤ a
 kept_product n a p q =
     let small = small_product n a p q in
-    rw (kept a (omega arith)) (kept (pos n *ℤ a) (omega arith))
+    rw (w128_keeps a (omega arith)) (w128_keeps (pos n *ℤ a) (omega arith))
 
 small_sum : (a b : ℤ) → unsigned_abs a ≤ 2 ^ 104 → unsigned_abs b ≤ 2 ^ 104 → unsigned_abs (a +ℤ b) ≤ 2 ^ 105
 small_sum a b p q = omega (arith, ints)
@@ -42,7 +42,7 @@ module _ (r : ℤ) (ppb : ℕ) (rate : IsRate ppb) (is : r ≡ pos ppb) (a : ℤ
   times_more = rw (parts_more r ppb rate is) (kept_product (billion + ppb) a (omega arith) le)
 
   pub times_rate : to_z w128 (of_z w128 (to_z w128 (of_z w128 r) *ℤ to_z w128 (of_z w128 a))) ≡ pos ppb *ℤ a
-  times_rate = rw (is, kept (pos ppb) (omega arith)) (kept_product ppb a (omega arith) le)
+  times_rate = rw (is, w128_keeps (pos ppb) (omega arith)) (kept_product ppb a (omega arith) le)
 
   pub left_small : unsigned_abs (pos (billion - ppb) *ℤ a) ≤ 2 ^ 104
   left_small = small_product (billion - ppb) a (omega arith) le
@@ -60,10 +60,10 @@ module _ (a b x y : ℤ) (first : a ≡ x) (second : b ≡ y)
   sum_fits = let le = small_sum x y p q in rw (first, second) (fits_signed_from_abs w128 (x +ℤ y) (omega arith))
 
   pub sum_is : to_z w128 (of_z w128 (a +ℤ b)) ≡ x +ℤ y
-  sum_is = let le = small_sum x y p q in rw (first, second) (kept (x +ℤ y) (omega arith))
+  sum_is = let le = small_sum x y p q in rw (first, second) (w128_keeps (x +ℤ y) (omega arith))
 
   pub difference_is : to_z w128 (of_z w128 (a -ℤ b)) ≡ x -ℤ y
-  difference_is = let le = small_difference x y p q in rw (first, second) (kept (x -ℤ y) (omega arith))
+  difference_is = let le = small_difference x y p q in rw (first, second) (w128_keeps (x -ℤ y) (omega arith))
 
 -- how high the lines can lie
 module _ (ppb : ℕ) (m : Mark) (rate : IsRate ppb) (h : IsWithinRange m) where

@@ -1,5 +1,5 @@
 -- When two marks are compatible: by the lines through them.
-use Rattle.marks.proofs.Common.{◌≡◌, ℕ, ◌+◌, ◌-◌, ◌*◌, ◌^◌, ◌≤◌, ℤ, pos, negsuc, ◌+ℤ◌, ◌-ℤ◌, ◌*ℤ◌, ◌≤ℤ◌, ◌<ℤ◌, ◌↔◌, IsTrue, true, false, unsigned_abs, to_z, of_z, arith, ap, w128, le_z, ints, billion, kept, falling_line, rising_line, AreCompatible, IsWithinRange, Mark}
+use Rattle.marks.proofs.Common.{◌≡◌, ℕ, ◌+◌, ◌-◌, ◌*◌, ◌^◌, ◌≤◌, ℤ, pos, negsuc, ◌+ℤ◌, ◌-ℤ◌, ◌*ℤ◌, ◌≤ℤ◌, ◌<ℤ◌, ◌↔◌, IsTrue, true, false, unsigned_abs, to_z, of_z, arith, ap, w128, le_z, ints, billion, falling_line, rising_line, AreCompatible, IsWithinRange, Mark, w128_keeps}
 use borrow.Author.Differences.{up, down}
 
 -- n times what is above zero, less n times what is below
@@ -59,10 +59,10 @@ rises_line ppb low high behind =
 
 -- the code's tests
 place_is : (a : ℤ) → unsigned_abs a ≤ 2 ^ 73 → to_z w128 (of_z w128 a) ≡ a
-place_is a h = kept a (omega arith)
+place_is a h = w128_keeps a (omega arith)
 
 line_is : (a : ℤ) → unsigned_abs a ≤ 2 ^ 105 → to_z w128 (of_z w128 a) ≡ a
-line_is a h = kept a (omega arith)
+line_is a h = w128_keeps a (omega arith)
 
 pub le_from_test : (a b : ℤ) → le_z a b ≡ true → a ≤ℤ b
 le_from_test a b h = omega (arith, ints)

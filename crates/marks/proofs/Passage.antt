@@ -1,5 +1,5 @@
 -- Passing low marks, and what that says of a high mark.
-use Rattle.marks.proofs.Common.{ℕ, ◌+◌, ◌<◌, ◌≤◌, ◌≡◌, ℤ, ◌≤ℤ◌, ◌⊎◌, inl, inr, ⊎_elim, List, length, get_or, sym, subst, arith, All, AllWithin, HoldsAt, ints, by_lt_z, get_or_default, cases_lt, Precedes, IsBelow, KeepsBelow, IsInOrder, line_along, IsHighest, HasPassed, Mark}
+use Rattle.marks.proofs.Common.{ℕ, ◌+◌, ◌<◌, ◌≤◌, ◌≡◌, ℤ, ◌≤ℤ◌, ⊎_elim, List, length, get_or, sym, subst, arith, All, AllWithin, HoldsAt, ints, by_lt_z, get_or_default, cases_lt, Precedes, IsBelow, KeepsBelow, IsInOrder, line_along, IsHighest, HasPassed, Mark, ≤ℤ_trans, ≤ℤ_refl, lt_next_cases}
 use Rattle.marks.specs.declared.direction.Direction.{Direction}
 use Rattle.marks.specs.declared.sweep.Passage.{Passage}
 
@@ -13,17 +13,8 @@ both_at_any : (R : Mark → Mark → Type 0) (xs : List Mark) (i j : ℕ) (e d :
 both_at_any R xs i j e d p q h =
     at_any (λ m. R (get_or xs i d) m) xs j e q (at_any (λ m. R m (get_or xs j e)) xs i e p h d) d
 
-pub up_to : (a b c : ℤ) → a ≤ℤ b → b ≤ℤ c → a ≤ℤ c
-up_to a b c p q = omega (arith, ints)
-
-itself : (a : ℤ) → a ≤ℤ a
-itself a = omega (arith, ints)
-
 above : (a b : ℤ) → (a ≤ℤ b → ⊥) → b ≤ℤ a
 above a b no_more = by_lt_z b a (λ lt. omega (arith, ints)) (λ le. absurd (no_more le))
-
-last : (k n : ℕ) → k < n + 1 → (k < n) ⊎ (k ≡ n)
-last k n h = ⊎_elim (λ (lt : k < n). inl lt) (λ (le : n ≤ k). inr (omega arith)) (cases_lt k n)
 
 module _ (direction : Direction) (ppb : ℕ) (lows : List Mark) (passed highest : ℕ)
     (is : IsHighest direction ppb lows record { passed = passed; highest = highest }) (e : Mark)
@@ -38,13 +29,13 @@ module _ (direction : Direction) (ppb : ℕ) (lows : List Mark) (passed highest 
     at_first = omega arith;
     passed = λ some. omega arith;
     others = λ k d h. ⊎_elim
-        (λ (before : k < passed). up_to (line_along direction ppb (get_or lows k d))
+        (λ (before : k < passed). ≤ℤ_trans (line_along direction ppb (get_or lows k d))
         (line_along direction ppb (get_or lows highest d)) (line_along direction ppb (get_or lows passed d))
         (is.others k d before)
         (both_at_any (IsBelow direction ppb) lows highest passed e d within_too within below))
         (λ (same : k ≡ passed). subst (λ (i : ℕ). IsBelow direction ppb (get_or lows i d) (get_or lows passed d))
-        (sym same) (itself (line_along direction ppb (get_or lows passed d))))
-        (last k passed h);
+        (sym same) (≤ℤ_refl (line_along direction ppb (get_or lows passed d))))
+        (lt_next_cases k passed h);
   }
 
   -- it lies lower
@@ -62,7 +53,7 @@ module _ (direction : Direction) (ppb : ℕ) (lows : List Mark) (passed highest 
             (λ (before : k < passed). is.others k d before)
             (λ (same : k ≡ passed). subst (λ (i : ℕ). IsBelow direction ppb (get_or lows i d) (get_or lows highest d))
             (sym same) (both_at_any (IsBelow direction ppb) lows passed highest e d within within_too lower))
-            (last k passed h);
+            (lt_next_cases k passed h);
       }
 
 -- no low mark's line lies above a high mark's if the highest of those passed doesn't
@@ -72,11 +63,11 @@ module _ (direction : Direction) (ppb : ℕ) (lows : List Mark) (high : Mark) (p
       All (λ low. KeepsBelow direction ppb low high) lows
   all_kept below k d within precedes =
       ⊎_elim
-      (λ (before : k < p.passed). up_to (line_along direction ppb (get_or lows k d))
+      (λ (before : k < p.passed). ≤ℤ_trans (line_along direction ppb (get_or lows k d))
       (line_along direction ppb (get_or lows p.highest d)) (line_along direction ppb high)
       (has.highest.others k d before) (below (omega arith) d))
       (λ (after : p.passed ≤ k). absurd (has.next (omega arith) d
-      (up_to (get_or lows p.passed d).place (get_or lows k d).place
+      (≤ℤ_trans (get_or lows p.passed d).place (get_or lows k d).place
       high.place (order p.passed k d after within) precedes)))
       (cases_lt k p.passed)
 
@@ -86,6 +77,6 @@ pub precede_later : (direction : Direction) (ppb : ℕ) (lows highs : List Mark)
     (k : ℕ) (d : Mark) → j ≤ k → k < length highs →
     AllWithin (λ low. Precedes low (get_or highs k d)) lows 0 p.passed
 precede_later direction ppb lows highs j e p has order k d le within i d' from before =
-    up_to (get_or lows i d').place (get_or highs j e).place
+    ≤ℤ_trans (get_or lows i d').place (get_or highs j e).place
     (get_or highs k d).place (has.precede i d' from before)
     (at_any (λ m. Precedes m (get_or highs k d)) highs j d (omega arith) (order j k d le within) e)

@@ -1,7 +1,7 @@
 -- What a greater rate and weaker marks keep.
-use Rattle.marks.proofs.Common.{◌≡◌, ℕ, ◌+◌, ◌-◌, ◌*◌, ◌<◌, ◌≤◌, ℤ, pos, negsuc, ◌-ℤ◌, ◌*ℤ◌, ◌≤ℤ◌, ◌<ℤ◌, ◌↔◌, ⊎_elim, sym, subst, arith, cases_lt, ints, by_lt_z, mul-le-mul_left, mul-le-mul_right, billion, IsRate, AreCompatible, Mark}
+use Rattle.marks.proofs.Common.{◌≡◌, ℕ, ◌+◌, ◌-◌, ◌*◌, ◌<◌, ◌≤◌, ℤ, pos, negsuc, ◌-ℤ◌, ◌*ℤ◌, ◌≤ℤ◌, ◌<ℤ◌, ◌↔◌, ⊎_elim, sym, subst, arith, cases_lt, ints, by_lt_z, mul-le-mul_left, mul-le-mul_right, billion, IsRate, AreCompatible, Mark, ≤ℤ_trans, ≤ℤ-sub}
 use Rattle.marks.proofs.MarkPair.{times-sub}
-use Rattle.marks.proofs.Compatibility.{none_above, some_above, no_less, no_higher}
+use Rattle.marks.proofs.Compatibility.{none_above, some_above, no_less, compatible_in_order}
 
 -- n times an order
 times_le : (n : ℕ) (a b : ℤ) → a ≤ℤ b → (pos n *ℤ a) ≤ℤ (pos n *ℤ b)
@@ -14,7 +14,7 @@ times_le n a b h =
     below z x y e k = omega (arith, ints)
 
 -- ---- a greater rate
-falls_faster : (b p q x y : ℕ) → p ≤ q → q ≤ b → (b - p) * x ≤ p * y → (b - q) * x ≤ q * y
+pub falls_faster : (b p q x y : ℕ) → p ≤ q → q ≤ b → (b - p) * x ≤ p * y → (b - q) * x ≤ q * y
 falls_faster b p q x y le most h =
     let first : (b - q) * x ≤ (b - p) * x = mul-le-mul_right x (omega arith) in
     let second : p * y ≤ q * y = mul-le-mul_right y le in
@@ -90,29 +90,24 @@ without_drift low high = (
       (fits.rises behind))
       (λ before. from_none (billion - 0) (high.place -ℤ low.place) low.error high.error (omega arith)
       (fits.falls before)),
-  no_higher 0 low high,
+  compatible_in_order 0 low high,
 )
 
 -- ---- weaker marks
-less_apart : (a b c : ℤ) → a ≤ℤ b → (a -ℤ c) ≤ℤ (b -ℤ c)
-less_apart a b c h = omega (arith, ints)
 
 less_left : (a b c : ℤ) → b ≤ℤ c → (a -ℤ c) ≤ℤ (a -ℤ b)
 less_left a b c h = omega (arith, ints)
 
-up_to : (a b c : ℤ) → a ≤ℤ b → b ≤ℤ c → a ≤ℤ c
-up_to a b c p q = omega (arith, ints)
-
 weaker_falls : (n : ℕ) (x y z : ℤ) → x ≤ℤ y → (pos n *ℤ y) ≤ℤ z → (pos n *ℤ x) ≤ℤ z
-weaker_falls n x y z h k = up_to (pos n *ℤ x) (pos n *ℤ y) z (times_le n x y h) k
+weaker_falls n x y z h k = ≤ℤ_trans (pos n *ℤ x) (pos n *ℤ y) z (times_le n x y h) k
 
 pub lower : (ppb : ℕ) (low high : Mark) (error : ℤ) → error ≤ℤ low.error → AreCompatible ppb low high →
     AreCompatible ppb (record low { error = error }) high
 lower ppb low high error le fits = record {
   falls = λ before. weaker_falls (billion - ppb) (error -ℤ high.error) (low.error -ℤ high.error)
-      (pos ppb *ℤ (high.place -ℤ low.place)) (less_apart error low.error high.error le) (fits.falls before);
+      (pos ppb *ℤ (high.place -ℤ low.place)) (≤ℤ-sub error low.error high.error le) (fits.falls before);
   rises = λ behind. weaker_falls (billion + ppb) (error -ℤ high.error) (low.error -ℤ high.error)
-      (pos ppb *ℤ (low.place -ℤ high.place)) (less_apart error low.error high.error le) (fits.rises behind);
+      (pos ppb *ℤ (low.place -ℤ high.place)) (≤ℤ-sub error low.error high.error le) (fits.rises behind);
 }
 
 pub higher : (ppb : ℕ) (low high : Mark) (error : ℤ) → high.error ≤ℤ error → AreCompatible ppb low high →

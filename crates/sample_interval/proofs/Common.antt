@@ -6,6 +6,7 @@ pub use Rattle.std.proofs.lemmas.Int.{fits_signed_from_abs, ints, to_z-of_z, to_
 pub use Rattle.std.specs.List.{All, slice_get}
 pub use Rattle.era_unfold.specs.Ratio.{IsCeiling, IsSignedCeiling, IsSignedFloor}
 pub use Rattle.intersection.specs.Fineness.{times-add, times-times, times_le}
+pub use Rattle.lemma_base.proofs.Int.{w128_keeps, w128_keeps_difference}
 pub use Rattle.pairing.specs.Exchange.{IsInRange, IsLawful}
 pub use Rattle.pairing.specs.declared.exchange.Exchange.{Exchange}
 pub use mir.Syntax.{w128}

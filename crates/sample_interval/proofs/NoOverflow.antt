@@ -1,26 +1,18 @@
 -- Numbers that 128 bits keep as they are.
-use Rattle.sample_interval.proofs.Common.{◌≡◌, ◌^◌, ◌<◌, ◌≤◌, ℤ, ◌+ℤ◌, ◌-ℤ◌, arith, unsigned_abs, to_z, of_z, FitsSigned, ap, ◌∙◌, w128, ints, to_z-of_z, fits_signed_from_abs, IsInRange}
-
-pub kept : (a : ℤ) → unsigned_abs a < 2 ^ 127 → to_z w128 (of_z w128 a) ≡ a
-kept a h = to_z-of_z w128 a (fits_signed_from_abs w128 a h)
+use Rattle.sample_interval.proofs.Common.{◌≡◌, ◌^◌, ◌<◌, ◌≤◌, ℤ, ◌+ℤ◌, ◌-ℤ◌, arith, unsigned_abs, to_z, of_z, FitsSigned, ap, ◌∙◌, w128, ints, to_z-of_z, fits_signed_from_abs, IsInRange, w128_keeps}
 
 -- a sum and a difference too
 pub kept_sum : (a b : ℤ) → unsigned_abs a ≤ 2 ^ 100 → unsigned_abs b ≤ 2 ^ 100 →
     to_z w128 (of_z w128 (to_z w128 (of_z w128 a) +ℤ to_z w128 (of_z w128 b))) ≡ a +ℤ b
 kept_sum a b p q =
-    rw (kept a (omega arith), kept b (omega arith)) (kept (a +ℤ b) (omega (arith, ints)))
-
-pub kept_difference : (a b : ℤ) → unsigned_abs a ≤ 2 ^ 100 → unsigned_abs b ≤ 2 ^ 100 →
-    to_z w128 (of_z w128 (to_z w128 (of_z w128 a) -ℤ to_z w128 (of_z w128 b))) ≡ a -ℤ b
-kept_difference a b p q =
-    rw (kept a (omega arith), kept b (omega arith)) (kept (a -ℤ b) (omega (arith, ints)))
+    rw (w128_keeps a (omega arith), w128_keeps b (omega arith)) (w128_keeps (a +ℤ b) (omega (arith, ints)))
 
 -- a bound that the number is passed with, too
 pub kept_tick : (a : ℤ) → unsigned_abs a ≤ 2 ^ 71 → unsigned_abs (to_z w128 (of_z w128 a)) ≤ 2 ^ 71
-kept_tick a h = rw (kept a (omega arith)) h
+kept_tick a h = rw (w128_keeps a (omega arith)) h
 
 pub kept_doubled : (a : ℤ) → unsigned_abs a ≤ 2 ^ 73 → unsigned_abs (to_z w128 (of_z w128 a)) ≤ 2 ^ 73
-kept_doubled a h = rw (kept a (omega arith)) h
+kept_doubled a h = rw (w128_keeps a (omega arith)) h
 
 -- a number in an exchange's range
 tick_of : (a : ℤ) → IsInRange a → unsigned_abs a ≤ 2 ^ 71
@@ -30,12 +22,12 @@ pub kept_stamp : (a : ℤ) → IsInRange a → unsigned_abs (to_z w128 (of_z w12
 kept_stamp a h = kept_tick a (tick_of a h)
 
 pub stamp_is : (a : ℤ) → IsInRange a → to_z w128 (of_z w128 a) ≡ a
-stamp_is a h = let le : unsigned_abs a ≤ 2 ^ 71 = tick_of a h in kept a (omega arith)
+stamp_is a h = let le : unsigned_abs a ≤ 2 ^ 71 = tick_of a h in w128_keeps a (omega arith)
 
 -- an end of a window that is made of a kept reading
 pub end_is : (end : ℤ → ℤ) (reading a : ℤ) → FitsSigned w128 reading → unsigned_abs a ≤ 2 ^ 71 →
     a ≡ end (to_z w128 (of_z w128 reading)) → to_z w128 (of_z w128 a) ≡ end reading
-end_is end reading a fits le made = kept a (omega arith) ∙ made ∙ ap end (to_z-of_z w128 reading fits)
+end_is end reading a fits le made = w128_keeps a (omega arith) ∙ made ∙ ap end (to_z-of_z w128 reading fits)
 
 -- a tick less a stamp, and then less or with a distance
 module _ (a b d : ℤ) (tick : unsigned_abs a ≤ 2 ^ 71) (stamp : IsInRange b) (distance : IsInRange d) where
@@ -43,7 +35,7 @@ module _ (a b d : ℤ) (tick : unsigned_abs a ≤ 2 ^ 71) (stamp : IsInRange b) 
   rest_small = let le = tick_of b stamp in omega (arith, ints)
 
   rest_is : to_z w128 (of_z w128 (to_z w128 (of_z w128 a) -ℤ to_z w128 (of_z w128 b))) ≡ a -ℤ b
-  rest_is = rw (kept a (omega arith), stamp_is b stamp) (kept (a -ℤ b) (let le = rest_small in omega arith))
+  rest_is = rw (w128_keeps a (omega arith), stamp_is b stamp) (w128_keeps (a -ℤ b) (let le = rest_small in omega arith))
 
   less_small : unsigned_abs (a -ℤ b -ℤ d) < 2 ^ 127
   less_small = let le = tick_of d distance in let less = rest_small in omega (arith, ints)
@@ -53,7 +45,7 @@ module _ (a b d : ℤ) (tick : unsigned_abs a ≤ 2 ^ 71) (stamp : IsInRange b) 
 
   pub rest_fits : FitsSigned w128 (to_z w128 (of_z w128 a) -ℤ to_z w128 (of_z w128 b))
   rest_fits =
-      rw (kept a (omega arith), stamp_is b stamp)
+      rw (w128_keeps a (omega arith), stamp_is b stamp)
       (fits_signed_from_abs w128 (a -ℤ b) (let le = rest_small in omega arith))
 
   pub less_fits : FitsSigned w128
@@ -67,9 +59,9 @@ module _ (a b d : ℤ) (tick : unsigned_abs a ≤ 2 ^ 71) (stamp : IsInRange b) 
   pub less_is : to_z w128 (of_z w128
       (to_z w128 (of_z w128 (to_z w128 (of_z w128 a) -ℤ to_z w128 (of_z w128 b))) -ℤ to_z w128 (of_z w128 d)))
       ≡ a -ℤ b -ℤ d
-  less_is = rw (rest_is, stamp_is d distance) (kept (a -ℤ b -ℤ d) less_small)
+  less_is = rw (rest_is, stamp_is d distance) (w128_keeps (a -ℤ b -ℤ d) less_small)
 
   pub more_is : to_z w128 (of_z w128
       (to_z w128 (of_z w128 (to_z w128 (of_z w128 a) -ℤ to_z w128 (of_z w128 b))) +ℤ to_z w128 (of_z w128 d)))
       ≡ a -ℤ b +ℤ d
-  more_is = rw (rest_is, stamp_is d distance) (kept (a -ℤ b +ℤ d) more_small)
+  more_is = rw (rest_is, stamp_is d distance) (w128_keeps (a -ℤ b +ℤ d) more_small)

@@ -1,8 +1,7 @@
 -- The best of a list of samples, as a relation and as a function.
-use Rattle.span_cover.proofs.Common.{⊎_elim, ◌≡◌, ◌≢◌, ℕ, zero, suc, ◌+◌, ◌<◌, ◌≤◌, ℤ, ◌<ℤ◌, ◌≤ℤ◌, true, false, cond, int_lt, nat_eq, List, [], ◌∷◌, Option, None, Some, refl, sym, subst, arith, length, drop, get_or, ◌-◌, neg_ℤ, MatchOption, to_z, of_z, ap, ◌∙◌, drop_all, cases_lt, nat_tests, ints, Sample, HasNoSample, IsFirstBest, IsBestLow, IsBestHigh, better, best_from, first_best_of, best_of, pair_of, IsPiece, moved_low, moved_high, w128, option_map}
+use Rattle.span_cover.proofs.Common.{⊎_elim, ◌≡◌, ◌≢◌, ℕ, zero, suc, ◌+◌, ◌<◌, ◌≤◌, ℤ, ◌<ℤ◌, ◌≤ℤ◌, true, false, cond, int_lt, nat_eq, List, [], ◌∷◌, Option, None, Some, refl, sym, subst, arith, length, drop, get_or, ◌-◌, neg_ℤ, MatchOption, to_z, of_z, ap, ◌∙◌, drop_all, cases_lt, nat_tests, ints, Sample, HasNoSample, IsFirstBest, IsBestLow, IsBestHigh, better, best_from, first_best_of, best_of, pair_of, IsPiece, moved_low, moved_high, w128, option_map, w128_keeps, eqb-true, eq-eqb, int_lt-true, int_lt-false}
 use Rattle.std.proofs.Math.Seq.{drop-cons}
 use Rattle.std.specs.List.{slice_get}
-use Rattle.span_cover.proofs.PieceDistance.{kept}
 
 -- the best of the samples from number n on, with its merit
 pub record Found (merit : Sample → ℤ) (server n : ℕ) (samples : List Sample) (b : ℕ × ℤ) : Type 0 where
@@ -15,17 +14,8 @@ abbrev pub Chosen : (Sample → ℤ) → ℕ → ℕ → List Sample → Option 
 Chosen merit server n samples None = HasNoSample samples server
 Chosen merit server n samples (Some b) = Found merit server n samples b
 
-same_from_test : (a b : ℕ) → nat_eq a b ≡ true → a ≡ b
-same_from_test a b h = grind (arith, nat_tests)
-
 other_from_test : (a b : ℕ) → nat_eq a b ≡ false → a ≢ b
 other_from_test a b h = grind (arith, nat_tests)
-
-pub less_from_test : (a b : ℤ) → int_lt a b ≡ true → a <ℤ b
-less_from_test a b h = grind (arith, ints)
-
-pub not_less_from_test : (a b : ℤ) → int_lt a b ≡ false → b ≤ℤ a
-not_less_from_test a b h = grind (arith, ints)
 
 same_some : (s t : Sample) → ◌≡◌ {A = Option Sample} (Some s) (Some t) → s ≡ t
 same_some s t h = cc
@@ -110,8 +100,8 @@ module _ (merit : Sample → ℤ) (server n : ℕ) (s : Sample) (samples : List 
   same_server same (Some later) found =
       elim (int_lt (merit s) later.1) as (λ t. int_lt (merit s) later.1 ≡ t →
       Chosen merit server n (s ∷ samples) (cond t (Some later) (Some (n, merit s)))) [
-        | true ↦ λ e. later_wins later found (less_from_test (merit s) later.1 e)
-        | false ↦ λ e. first_wins same later found (not_less_from_test (merit s) later.1 e)
+        | true ↦ λ e. later_wins later found (int_lt-true (merit s) later.1 e)
+        | false ↦ λ e. first_wins same later found (int_lt-false (merit s) later.1 e)
       ] refl
 
 -- what the function gives is the best, for every list
@@ -123,19 +113,16 @@ chosen merit server n (s ∷ samples) =
     let behind = chosen merit server (n + 1) samples in
     elim (nat_eq s.server server) as
     (λ t. nat_eq s.server server ≡ t → Chosen merit server n (s ∷ samples) (cond t (better n (merit s) rest) rest)) [
-      | true ↦ λ e. same_server merit server n s samples (same_from_test s.server server e) rest behind
+      | true ↦ λ e. same_server merit server n s samples (eqb-true s.server server e) rest behind
       | false ↦ λ e. other_server merit server n s samples (other_from_test s.server server e) rest behind
     ] refl
-
-test_from_same : (a b : ℕ) → a ≡ b → nat_eq a b ≡ true
-test_from_same a b h = grind (arith, nat_tests)
 
 test_from_other : (a b : ℕ) → a ≢ b → nat_eq a b ≡ false
 test_from_other a b h = grind (arith, nat_tests)
 
 best_from-cons : (merit : Sample → ℤ) (server n : ℕ) (s : Sample) (samples : List Sample) → s.server ≡ server →
     best_from merit server n (s ∷ samples) ≡ better n (merit s) (best_from merit server (n + 1) samples)
-best_from-cons merit server n s samples same = rw (test_from_same s.server server same) refl
+best_from-cons merit server n s samples same = rw (eq-eqb s.server server same) refl
 
 -- ---- the loop's step, from a number down to the one before it
 module _ (merit : Sample → ℤ) (server number : ℕ) (samples : List Sample) (default : Sample) where
@@ -249,8 +236,8 @@ best_of-is samples server p q ppb low high a b = rw (a, b) refl
 passed_on : (f : ℤ → ℤ → Option ℕ) (p q : ℤ) (o : Option ℕ) → IsPiece p q →
     o ≡ f (to_z w128 (of_z w128 p)) (to_z w128 (of_z w128 q)) → f p q ≡ o
 passed_on f p q o piece e =
-    let first = kept p (omega (arith, ints)) in
-    let last = kept q (omega (arith, ints)) in
+    let first = w128_keeps p (omega (arith, ints)) in
+    let last = w128_keeps q (omega (arith, ints)) in
     sym (e ∙ rw (first, last) refl)
 
 module _ (samples : List Sample) (server : ℕ) (p q : ℤ) (ppb : ℕ) (piece : IsPiece p q) where

@@ -4,7 +4,7 @@ pub use Rattle.std.proofs.Common.{cond, drop, false, get_or, inl, inr, int_lt, l
 pub use Rattle.std.proofs.Common.{refl, replicate, set, subst, suc, sym, take, to_z, true, unsigned_abs, zero, ℕ, ℤ}
 pub use Rattle.std.proofs.Common.{⊎_elim, ◌*ℤ◌, ◌*◌, ◌++◌, ◌+ℤ◌, ◌+◌, ◌-ℤ◌, ◌-◌, ◌<ℤ◌, ◌<◌, ◌==◌, ◌^◌, ◌∙◌, ◌∷◌, ◌≡◌}
 pub use Rattle.std.proofs.Common.{◌≢◌, ◌≤ℤ◌, ◌≤◌, ◌⊎◌}
-pub use Rattle.std.proofs.lemmas.Bool.{cases_eq, cases_lt}
+pub use Rattle.std.proofs.lemmas.Bool.{cases_eq, cases_lt, eq-eqb, eqb-true, ne_eqb}
 pub use Rattle.std.proofs.lemmas.Bool.Decides.{nat_tests}
 pub use Rattle.std.proofs.lemmas.Int.{clamps, fits_signed_from_abs, ints, to_z-of_z}
 pub use Rattle.std.proofs.lemmas.List.{append-nil, drop_all}
@@ -13,6 +13,7 @@ pub use Rattle.std.specs.List.{cons_option}
 pub use Rattle.std.specs.Option.{option_and_then, option_map, option_to_list}
 pub use Rattle.std.specs.Prelude.{filter, filter_map, fold, slice_get}
 pub use Rattle.intersection.specs.declared.kinds.Interval.{Interval}
+pub use Rattle.lemma_base.proofs.Int.{int_lt-false, int_lt-true, w128_keeps}
 pub use Rattle.sample_interval.specs.Widening.{IsRate, IsWidening, billion, widening}
 pub use Rattle.sample_interval.specs.declared.kinds.Sample.{Sample}
 pub use mir.Syntax.{w128, w32, w64}

@@ -1,8 +1,8 @@
 -- The interval of a server's best samples, while samples are taken one by one.
-use Rattle.span_cover.proofs.Common.{◌≡◌, ◌≢◌, ℕ, zero, suc, ◌<◌, ℤ, ◌≤ℤ◌, ◌⊎◌, inl, inr, neg_ℤ, List, [], ◌∷◌, ◌++◌, length, true, false, cond, int_lt, Option, None, Some, MatchOption, refl, sym, ◌∙◌, ap, subst, arith, replicate, set, get_or, int_max, int_min, option_and_then, cases_eq, ints, clamps, Interval, Sample, HasNoSample, IsFirstBest, best_of, Gathering, Gathered, best_interval, interval_between, moved_low, moved_high, piece_interval_of}
+use Rattle.span_cover.proofs.Common.{◌≡◌, ◌≢◌, ℕ, zero, suc, ◌<◌, ℤ, ◌≤ℤ◌, ◌⊎◌, inl, inr, neg_ℤ, List, [], ◌∷◌, ◌++◌, length, true, false, cond, int_lt, Option, None, Some, MatchOption, refl, sym, ◌∙◌, ap, subst, arith, replicate, set, get_or, int_max, int_min, option_and_then, cases_eq, ints, clamps, Interval, Sample, HasNoSample, IsFirstBest, best_of, Gathering, Gathered, best_interval, interval_between, moved_low, moved_high, piece_interval_of, int_lt-true, int_lt-false}
 use Rattle.std.specs.List.{slice_get}
 use Rattle.std.proofs.lemmas.Option.{same_Some, get_or_from_slice_get}
-use Rattle.span_cover.proofs.BestSample.{AreBest, best_numbers, less_from_test, not_less_from_test}
+use Rattle.span_cover.proofs.BestSample.{AreBest, best_numbers}
 
 -- ---- lists
 
@@ -114,11 +114,11 @@ module _ (merit : Sample → ℤ) (server : ℕ) where
         elim (int_lt (merit s) most) as
         (λ t. int_lt (merit s) most ≡ t → greater ≡ cond t most (merit s) → IsMost (samples ++ s ∷ []) greater) [
           | true ↦ λ less e.
-              let no_more = less_from_test (merit s) most less in
+              let no_more = int_lt-true (merit s) most less in
               subst (IsMost (samples ++ s ∷ [])) (sym e) (most_stays most is (λ of. omega (arith, ints)))
           | false ↦ λ more e.
               subst (IsMost (samples ++ s ∷ [])) (sym e)
-              (most_of_greater of most is (not_less_from_test (merit s) most more))
+              (most_of_greater of most is (int_lt-false (merit s) most more))
         ] refl e
 
 -- ---- both ends

@@ -1,5 +1,5 @@
 -- Parts of which each is of the group that has its place's number.
-use Rattle.span_cover.proofs.Common.{◌≡◌, ℕ, zero, suc, ◌+◌, ◌<◌, ◌==◌, List, [], ◌∷◌, Bool, true, false, cond, Option, None, Some, refl, arith, ap, ◌∙◌, fold, filter, slice_get, option_map, option_to_list, nat_tests, group_interval, narrowed, group_of, AreTheirOwn, Part}
+use Rattle.span_cover.proofs.Common.{◌≡◌, ℕ, zero, suc, ◌+◌, ◌<◌, ◌==◌, List, [], ◌∷◌, Bool, cond, Option, None, Some, refl, arith, ap, ◌∙◌, fold, filter, slice_get, option_map, option_to_list, group_interval, narrowed, group_of, AreTheirOwn, Part, ne_eqb, eq-eqb}
 
 module _ (key : Part → ℕ) where
   -- their keys count up from this number
@@ -9,18 +9,12 @@ module _ (key : Part → ℕ) where
   later : (from : ℕ) (first : Part) (parts : List Part) → Count from (first ∷ parts) → Count (from + 1) parts
   later from first parts count i part at = let is = count (suc i) part at in omega arith
 
-  other : (n m : ℕ) → (n ≡ m → ⊥) → (n == m) ≡ false
-  other n m differ = grind (arith, nat_tests)
-
-  same : (n m : ℕ) → n ≡ m → (n == m) ≡ true
-  same n m is = grind (arith, nat_tests)
-
   none_before : (from n : ℕ) (parts : List Part) → Count from parts → n < from
       → filter (λ part. key part == n) parts ≡ []
   none_before from n [] count less = refl
   none_before from n (part ∷ parts) count less =
       let here = count 0 part refl in
-      let differs = other (key part) n (λ is. omega arith) in
+      let differs = ne_eqb (key part) n (λ is. omega arith) in
       ap (λ (b : Bool). cond b (part ∷ filter (λ x. key x == n) parts) (filter (λ x. key x == n) parts)) differs
       ∙ none_before (from + 1) n parts (later from part parts count) (omega arith)
 
@@ -29,12 +23,12 @@ module _ (key : Part → ℕ) where
   one_each from g n [] count is = refl
   one_each from zero n (part ∷ parts) count is =
       let here = count 0 part refl in
-      let found = same (key part) n (omega arith) in
+      let found = eq-eqb (key part) n (omega arith) in
       ap (λ (b : Bool). cond b (part ∷ filter (λ x. key x == n) parts) (filter (λ x. key x == n) parts)) found
       ∙ ap (λ (xs : List Part). part ∷ xs) (none_before (from + 1) n parts (later from part parts count) (omega arith))
   one_each from (suc g) n (part ∷ parts) count is =
       let here = count 0 part refl in
-      let differs = other (key part) n (λ e. omega arith) in
+      let differs = ne_eqb (key part) n (λ e. omega arith) in
       ap (λ (b : Bool). cond b (part ∷ filter (λ x. key x == n) parts) (filter (λ x. key x == n) parts)) differs
       ∙ one_each (from + 1) g n parts (later from part parts count) (omega arith)
 

@@ -1,14 +1,9 @@
 -- The greatest distance between a window and a piece, and what it moves.
-use Rattle.span_cover.proofs.Common.{◌≡◌, ℕ, ◌+◌, ◌-◌, ◌*◌, ◌^◌, ◌<◌, ◌≤◌, ℤ, pos, ◌+ℤ◌, ◌-ℤ◌, ◌*ℤ◌, ◌≤ℤ◌, unsigned_abs, refl, ◌∙◌, arith, to_z, of_z, true, FitsSigned, negsuc, w128, int_max, int_min, ints, clamps, to_z-of_z, fits_signed_from_abs, IsRate, IsWidening, widening, billion, Sample, IsPiece, farthest, change, moved_low, moved_high}
-use Rattle.std.specs.Int.Signed.{le_z}
+use Rattle.span_cover.proofs.Common.{◌≡◌, ℕ, ◌+◌, ◌-◌, ◌*◌, ◌^◌, ◌<◌, ◌≤◌, ℤ, pos, ◌+ℤ◌, ◌-ℤ◌, ◌*ℤ◌, ◌≤ℤ◌, unsigned_abs, refl, ◌∙◌, arith, to_z, of_z, FitsSigned, negsuc, w128, ints, clamps, to_z-of_z, IsRate, IsWidening, widening, billion, Sample, IsPiece, farthest, change, moved_low, moved_high, w128_keeps}
 use Rattle.std.proofs.Math.Nat.{le_of_mul-le-mul_right, mul-le-mul_left, mul-le-mul_right}
 use Rattle.intersection.specs.Fineness.{times_le, times-add}
 use Rattle.sample_interval.specs.Moment.{Moment, error_of, error_change, DriftsWithinByReading, IsInWindow}
 use Rattle.sample_interval.specs.Moment.{IsOffAtLeast, IsOffAtMost}
-
--- a number that 128 bits keep as it is
-pub kept : (a : ℤ) → unsigned_abs a < 2 ^ 127 → to_z w128 (of_z w128 a) ≡ a
-kept a h = to_z-of_z w128 a (fits_signed_from_abs w128 a h)
 
 pub farthest-bounds : (from to p q : ℤ) → unsigned_abs from ≤ 2 ^ 72 → unsigned_abs to ≤ 2 ^ 72 → from ≤ℤ to →
     IsPiece p q → (pos 0 ≤ℤ farthest from to p q) × (farthest from to p q ≤ℤ pos (2 ^ 73))
@@ -21,10 +16,10 @@ pub farthest-kept : (from to p q r : ℤ) → unsigned_abs from ≤ 2 ^ 72 → u
     (to_z w128 (of_z w128 q)) →
     to_z w128 (of_z w128 r) ≡ farthest from to p q
 farthest-kept from to p q r a b piece fits e =
-    let f = kept from (omega arith) in
-    let t = kept to (omega arith) in
-    let first = kept p (omega (arith, ints)) in
-    let last = kept q (omega (arith, ints)) in
+    let f = w128_keeps from (omega arith) in
+    let t = w128_keeps to (omega arith) in
+    let first = w128_keeps p (omega (arith, ints)) in
+    let last = w128_keeps q (omega (arith, ints)) in
     to_z-of_z w128 r fits ∙ e ∙ rw (f, t, first, last) refl
 
 -- no reading of the piece is further from the moment

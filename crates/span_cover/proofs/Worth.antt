@@ -1,11 +1,8 @@
 -- Numbers that are passed on, and what a sample is worth before it is moved.
-use Rattle.span_cover.proofs.Common.{◌≡◌, ℕ, ◌-◌, ◌*◌, ◌^◌, ◌<◌, ◌≤◌, ℤ, pos, neg_ℤ, ◌+ℤ◌, ◌-ℤ◌, ◌≤ℤ◌, unsigned_abs, arith, to_z, of_z, Fits, FitsSigned, w32, w64, w128, ints, fits_signed_from_abs, Sample, merit, IsPiece, moved_low, moved_high}
-use Rattle.intersection.specs.declared.ends.Side.{Side}
-use Rattle.intersection.specs.declared.ends.Side.TheVariants.{Low, High}
-use Rattle.span_cover.proofs.PieceDistance.{kept}
+use Rattle.span_cover.proofs.Common.{ℕ, ◌-◌, ◌*◌, ◌<◌, ◌≤◌, ℤ, arith, to_z, of_z, Fits, w32, w64, w128, ints, IsPiece, w128_keeps}
 
 pub piece_kept : (p q : ℤ) → IsPiece p q → IsPiece (to_z w128 (of_z w128 p)) (to_z w128 (of_z w128 q))
-piece_kept p q piece = rw (kept p (omega (arith, ints)), kept q (omega (arith, ints))) piece
+piece_kept p q piece = rw (w128_keeps p (omega (arith, ints)), w128_keeps q (omega (arith, ints))) piece
 
 -- the number before another, of a few samples
 module _ (number all : ℕ) (some : 0 < number) (within : number ≤ all) where

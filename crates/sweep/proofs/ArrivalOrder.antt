@@ -1,7 +1,7 @@
 -- The arrivals of extremes, in order.
-use Rattle.sweep.proofs.Common.{◌≡◌, ℕ, ◌+◌, ◌-◌, ◌*◌, ◌<◌, ◌≤◌, ◌^◌, Bool, true, false, List, [], ◌∷◌, ◌++◌, length, Some, refl, arith, subst, get_or, ⊎_elim, sym, ◌∙◌, ap, slice_get, Contains, length-append, length-map, Contains-permutation, IsPermutation-sym, slice_get-get_or, slice_get_within, get_or_from_slice_get, mul-le-mul_right, IsRate, billion, IsLawfulExtreme, mirrored_extreme, seen, seen_one, IsArrivalOf, IsArrivalAt, AreArrivalsOf, IsQueueOf, index_at, Extreme, Arrival}
+use Rattle.sweep.proofs.Common.{◌≡◌, ℕ, ◌+◌, ◌-◌, ◌*◌, ◌<◌, ◌≤◌, ◌^◌, Bool, true, false, List, [], ◌∷◌, ◌++◌, length, Some, refl, arith, subst, get_or, ⊎_elim, sym, ◌∙◌, ap, slice_get, Contains, length-append, length-map, Contains-permutation, IsPermutation-sym, slice_get-get_or, slice_get_within, get_or_from_slice_get, mul-le-mul_right, IsRate, billion, IsLawfulExtreme, mirrored_extreme, seen, seen_one, IsArrivalOf, IsArrivalAt, AreArrivalsOf, IsQueueOf, index_at, Extreme, Arrival, slice_get-below}
 use Rattle.std.specs.List.Sorted.{IsPermutation, IsNonDecreasingBy}
-use Rattle.sweep.proofs.List.{pushed_cases, map_at, there}
+use Rattle.sweep.proofs.List.{pushed_cases, map_at}
 
 -- each extreme has its turn
 index_at_within : (backwards : Bool) (count turn : ℕ) → turn < count → index_at backwards count turn < count
@@ -38,7 +38,7 @@ module _ (ppb : ℕ) (backwards : Bool) (extremes : List Extreme) (arrivals queu
       let count = length extremes in
       let turn = index_at backwards count index in
       let inside = index_at_within backwards count index within in
-      let stands = there arrivals turn (subst (λ (n : ℕ). turn < n) (sym are.as_many) inside) in
+      let stands = slice_get-below arrivals turn (subst (λ (n : ℕ). turn < n) (sym are.as_many) inside) in
       let a = stands.0 in
       let stood = at_contains queue a
       (Contains-permutation arrivals queue a moved (contains_at arrivals turn a stands.1)) in

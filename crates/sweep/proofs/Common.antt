@@ -7,7 +7,7 @@ pub use Rattle.std.proofs.Common.{⊎_elim, ◌*◌, ◌++◌, ◌+ℤ◌, ◌+�
 pub use Rattle.std.proofs.Common.{◌≢◌, ◌≤ℤ◌, ◌≤◌, ◌⊎◌}
 pub use Rattle.std.proofs.Math.Nat.{div-div-eq-div-mul, div-mul-le_self, div-one, le_of_mul-le-mul_left, mul-add-div}
 pub use Rattle.std.proofs.Math.Nat.{mul-le-mul_right}
-pub use Rattle.std.proofs.lemmas.Bool.{cases_eq, cases_lt}
+pub use Rattle.std.proofs.lemmas.Bool.{cases_eq, cases_lt, eq-eqb, or_right}
 pub use Rattle.std.proofs.lemmas.Bool.Decides.{nat_tests}
 pub use Rattle.std.proofs.lemmas.Grind.{common_steps}
 pub use Rattle.std.proofs.lemmas.Int.{clamps, ints, to_z-of_z}
@@ -24,6 +24,7 @@ pub use Rattle.std.specs.List.{All, Contains, cons_option, filter, filter_map, r
 pub use Rattle.std.specs.Option.{option_map}
 pub use Rattle.intersection.specs.declared.ends.Side.{Side}
 pub use Rattle.intersection.specs.declared.ends.Side.TheVariants.{High, Low}
+pub use Rattle.lemma_base.proofs.List.{All-slice_get, range_with_len_more, slice_get-below}
 pub use Rattle.sample_interval.specs.Widening.{IsRate, IsWidening, billion, widening}
 pub use Rattle.sample_interval.specs.declared.kinds.Sample.{Sample}
 pub use Rattle.span_cover.specs.Best.{HasNoSample, IsBestHigh, IsBestLow, IsFirstBest, best_of, merit}

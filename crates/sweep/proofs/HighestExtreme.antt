@@ -1,6 +1,6 @@
 -- The number of the highest extreme, for each stretch so far.
-use Rattle.sweep.proofs.Common.{◌≡◌, ℕ, ◌+◌, ◌-◌, ◌<◌, List, [], ◌∷◌, ◌++◌, length, Option, None, Some, refl, arith, subst, sym, map, get_or, slice_get, All, ◌∙◌, same_Some, slice_get-get_or, slice_get_read, IsRate, IsWidening, widening, billion, IsLawfulExtreme, mirrored_extreme, IsLawfulStretch, mirrored_stretch, IsTopOf, IsAtLeast, IsEarlyAtLeast, AreEarlyTops, AreLateTops, AreOver, higher_of, IsTopNumber, Extreme, UnsignedStretch, Top}
-use Rattle.sweep.proofs.List.{AreOver-more, all_at}
+use Rattle.sweep.proofs.Common.{◌≡◌, ℕ, ◌+◌, ◌-◌, ◌<◌, List, [], ◌∷◌, ◌++◌, length, Option, None, Some, refl, arith, subst, sym, map, get_or, slice_get, All, ◌∙◌, same_Some, slice_get-get_or, slice_get_read, IsRate, IsWidening, widening, billion, IsLawfulExtreme, mirrored_extreme, IsLawfulStretch, mirrored_stretch, IsTopOf, IsAtLeast, IsEarlyAtLeast, AreEarlyTops, AreLateTops, AreOver, higher_of, IsTopNumber, Extreme, UnsignedStretch, Top, All-slice_get}
+use Rattle.sweep.proofs.List.{AreOver-more}
 use Rattle.sweep.proofs.Reach.{reaches_either, either_reaches, some_reaches}
 use Rattle.sweep.proofs.TopOrder.{Either, same_top, top-higher_of}
 
@@ -40,7 +40,7 @@ module _ (widens : (ppb distance : ℕ) → ppb < billion → IsWidening ppb dis
   pub top_at : IsTopOf (IsAtLeast ppb extremes some_stretch) (higher_of one other)
   top_at =
       top_here widens ppb slow extremes lawful some_stretch
-      (all_at IsLawfulStretch stretches k some_stretch lawful_stretches here)
+      (All-slice_get IsLawfulStretch stretches k some_stretch lawful_stretches here)
       one other
       (are_early.each k some_stretch one here
       (slice_get_read early (length stretches) k one (sym are_early.as_many) within one_at))
@@ -53,7 +53,7 @@ module _ (widens : (ppb distance : ℕ) → ppb < billion → IsWidening ppb dis
     of_top : (top : Option Top) → higher_of one other ≡ top → IsTopOf (IsAtLeast ppb extremes some_stretch) top →
         (number : ℕ) × (found ≡ Some number) × IsTopNumber ppb extremes some_stretch number
     of_top None is none =
-        let lawful_one = all_at IsLawfulStretch stretches k some_stretch lawful_stretches here in
+        let lawful_one = All-slice_get IsLawfulStretch stretches k some_stretch lawful_stretches here in
         let reached = some_reaches widens ppb slow extremes some_stretch lawful lawful_one some in
         absurd (none reached.0 0 reached.1)
     of_top (Some top) is is_top =

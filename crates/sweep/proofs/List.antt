@@ -1,5 +1,5 @@
 -- Reads of a list that has one element more.
-use Rattle.sweep.proofs.Common.{◌≡◌, ℕ, zero, suc, ◌+◌, ◌<◌, ◌≤◌, List, [], ◌∷◌, ◌++◌, length, Some, refl, arith, sym, ap, ◌⊎◌, inl, inr, ⊎_elim, ◌∙◌, map, reverse, get_or, ◌-◌, subst, option_map, get_or-reverse, length-reverse, same_Some, slice_get-get_or, slice_get_within, slice_get-map, get_or_from_slice_get, slice_get, All, length-append, AreOver, UnsignedStretch}
+use Rattle.sweep.proofs.Common.{◌≡◌, ℕ, zero, suc, ◌+◌, ◌<◌, ◌≤◌, List, [], ◌∷◌, ◌++◌, length, Some, refl, arith, sym, ap, ◌⊎◌, inl, inr, ⊎_elim, ◌∙◌, map, reverse, get_or, ◌-◌, subst, option_map, get_or-reverse, length-reverse, same_Some, slice_get-get_or, slice_get_within, slice_get-map, get_or_from_slice_get, slice_get, length-append, AreOver, UnsignedStretch}
 
 pub slice_get-front : {X : Type 0} (xs : List X) (x : X) (k : ℕ) → k < length xs →
     slice_get (xs ++ x ∷ []) k ≡ slice_get xs k
@@ -67,16 +67,6 @@ reverse_at xs k x is =
     slice_get-get_or (reverse xs) (length xs - 1 - k) x (omega (arith, length-reverse xs))
     ∙ ap Some (get_or-reverse xs (length xs - 1 - k) x (omega arith) ∙ ap (λ (j : ℕ). get_or xs j x) back
     ∙ get_or_from_slice_get xs k x x is)
-
-pub all_at : {X : Type 0} (P : X → Type 0) (xs : List X) (k : ℕ) (x : X) → All P xs → slice_get xs k ≡ Some x → P x
-all_at P xs k x all is =
-    subst P (get_or_from_slice_get xs k x x is) (all k x (slice_get_within xs k x is))
-
--- a list has an element at each index below its length
-pub there : {X : Type 0} (xs : List X) (i : ℕ) → i < length xs → (x : X) × (slice_get xs i ≡ Some x)
-there [] i below = absurd (omega arith)
-there (x ∷ xs) zero below = (x, refl)
-there (x ∷ xs) (suc i) below = there xs i (omega arith)
 
 -- one stretch more
 pub AreOver-more : {X : Type 0} (holds : UnsignedStretch → X → Type 0) (stretches : List UnsignedStretch) (n : ℕ)

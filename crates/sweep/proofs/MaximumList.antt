@@ -1,6 +1,6 @@
 -- The maxima of extremes.
-use Rattle.sweep.proofs.Common.{◌≡◌, ℕ, ◌+◌, ◌-◌, ◌*◌, ◌/◌, ◌<◌, ◌≤◌, List, [], ◌∷◌, ◌++◌, length, Some, refl, arith, subst, sym, ◌∙◌, ap, ◌⊎◌, inl, inr, ⊎_elim, le_trans, slice_get, cases_lt, le-div, slice_get_within, same_Some, div-mul-le_self, mul-le-mul_right, IsRate, billion, IsMaximumOf, IsTopped, MaximaRise, AreMaximaOf, IsHeightUpto, IsEarlyLevel, IsQueueOf, IsEarlyAtLeast, height, Extreme, PrefixMaximum, Arrival, UnsignedStretch}
-use Rattle.sweep.proofs.List.{pushed_cases, rises_pushed, slice_get-front, slice_get-last, there}
+use Rattle.sweep.proofs.Common.{◌≡◌, ℕ, ◌+◌, ◌-◌, ◌*◌, ◌/◌, ◌<◌, ◌≤◌, List, [], ◌∷◌, ◌++◌, length, Some, refl, arith, subst, sym, ◌∙◌, ap, ◌⊎◌, inl, inr, ⊎_elim, le_trans, slice_get, cases_lt, le-div, slice_get_within, same_Some, div-mul-le_self, mul-le-mul_right, IsRate, billion, IsMaximumOf, IsTopped, MaximaRise, AreMaximaOf, IsHeightUpto, IsEarlyLevel, IsQueueOf, IsEarlyAtLeast, height, Extreme, PrefixMaximum, Arrival, UnsignedStretch, slice_get-below}
+use Rattle.sweep.proofs.List.{pushed_cases, rises_pushed, slice_get-front, slice_get-last}
 
 -- a maximum has the place and the height of one of the first n arrivals
 pub record IsFromArrival (queue : List Arrival) (n : ℕ) (maximum : PrefixMaximum) : Type 0 where
@@ -114,7 +114,7 @@ module _ (ppb : ℕ) (extremes : List Extreme) (queue : List Arrival) (are : IsQ
             × (x.height ≤ maximum.height)
         under_new i x at =
             let within = slice_get_within maxima i x at in
-            let last = there maxima (length maxima - 1) (omega arith) in
+            let last = slice_get-below maxima (length maxima - 1) (omega arith) in
             let lower = so_far.rise i (length maxima - 1) x last.0 (omega arith) at last.1 in
             let less = above last.0 last.1 in
             let low = lower.1 in
@@ -171,7 +171,7 @@ module _ (ppb : ℕ) (extremes : List Extreme) (maxima : List PrefixMaximum) (ar
     no_lower = λ index extreme is upto.
         let top = are.all index extreme is in
         let within = slice_get_within maxima top.index top.maximum top.stands in
-        let first = there maxima 0 (omega arith) in
+        let first = slice_get-below maxima 0 (omega arith) in
         let order = (are.rise 0 top.index first.0 top.maximum (omega arith) first.1 top.stands).0 in
         let after = beyond first.0 first.1 in
         let later = top.no_later in
@@ -207,7 +207,7 @@ module _ (ppb : ℕ) (extremes : List Extreme) (maxima : List PrefixMaximum) (ar
           le_trans lower order)
           (λ past.
           let within = slice_get_within maxima top.index top.maximum top.stands in
-          let first = there maxima count (omega arith) in
+          let first = slice_get-below maxima count (omega arith) in
           let order = (are.rise count top.index first.0 top.maximum past first.1 top.stands).0 in
           let after = beyond first.0 first.1 in
           absurd (omega arith))

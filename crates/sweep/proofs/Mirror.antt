@@ -1,6 +1,6 @@
 -- Extremes and stretches with time running backwards.
-use Rattle.sweep.proofs.Common.{◌≡◌, ℕ, ◌+◌, ◌-◌, ◌≤◌, ◌^◌, List, length, Option, Some, map, reverse, arith, sym, ◌∙◌, subst, slice_get, All, length-map, length-reverse, All-map, All-weaker, All-permutation, IsPermutation-reverse, IsLawfulExtreme, mirrored_extreme, IsLawfulStretch, MiddlesRise, mirrored_stretch, AreEarlyTops, AreLateTops, distance, Extreme, UnsignedStretch, Top}
-use Rattle.sweep.proofs.List.{map_at, at_map, at_reverse, reverse_at, all_at}
+use Rattle.sweep.proofs.Common.{◌≡◌, ℕ, ◌+◌, ◌-◌, ◌≤◌, ◌^◌, List, length, Option, Some, map, reverse, arith, sym, ◌∙◌, subst, slice_get, All, length-map, length-reverse, All-map, All-weaker, All-permutation, IsPermutation-reverse, IsLawfulExtreme, mirrored_extreme, IsLawfulStretch, MiddlesRise, mirrored_stretch, AreEarlyTops, AreLateTops, distance, Extreme, UnsignedStretch, Top, All-slice_get}
+use Rattle.sweep.proofs.List.{map_at, at_map, at_reverse, reverse_at}
 
 pub lawful-mirrored_extreme : (extreme : Extreme) → IsLawfulExtreme extreme → IsLawfulExtreme (mirrored_extreme extreme)
 lawful-mirrored_extreme extreme is = record {
@@ -39,8 +39,8 @@ MiddlesRise-mirrored stretches all rise i j a b le at_a at_b =
     let from_a = at_map mirrored_stretch stretches _ a back_a.1 in
     let from_b = at_map mirrored_stretch stretches _ b back_b.1 in
     let less = rise _ _ from_b.0 from_a.0 (omega arith) from_b.1 from_a.1 in
-    let turned = middles_turn from_a.0 from_b.0 (all_at IsLawfulStretch stretches _ from_a.0 all from_a.1)
-    (all_at IsLawfulStretch stretches _ from_b.0 all from_b.1) less in
+    let turned = middles_turn from_a.0 from_b.0 (All-slice_get IsLawfulStretch stretches _ from_a.0 all from_a.1)
+    (All-slice_get IsLawfulStretch stretches _ from_b.0 all from_b.1) less in
     subst (λ (x : UnsignedStretch). a.begin + a.end ≤ x.begin + x.end) (sym from_b.2)
     (subst (λ (x : UnsignedStretch). x.begin + x.end ≤ (mirrored_stretch from_b.0).begin
     + (mirrored_stretch from_b.0).end)

@@ -1,6 +1,5 @@
 -- The best samples of each piece.
-use Rattle.sweep.proofs.Common.{◌≡◌, ℕ, ℤ, List, Some, arith, get_or, subst, sym, ◌∙◌, slice_get-get_or, slice_get_within, Sample, IsBestLow, IsBestHigh, best_of, AreExtremesOf, AreBestOfPieces, ArePairsOf, AreStretchesOf, IsLawfulStretch, AreTopNumbers, Extreme, Low, High, UnsignedStretch}
-use Rattle.sweep.proofs.List.{all_at}
+use Rattle.sweep.proofs.Common.{◌≡◌, ℕ, ℤ, List, Some, arith, get_or, subst, sym, ◌∙◌, slice_get-get_or, slice_get_within, Sample, IsBestLow, IsBestHigh, best_of, AreExtremesOf, AreBestOfPieces, ArePairsOf, AreStretchesOf, IsLawfulStretch, AreTopNumbers, Extreme, Low, High, UnsignedStretch, All-slice_get}
 use Rattle.sweep.proofs.Merit.{IsFirstBest-top}
 
 -- whoever has the first best for both ends has the best samples: a law of the crate below
@@ -24,7 +23,7 @@ module _ (law : BestLaw) (samples : List Sample) (server : ℕ) (first : ℤ) (e
         let stretch : UnsignedStretch = get_or stretches k default in
         let here = slice_get-get_or stretches k default (omega (arith, are_stretches.as_many)) in
         let is_stretch = are_stretches.each k p q stretch at here in
-        let lawful = all_at IsLawfulStretch stretches k stretch are_stretches.lawful here in
+        let lawful = All-slice_get IsLawfulStretch stretches k stretch are_stretches.lawful here in
         let low : ℕ = get_or low_numbers k 0 in
         let low_at = slice_get-get_or low_numbers k 0 (omega (arith, are_stretches.as_many, low_tops.as_many)) in
         let high : ℕ = get_or high_numbers k 0 in

@@ -1,8 +1,8 @@
 -- An extreme reaches a level if it does so as an early one, or as one that is early with time running
 -- backwards.
-use Rattle.sweep.proofs.Common.{◌≡◌, ℕ, ◌+◌, ◌-◌, ◌*◌, ◌<◌, ◌≤◌, List, length, map, arith, sym, ◌∙◌, subst, ap, get_or, slice_get-get_or, ◌⊎◌, inl, inr, ⊎_elim, All, cases_lt, mul-le-mul_right, le_of_mul-le-mul_left, IsRate, IsWidening, widening, billion, IsLawfulExtreme, mirrored_extreme, IsLawfulStretch, mirrored_stretch, IsAtLeast, IsEarly, IsEarlyAtLeast, distance, height, height_for, Extreme, UnsignedStretch}
+use Rattle.sweep.proofs.Common.{◌≡◌, ℕ, ◌+◌, ◌-◌, ◌*◌, ◌<◌, ◌≤◌, List, length, map, arith, sym, ◌∙◌, subst, ap, get_or, slice_get-get_or, ◌⊎◌, inl, inr, ⊎_elim, All, cases_lt, mul-le-mul_right, le_of_mul-le-mul_left, IsRate, IsWidening, widening, billion, IsLawfulExtreme, mirrored_extreme, IsLawfulStretch, mirrored_stretch, IsAtLeast, IsEarly, IsEarlyAtLeast, distance, height, height_for, Extreme, UnsignedStretch, All-slice_get}
 use Rattle.era_unfold.specs.Ratio.{IsCeiling}
-use Rattle.sweep.proofs.List.{map_at, at_map, all_at}
+use Rattle.sweep.proofs.List.{map_at, at_map}
 use Rattle.sweep.proofs.Mirror.{lawful-mirrored_extreme, lawful-mirrored_stretch, distance-mirrored}
 
 -- ---- in plain numbers: an extreme's end and begin, and the end of a stretch at this distance
@@ -59,7 +59,7 @@ module _ (widens : (ppb distance : ℕ) → ppb < billion → IsWidening ppb dis
         ⊎ IsEarlyAtLeast ppb (map mirrored_extreme extremes) (mirrored_stretch stretch) index level
     reaches_either index level is =
         let extreme = is.extreme in
-        let b = all_at IsLawfulExtreme extremes index extreme all is.stands in
+        let b = All-slice_get IsLawfulExtreme extremes index extreme all is.stands in
         let same = distance-mirrored extreme stretch b s in
         let enough = is.at_least in
         ⊎_elim
@@ -85,7 +85,7 @@ module _ (widens : (ppb distance : ℕ) → ppb < billion → IsWidening ppb dis
     early_is index level is = record {
       extreme = is.extreme;
       stands = is.stands;
-      at_least = early_reaches is.extreme stretch (all_at IsLawfulExtreme extremes index is.extreme all is.stands) s
+      at_least = early_reaches is.extreme stretch (All-slice_get IsLawfulExtreme extremes index is.extreme all is.stands) s
           level is.early
           is.at_least;
     }
@@ -96,7 +96,7 @@ module _ (widens : (ppb distance : ℕ) → ppb < billion → IsWidening ppb dis
     late_is index level is =
         let back = at_map mirrored_extreme extremes index is.extreme is.stands in
         let extreme : Extreme = back.0 in
-        let b = all_at IsLawfulExtreme extremes index extreme all back.1 in
+        let b = All-slice_get IsLawfulExtreme extremes index extreme all back.1 in
         let early : IsEarly (mirrored_extreme extreme) (mirrored_stretch stretch) =
         subst (λ (x : Extreme). IsEarly x (mirrored_stretch stretch)) back.2 is.early in
         let high : height_for ppb (mirrored_stretch stretch).end level ≤ height ppb (mirrored_extreme extreme) =

@@ -1,6 +1,6 @@
 -- The stretches of pieces.
-use Rattle.sweep.proofs.Common.{◌≡◌, ℕ, ◌+◌, ◌<◌, ◌≤◌, ◌^◌, ℤ, pos, ◌+ℤ◌, ◌≤ℤ◌, List, [], ◌∷◌, ◌++◌, length, Some, arith, subst, get_or, ⊎_elim, sym, ◌∙◌, ap, add-one, to_z, of_z, FitsSigned, w128, slice_get, All, ints, to_z-of_z, length-append, All-push, slice_get-get_or, same_Some, IsPiece, IsPieceAt, ArePieces, IsStretchOf, IsLawfulStretch, MiddlesRise, UnsignedStretch}
-use Rattle.sweep.proofs.List.{pushed_cases, rises_pushed, all_at}
+use Rattle.sweep.proofs.Common.{◌≡◌, ℕ, ◌+◌, ◌<◌, ◌≤◌, ◌^◌, ℤ, pos, ◌+ℤ◌, ◌≤ℤ◌, List, [], ◌∷◌, ◌++◌, length, Some, arith, subst, get_or, ⊎_elim, sym, ◌∙◌, ap, add-one, to_z, of_z, FitsSigned, w128, slice_get, All, ints, to_z-of_z, length-append, All-push, slice_get-get_or, same_Some, IsPiece, IsPieceAt, ArePieces, IsStretchOf, IsLawfulStretch, MiddlesRise, UnsignedStretch, All-slice_get}
+use Rattle.sweep.proofs.List.{pushed_cases, rises_pushed}
 
 pub piece_at : (first kept_first : ℤ) (ends : List ℤ) (index : ℕ) (begin end : ℤ) → kept_first ≡ first →
     slice_get (kept_first ∷ ends) index ≡ Some begin → index < length ends → end ≡ get_or ends index (pos 0) →
@@ -82,6 +82,6 @@ module _ (first : ℤ) (ends : List ℤ) (n : ℕ) (begin : ℤ) (stretches : Li
       rise =
           rises_pushed (λ a b. a.begin + a.end ≤ b.begin + b.end) stretches stretch so_far.rise
           (λ k s at_s.
-          let own = all_at IsLawfulStretch stretches k s so_far.lawful at_s in
+          let own = All-slice_get IsLawfulStretch stretches k s so_far.lawful at_s in
           omega (arith, ints, so_far.behind k s at_s, own.in_order, lawful_new.in_order, is.begin))
           (omega arith)

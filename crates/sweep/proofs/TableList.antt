@@ -1,5 +1,5 @@
 -- The tables of servers, and what they give one after another.
-use Rattle.sweep.proofs.Common.{◌≡◌, ℕ, zero, suc, ◌+◌, ◌<◌, Bool, true, false, ℤ, List, [], ◌∷◌, ◌++◌, length, map, take, get_or, Option, Some, None, refl, sym, ◌∙◌, ap, arith, cond, nat_eq, ◌||◌, add-one, true≢false, slice_get, filter, filter_map, cons_option, range_with_len, nat_tests, append-nil, take_more, map-append, filter-append, filter_map-append, slice_get-get_or, Sample, HasNoSample, best_of, Part, AreTablesOf, IsTableOf, best_part, best_parts, has_sample, Extreme, BestTable}
+use Rattle.sweep.proofs.Common.{◌≡◌, ℕ, zero, suc, ◌+◌, ◌<◌, Bool, true, false, ℤ, List, [], ◌∷◌, ◌++◌, length, map, take, get_or, Option, Some, None, refl, sym, ◌∙◌, ap, arith, cond, nat_eq, true≢false, slice_get, filter, filter_map, cons_option, range_with_len, nat_tests, append-nil, take_more, map-append, filter-append, filter_map-append, slice_get-get_or, Sample, HasNoSample, best_of, Part, AreTablesOf, IsTableOf, best_part, best_parts, has_sample, Extreme, BestTable, or_right, eq-eqb, range_with_len_more}
 
 -- ---- whether a server has a sample
 
@@ -16,18 +16,11 @@ none_has (s ∷ samples) server none =
 one_has : (samples : List Sample) (server i : ℕ) (s : Sample) → slice_get samples i ≡ Some s → s.server ≡ server →
     has_sample samples server ≡ true
 one_has [] server i s is of = absurd cc
-one_has (t ∷ samples) server zero s is of = rw (agrees t.server server (same t s is of)) refl
+one_has (t ∷ samples) server zero s is of = rw (eq-eqb t.server server (same t s is of)) refl
   where
     same : (t s : Sample) → ◌≡◌ {A = Option Sample} (Some t) (Some s) → s.server ≡ server → t.server ≡ server
     same t s is of = cc
-
-    agrees : (a b : ℕ) → a ≡ b → nat_eq a b ≡ true
-    agrees a b same = grind (arith, nat_tests)
-one_has (t ∷ samples) server (suc i) s is of = or_true (nat_eq t.server server) _ (one_has samples server i s is of)
-  where
-    or_true : (a b : Bool) → b ≡ true → (a || b) ≡ true
-    or_true true b is = refl
-    or_true false b is = is
+one_has (t ∷ samples) server (suc i) s is of = or_right (nat_eq t.server server) _ (one_has samples server i s is of)
 
 module _ (samples : List Sample) (ppb : ℕ) (table : BestTable) (is : IsTableOf samples ppb table) where
   pub table_has : has_sample samples table.server ≡ true
@@ -39,19 +32,12 @@ module _ (samples : List Sample) (ppb : ℕ) (table : BestTable) (is : IsTableOf
 
 -- ---- the servers that have one, in their order
 
-range_more : (a n j : ℕ) → a + n ≡ j → range_with_len a (n + 1) ≡ range_with_len a n ++ j ∷ []
-range_more a n j e = rw add-one (pushed a n j e)
-  where
-    pushed : (a n j : ℕ) → a + n ≡ j → range_with_len a (suc n) ≡ range_with_len a n ++ j ∷ []
-    pushed a zero j e = ap (λ (k : ℕ). k ∷ []) (let same : a ≡ j = omega (arith, e) in same)
-    pushed a (suc n) j e = ap (λ (ks : List ℕ). a ∷ ks) (pushed (a + 1) n j (omega (arith, e)))
-
 module _ (samples : List Sample) (n : ℕ) (tables : List BestTable)
     (so_far : map (λ table. table.server) tables ≡ filter (has_sample samples) (range_with_len 0 n)) where
   one_more : filter (has_sample samples) (range_with_len 0 (n + 1))
       ≡ filter (has_sample samples) (range_with_len 0 n) ++ filter (has_sample samples) (n ∷ [])
   one_more =
-      ap (filter (has_sample samples)) (range_more 0 n n (omega arith))
+      ap (filter (has_sample samples)) (range_with_len_more 0 n n (omega arith))
       ∙ filter-append (has_sample samples) (range_with_len 0 n) (n ∷ [])
 
   -- a server without a sample

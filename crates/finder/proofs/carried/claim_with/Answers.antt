@@ -1,6 +1,4 @@
-use Rattle.finder.proofs.Common.{◌∙◌, refl, arith, ints, data_of}
-use Rattle.finder.proofs.Claim.{first_kept, last_kept, reading_kept}
-use Rattle.finder.proofs.NoOverflow.{kept}
+use Rattle.finder.proofs.Common.{◌∙◌, refl, arith, ints, data_of, w128_keeps, first_kept, last_kept, reading_kept}
 use Rattle.finder.proofs.carried.claim_with.Goals as goal
 
 pub returns : goal.returns
@@ -12,7 +10,7 @@ returns c =
       first_kept claim c.requires,
       last_kept claim c.requires,
       reading_kept claim c.requires,
-      kept c.ns_down.result (omega (arith, ints, ticks, small)),
+      w128_keeps c.ns_down.result (omega (arith, ints, ticks, small)),
       c.in_ok-from_slice.ensures.items ∙ c.as_slice.ensures.value,
       c.in_ok-from_slice-2.ensures.items ∙ c.as_slice-2.ensures.value,
       ticks,

@@ -1,6 +1,6 @@
-use Rattle.finder.proofs.Common.{◌≡◌, length, map, ap, ◌∙◌, falls, arith, All, map-append, data_of as claim_data, IsLawfulPiece, PieceHullData}
+use Rattle.finder.proofs.Common.{◌≡◌, length, map, ap, ◌∙◌, falls, arith, All, map-append, data_of as claim_data, IsLawfulPiece, PieceHullData, All-map_back}
 use Rattle.finder.specs.Envelope.{piece_data}
-use Rattle.finder.proofs.EnvelopePieces.{All-from_map, envelope_is, lawful_pieces, least_more, piece_hulls_more}
+use Rattle.finder.proofs.EnvelopePieces.{envelope_is, lawful_pieces, least_more, piece_hulls_more}
 use Rattle.finder.proofs.TablePieces.{best_tables, few_tables, long_tables}
 use Rattle.finder.proofs.envelope.envelope_to.Goals as goal
 
@@ -71,6 +71,6 @@ returns-clause-lawful g c =
     (lawful_pieces samples (claim_data c.args.claim.now) c.args.step_s c.best_samples_are_the_first_best.ensures
     c.requires.claim c.loop-number.number) in
     record {
-      pieces = All-from_map (IsLawfulPiece (length samples)) piece_data c.loop-number.pieces.items all;
+      pieces = All-map_back (IsLawfulPiece (length samples)) piece_data c.loop-number.pieces.items all;
       least = c.loop-number.invariant.below;
     }

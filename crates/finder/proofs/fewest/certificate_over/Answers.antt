@@ -1,5 +1,4 @@
-use Rattle.finder.proofs.Common.{pos, map, take, get_or, unsigned_abs, ap, ◌∙◌, map-append, take_all, piece_data, data_of, IsPieceAt, end_after, pieces_over}
-use Rattle.finder.proofs.Claim.{first_kept}
+use Rattle.finder.proofs.Common.{pos, map, take, get_or, unsigned_abs, ap, ◌∙◌, map-append, take_all, piece_data, data_of, IsPieceAt, end_after, pieces_over, first_kept}
 use Rattle.finder.proofs.LongestPiece.{end_fits, end_kept, piece_at_take, taken_more}
 use Rattle.finder.proofs.TablePieces.{best_tables}
 use Rattle.finder.proofs.fewest.certificate_over.Goals as goal

@@ -1,5 +1,4 @@
-use Rattle.finder.proofs.Common.{◌≡◌, ◌<◌, map, false, true, sym, ap, ◌∙◌, falls, arith, map-append, piece_data, data_of as claim_data, is_inside, PieceHullData, count_of}
-use Rattle.finder.proofs.Claim.{bound_kept}
+use Rattle.finder.proofs.Common.{◌≡◌, ◌<◌, map, false, true, sym, ap, ◌∙◌, falls, arith, map-append, piece_data, data_of as claim_data, is_inside, PieceHullData, count_of, bound_kept}
 use Rattle.finder.proofs.Finding.{found_all, found_failing, passed_more, pieces_more}
 use Rattle.finder.proofs.SpanPieces.{end_fits, end_kept}
 use Rattle.finder.proofs.TablePieces.{best_tables, few_tables, long_tables}

@@ -1,6 +1,6 @@
-use Rattle.finder.proofs.Common.{◌<◌, ◌≤◌, length, get_or, ap, ◌∙◌, falls, arith, common_steps, take_all, data_of, IsLawfulSample, part_named, parts_named}
+use Rattle.finder.proofs.Common.{◌<◌, ◌≤◌, length, get_or, ap, ◌∙◌, falls, arith, common_steps, take_all, data_of, IsLawfulSample, part_named, parts_named, All-slice_get}
 use Rattle.finder.proofs.EntryList.{listed_parts, part_computed}
-use Rattle.finder.proofs.List.{All-slice_get, filter_map_more}
+use Rattle.finder.proofs.List.{filter_map_more}
 use Rattle.finder.proofs.hull.parts.Goals as goal
 
 pub sample_at-low-requires : goal.sample_at-low-requires

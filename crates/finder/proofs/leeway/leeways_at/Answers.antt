@@ -1,5 +1,4 @@
-use Rattle.finder.proofs.Common.{◌≡◌, ℕ, ◌+◌, ◌<◌, ℤ, pos, ◌≤ℤ◌, length, map, get_or, set, refl, sym, ap, ap₂, ◌∙◌, subst, to_z, of_z, arith, length-set, int_min, ◌↔◌, to_z-of_z, w128, data_of as claim_data, group_of, AreCompatible, AreLeeways, Lets, leeway_in, mark_at, no_limit, turned}
-use Rattle.finder.proofs.Claim.{reading_kept}
+use Rattle.finder.proofs.Common.{◌≡◌, ℕ, ◌+◌, ◌<◌, ℤ, pos, ◌≤ℤ◌, length, map, get_or, set, refl, sym, ap, ap₂, ◌∙◌, subst, to_z, of_z, arith, length-set, int_min, ◌↔◌, to_z-of_z, w128, data_of as claim_data, group_of, AreCompatible, AreLeeways, Lets, leeway_in, mark_at, no_limit, turned, reading_kept}
 use Rattle.finder.proofs.CompactExchange.{lawful_of, stands_at}
 use Rattle.finder.proofs.GroupLeeway.{none_yet, one_more_leeway, replicated, replicated_kept, same_default, still_kept}
 use Rattle.finder.proofs.leeway.leeways_at.Goals as goal

@@ -1,8 +1,6 @@
-use Rattle.finder.proofs.Common.{rules, subst, true≢false, ◌≡◌, ◌∙◌, Some, length, sym, ap, arith, unsigned_abs, w64, option_map, ints, to_z-of_z, SFits, data_of as claim_data, IsNearestRefutation, refutation_at}
+use Rattle.finder.proofs.Common.{rules, subst, true≢false, ◌≡◌, ◌∙◌, Some, length, sym, ap, arith, unsigned_abs, w64, option_map, ints, to_z-of_z, SFits, data_of as claim_data, IsNearestRefutation, refutation_at, w128_keeps, first_kept, reading_kept}
 use Rattle.std.specs.Prelude.{map}
 use Rattle.finder.proofs.RefutationFinding.{refutation_is, says_none, says_some}
-use Rattle.finder.proofs.Claim.{first_kept, reading_kept}
-use Rattle.finder.proofs.NoOverflow.{kept}
 use Rattle.finder.proofs.nearest_refutation.find_refutation.Goals as goal
 
 pub rooms_of-rooms-requires-clause-from_zero : goal.rooms_of-rooms-requires-clause-from_zero
@@ -39,7 +37,7 @@ returns g c =
     let top = in_range.not_above in
     let are = rw (reading_kept claim lawful) at c.rooms_of-rooms.ensures.rooms in
     let exact = c.in_ok-error.ensures.exact xs are in
-    let wide = kept found (omega (arith, ints)) in
+    let wide = w128_keeps found (omega (arith, ints)) in
     let fits : SFits w64 found = search rules in
     let count : c.len.result ≡ length claim.servers = search rules in
     let liars = rw (wide, count) at c.refusing.ensures in

@@ -1,6 +1,5 @@
-use Rattle.finder.proofs.Common.{◌≡◌, ◌∙◌, refl, ◌+ℤ◌, pos, true, false, true≢false, sym, arith, to_z, of_z, ints, to_z-of_z, w128, ClaimData, IsLawful, data_of as claim_data, possible_by, room_at}
-use Rattle.finder.proofs.Claim.{bound_kept, few_groups}
-use Rattle.finder.proofs.NoOverflow.{kept}
+use Rattle.finder.proofs.Common.{◌≡◌, ◌∙◌, refl, ◌+ℤ◌, pos, true, false, true≢false, sym, arith, to_z, of_z, ints, to_z-of_z, w128, ClaimData, IsLawful, data_of as claim_data, possible_by, room_at, w128_keeps, bound_kept}
+use Rattle.finder.proofs.Claim.{few_groups}
 use Rattle.finder.proofs.Nearest.{first_is_nearest, next_is_nearest, nothing_so_far, none_is_nearest, passed, taken}
 use Rattle.finder.proofs.nearest_refutation.nearest.Goals as goal
 use Rattle.finder.proofs.nearest_refutation.nearest.Goals.{Else-is_possible, then-claim-error+then-error-first+then-is_possible-2, else-claim-error, else-claim-error-via-then-claim-error+then-error-first+else-is_possible-2, else-claim-error-via-then-claim-error+else-error-first, else-claim-error-via-else-claim-error}
@@ -10,7 +9,7 @@ next_kept : (claim : ClaimData) → IsLawful claim
 next_kept claim lawful =
     let not_below = lawful.bound_not_negative in
     let not_above = lawful.bound_in_range in
-    kept (claim.bound +ℤ pos 1) (omega (arith, ints))
+    w128_keeps (claim.bound +ℤ pos 1) (omega (arith, ints))
 
 pub returns-then-is_possible : goal.returns-then-is_possible
 returns-then-is_possible c =
@@ -29,7 +28,7 @@ loop-server-init c =
     let beyond = c.requires.beyond in
     let in_range = c.requires.in_range in
     let limit = to_z-of_z w128 c.args.limit c.ranges.limit in
-    let after = kept (c.args.limit +ℤ pos 1) (omega (arith, ints)) in
+    let after = w128_keeps (c.args.limit +ℤ pos 1) (omega (arith, ints)) in
     rw (limit, after) (nothing_so_far c.args.rooms.now claim (few_groups claim c.requires.claim) c.args.limit beyond)
 
 pub loop-server-preserved : goal.loop-server-preserved
@@ -39,7 +38,7 @@ loop-server-preserved c =
     let rooms = c.args.rooms.now in
     let server = c.loop-server.server in
     let low = c.requires.low server c.loop-server-test.true in
-    let error = kept (room_at rooms server).lo (omega (arith, low)) in
+    let error = w128_keeps (room_at rooms server).lo (omega (arith, low)) in
     let few = few_groups claim c.requires.claim in
     elim c.if-claim-error.branch [
       | then-claim-error+then-error-first+then-is_possible-2 w ↦

@@ -1,5 +1,4 @@
-use Rattle.finder.proofs.Common.{◌≡◌, ℤ, List, None, pos, neg_ℤ, sym, arith, ◌-ℤ◌, ints, data_of as claim_data, Exchange, AreRooms, greatest_error, is_possible, least_error_below, nearest}
-use Rattle.finder.proofs.NoOverflow.{kept}
+use Rattle.finder.proofs.Common.{◌≡◌, ℤ, List, None, pos, neg_ℤ, sym, arith, ◌-ℤ◌, ints, data_of as claim_data, Exchange, AreRooms, greatest_error, is_possible, least_error_below, nearest, w128_keeps}
 use Rattle.finder.proofs.RefutationSearch.{found_is, none_found, none_nearest, possible_is, possible_turned, nearest_above, nearest_below}
 use Rattle.finder.proofs.nearest_refutation.nearest_error.Goals as goal
 use Rattle.finder.proofs.nearest_refutation.nearest_error.Goals.{In_default}
@@ -13,7 +12,7 @@ returns-in-Some-clause-exact c xs are =
     let not_above = lawful.bound_in_range in
     let above = c.in-Some.ensures.beyond in
     let within = c.in-Some.ensures.within in
-    let error = kept c.in-Some.error (omega (arith, ints)) in
+    let error = w128_keeps c.in-Some.error (omega (arith, ints)) in
     let is = found_is claim lawful rooms (is_possible claim xs) (possible_is claim lawful xs rooms are) greatest_error
     (omega (arith, ints)) c.in-Some.error c.in-Some.ensures in
     rw error (sym (nearest_above claim xs c.in-Some.error is))
@@ -40,8 +39,8 @@ returns-in-Some-nearest-clause-exact c xs are =
     let error = c.in-Some-nearest.error in
     let above = c.in-Some-nearest.ensures.beyond in
     let within = c.in-Some-nearest.ensures.within in
-    let same = kept error (omega (arith, ints)) in
-    let negative = kept (pos 0 -ℤ error) (omega (arith, ints)) in
+    let same = w128_keeps error (omega (arith, ints)) in
+    let negative = w128_keeps (pos 0 -ℤ error) (omega (arith, ints)) in
     let opposite : pos 0 -ℤ error ≡ neg_ℤ error = omega (arith, ints) in
     let is = found_is claim lawful c.mirrored.result (λ (e : ℤ). is_possible claim xs (neg_ℤ e))
     (possible_turned claim lawful xs rooms c.mirrored.result are c.mirrored.ensures) least_error_below

@@ -1,5 +1,4 @@
-use Rattle.finder.proofs.Common.{◌≡◌, ◌-◌, ◌∙◌, sym, ap, arith, to_z, w128, data_of, piece_begin_of}
-use Rattle.finder.proofs.Claim.{first_kept}
+use Rattle.finder.proofs.Common.{◌≡◌, ◌-◌, ◌∙◌, sym, ap, arith, to_z, w128, data_of, piece_begin_of, first_kept}
 use Rattle.finder.proofs.SpanPieces.{begin_later, end_computed, stretch_is}
 use Rattle.finder.proofs.piece.stretch_at.Goals as goal
 use Rattle.finder.proofs.piece.stretch_at.Goals.{then-number-eq0, else-number-eq0}

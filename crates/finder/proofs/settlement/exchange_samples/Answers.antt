@@ -1,5 +1,4 @@
-use Rattle.finder.proofs.Common.{length, map, data_of as claim_data}
-use Rattle.finder.proofs.Claim.{reading_kept}
+use Rattle.finder.proofs.Common.{length, map, data_of as claim_data, reading_kept}
 use Rattle.finder.proofs.SettlementAnswer.{of_most_servers}
 use Rattle.finder.proofs.settlement.exchange_samples.Goals as goal
 

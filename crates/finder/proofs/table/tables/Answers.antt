@@ -1,5 +1,5 @@
-use Rattle.finder.proofs.Common.{data_of, piece_begin_of, piece_end_of}
-use Rattle.finder.proofs.Claim.{first_from_zero, first_kept, last_in_range, last_kept, span_in_order}
+use Rattle.finder.proofs.Common.{data_of, piece_begin_of, piece_end_of, first_kept, last_kept}
+use Rattle.finder.proofs.Claim.{first_from_zero, last_in_range, span_in_order}
 use Rattle.finder.proofs.TablePieces.{are_pieces_of, as_many_long, piece_of}
 use Rattle.finder.proofs.table.tables.Goals as goal
 

@@ -1,5 +1,4 @@
-use Rattle.finder.proofs.Common.{◌<◌, length, arith, IsLawfulSample}
-use Rattle.finder.proofs.List.{All-slice_get}
+use Rattle.finder.proofs.Common.{◌<◌, length, arith, IsLawfulSample, All-slice_get}
 use Rattle.finder.proofs.PartList.{gathered_more}
 use Rattle.finder.proofs.tick_parts.best_at.Goals as goal
 

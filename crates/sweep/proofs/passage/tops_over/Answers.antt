@@ -31,8 +31,8 @@ loop-k-preserved c =
     record {
       so_far =
           subst (AreOver holds stretches (k + 1)) (sym c.in_ok-push.ensures.items)
-          (AreOver-more holds stretches k c.loop-k.tops.items c.loop-k.invariant.so_far stretch here c.top_over-top.result
-          c.top_over-top.ensures.top);
+          (AreOver-more holds stretches k c.loop-k.tops.items c.loop-k.invariant.so_far stretch here
+          c.top_over-top.result c.top_over-top.ensures.top);
       within = upto.within;
       leads = c.lead_upto-next.ensures.leads;
       upto = λ i a j other less at le there.

@@ -1,0 +1,4 @@
+pub mod Bool
+pub mod Nat
+pub mod Int
+pub mod List
