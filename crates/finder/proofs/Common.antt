@@ -107,6 +107,9 @@ pub use Rattle.finder.specs.NearestRefutation.{IsErrorOf64Bits, IsFirstBeyond, I
 pub use Rattle.finder.specs.NearestRefutation.{NoneIsRefuted, after, greatest_error, is_possible, least_error_below}
 pub use Rattle.finder.specs.NearestRefutation.{nearest, refutation_at}
 unfoldable pub use Rattle.finder.specs.NearestRefutation.{nearest_error}
+pub use Rattle.finder.specs.Neediest.{AreHalves, IsBoundless, IsGap, IsInSpan, IsNeediest, IsWithin, NeedsAtMost}
+pub use Rattle.finder.specs.Neediest.{NoneNeedsMore, gap_between, has_say, need_of, tick_without}
+unfoldable pub use Rattle.finder.specs.Neediest.{hull_without}
 pub use Rattle.finder.specs.Piece.{IsPieceCount, count_of, ends_of, piece_begin_of, stretch_at}
 unfoldable pub use Rattle.finder.specs.Piece.{piece_count_of}
 pub use Rattle.finder.specs.Reach.{AreEnds, AreTablesFor, IsReach, OfTables}

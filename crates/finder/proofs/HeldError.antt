@@ -367,7 +367,7 @@ either_all P Q (x ∷ xs) all =
     ]
 
 -- one of a list lies within a set, and has what all of them have
-held_one : (P : Groups → Type 0) (xs : List Groups) (whole : ℕ → Bool) → All P xs → HoldsOne xs whole
+pub held_one : (P : Groups → Type 0) (xs : List Groups) (whole : ℕ → Bool) → All P xs → HoldsOne xs whole
     → (cover : Groups) × P cover × LieWithin (holds cover) whole
 held_one P [] whole all one = absurd one
 held_one P (x ∷ xs) whole all (inl here) = (x, All-head P x xs all, here)

@@ -11,9 +11,11 @@ pub mod Finding
 pub mod Verdict
 pub mod GroupHull
 pub mod Narrow
+pub mod HullWithout
 pub mod Refusal
 pub mod Answer
 pub mod Nearest
+pub mod GapSearch
 pub mod FewestPieces
 pub mod Beyond
 pub mod LongestPiece
@@ -34,4 +36,5 @@ pub mod Liar
 pub mod RefutationFinding
 pub mod GroupLeeway
 pub mod HeldError
+pub mod CoverHull
 pub mod OneWay

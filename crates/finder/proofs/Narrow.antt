@@ -137,13 +137,22 @@ WithinLaw = (samples : List Sample) (claim : ClaimData) (outer inner : Stretch) 
     → AreSamplesOf claim samples → IsPiece inner.begin inner.end → HoldsWhole outer inner
     → IsNoWider (best_hull samples claim outer) (best_hull samples claim inner)
 
-pub no_wider_within : Laws → EveryHull → WithinLaw
-unfolding best_hull
-no_wider_within laws hulls samples claim outer inner rate are piece whole =
+-- each part of the longer piece has a narrower one in the other
+pub parts_narrow : (laws : Laws) (samples : List Sample) (claim : ClaimData) (outer inner : Stretch)
+    → claim.drift_ppb ≤ max_drift_ppb → AreSamplesOf claim samples → IsPiece inner.begin inner.end
+    → HoldsWhole outer inner → AreNarrower (parts_named samples claim outer (best_entries samples claim outer))
+    (parts_named samples claim inner (best_entries samples claim inner))
+parts_narrow laws samples claim outer inner rate are piece whole =
     let entries = best_entries samples claim outer in
     let parts = parts_named samples claim outer entries in
     let said = laws.said samples outer claim.drift_ppb entries parts (entries_accepted laws.best samples claim outer) in
-    narrower_is_no_wider hulls claim.groups claim.false_max parts
+    λ k d within. better_at laws samples claim outer inner rate are piece whole (get_or parts k d) (said k d within) _
+    refl
+
+pub no_wider_within : Laws → EveryHull → WithinLaw
+unfolding best_hull
+no_wider_within laws hulls samples claim outer inner rate are piece whole =
+    narrower_is_no_wider hulls claim.groups claim.false_max
+    (parts_named samples claim outer (best_entries samples claim outer))
     (parts_named samples claim inner (best_entries samples claim inner))
-    (λ k d within. better_at laws samples claim outer inner rate are piece whole (get_or parts k d) (said k d within) _
-    refl)
+    (parts_narrow laws samples claim outer inner rate are piece whole)

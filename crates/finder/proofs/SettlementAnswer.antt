@@ -7,7 +7,16 @@ use Rattle.intersection.specs.Fineness.{times_le}
 use Rattle.courses.specs.Contradiction.{AreAllConflicts, HoldsAnEnd, ShownConflict}
 use Rattle.courses.specs.DriftSettlement.{SettlesWithDrift}
 use Rattle.courses.specs.Evidence.{IsNoEvidence, count_with_exchange}
-use Rattle.finder.specs.Settlement.{IsContestedBy, IsFitted, IsFittedByNone, IsHeard, IsLeftOpen, IsShownBy, IsUnheard}
+use Rattle.std.proofs.Common.{get_or, IfSome, IsSomeAnd, IsTrue, MatchOption, Option, Some, None, ⊎_elim}
+use Rattle.checker.specs.Course.{Fits as FitsExchanges}
+use Rattle.checker.specs.Traceability.{IsWithin}
+use Rattle.courses.specs.LeastCovers.{AreLeastCovers}
+use Rattle.courses.specs.declared.groups.Groups.{Groups}
+use Rattle.finder.specs.declared.neediest.Neediest.{Neediest}
+use Rattle.finder.proofs.Common.{Bool, ◌+◌, pos, holds, holds_false, HasFalse, IsBoundless, IsNeediest, NoneNeedsMore, need_of, tick_without}
+use Rattle.finder.proofs.GapSearch.{more_enough}
+use Rattle.finder.proofs.HeldError.{AreTriedTo, all_tried, held_one, one_more_tried}
+use Rattle.finder.specs.Settlement.{IsContestedBy, IsFitted, IsFittedByNone, IsHeard, IsLeftOpen, IsShownBy, IsUnheard, NoneIsBeyond}
 use Rattle.finder.specs.declared.fewest.Fewest.TheVariants as found
 use Rattle.finder.proofs.LongestPiece.{end_kept, fits_64}
 
@@ -164,3 +173,52 @@ module _ (claim : ClaimData) (xs : List Exchange) where
     held = finds.held;
     bounded = bounded;
   }
+
+-- ---- the most that the clock is off by
+
+module _ (samples : List Sample) (claim : ClaimData) (covers : List Groups) where
+  -- no tick needs more than so much with any of the first n covers left out, if that's known
+  abbrev pub NeedNoMore : ℕ → Option ℕ → Type 0
+  NeedNoMore n most =
+      IfSome most (λ all. AreTriedTo (λ cover. NoneNeedsMore samples claim (holds cover) all) covers n)
+
+  grown : (cover : ℕ → Bool) (all more : ℕ) → all ≤ more → NoneNeedsMore samples claim cover all
+      → NoneNeedsMore samples claim cover more
+  grown cover all more le none p is =
+      more_enough samples claim cover all more (need_of (tick_without samples claim cover p)) le (none p is)
+
+  pub one_more_needs : (n : ℕ) (other : Groups) (old new : Option ℕ) (found : Option Neediest) → n < length covers
+      → NeedNoMore n old
+      → IfSome new (λ all. IsSomeAnd old (λ before. before ≤ all)
+      × IsSomeAnd found (λ last. IsTrue last.is_whole × (last.tick.ticks ≤ all)))
+      → MatchOption found (IsBoundless samples claim (holds (get_or covers n other)))
+      (IsNeediest samples claim (holds (get_or covers n other)))
+      → NeedNoMore (n + 1) new
+  one_more_needs n other old None found within before with' is = tt
+  one_more_needs n other None (Some all) found within before with' is = absurd with'.0
+  one_more_needs n other (Some b) (Some all) None within before with' is = absurd with'.1
+  one_more_needs n other (Some b) (Some all) (Some last) within before with' is =
+      one_more_tried (λ cover. NoneNeedsMore samples claim (holds cover) all) covers n other within
+      (grown (holds (get_or covers n other)) last.tick.ticks all with'.1.1 (is.most with'.1.0))
+      (λ k d below. grown (holds (get_or covers k d)) b all with'.0 (before k d below))
+
+module _ (claim : ClaimData) (xs : List Exchange) (covers : List Groups) (least : AreLeastCovers claim xs covers)
+    (cover_of : (course : Course) → FitsExchanges claim xs course → IsCover claim xs (holds_false claim.groups course.is_false))
+    (law : (cover : ℕ → Bool) (most : ℕ) (course : Course)
+    → NoneNeedsMore (samples_of xs claim) claim cover most → FitsExchanges claim xs course → HasFalse claim cover course
+    → IsObservedIn course claim.first claim.last → IsWithin course (pos most))
+  where
+    pub none_beyond : (n : ℕ) (old new : Option ℕ) → length covers ≤ n → NeedNoMore (samples_of xs claim) claim covers n old
+        → IfSome new (λ found. (length covers < 64) × (old ≡ Some found)) → IfSome new (NoneIsBeyond claim xs)
+    none_beyond n old None past tried is = tt
+    none_beyond n None (Some most) past tried is = absurd (let same = is.1 in cc)
+    none_beyond n (Some all) (Some most) past tried is = λ course fits observed.
+        let false_in : ℕ → Bool = holds_false claim.groups course.is_false in
+        let same : all ≡ most = (let both = is.1 in cc) in
+        ⊎_elim
+        (λ one.
+        let held = held_one (λ cover. NoneNeedsMore (samples_of xs claim) claim (holds cover) all) covers false_in
+        (all_tried (λ cover. NoneNeedsMore (samples_of xs claim) claim (holds cover) all) covers n past tried) one in
+        subst (λ (m : ℕ). IsWithin course (pos m)) same (law (holds held.0) all course held.1 fits held.2 observed))
+        (λ many. absurd (let few = is.0 in omega (arith, few, many)))
+        (least.all_or_64 false_in (cover_of course fits) fits.few_false)

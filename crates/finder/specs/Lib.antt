@@ -14,3 +14,4 @@ pub mod Settlement
 pub mod Room
 pub mod NearestRefutation
 pub mod Leeway
+pub mod Neediest

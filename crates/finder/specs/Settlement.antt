@@ -4,14 +4,15 @@
 -- capture, and no more is asked. If no more groups have a sample than may be false, the capture
 -- says nothing about the clock. Otherwise a certificate shows the claim, or a refutation contests
 -- it, or neither was found, and no certificate is accepted.
-use Rattle.std.specs.Prelude.{◌≡◌, ◌⊎◌, ◌<◌, ◌≤◌, ℕ, ℤ, true, unsigned_abs, List, [], ◌∷◌, length, map, AllPairs, Result, IfOk, IfErr}
+use Rattle.std.specs.Prelude.{◌≡◌, ◌⊎◌, ◌<◌, ◌≤◌, ℕ, ℤ, pos, true, unsigned_abs, Option, None, IfSome, List, [], ◌∷◌, length, map, AllPairs, Result, IfOk, IfErr}
 use Rattle.certificate.specs.Certificate.{CertificateData, data_of as certificate_data, max_pieces}
 use Rattle.certificate.specs.Refutation.{RefutationData, data_of as refutation_data}
 use Rattle.claim_file.specs.Claim.{ClaimData}
 use Rattle.intersection.specs.declared.kinds.Hull.{Hull}
 use Rattle.pairing.specs.Exchange.{SameRequest}
 use Rattle.pairing.specs.declared.exchange.Exchange.{Exchange}
-use Rattle.checker.specs.Traceability.{HoldsError, samples_of}
+use Rattle.checker.specs.Course.{Course, Fits}
+use Rattle.checker.specs.Traceability.{HoldsError, IsObservedIn, IsWithin, samples_of}
 use Rattle.checker.specs.Verdict.{verdict_of}
 use Rattle.checker.specs.declared.verdict.Verdict.TheVariants.{Yes}
 use Rattle.courses.specs.Contradiction.{ShownConflict, AreAllConflicts, NoFewHoldAnEnd}
@@ -45,7 +46,12 @@ settled_data (the.Shown certificate) = shown (certificate_data certificate)
 settled_data (the.Refuted refutation) = refuted (refutation_data refutation)
 settled_data (the.NothingFits conflicts) = fitted_by_none (map conflict_data conflicts.items)
 settled_data (the.NoEvidence groups) = no_evidence groups
-settled_data (the.Open begin end hull covers) = left_open begin end hull covers
+settled_data (the.Open begin end hull covers most) = left_open begin end hull covers
+
+-- how many ticks the clock is off at most where the claim is open, if that's known
+abbrev pub most_of : Settled → Option ℕ
+most_of (the.Open begin end hull covers most) = most
+most_of settled = None
 
 module _ (claim : ClaimData) (xs : List Exchange) where
   -- More groups have a sample than may be false, so that the capture is evidence.
@@ -118,16 +124,24 @@ module _ (claim : ClaimData) (xs : List Exchange) where
     pub none_accepted : NoneOfFewIsAccepted (samples_of xs claim) claim
     pub none_refuted : NoneIsRefuted claim xs
 
+  -- in no course that fits is the clock off by more than so many ticks when it shows a reading of
+  -- the span
+  abbrev pub NoneIsBeyond : ℕ → Type 0
+  NoneIsBeyond most = (course : Course) → Fits claim xs course
+      → IsObservedIn course claim.first claim.last → IsWithin course (pos most)
+
   -- What a search for a refutation has come to: this one stands, or none whose error never changes
-  -- does, and the bound holds at these readings, with so many minimal covers looked at.
+  -- does, and the bound holds at these readings, with so many minimal covers looked at; and no
+  -- error lies further beyond it than the tick that needs most, if that is known.
   abbrev pub IsSearched : List ℕ → Search → Type 0
   IsSearched readings (search.Found refutation) =
       SettlesWithDrift claim xs (refutation_data refutation) true
-  IsSearched readings (search.Nothing covers) =
-      NoneIsRefuted claim xs × AreHeld claim xs readings covers
+  IsSearched readings (search.Nothing covers most) =
+      NoneIsRefuted claim xs × AreHeld claim xs readings covers × IfSome most NoneIsBeyond
 
   -- what a search for what settles a claim answers
   pub record Settles (result : Result Settled FindFault) : Type 0 where
     pub settled : IfOk result (λ found. IsSettledAs (settled_data found))
+    pub within : IfOk result (λ found. IfSome (most_of found) NoneIsBeyond)
     pub refused : IfErr result (λ fault.
         (fault ≡ Memory) ⊎ ((fault ≡ TooManyPieces) × HasTooManyPieces))

@@ -1,13 +1,14 @@
 //! What holds of the definitions. A law is a function that does nothing: its contract is the law,
 //! for every number.
 
-ghost use Rattle.std.specs.Prelude.{◌≡◌, ◌⊎◌, ℕ, ◌<◌, ◌≤◌, ◌*◌, ℤ, ◌≤ℤ◌, pos, true, List, [], Ok, All, length, slice_get};
+ghost use Rattle.std.specs.Prelude.{◌≡◌, ◌⊎◌, ℕ, ◌<◌, ◌≤◌, ◌*◌, ℤ, ◌≤ℤ◌, pos, Bool, true, List, [], Ok, All, length, slice_get};
 ghost use Rattle.certificate.specs.Certificate.{CertificateData, PieceData};
 ghost use Rattle.claim_file.specs.Claim.{ClaimData, IsLawful, max_drift_ppb};
 ghost use Rattle.pairing.specs.Exchange.{IsLawful as IsLawfulExchange};
 ghost use Rattle.pairing.specs.declared.exchange.Exchange.{Exchange};
 ghost use Rattle.sample_interval.specs.declared.kinds.Sample.{Sample};
-ghost use Rattle.checker.specs.Traceability.{HoldsError, samples_of};
+ghost use Rattle.checker.specs.Course.{Course, Fits};
+ghost use Rattle.checker.specs.Traceability.{HoldsError, IsObservedIn, IsWithin, samples_of};
 ghost use Rattle.checker.specs.Verdict.{parts_after, parts_fault, hull_fault, verdict_of};
 ghost use Rattle.checker.specs.declared.verdict.Verdict.{Verdict};
 ghost use Rattle.courses.specs.Cover.{SomeCourse};
@@ -19,6 +20,8 @@ ghost use Rattle.finder.specs.Entry.{best_entries, best_hull, parts_named};
 ghost use Rattle.finder.specs.Envelope.{EnvelopeData, IsCertified, IsLeast, IsNotCertified, envelope_of, least_of, with_bound};
 ghost use Rattle.finder.specs.Fewest.{AreLongest, IsNoWider, IsOfLongest, IsStuck, IsTooLong, stretch_over};
 ghost use Rattle.finder.specs.Found.{found_of, hull_at};
+ghost use Rattle.finder.specs.Leeway.{HasFalse};
+ghost use Rattle.finder.specs.Neediest.{NoneNeedsMore, hull_without};
 ghost use Rattle.finder.specs.Piece.{IsPieceCount, count_of, piece_count_of};
 ghost use Rattle.finder.specs.Refusal.{HoldsWhole};
 ghost use Rattle.checker.specs.Samples.{AreSamplesOf};
@@ -26,15 +29,22 @@ ghost use Rattle.finder.specs.TickParts.{best_parts};
 ghost use Rattle.finder.specs.declared.least.LeastBound.{LeastBound};
 
 use checker::laws::{
-    hulls_hold_the_error, narrower_parts_narrow, parts_are_of_samples, pieces_give_the_verdict,
+    few_groups_leave_the_error_out, hulls_hold_the_error, narrower_parts_narrow,
+    parts_are_of_samples, pieces_give_the_verdict,
 };
 use courses::laws::some_course_is_observed_at_any_reading;
 use era_unfold::laws::{
     nanoseconds_lie_between_their_ticks, ratios_are_rounded_as_little_as_can_be,
 };
 use intersection::kinds::Hull;
-use intersection::laws::every_list_has_a_hull;
-use span_cover::laws::{best_samples_are_the_first_best, piece_inside_another_is_narrower};
+use intersection::laws::{every_list_has_a_hull, whole_points_are_fine_enough};
+use sample_interval::laws::{
+    drift_shows_on_the_clock_itself, error_at_the_reply_is_no_more, error_at_the_request_is_no_less,
+};
+use span_cover::laws::{
+    best_samples_are_the_first_best, error_lies_in_the_interval_of_the_piece,
+    piece_inside_another_is_narrower,
+};
 
 /// The samples of exchanges keep their limits if the exchanges do, are of servers of the claim, and
 /// are as many.
@@ -124,6 +134,45 @@ pub fn pieces_within_have_no_wider_hulls()
     piece_inside_another_is_narrower();
     parts_are_of_samples();
     narrower_parts_narrow();
+    every_list_has_a_hull();
+}
+
+/// And so it is where the groups of a cover have no say.
+pub fn pieces_within_have_no_wider_hulls_without_groups()
+    ensures { (samples : List Sample) (claim : ClaimData) (cover : ℕ → Bool)
+        (outer inner : Stretch) → claim.drift_ppb ≤ max_drift_ppb → AreSamplesOf claim samples →
+        IsPiece inner.begin inner.end → HoldsWhole outer inner →
+        IsNoWider (hull_without samples claim cover outer)
+        (hull_without samples claim cover inner) }
+{
+    best_samples_are_the_first_best();
+    piece_inside_another_is_narrower();
+    parts_are_of_samples();
+    narrower_parts_narrow();
+    every_list_has_a_hull();
+}
+
+/// If no tick of the span needs more than so many ticks of bound where the groups of a cover have
+/// no say, then the clock is off by no more whenever it shows a reading of the span, in every course
+/// that fits with a false server in each of these groups.
+pub fn neediest_ticks_bound_the_error()
+    ensures { (claim : ClaimData) (xs : List Exchange) (cover : ℕ → Bool) (most : ℕ)
+        (course : Course) → IsLawful claim → All (IsLawfulExchange (length claim.servers)) xs →
+        NoneNeedsMore (samples_of xs claim) claim cover most →
+        Fits claim xs course → HasFalse claim cover course →
+        IsObservedIn course claim.first claim.last → IsWithin course (pos most) }
+{
+    best_samples_are_the_first_best();
+    piece_inside_another_is_narrower();
+    parts_are_of_samples();
+    narrower_parts_narrow();
+    samples_of_exchanges_keep_limits();
+    few_groups_leave_the_error_out();
+    drift_shows_on_the_clock_itself();
+    error_at_the_request_is_no_less();
+    error_at_the_reply_is_no_more();
+    error_lies_in_the_interval_of_the_piece();
+    whole_points_are_fine_enough();
     every_list_has_a_hull();
 }
 

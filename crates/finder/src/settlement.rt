@@ -7,13 +7,13 @@
 //! tried for each minimal cover, where the pieces stop and at the tick that needs most with the
 //! cover left out (neediest.rt), and one without drift last. The claim is open if none stands.
 
-ghost use Rattle.std.specs.Prelude.{◌≡◌, ◌≤◌, length, map, All, IfOk};
+ghost use Rattle.std.specs.Prelude.{◌≡◌, ◌<◌, ◌≤◌, length, map, All, IfOk, IfSome, Some};
 ghost use Rattle.claim_file.specs.Claim.{IsLawful, data_of as claim_data};
 ghost use Rattle.checker.specs.Traceability.{samples_of};
 ghost use Rattle.courses.specs.ConflictTable.{IsConflictTable};
 ghost use Rattle.courses.specs.ConflictsView.{data_of};
 ghost use Rattle.courses.specs.Evidence.{count_with_exchange};
-ghost use Rattle.finder.specs.Reach.{IsTabled};
+ghost use Rattle.finder.specs.Reach.{AreTablesFor};
 ghost use Rattle.checker.specs.Samples.{AreSamplesOf};
 ghost use Rattle.finder.specs.Settlement.{IsSearched, Settles};
 ghost use Rattle.pairing.specs.Exchange.{IsLawful as IsLawfulExchange, most_exchanges};
@@ -21,10 +21,10 @@ ghost use Rattle.pairing.specs.Exchange.{IsLawful as IsLawfulExchange, most_exch
 use crate::drift_refutation::find_with_cover;
 use crate::fault::FindFault;
 use crate::fewest::{Fewest, fewest_by};
-use crate::laws::samples_of_exchanges_keep_limits;
-use crate::longest::tables_for;
+use crate::laws::{neediest_ticks_bound_the_error, samples_of_exchanges_keep_limits};
+use crate::longest::{tables_for, tick_after};
 use crate::nearest_refutation::find_refutation;
-use crate::neediest::{neediest_tick, splits_for};
+use crate::neediest::{most_with, neediest_tick, splits_for};
 use certificate::{Certificate, Refutation};
 use claim_file::Claim;
 use courses::laws::{
@@ -64,6 +64,10 @@ pub enum Settled {
         hull: Hull,
         /// How many minimal covers were looked at: all, or 64.
         covers: u8,
+        /// How many ticks the clock is off at most at any reading of the span, whatever course
+        /// fits. It's known if all minimal covers were looked at, and for each the search for the
+        /// tick that needs most came to its end.
+        most: Option<u128>,
     },
 }
 
@@ -105,8 +109,16 @@ fn groups_heard<X: ToExchange>(exchanges: &[X], claim: &Claim) -> u8
 enum Search {
     /// This one stands.
     Found(Refutation),
-    /// None was found with this many minimal covers, 64 if there are more.
-    Nothing { covers: u8 },
+    /// None was found with this many minimal covers, 64 if there are more. If it's known, this is
+    /// how many ticks the clock is off at most.
+    Nothing { covers: u8, most: Option<u128> },
+}
+
+/// How many ticks the clock is off at most, if these are all minimal covers.
+fn if_all(most: Option<u128>, covers: usize) -> Option<u128>
+    ensures { IfSome result (λ found. (covers < 64) × (most ≡ Some found)) }
+{
+    if covers < 64 { most } else { None }
 }
 
 /// A refutation with drift, if one is found: for each minimal cover at both ends of the tick that
@@ -126,10 +138,12 @@ fn refutation_of<X: ToExchange>(
     requires groups { (data_of conflicts.now).groups ≡ length claim.now.groups.items }
     requires table { IsConflictTable (claim_data claim.now) (map X.shown exchanges.now)
         (data_of conflicts.now).is_broken (data_of conflicts.now).is_edge }
-    requires tables { IsTabled (claim_data claim.now) tables.now }
+    requires tables { AreTablesFor (samples_of (map X.shown exchanges.now) (claim_data claim.now))
+        (claim_data claim.now) tables.now }
     ensures { IfOk result (IsSearched (claim_data claim.now) (map X.shown exchanges.now)
         readings.now) }
 {
+    neediest_ticks_bound_the_error();
     tables_settle_covers();
     false_groups_are_a_cover();
     refutations_without_drift_stand();
@@ -137,11 +151,14 @@ fn refutation_of<X: ToExchange>(
     let least = conflicts.covers(claim.false_max);
     let covers = least.as_slice();
     let splits = splits_for(exchanges.len(), covers.len());
+    let mut most = Some(0);
     for cover in covers {
         let cover = *cover;
-        if let Some(tick) = neediest_tick(alloc, tables, claim, cover, splits)? {
-            let begin = tick.begin.0;
-            let ends = [begin, begin.saturating_add(tick.reach)];
+        let neediest = neediest_tick(alloc, tables, claim, cover, splits)?;
+        most = most_with(most, neediest);
+        if let Some(found) = neediest {
+            let begin = found.tick.begin;
+            let ends = [begin, tick_after(begin, claim.last as u64)];
             if let Some(there) = find_with_cover(exchanges, claim, conflicts, cover, &ends) {
                 return Ok(Search::Found(there));
             }
@@ -154,6 +171,7 @@ fn refutation_of<X: ToExchange>(
         Some(steady) => Ok(Search::Found(steady)),
         None => Ok(Search::Nothing {
             covers: covers.len() as u8,
+            most: if_all(most, covers.len()),
         }),
     }
 }
@@ -198,11 +216,12 @@ pub fn settle<X: ToExchange>(
             let ends = [begin as u64, end as u64];
             match refutation_of(alloc, exchanges, claim, &conflicts, &tables, &ends)? {
                 Search::Found(refutation) => Ok(Settled::Refuted(refutation)),
-                Search::Nothing { covers } => Ok(Settled::Open {
+                Search::Nothing { covers, most } => Ok(Settled::Open {
                     begin,
                     end,
                     hull,
                     covers,
+                    most,
                 }),
             }
         }

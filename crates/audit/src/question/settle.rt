@@ -115,6 +115,7 @@ fn settled_answer(
             end,
             hull,
             covers,
+            ..
         } => open_answer(alloc, claim, *begin, *end, *hull, *covers, least),
     }
 }

@@ -1,14 +1,29 @@
-use Rattle.finder.proofs.Common.{true, length, map, refl, ap, subst, All, data_of as claim_data, IsHeldAtAll}
+use Rattle.finder.proofs.Common.{true, length, map, refl, sym, ap, subst, All, data_of as claim_data, Course, IsCover, IsHeldAtAll, holds_false, samples_of}
+use Rattle.checker.specs.Course.{Fits}
+use Rattle.courses.specs.LeastCovers.{AreLeastCovers}
 use Rattle.certificate.specs.Refutation.{data_of as refutation_data}
 use Rattle.courses.specs.ConflictsView.{data_of}
 use Rattle.finder.proofs.HeldError.{all_tried, are_held, least_covers, one_more_tried}
+use Rattle.finder.proofs.SettlementAnswer.{none_beyond, one_more_needs}
 use Rattle.finder.proofs.settlement.refutation_of.Goals as goal
+
+pub neediest_tick-requires-clause-tables : goal.neediest_tick-requires-clause-tables
+neediest_tick-requires-clause-tables g c =
+    (samples_of (map g.X.ToExchange.shown c.args.exchanges.now) (claim_data c.args.claim.now), c.requires.tables)
 
 pub loop-cover-preserved : goal.loop-cover-preserved
 loop-cover-preserved g c =
-    one_more_tried (IsHeldAtAll (claim_data c.args.claim.now) (map g.X.ToExchange.shown c.args.exchanges.now)
-    c.args.readings.now) c.as_slice-covers.result.now c.loop-cover.cover-index _ c.loop-cover-test.true
-    c.in_default-find_with_cover-2.ensures.held c.loop-cover.invariant
+    let claim = claim_data c.args.claim.now in
+    let xs = map g.X.ToExchange.shown c.args.exchanges.now in
+    record {
+      held = one_more_tried (IsHeldAtAll claim xs c.args.readings.now) c.as_slice-covers.result.now
+          c.loop-cover.cover-index _ c.loop-cover-test.true c.in_default-find_with_cover-2.ensures.held
+          c.loop-cover.invariant.held;
+      needs = one_more_needs (samples_of xs claim) claim c.as_slice-covers.result.now c.loop-cover.cover-index _
+          c.loop-cover.most c.most_with-most.result c.in_ok-neediest.neediest c.loop-cover-test.true
+          c.loop-cover.invariant.needs c.most_with-most.ensures
+          (c.in_ok-neediest.ensures (samples_of xs claim) c.requires.tables);
+    }
 
 pub returns-in-Some-find_refutation : goal.returns-in-Some-find_refutation
 returns-in-Some-find_refutation g c =
@@ -26,16 +41,22 @@ returns-in-None g c =
     let xs = map g.X.ToExchange.shown c.args.exchanges.now in
     let d = data_of c.args.conflicts.now in
     let held = IsHeldAtAll claim xs c.args.readings.now in
-    let same = c.as_slice-covers.ensures.value in (
+    let same = c.as_slice-covers.ensures.value in
+    let least = least_covers claim xs d c.requires.groups
+    (λ is_in. c.tables_settle_covers.ensures.each claim xs d is_in c.requires.claim c.requires.exchanges
+    c.requires.groups c.requires.table) c.covers-least.result.items c.covers-least.ensures.covers
+    c.covers-least.ensures.minimal c.covers-least.ensures.few c.covers-least.ensures.different
+    c.covers-least.ensures.all_or_64 in
+    let cover_of : (course : Course) → Fits claim xs course
+    → IsCover claim xs (holds_false claim.groups course.is_false) =
+    (λ course fits. c.false_groups_are_a_cover.ensures claim xs course c.requires.claim c.requires.exchanges fits) in (
       c.in-None.ensures.none refl,
-      are_held claim xs c.args.readings.now c.covers-least.result.items
-          (least_covers claim xs d c.requires.groups
-          (λ is_in. c.tables_settle_covers.ensures.each claim xs d is_in c.requires.claim c.requires.exchanges
-          c.requires.groups c.requires.table) c.covers-least.result.items c.covers-least.ensures.covers
-          c.covers-least.ensures.minimal c.covers-least.ensures.few c.covers-least.ensures.different
-          c.covers-least.ensures.all_or_64)
-          (λ course fits. c.false_groups_are_a_cover.ensures claim xs course c.requires.claim c.requires.exchanges fits)
-          _ (ap length same)
+      are_held claim xs c.args.readings.now c.covers-least.result.items least cover_of _ (ap length same)
           (subst (All held) same (all_tried held c.as_slice-covers.result.now c.loop-cover.cover-index
-          c.loop-cover-test.false c.loop-cover.invariant)),
+          c.loop-cover-test.false c.loop-cover.invariant.held)),
+      none_beyond claim xs c.as_slice-covers.result.now (subst (AreLeastCovers claim xs) (sym same) least) cover_of
+          (λ cover most course none fits false' observed. c.neediest_ticks_bound_the_error.ensures claim xs cover most
+          course c.requires.claim c.requires.exchanges none fits false' observed)
+          c.loop-cover.cover-index c.loop-cover.most c.if_all.result c.loop-cover-test.false
+          c.loop-cover.invariant.needs c.if_all.ensures,
     )

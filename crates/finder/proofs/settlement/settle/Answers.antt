@@ -14,6 +14,7 @@ returns-then-not-has_cover g c =
           c.in_ok-conflicts.ensures.covers)
           (c.some_course_fits_where_a_cover_is_small.ensures claim xs c.requires.claim c.requires.exchanges)
           (λ is_in ends. c.ends_of_all_conflicts_are_a_cover.ensures claim xs _ is_in c.in_ok-listed.ensures ends);
+      within = tt;
       refused = tt;
     }
 
@@ -29,6 +30,7 @@ returns-then-groups-claim g c =
           (c.few_groups_are_no_evidence.ensures claim xs)
           (c.no_evidence_gives_no_yes.ensures claim xs) c.groups_heard-groups.result
           c.groups_heard-groups.ensures few;
+      within = tt;
       refused = tt;
     }
 
@@ -46,6 +48,7 @@ returns-in-Ok-Certificate g c =
           FindsFewest samples claim (Ok (found.Certificate c.in-Ok-Certificate.certificate)))
           c.exchange_samples-samples.ensures.samples
           (rw (c.in-Ok-Certificate.is, c.in-Ok-Certificate.field-0-is) at c.fewest_by.ensures));
+      within = tt;
       refused = tt;
     }
 
@@ -74,6 +77,7 @@ returns-in-Found g c =
       settled = contested_by claim xs _
           (heard claim xs c.groups_heard-groups.result c.groups_heard-groups.ensures c.if-groups-claim.false)
           (rw c.in-Found.is at c.in_ok-refutation-in-Ok-Nothing.ensures);
+      within = tt;
       refused = tt;
     }
 
@@ -85,6 +89,7 @@ returns-in-Found-2 g c =
       settled = contested_by claim xs _
           (heard claim xs c.groups_heard-groups.result c.groups_heard-groups.ensures c.if-groups-claim.false)
           (rw c.in-Found-2.is at c.in_ok-refutation-in-Err-TooManyPieces.ensures);
+      within = tt;
       refused = tt;
     }
 
@@ -98,6 +103,7 @@ returns-in-Err-TooManyPieces g c =
     let searched = rw c.in-Nothing-2.is at c.in_ok-refutation-in-Err-TooManyPieces.ensures in
     record {
       settled = tt;
+      within = tt;
       refused = inr (
         refl,
         record {
@@ -133,5 +139,6 @@ returns-in-Ok-Nothing g c =
           (heard claim xs c.groups_heard-groups.result c.groups_heard-groups.ensures c.if-groups-claim.false)
           (λ reading. c.some_course_is_observed_at_any_reading.ensures claim xs reading c.requires.claim
           c.requires.exchanges course) finds searched.0 searched.1);
+      within = searched.2;
       refused = tt;
     }
