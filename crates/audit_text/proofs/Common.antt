@@ -3,7 +3,7 @@ pub use Rattle.std.proofs.Common.{All, Bool, List, Some, [], add-one, ap, append
 pub use Rattle.std.proofs.Common.{get_or, length, map, of_z, refl, reverse, rules, subst, sym, take, to_z, unsigned_abs}
 pub use Rattle.std.proofs.Common.{ℕ, ℤ, ◌++◌, ◌+◌, ◌<◌, ◌^◌, ◌∙◌, ◌∷◌, ◌≡◌, ◌≤◌}
 pub use Rattle.std.proofs.lemmas.Grind.{flat_map-append}
-pub use Rattle.std.proofs.lemmas.Int.{fits_signed_from_abs, ints, to_z-of_z}
+pub use Rattle.std.proofs.lemmas.Int.{ints, to_z-of_z}
 pub use Rattle.std.proofs.lemmas.List.{drop_all, get_or-map, length-map, take_all, take_more}
 pub use Rattle.std.specs.Prelude.{flat_map, option_map, slice_get, ◌==◌, ◌||◌}
 pub use Rattle.std.specs.Result.{IfOk}
@@ -14,7 +14,7 @@ pub use Rattle.line_writer.specs.Field.{Address, FieldData, High, Label, Low, Na
 pub use Rattle.line_writer.specs.Field.{field_data, line_of, next_text, rest_text, text_of}
 pub use Rattle.line_writer.specs.declared.field.Style.TheVariants.{Plain}
 pub use Rattle.pairing.specs.Compact.{exchange_shown}
-pub use Rattle.pairing.specs.Exchange.{IsInRange, IsLawful}
+pub use Rattle.pairing.specs.Exchange.{IsLawful}
 pub use Rattle.pairing.specs.declared.exchange.Exchange.{Exchange}
 pub use Rattle.sample_interval.specs.OnWire.{delay_from, delay_to, offset_from, offset_to}
 pub use Rattle.sample_interval.specs.Sample.{greatest_error, least_error, sample_of}
@@ -34,3 +34,5 @@ pub use Rattle.audit_text.specs.SilentLines.{silent_to}
 unfoldable pub use Rattle.audit_text.specs.SilentLines.{silent_line}
 pub use Rattle.audit_text.specs.Table.{IsUnder, for_person, from_field, rows_from}
 unfoldable pub use Rattle.audit_text.specs.Table.{row_of}
+pub use Rattle.lemma_base.proofs.Int.{w128_keeps}
+pub use Rattle.sample_interval.proofs.NoOverflow.{stamp_is}

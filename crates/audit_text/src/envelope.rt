@@ -1,6 +1,7 @@
 //! The text of `envelope`.
 
 ghost use Rattle.std.specs.Prelude.{◌≡◌, ◌^◌, ◌<◌, ◌≤◌, ◌++◌, IfOk, length, map, flat_map, All};
+ghost use Rattle.certificate.specs.Certificate.{max_pieces};
 ghost use Rattle.claim_file.specs.Claim.{IsLawful, data_of};
 ghost use Rattle.finder.specs.Envelope.{data_of as envelope_data, piece_data};
 ghost use Rattle.finder.specs.Envelope.{IsLawfulEnvelope, IsLawfulPiece};
@@ -240,7 +241,7 @@ fn add_pieces<S: SampleSource>(
 ) -> Result<(), AllocError>
     requires claim { IsLawful (data_of claim.now) }
     requires samples { AreSamplesOf (data_of claim.now) (S.samples samples) }
-    requires few { length pieces.now ≤ 100_000 }
+    requires few { length pieces.now ≤ max_pieces }
     requires pieces { All (λ piece. IsLawfulPiece (length (S.samples samples)) (piece_data piece))
         pieces.now }
     ensures { IfOk result (λ _. text.new.items ≡ text.old.items ++ rows_from
@@ -272,7 +273,7 @@ pub fn envelope_text<S: SampleSource>(
 ) -> Result<Vec<u8>, AllocError>
     requires claim { IsLawful (data_of claim.now) }
     requires samples { AreSamplesOf (data_of claim.now) (S.samples samples) }
-    requires few { length envelope.now.pieces.items ≤ 100_000 }
+    requires few { length envelope.now.pieces.items ≤ max_pieces }
     requires envelope { IsLawfulEnvelope (length (S.samples samples)) envelope.now }
     ensures { IfOk result (λ text. text.items ≡ spec.envelope_text style asked (S.samples samples)
         (data_of claim.now) (envelope_data envelope.now) least) }

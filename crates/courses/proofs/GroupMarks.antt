@@ -94,7 +94,8 @@ module _ (claim : ClaimData) (xs : List Exchange) where
       let highs = at_passing (is_of a)
       (λ x. All (AreCompatible claim.drift_ppb (low_mark claim.reading x)) (group_highs claim xs b)) xs h.low_number
       h.low of_low h.low_stands (eq-eqb (group_of claim h.low) a h.in_low_group) in
-      let of_high = All-map_back (AreCompatible claim.drift_ppb (low_mark claim.reading h.low)) (high_mark claim.reading)
+      let of_high = All-map_back (AreCompatible claim.drift_ppb (low_mark claim.reading h.low))
+      (high_mark claim.reading)
       (group_exchanges claim xs b) highs in
       h.not_compatible (at_passing (is_of b) (Compatible h.low) xs h.high_number h.high of_high h.high_stands
       (eq-eqb (group_of claim h.high) b h.in_high_group))

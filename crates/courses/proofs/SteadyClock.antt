@@ -65,7 +65,8 @@ module _ (claim : ClaimData) (xs : List Exchange) (r : RefutationData) where
     room_at : (k : ℕ) (x : Exchange) → slice_get xs k ≡ Some x → is_liar r.liars x.server ≡ false
         → Admits claim.reading r.error x
     room_at k x at true' =
-        All-slice_get (λ y. is_liar r.liars y.server ≡ false → Admits claim.reading r.error y) xs k x refuted.admits at true'
+        All-slice_get (λ y. is_liar r.liars y.server ≡ false → Admits claim.reading r.error y) xs k x
+        refuted.admits at true'
 
     low_at : (k : ℕ) (x : Exchange) → slice_get xs k ≡ Some x → is_liar r.liars x.server ≡ false
         → (low_mark claim.reading x).error ≤ℤ r.error

@@ -26,7 +26,8 @@ module _ (claim : ClaimData) (lawful : IsLawful claim) where
       let begins = lawful.span_begins in
       let forward = lawful.span_forward in
       let ends = lawful.span_ends in
-      rw (last_kept claim lawful, first_kept claim lawful) (fits_signed_from_abs w128 (claim.last -ℤ claim.first) (omega (arith, ints)))
+      rw (last_kept claim lawful, first_kept claim lawful)
+      (fits_signed_from_abs w128 (claim.last -ℤ claim.first) (omega (arith, ints)))
 
   pub length_below : unsigned_abs (claim.last -ℤ claim.first) < 2 ^ 64
   length_below =

@@ -197,12 +197,14 @@ module _ (x : Exchange) (allowance : ℤ) (c : Computed x allowance) where
   difference_kept : (a b : ℤ) → unsigned_abs a ≤ 2 ^ 71 → unsigned_abs b ≤ 2 ^ 71 → (d : ℤ) → d ≡ bits a -ℤ bits b
       → IsKept d (a -ℤ b)
   difference_kept a b p q d is =
-      is_kept d (a -ℤ b) (rw (w128_keeps a (omega (arith, p)), w128_keeps b (omega (arith, q))) at is) (omega (arith, ints, p, q))
+      is_kept d (a -ℤ b) (rw (w128_keeps a (omega (arith, p)), w128_keeps b (omega (arith, q))) at is)
+      (omega (arith, ints, p, q))
 
   sum_kept : (a b : ℤ) → unsigned_abs a ≤ 2 ^ 71 → unsigned_abs b ≤ 2 ^ 71 → (d : ℤ) → d ≡ bits a +ℤ bits b
       → IsKept d (a +ℤ b)
   sum_kept a b p q d is =
-      is_kept d (a +ℤ b) (rw (w128_keeps a (omega (arith, p)), w128_keeps b (omega (arith, q))) at is) (omega (arith, ints, p, q))
+      is_kept d (a +ℤ b) (rw (w128_keeps a (omega (arith, p)), w128_keeps b (omega (arith, q))) at is)
+      (omega (arith, ints, p, q))
 
   pub request_kept : IsKept c.request (request_start x allowance)
   request_kept =
@@ -219,12 +221,14 @@ module _ (x : Exchange) (allowance : ℤ) (c : Computed x allowance) where
 
   pub earlier_kept : (a : ℤ) → a ≡ int_min (bits x.t2) (bits x.t3) → IsKept a (int_min x.t2 x.t3)
   earlier_kept a is =
-      is_kept a (int_min x.t2 x.t3) (rw (w128_keeps x.t2 (omega (arith, t2)), w128_keeps x.t3 (omega (arith, t3))) at is)
+      is_kept a (int_min x.t2 x.t3)
+      (rw (w128_keeps x.t2 (omega (arith, t2)), w128_keeps x.t3 (omega (arith, t3))) at is)
       (omega (arith, ints, clamps, t2, t3))
 
   pub later_kept : (a : ℤ) → a ≡ int_max (bits x.t2) (bits x.t3) → IsKept a (int_max x.t2 x.t3)
   later_kept a is =
-      is_kept a (int_max x.t2 x.t3) (rw (w128_keeps x.t2 (omega (arith, t2)), w128_keeps x.t3 (omega (arith, t3))) at is)
+      is_kept a (int_max x.t2 x.t3)
+      (rw (w128_keeps x.t2 (omega (arith, t2)), w128_keeps x.t3 (omega (arith, t3))) at is)
       (omega (arith, ints, clamps, t2, t3))
 
   distance_kept : bits x.distance ≡ x.distance

@@ -87,7 +87,8 @@ module _ (allowance error : ℤ) where
       let x = get_or xs k d in
       let same : (x.server == x.server) ≡ true = grind (arith, nat_tests) in
       let test : Exchange → Bool = λ y. (y.server == x.server) && not (admits allowance error y) in
-      let here : test x ≡ true = and_from (x.server == x.server) (not (admits allowance error x)) same (rw fails refl) in
+      let here : test x ≡ true = and_from (x.server == x.server) (not (admits allowance error x)) same
+      (rw fails refl) in
       let at = get_or_from_slice_get xs k x x (slice_get-get_or xs k d within) in
       list_any-from_Any test xs (k, x, within, at, here)
 

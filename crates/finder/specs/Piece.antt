@@ -11,10 +11,14 @@ use Rattle.claim_file.specs.Claim.{ClaimData}
 use Rattle.span_cover.specs.Step.{piece_end_of}
 use Rattle.span_cover.specs.declared.stretch.Stretch.{Stretch}
 
+-- the longest piece, in seconds: a day
+abbrev pub max_step : ℕ
+max_step = 86400
+
 -- a number of seconds that a span may be cut by
 pub record IsStep (step : ℕ) : Type 0 where
   pub some : 1 ≤ step
-  pub at_most_a_day : step ≤ 86_400
+  pub at_most_a_day : step ≤ max_step
 
 -- this many pieces are the span: the last of them ends with it, and each before that one earlier
 pub record IsPieceCount (first last : ℤ) (step n : ℕ) : Type 0 where

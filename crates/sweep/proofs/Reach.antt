@@ -85,8 +85,8 @@ module _ (widens : (ppb distance : ℕ) → ppb < billion → IsWidening ppb dis
     early_is index level is = record {
       extreme = is.extreme;
       stands = is.stands;
-      at_least = early_reaches is.extreme stretch (All-slice_get IsLawfulExtreme extremes index is.extreme all is.stands) s
-          level is.early
+      at_least = early_reaches is.extreme stretch
+          (All-slice_get IsLawfulExtreme extremes index is.extreme all is.stands) s level is.early
           is.at_least;
     }
 

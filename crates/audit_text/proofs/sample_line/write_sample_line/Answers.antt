@@ -1,9 +1,6 @@
-use Rattle.audit_text.proofs.Common.{◌≡◌, ◌∙◌, ◌^◌, ◌<◌, ℕ, ℤ, [], ◌∷◌, ap, arith, codes, refl, unsigned_abs, to_z, of_z, ints, to_z-of_z, fits_signed_from_abs, w128, line_of, Number, Address, Label, Low, High, Plain, ClaimData, data_of, Exchange, offset_from, offset_to, delay_from, delay_to, least_error, greatest_error, sample_of, Sample, sample_fields, sample_line, server_of, row_of}
+use Rattle.audit_text.proofs.Common.{◌≡◌, ◌∙◌, ◌^◌, ◌<◌, ℕ, [], ◌∷◌, ap, arith, codes, refl, unsigned_abs, ints, line_of, Number, Address, Label, Low, High, Plain, ClaimData, data_of, Exchange, offset_from, offset_to, delay_from, delay_to, least_error, greatest_error, sample_of, Sample, sample_fields, sample_line, server_of, row_of, w128_keeps}
 use Rattle.audit_text.proofs.PlainLines.{groups_written}
 use Rattle.audit_text.proofs.sample_line.write_sample_line.Goals as goal
-
-fits : (a : ℤ) → unsigned_abs a < 2 ^ 127 → to_z w128 (of_z w128 a) ≡ a
-fits a h = to_z-of_z w128 a (fits_signed_from_abs w128 a h)
 
 -- no field of it is blank
 whole : (claim : ClaimData) (number : ℕ) (x : Exchange) →
@@ -19,7 +16,7 @@ returns-clause-text c =
     let lawful = c.requires.lawful in
     let small : unsigned_abs claim.reading < 2 ^ 127 =
     omega (arith, ints, lawful.reading_not_negative, lawful.reading_in_range) in
-    let reading = fits claim.reading small in
+    let reading = w128_keeps claim.reading small in
     let error = c.sample-error.ensures in
     let exact = error.exact ∙ ap (sample_of x) reading in
     rw (
@@ -35,8 +32,8 @@ returns-clause-text c =
       c.offset.ensures.to ∙ ap (offset_to x) reading,
       c.delay.ensures.from ∙ ap (delay_from x) reading,
       c.delay.ensures.to ∙ ap (delay_to x) reading,
-      fits _ (omega (arith, error.lawful.low)) ∙ ap (λ (s : Sample). s.low) exact,
-      fits _ (omega (arith, error.lawful.high)) ∙ ap (λ (s : Sample). s.high) exact,
+      w128_keeps _ (omega (arith, error.lawful.low)) ∙ ap (λ (s : Sample). s.low) exact,
+      w128_keeps _ (omega (arith, error.lawful.high)) ∙ ap (λ (s : Sample). s.high) exact,
     ) (groups_written (Number c.args.number)
     (Address (server_of claim x.server) ∷ Number x.request ∷ Number x.reply ∷ [])
     (Label (codes "offset") ∷ Low (offset_from x claim.reading) ∷ High (offset_to x claim.reading) ∷ [])

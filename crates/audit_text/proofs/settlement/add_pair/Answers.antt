@@ -1,9 +1,5 @@
-use Rattle.audit_text.proofs.Common.{◌≡◌, ◌∙◌, ℤ, ap, arith, to_z, of_z, ints, to_z-of_z, fits_signed_from_abs, w128, TimeAbove, IsInRange, for_person, pair_line}
+use Rattle.audit_text.proofs.Common.{◌∙◌, ℤ, ap, TimeAbove, for_person, pair_line, stamp_is}
 use Rattle.audit_text.proofs.settlement.add_pair.Goals as goal
-
-kept : (tick : ℤ) → IsInRange tick → to_z w128 (of_z w128 tick) ≡ tick
-kept tick range =
-    to_z-of_z w128 tick (fits_signed_from_abs w128 tick (omega (arith, ints, range.least, range.greatest)))
 
 pub returns : goal.returns
 unfolding pair_line
@@ -16,8 +12,8 @@ returns c =
       c.from-2.ensures,
       c.for_person.ensures,
       c.for_person-2.ensures,
-      c.for_person-3.ensures ∙ ap time (kept c.args.low.now.t1_low c.requires.low.t1_low),
+      c.for_person-3.ensures ∙ ap time (stamp_is c.args.low.now.t1_low c.requires.low.t1_low),
       c.for_person-4.ensures,
       c.for_person-5.ensures,
-      c.for_person-6.ensures ∙ ap time (kept c.args.high.now.t4_low c.requires.high.t4_low),
+      c.for_person-6.ensures ∙ ap time (stamp_is c.args.high.now.t4_low c.requires.high.t4_low),
     ) at c.add_line.ensures
