@@ -142,9 +142,10 @@ fn try_bound(
 
 /// The same claim with a bound of this many nanoseconds.
 pub(crate) fn claim_with(alloc: Global, claim: &Claim, bound_ns: u64) -> Result<Claim, AllocError>
-    requires { IsLawful (claim_data claim.now) }
+    requires in_range { bound_ns ≤ max_bound_ns }
     ensures { IfOk result (λ other. claim_data other ≡ with_bound (claim_data claim.now) bound_ns) }
 {
+    nanoseconds_lie_between_their_ticks();
     Ok(Claim {
         client: claim.client,
         servers: Vec::from_slice(alloc, claim.servers.as_slice())?,
