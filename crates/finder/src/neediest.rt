@@ -6,7 +6,7 @@
 //! those after it say as little. Nothing rests on it but where other searches begin.
 
 ghost use Rattle.std.specs.Prelude.{◌<◌, ◌≤◌, IfOk, length, All};
-ghost use Rattle.claim_file.specs.Claim.{IsLawful, data_of as claim_data, max_bound_ns};
+ghost use Rattle.claim_file.specs.Claim.{data_of as claim_data, max_bound_ns};
 ghost use Rattle.finder.specs.Reach.{IsTabled};
 ghost use Rattle.sample_interval.specs.Widening.{IsRate};
 
@@ -45,7 +45,6 @@ pub(crate) fn likely_bound(
     covers: &[Groups],
     samples: usize,
 ) -> Result<u64, AllocError>
-    requires claim { IsLawful (claim_data claim.now) }
     requires tables { IsTabled (claim_data claim.now) tables.now }
     ensures { IfOk result (λ bound_ns. bound_ns ≤ max_bound_ns) }
 {
@@ -160,7 +159,6 @@ pub(crate) fn neediest_tick(
     cover: Groups,
     splits: usize,
 ) -> Result<Option<StretchNeed>, AllocError>
-    requires claim { IsLawful (claim_data claim.now) }
     requires tables { IsTabled (claim_data claim.now) tables.now }
 {
     let mut places = Places::default();
@@ -209,7 +207,6 @@ fn may_need_more(
     gap: Gap,
     best: StretchNeed,
 ) -> bool
-    requires claim { IsLawful (claim_data claim.now) }
     requires tables { IsTabled (claim_data claim.now) tables.now }
 {
     let is_before = gap.begin < best.begin.0;
@@ -234,7 +231,6 @@ fn tick_need(
     cover: Groups,
     begin: u64,
 ) -> Option<StretchNeed>
-    requires claim { IsLawful (claim_data claim.now) }
     requires tables { IsTabled (claim_data claim.now) tables.now }
 {
     let reach = (claim.last as u64).saturating_sub(begin).min(1);
@@ -250,7 +246,6 @@ fn need_over(
     begin: u64,
     reach: u64,
 ) -> Option<StretchNeed>
-    requires claim { IsLawful (claim_data claim.now) }
     requires tables { IsTabled (claim_data claim.now) tables.now }
 {
     let end = begin.saturating_add(reach);
@@ -274,7 +269,6 @@ fn hull_without(
     begin: u64,
     end: u64,
 ) -> Hull
-    requires claim { IsLawful (claim_data claim.now) }
     requires tables { IsTabled (claim_data claim.now) tables.now }
     requires in_order { begin ≤ end }
 {
@@ -293,7 +287,6 @@ fn hull_without(
 
 /// The parts of the groups outside a cover.
 fn parts_without(all: &[Part], claim: &Claim, cover: Groups) -> ArrayVec<Part, 32>
-    requires claim { IsLawful (claim_data claim.now) }
     requires listed { All (λ part. part.server < length claim.now.groups.items) all.now }
     ensures listed { All (λ part. part.server < length claim.now.groups.items) result.items }
 {

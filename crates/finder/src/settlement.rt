@@ -8,7 +8,7 @@
 //! cover left out (neediest.rt), and one without drift last. The claim is open if none stands.
 
 ghost use Rattle.std.specs.Prelude.{◌≡◌, ◌≤◌, length, map, All, IfOk};
-ghost use Rattle.claim_file.specs.Claim.{IsLawful, data_of as claim_data};
+ghost use Rattle.claim_file.specs.Claim.{data_of as claim_data};
 ghost use Rattle.checker.specs.Traceability.{samples_of};
 ghost use Rattle.courses.specs.ConflictTable.{IsConflictTable};
 ghost use Rattle.courses.specs.ConflictsView.{data_of};
@@ -73,7 +73,6 @@ pub fn exchange_samples<'a, X: ToExchange>(
     exchanges: &'a [X],
     claim: &Claim,
 ) -> ExchangeSamples<'a, X>
-    requires claim { IsLawful (claim_data claim.now) }
     requires exchanges { All (IsLawfulExchange (length claim.now.servers.items))
         (map X.shown exchanges.now) }
     ensures samples { ⟦<ExchangeSamples<'a, X> as SampleSource>⟧.samples result
@@ -92,7 +91,6 @@ pub fn exchange_samples<'a, X: ToExchange>(
 
 /// How many groups have a sample.
 fn groups_heard<X: ToExchange>(exchanges: &[X], claim: &Claim) -> u8
-    requires claim { IsLawful (claim_data claim.now) }
     requires exchanges { All (IsLawfulExchange (length claim.now.servers.items))
         (map X.shown exchanges.now) }
     ensures { result ≡ count_with_exchange (claim_data claim.now) (map X.shown exchanges.now) }
@@ -120,7 +118,6 @@ fn refutation_of<X: ToExchange>(
     tables: &[BestTable],
     readings: &[u64],
 ) -> Result<Search, AllocError>
-    requires claim { IsLawful (claim_data claim.now) }
     requires exchanges { All (IsLawfulExchange (length claim.now.servers.items))
         (map X.shown exchanges.now) }
     requires groups { (data_of conflicts.now).groups ≡ length claim.now.groups.items }
@@ -170,7 +167,6 @@ pub fn settle<X: ToExchange>(
     exchanges: &[X],
     claim: &Claim,
 ) -> Result<Settled, FindFault>
-    requires claim { IsLawful (claim_data claim.now) }
     requires exchanges { All (IsLawfulExchange (length claim.now.servers.items))
         (map X.shown exchanges.now) }
     requires few { length exchanges.now ≤ most_exchanges }

@@ -17,7 +17,7 @@ returns-in-Some-find_refutation g c =
     let found = refutation_data c.in-Some-find_refutation.steady in
     let stands = c.refutations_without_drift_stand.ensures.stand claim xs found
     c.in-Some-find_refutation.ensures.found.accepted in
-    c.refutations_are_settled.ensures claim xs found true c.requires.claim c.requires.exchanges
+    c.refutations_are_settled.ensures claim xs found true c.args.claim.now.lawful c.requires.exchanges
     ((λ _. stands), λ _. refl)
 
 pub returns-in-None : goal.returns-in-None
@@ -30,11 +30,11 @@ returns-in-None g c =
       c.in-None.ensures.none refl,
       are_held claim xs c.args.readings.now c.covers-least.result.items
           (least_covers claim xs d c.requires.groups
-          (λ is_in. c.tables_settle_covers.ensures.each claim xs d is_in c.requires.claim c.requires.exchanges
+          (λ is_in. c.tables_settle_covers.ensures.each claim xs d is_in c.args.claim.now.lawful c.requires.exchanges
           c.requires.groups c.requires.table) c.covers-least.result.items c.covers-least.ensures.covers
           c.covers-least.ensures.minimal c.covers-least.ensures.few c.covers-least.ensures.different
           c.covers-least.ensures.all_or_64)
-          (λ course fits. c.false_groups_are_a_cover.ensures claim xs course c.requires.claim c.requires.exchanges fits)
+          (λ course. c.false_groups_are_a_cover.ensures claim xs course c.args.claim.now.lawful c.requires.exchanges)
           _ (ap length same)
           (subst (All held) same (all_tried held c.as_slice-covers.result.now c.loop-cover.cover-index
           c.loop-cover-test.false c.loop-cover.invariant)),
