@@ -1,7 +1,7 @@
 //! One piece of a certificate.
 
 ghost use Rattle.std.specs.Prelude.{◌≡◌, ◌≤◌, ◌<◌, ◌^◌, pos, ◌≤ℤ◌, ◌<ℤ◌, length, All};
-ghost use Rattle.claim_file.specs.Claim.{IsLawful, data_of};
+ghost use Rattle.claim_file.specs.Claim.{data_of};
 ghost use Rattle.certificate.specs.Certificate.{piece_data};
 ghost use Rattle.sample_interval.specs.Sample.{IsLawfulSample};
 ghost use Rattle.checker.specs.Verdict.{hull_fault, piece_fault};
@@ -22,7 +22,6 @@ pub fn piece_fault<S: SampleSource>(
     begin: i128,
     piece: &Piece,
 ) -> Option<Why>
-    requires claim { IsLawful (data_of claim.now) }
     requires samples { All IsLawfulSample (S.samples samples) }
     requires listed { All (λ sample. sample.server < length claim.now.servers.items)
         (S.samples samples) }

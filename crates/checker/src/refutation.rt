@@ -4,7 +4,7 @@ ghost use Rattle.std.specs.Prelude.{◌≡◌, ◌≤◌, ◌+ℤ◌, ◌-ℤ◌
 ghost use Rattle.std.specs.Prelude.{nat_lt, length, map, All};
 ghost use Rattle.std.specs.List.{list_all};
 ghost use Rattle.certificate.specs.Refutation.{data_of as refutation_data};
-ghost use Rattle.claim_file.specs.Claim.{IsLawful, data_of as claim_data};
+ghost use Rattle.claim_file.specs.Claim.{data_of as claim_data};
 ghost use Rattle.pairing.specs.Exchange.{IsLawful as IsLawfulExchange};
 ghost use Rattle.sample_interval.specs.Exchange.{IsOfSomeClaim};
 ghost use Rattle.sample_interval.specs.Window.{request_start, reply_end};
@@ -31,7 +31,6 @@ pub fn check_refutation<X: ToExchange>(
     claim: &Claim,
     refutation: &Refutation,
 ) -> bool
-    requires claim { IsLawful (claim_data claim.now) }
     requires exchanges { All (IsLawfulExchange (length claim.now.servers.items))
         (map X.shown exchanges.now) }
     ensures { Settles (claim_data claim.now) (map X.shown exchanges.now)
@@ -44,7 +43,6 @@ pub fn check_refutation<X: ToExchange>(
 
 /// The same as a test.
 fn is_refuted<X: ToExchange>(exchanges: &[X], claim: &Claim, refutation: &Refutation) -> bool
-    requires claim { IsLawful (claim_data claim.now) }
     requires exchanges { All (IsLawfulExchange (length claim.now.servers.items))
         (map X.shown exchanges.now) }
     ensures { result ≡ spec.is_refuted
@@ -57,7 +55,6 @@ fn is_refuted<X: ToExchange>(exchanges: &[X], claim: &Claim, refutation: &Refuta
 /// one side or the other, its reading lies in the span, and the servers that it names as false are
 /// different numbers of listed servers, of at most `false_max` groups. It takes no memory.
 pub fn is_against(claim: &Claim, refutation: &Refutation) -> bool
-    requires { IsLawful (claim_data claim.now) }
     ensures exact { IsTrue result
         ↔ IsAgainst (claim_data claim.now) (refutation_data refutation.now) }
     ensures tested { result
@@ -142,7 +139,6 @@ fn holds_liar(groups: &[u8], liars: &[u8], group: usize) -> bool
 
 /// Whether each exchange of a server that isn't named leaves room for the error.
 fn all_admit<X: ToExchange>(exchanges: &[X], claim: &Claim, refutation: &Refutation) -> bool
-    requires claim { IsLawful (claim_data claim.now) }
     requires exchanges { All (IsLawfulExchange (length claim.now.servers.items))
         (map X.shown exchanges.now) }
     ensures { result ≡ list_all
@@ -159,7 +155,6 @@ fn all_admit<X: ToExchange>(exchanges: &[X], claim: &Claim, refutation: &Refutat
 
 /// Whether an exchange is of a server that is named, or leaves room for the error.
 fn allows(exchange: &Exchange, claim: &Claim, refutation: &Refutation) -> bool
-    requires claim { IsLawful (claim_data claim.now) }
     requires exchange { IsLawfulExchange (length claim.now.servers.items) exchange.now }
     ensures { result ≡ spec.allows claim.now.reading (refutation_data refutation.now)
         exchange.now }
@@ -169,7 +164,6 @@ fn allows(exchange: &Exchange, claim: &Claim, refutation: &Refutation) -> bool
 
 /// Whether an exchange leaves room for the error.
 fn admits(exchange: &Exchange, claim: &Claim, refutation: &Refutation) -> bool
-    requires claim { IsLawful (claim_data claim.now) }
     requires exchange { IsLawfulExchange (length claim.now.servers.items) exchange.now }
     ensures { result ≡ spec.admits claim.now.reading refutation.now.error exchange.now }
 {
@@ -204,7 +198,6 @@ fn answers_in_time(client: Times, receipt: Times, answer: Times) -> bool
 /// The first time at which the request can have left and the last at which the reply can have
 /// arrived, if the client's clock is off by the error.
 fn client_times(exchange: &Exchange, claim: &Claim, refutation: &Refutation) -> Times
-    requires claim { IsLawful (claim_data claim.now) }
     requires exchange { IsLawfulExchange (length claim.now.servers.items) exchange.now }
     ensures low { result.low ≡
         request_start exchange.now claim.now.reading -ℤ refutation.now.error }

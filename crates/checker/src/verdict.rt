@@ -1,7 +1,7 @@
 //! The verdict on a certificate, and why it is no.
 
 ghost use Rattle.std.specs.Prelude.{◌≡◌, ◌≤◌, ◌<◌, length, map, All, vec_len};
-ghost use Rattle.claim_file.specs.Claim.{IsLawful, data_of as claim_data};
+ghost use Rattle.claim_file.specs.Claim.{data_of as claim_data};
 ghost use Rattle.certificate.specs.Certificate.{data_of as certificate_data, max_pieces};
 ghost use Rattle.pairing.specs.Exchange.{IsLawful as IsLawfulExchange};
 ghost use Rattle.sample_interval.specs.Sample.{IsLawfulSample};
@@ -79,7 +79,6 @@ pub enum Verdict {
 /// `MixedServers`, `RepeatedServer`; `Unbounded`, `Contradiction`, `Exceeds`. After the last piece
 /// comes `Uncovered`.
 pub fn check(samples: &[Sample], claim: &Claim, certificate: &Certificate) -> Verdict
-    requires claim { IsLawful (claim_data claim.now) }
     requires samples { All IsLawfulSample samples.now }
     requires listed { All (λ sample. sample.server < length claim.now.servers.items) samples.now }
     requires pieces { vec_len certificate.now.pieces ≤ max_pieces }
@@ -97,7 +96,6 @@ pub fn check_exchanges<X: ToExchange>(
     claim: &Claim,
     certificate: &Certificate,
 ) -> Verdict
-    requires claim { IsLawful (claim_data claim.now) }
     requires exchanges { All (IsLawfulExchange (length claim.now.servers.items))
         (map X.shown exchanges.now) }
     requires pieces { vec_len certificate.now.pieces ≤ max_pieces }
@@ -115,7 +113,6 @@ pub fn check_exchanges<X: ToExchange>(
 
 /// The verdict, piece by piece.
 fn first_fault<S: SampleSource>(samples: S, claim: &Claim, certificate: &Certificate) -> Verdict
-    requires claim { IsLawful (claim_data claim.now) }
     requires samples { All IsLawfulSample (S.samples samples) }
     requires listed { All (λ sample. sample.server < length claim.now.servers.items)
         (S.samples samples) }

@@ -78,7 +78,7 @@ differ_pairs (x ∷ xs) e (suc i) (suc j) d before less =
     differ_pairs xs (both_true _ _ e).1 i j d (omega arith) (omega arith)
 
 -- the claim of members within their limits
-claim_with_lawful : (f : FieldsData) (named : NamedData) (groups : List ℕ) →
+pub claim_with_lawful : (f : FieldsData) (named : NamedData) (groups : List ℕ) →
     is_in_range f named ≡ true → are_different (named.client ∷ named.servers) ≡ true →
     groups_of (length named.servers) f.groups ≡ Some groups → named.last < 2 ^ 32 →
     IsLawful (claim_with f named groups)
@@ -107,6 +107,11 @@ claim_with_lawful f named groups ranges differ grouped small =
       reading_in_range = omega (arith, ints);
       reading_ns_in_range = reading;
     }
+
+-- groups that were read are those that the lists say
+pub groups_given : {A : Type 0} (groups : Option A) (read : A) → given Groups groups Ok ≡ Ok read → groups ≡ Some read
+groups_given None read e = cc
+groups_given (Some g) read e = cc
 
 -- the last second of the span is one of the 2^32
 named_time : (a : Option (List ℕ)) (b : Option (List (List ℕ))) (s t : Option ℕ) (named : NamedData) →
@@ -176,11 +181,6 @@ claim_of-lawful bytes claim e = at (parsed bytes) e
     at (Some value) h = fields-lawful (fields_of value) claim h
 
 -- so is a claim that was read
-pub lawful_read : {A : Type 0} (answer : Result A ClaimFault) (shown : A → ClaimData) (f : FieldsData) →
-    Answers answer shown (claim_from f) → IfOk answer (λ claim. IsLawful (shown claim))
-lawful_read (Ok claim) shown f exact = (claim_from-lawful f (shown claim) exact).0
-lawful_read (Err fault) shown f exact = tt
-
 pub numbered_read : {A : Type 0} (answer : Result A ClaimFault) (shown : A → ClaimData) (f : FieldsData) →
     Answers answer shown (claim_from f) → IfOk answer (λ claim. IsWithoutGap (shown claim).groups)
 numbered_read (Ok claim) shown f exact = (claim_from-lawful f (shown claim) exact).1

@@ -3,6 +3,7 @@ pub mod Claim
 pub mod Fault
 pub mod Fields
 pub mod Group
+pub mod Limits
 pub mod Reading
 pub mod Spelling
 pub mod Time

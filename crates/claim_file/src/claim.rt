@@ -1,4 +1,6 @@
-//! A claim.
+//! A claim, which keeps every limit that a calculation asks for.
+
+ghost use Rattle.claim_file.specs.Limits.{IsLawful};
 
 /// A claim: the client's clock stayed within a bound of UTC over a span, if at most `false_max`
 /// groups of servers are false.
@@ -26,4 +28,17 @@ pub struct Claim {
     pub reading: i128,
     /// The same in nanoseconds, as it is claimed.
     pub reading_ns: u64,
+    pub ghost lawful: { IsLawful (record {
+      client = client;
+      servers = servers.items;
+      groups = groups.items;
+      false_max = false_max;
+      first = first;
+      last = last;
+      bound = bound;
+      bound_ns = bound_ns;
+      drift_ppb = drift_ppb;
+      reading = reading;
+      reading_ns = reading_ns;
+    }) },
 }

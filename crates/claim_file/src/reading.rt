@@ -1,6 +1,6 @@
 //! What the text of a claim says.
 
-ghost use Rattle.std.specs.Prelude.{◌≡◌, ◌≤◌, ◌∷◌, true, IfOk, IsTrue, length, pos};
+ghost use Rattle.std.specs.Prelude.{◌≡◌, ◌≤◌, ◌∷◌, IfOk, IsTrue, length, pos};
 ghost use Rattle.claim_file.specs.Address.{are_different};
 ghost use Rattle.claim_file.specs.Claim.{data_of, IsLawful, IsWithoutGap};
 ghost use Rattle.claim_file.specs.Fault.{Answers};
@@ -32,7 +32,6 @@ const MAX_READING_NS: u64 = 1_000_000_000;
 /// Times become Unix ticks of 2^-32 s; the bound is rounded down to whole ticks, the allowance up.
 pub fn read_claim(alloc: Global, bytes: &[u8]) -> Result<Claim, ClaimFault>
     ensures exact { Answers result data_of (spec.claim_of bytes.now) }
-    ensures lawful { IfOk result (λ claim. IsLawful (data_of claim)) }
     ensures numbered { IfOk result (λ claim. IsWithoutGap claim.groups.items) }
 {
     let value = parse(alloc, bytes)?.ok_or(ClaimFault::Json)?;
@@ -90,7 +89,8 @@ fn within_limits(alloc: Global, fields: &Fields<'_>, named: Named) -> Result<Cla
 
 /// The claim that has these members, addresses, times and groups.
 fn claim_with(fields: &Fields<'_>, named: Named, groups: Vec<u8>) -> Claim
-    requires { spec.is_in_range (fields_data fields.now) (spec.named_data named) ≡ true }
+    requires { IsLawful
+        (spec.claim_with (fields_data fields.now) (spec.named_data named) groups.items) }
     ensures { data_of result
         ≡ spec.claim_with (fields_data fields.now) (spec.named_data named) groups.items }
 {

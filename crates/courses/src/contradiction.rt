@@ -1,7 +1,7 @@
 //! The first two exchanges that contradict each other.
 
 ghost use Rattle.std.specs.Prelude.{◌≡◌, ◌≢◌, IfOk, MatchOption, length, map, All};
-ghost use Rattle.claim_file.specs.Claim.{IsLawful, data_of as claim_data};
+ghost use Rattle.claim_file.specs.Claim.{data_of as claim_data};
 ghost use Rattle.courses.specs.Contradiction.{IsFirstContradiction, HasContradiction};
 ghost use Rattle.courses.specs.GroupMarks.{IsSound};
 ghost use Rattle.courses.specs.PairMarks as spec;
@@ -59,7 +59,6 @@ pub fn first_contradiction<X: ToExchange>(
     a: u8,
     b: u8,
 ) -> Result<Option<Contradiction>, AllocError>
-    requires claim { IsLawful (claim_data claim.now) }
     requires exchanges { All (IsLawfulExchange (length claim.now.servers.items))
         (map X.shown exchanges.now) }
     requires sound { a ≢ b → IsSound (claim_data claim.now) (map X.shown exchanges.now) a

@@ -1,7 +1,7 @@
 //! Which groups have an exchange at all.
 
 ghost use Rattle.std.specs.Prelude.{◌≡◌, ℕ, length, map, All, count_by};
-ghost use Rattle.claim_file.specs.Claim.{IsLawful, data_of as claim_data};
+ghost use Rattle.claim_file.specs.Claim.{data_of as claim_data};
 ghost use Rattle.courses.specs.Evidence.{has_exchange, count_with_exchange};
 ghost use Rattle.courses.specs.Groups.{holds};
 ghost use Rattle.pairing.specs.Exchange.{IsLawful as IsLawfulExchange};
@@ -16,7 +16,6 @@ use pairing::ToExchange;
 /// If they are no more than `false_max`, the exchanges are no evidence: whatever the error, some
 /// course of events fits ([`laws`](crate::laws)).
 pub fn groups_with_exchanges<X: ToExchange>(exchanges: &[X], claim: &Claim) -> Groups
-    requires claim { IsLawful (claim_data claim.now) }
     requires exchanges { All (IsLawfulExchange (length claim.now.servers.items))
         (map X.shown exchanges.now) }
     ensures exact { (group : ℕ) → holds result group

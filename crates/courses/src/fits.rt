@@ -1,7 +1,7 @@
 //! Whether any course of events fits.
 
 ghost use Rattle.std.specs.Prelude.{IfOk, length, map, All};
-ghost use Rattle.claim_file.specs.Claim.{IsLawful, data_of as claim_data};
+ghost use Rattle.claim_file.specs.Claim.{data_of as claim_data};
 ghost use Rattle.courses.specs.DriftSettlement.{SettlesFit};
 ghost use Rattle.pairing.specs.Exchange.{IsLawful as IsLawfulExchange};
 
@@ -21,7 +21,6 @@ pub fn course_fits<X: ToExchange>(
     exchanges: &[X],
     claim: &Claim,
 ) -> Result<bool, AllocError>
-    requires claim { IsLawful (claim_data claim.now) }
     requires exchanges { All (IsLawfulExchange (length claim.now.servers.items))
         (map X.shown exchanges.now) }
     ensures { IfOk result (SettlesFit (claim_data claim.now) (map X.shown exchanges.now)) }

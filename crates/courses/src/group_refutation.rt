@@ -2,7 +2,7 @@
 
 ghost use Rattle.std.specs.Prelude.{◌≡◌, ◌↔◌, false, IsTrue, length, map, All};
 ghost use Rattle.certificate.specs.Refutation.{data_of as refutation_data};
-ghost use Rattle.claim_file.specs.Claim.{IsLawful, data_of as claim_data};
+ghost use Rattle.claim_file.specs.Claim.{data_of as claim_data};
 ghost use Rattle.courses.specs.ConflictTable.{IsConflictTable};
 ghost use Rattle.courses.specs.Conflicts.{IsCover};
 ghost use Rattle.courses.specs.ConflictsView.{data_of};
@@ -37,7 +37,6 @@ pub fn check_refutation_by_conflicts<X: ToExchange>(
     false_groups: Groups,
     refutation: &Refutation,
 ) -> bool
-    requires claim { IsLawful (claim_data claim.now) }
     requires exchanges { All (IsLawfulExchange (length claim.now.servers.items))
         (map X.shown exchanges.now) }
     requires groups { (data_of conflicts.now).groups ≡ length claim.now.groups.items }
@@ -68,7 +67,6 @@ fn is_left<X: ToExchange>(
     groups: Groups,
     mark: Mark,
 ) -> bool
-    requires claim { IsLawful (claim_data claim.now) }
     requires exchanges { All (IsLawfulExchange (length claim.now.servers.items))
         (map X.shown exchanges.now) }
     requires mark { IsWithinRange mark }
@@ -87,7 +85,6 @@ fn is_compatible_outside<X: ToExchange>(
     groups: Groups,
     mark: Mark,
 ) -> bool
-    requires claim { IsLawful (claim_data claim.now) }
     requires exchanges { All (IsLawfulExchange (length claim.now.servers.items))
         (map X.shown exchanges.now) }
     requires mark { IsWithinRange mark }
@@ -104,7 +101,6 @@ fn is_compatible_outside<X: ToExchange>(
 
 /// Whether an exchange is with a server of these groups, or a mark is compatible with its marks.
 fn is_inside_or_compatible(exchange: &Exchange, claim: &Claim, groups: Groups, mark: Mark) -> bool
-    requires claim { IsLawful (claim_data claim.now) }
     requires exchange { IsLawfulExchange (length claim.now.servers.items) exchange.now }
     requires mark { IsWithinRange mark }
     ensures { IsTrue result
@@ -116,7 +112,6 @@ fn is_inside_or_compatible(exchange: &Exchange, claim: &Claim, groups: Groups, m
 
 /// Whether a mark, as a low one and as a high one, is compatible with both marks of an exchange.
 fn is_compatible(exchange: &Exchange, claim: &Claim, mark: Mark) -> bool
-    requires claim { IsLawful (claim_data claim.now) }
     requires exchange { IsLawfulExchange (length claim.now.servers.items) exchange.now }
     requires mark { IsWithinRange mark }
     ensures { IsTrue result ↔ IsCompatibleWith (claim_data claim.now) mark exchange.now }

@@ -1,7 +1,7 @@
 //! A set of groups.
 
 ghost use Rattle.std.specs.Prelude.{◌≡◌, ◌==◌, ◌||◌, ◌<◌, ◌≤◌, ℕ, count_by, length};
-ghost use Rattle.claim_file.specs.Claim.{IsLawful, data_of as claim_data};
+ghost use Rattle.claim_file.specs.Claim.{data_of as claim_data};
 ghost use Rattle.span_cover.specs.Group.{numbers_below};
 ghost use Rattle.courses.specs.Cover.{is_of, servers_of};
 ghost use Rattle.courses.specs.Groups.{holds};
@@ -46,7 +46,6 @@ impl Groups {
 
     /// Whether the group of a server is in the set.
     pub(crate) fn has_server(self, claim: &Claim, server: u8) -> bool
-        requires claim { IsLawful (claim_data claim.now) }
         requires listed { server < length claim.now.servers.items }
         ensures { result ≡ is_of (claim_data claim.now) (holds self) server }
     {
@@ -55,7 +54,6 @@ impl Groups {
 
     /// The servers of these groups, in their order.
     pub fn servers(self, claim: &Claim) -> ArrayVec<u8, 32>
-        requires { IsLawful (claim_data claim.now) }
         ensures exact { result.items ≡ servers_of (claim_data claim.now) (holds self) }
     {
         let mut servers = ArrayVec::new();

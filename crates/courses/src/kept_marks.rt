@@ -2,7 +2,7 @@
 
 ghost use Rattle.std.specs.Prelude.{◌≡◌, [], ◌∷◌, ◌++◌, ◌↔◌, IfOk, IsTrue, IsPermutation, length, map, All};
 ghost use Rattle.std.specs.List.{list_all};
-ghost use Rattle.claim_file.specs.Claim.{IsLawful, data_of as claim_data};
+ghost use Rattle.claim_file.specs.Claim.{data_of as claim_data};
 ghost use Rattle.pairing.specs.Exchange.{IsLawful as IsLawfulExchange};
 ghost use Rattle.checker.specs.Refutation.{is_liar};
 ghost use Rattle.courses.specs.DriftTest.{all_compatible, is_possible};
@@ -54,7 +54,6 @@ impl KeptMarks {
 
     /// Adds both marks of an exchange if it is possible by itself, and says whether it is.
     fn add(&mut self, exchange: &Exchange, claim: &Claim) -> Result<bool, AllocError>
-        requires claim { IsLawful (claim_data claim.now) }
         requires exchange { IsLawfulExchange (length claim.now.servers.items) exchange.now }
         requires low_range { All IsWithinRange self.old.lows.items }
         requires high_range { All IsWithinRange self.old.highs.items }
@@ -85,7 +84,6 @@ impl KeptMarks {
         claim: &Claim,
         liars: &[u8],
     ) -> Result<bool, AllocError>
-        requires claim { IsLawful (claim_data claim.now) }
         requires exchanges { All (IsLawfulExchange (length claim.now.servers.items))
             (map X.shown exchanges.now) }
         requires low_range { All IsWithinRange self.old.lows.items }
@@ -121,7 +119,6 @@ impl KeptMarks {
         claim: &Claim,
         group: u8,
     ) -> Result<bool, AllocError>
-        requires claim { IsLawful (claim_data claim.now) }
         requires exchanges { All (IsLawfulExchange (length claim.now.servers.items))
             (map X.shown exchanges.now) }
         requires low_range { All IsWithinRange self.old.lows.items }

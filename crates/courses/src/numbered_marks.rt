@@ -1,7 +1,7 @@
 //! The marks of each group, gathered once, under the numbers of their exchanges.
 
 ghost use Rattle.std.specs.Prelude.{◌≡◌, ◌≢◌, ◌<◌, ◌==◌, ℕ, IfOk, MatchOption, length, map, List, All};
-ghost use Rattle.claim_file.specs.Claim.{ClaimData, IsLawful, data_of as claim_data};
+ghost use Rattle.claim_file.specs.Claim.{ClaimData, data_of as claim_data};
 ghost use Rattle.courses.specs.Cover.{group_of};
 ghost use Rattle.courses.specs.NumberedMarks.{IsNumbered, AreNumberedOf, AreNumberedInOrder};
 ghost use Rattle.courses.specs.NumberedMarks.{IsFirstApart, IsFirstIfAny};
@@ -33,7 +33,6 @@ pub(crate) struct NumberedMarks {
 
 /// Whether the exchange is of a group.
 fn is_of(exchange: &Exchange, claim: &Claim, group: u8) -> bool
-    requires claim { IsLawful (claim_data claim.now) }
     requires exchange { IsLawfulExchange (length claim.now.servers.items) exchange.now }
     ensures { result ≡ (group_of (claim_data claim.now) exchange.now == group) }
 {
@@ -42,7 +41,6 @@ fn is_of(exchange: &Exchange, claim: &Claim, group: u8) -> bool
 
 /// The number of the first exchange of a group that is impossible by itself, if there is one.
 fn first_impossible<X: ToExchange>(exchanges: &[X], claim: &Claim, group: u8) -> Option<usize>
-    requires claim { IsLawful (claim_data claim.now) }
     requires exchanges { All (IsLawfulExchange (length claim.now.servers.items))
         (map X.shown exchanges.now) }
     ensures { MatchOption result
@@ -79,7 +77,6 @@ impl NumberedMarks {
         claim: &Claim,
         group: u8,
     ) -> Result<NumberedMarks, AllocError>
-        requires claim { IsLawful (claim_data claim.now) }
         requires exchanges { All (IsLawfulExchange (length claim.now.servers.items))
             (map X.shown exchanges.now) }
         ensures numbered { IfOk result IsNumbered }
@@ -171,7 +168,6 @@ pub(crate) fn numbered_by_group<X: ToExchange>(
     exchanges: &[X],
     claim: &Claim,
 ) -> Result<Vec<NumberedMarks>, AllocError>
-    requires claim { IsLawful (claim_data claim.now) }
     requires exchanges { All (IsLawfulExchange (length claim.now.servers.items))
         (map X.shown exchanges.now) }
     ensures count { IfOk result (λ marks. length marks.items ≡ length claim.now.servers.items) }

@@ -2,7 +2,7 @@
 
 ghost use Rattle.std.specs.Prelude.{◌≡◌, IfOk, length, map, All};
 ghost use Rattle.certificate.specs.Refutation.{data_of as refutation_data};
-ghost use Rattle.claim_file.specs.Claim.{IsLawful, data_of as claim_data};
+ghost use Rattle.claim_file.specs.Claim.{data_of as claim_data};
 ghost use Rattle.pairing.specs.Exchange.{IsLawful as IsLawfulExchange};
 ghost use Rattle.courses.specs.DriftRefutation.{mark_of};
 ghost use Rattle.courses.specs.DriftSettlement.{SettlesWithDrift};
@@ -32,7 +32,6 @@ pub fn check_refutation_with_drift<X: ToExchange>(
     claim: &Claim,
     refutation: &Refutation,
 ) -> Result<bool, AllocError>
-    requires claim { IsLawful (claim_data claim.now) }
     requires exchanges { All (IsLawfulExchange (length claim.now.servers.items))
         (map X.shown exchanges.now) }
     ensures settles { IfOk result (SettlesWithDrift (claim_data claim.now)
@@ -56,7 +55,6 @@ fn do_agree<X: ToExchange>(
     claim: &Claim,
     refutation: &Refutation,
 ) -> Result<bool, AllocError>
-    requires claim { IsLawful (claim_data claim.now) }
     requires exchanges { All (IsLawfulExchange (length claim.now.servers.items))
         (map X.shown exchanges.now) }
     ensures { IfOk result (λ agree. agree ≡ do_agree (claim_data claim.now)

@@ -1,7 +1,7 @@
 //! All conflicts, each with what shows it.
 
 ghost use Rattle.std.specs.Prelude.{◌≡◌, ◌<◌, ◌+◌, IfOk, length, map, List, All};
-ghost use Rattle.claim_file.specs.Claim.{IsLawful, data_of as claim_data};
+ghost use Rattle.claim_file.specs.Claim.{data_of as claim_data};
 ghost use Rattle.courses.specs.ConflictTable.{IsConflictTable};
 ghost use Rattle.courses.specs.ConflictsView.{data_of};
 ghost use Rattle.courses.specs.Contradiction.{AreAllConflicts};
@@ -53,7 +53,6 @@ fn add_conflicts(
     a: u8,
     listed: &mut Vec<Conflict>,
 ) -> Result<(), AllocError>
-    requires claim { IsLawful (claim_data claim.now) }
     requires groups { (data_of conflicts.now).groups ≡ length claim.now.groups.items }
     requires numbered { All IsNumbered marks.now }
     requires count { length marks.now ≡ length claim.now.groups.items }
@@ -87,7 +86,6 @@ pub fn first_contradictions<X: ToExchange>(
     claim: &Claim,
     conflicts: &Conflicts,
 ) -> Result<Vec<Conflict>, AllocError>
-    requires claim { IsLawful (claim_data claim.now) }
     requires exchanges { All (IsLawfulExchange (length claim.now.servers.items))
         (map X.shown exchanges.now) }
     requires groups { (data_of conflicts.now).groups ≡ length claim.now.groups.items }

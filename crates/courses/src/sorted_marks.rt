@@ -1,7 +1,7 @@
 //! The marks of each group, gathered once and sorted once.
 
 ghost use Rattle.std.specs.Prelude.{◌≡◌, ◌↔◌, IfOk, IsTrue, length, map, All};
-ghost use Rattle.claim_file.specs.Claim.{IsLawful, data_of as claim_data};
+ghost use Rattle.claim_file.specs.Claim.{data_of as claim_data};
 ghost use Rattle.courses.specs.SortedMarks.{AreSorted, AreMarksOf, AreOfGroupsInOrder};
 ghost use Rattle.courses.specs.TrueMarks.{AreAllCompatible};
 ghost use Rattle.pairing.specs.Exchange.{IsLawful as IsLawfulExchange};
@@ -30,7 +30,6 @@ impl SortedMarks {
         claim: &Claim,
         group: u8,
     ) -> Result<SortedMarks, AllocError>
-        requires claim { IsLawful (claim_data claim.now) }
         requires exchanges { All (IsLawfulExchange (length claim.now.servers.items))
             (map X.shown exchanges.now) }
         ensures { IfOk result
@@ -62,7 +61,6 @@ pub(crate) fn marks_by_group<X: ToExchange>(
     exchanges: &[X],
     claim: &Claim,
 ) -> Result<Vec<SortedMarks>, AllocError>
-    requires claim { IsLawful (claim_data claim.now) }
     requires exchanges { All (IsLawfulExchange (length claim.now.servers.items))
         (map X.shown exchanges.now) }
     ensures count { IfOk result (λ marks.

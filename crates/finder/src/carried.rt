@@ -1,7 +1,7 @@
 //! The least bound that a certificate carries.
 
 ghost use Rattle.std.specs.Prelude.{◌≡◌, ◌≤◌, pos, ◌≤ℤ◌, List, length, Option, IfOk, MatchOption};
-ghost use Rattle.claim_file.specs.Claim.{IsLawful, data_of as claim_data, max_bound_ns};
+ghost use Rattle.claim_file.specs.Claim.{data_of as claim_data, max_bound_ns};
 ghost use Rattle.pairing.specs.Exchange.{most_exchanges};
 ghost use Rattle.sample_interval.specs.declared.kinds.Sample.{Sample as TheSample};
 ghost use Rattle.finder.specs.Carried as spec;
@@ -57,7 +57,6 @@ pub fn least_bound<S: SampleSource>(
     claim: &Claim,
     covers: &[Groups],
 ) -> Result<Option<LeastCarried>, AllocError>
-    requires claim { IsLawful (claim_data claim.now) }
     requires samples { AreSamplesOf (claim_data claim.now) (S.samples samples) }
     requires few { length (S.samples samples) ≤ most_exchanges }
     ensures { FindsLeastBound (S.samples samples) (claim_data claim.now) result }
@@ -77,7 +76,6 @@ fn least_bound_by(
     claim: &Claim,
     near: u64,
 ) -> Result<Option<LeastCarried>, AllocError>
-    requires claim { IsLawful (claim_data claim.now) }
     requires tables { IsTabled (claim_data claim.now) tables.now }
     ensures { (samples : List TheSample) → AreTablesFor samples (claim_data claim.now) tables.now →
         FindsLeastBound samples (claim_data claim.now) result }
@@ -118,7 +116,6 @@ fn try_bound(
     claim: &Claim,
     bound_ns: u64,
 ) -> Result<Option<u64>, AllocError>
-    requires claim { IsLawful (claim_data claim.now) }
     requires tables { IsTabled (claim_data claim.now) tables.now }
     requires in_range { bound_ns ≤ max_bound_ns }
     ensures { IfOk result (λ stop. (samples : List TheSample) →
@@ -131,7 +128,6 @@ fn try_bound(
     pieces_within_have_no_wider_hulls();
     pieces_give_the_verdict();
     best_hulls_hold_the_error();
-    nanoseconds_lie_between_their_ticks();
     let claim = claim_with(alloc, claim, bound_ns)?;
     match longest_ends(alloc, tables, &claim)? {
         Reach::End(_) => Ok(None),
@@ -142,9 +138,10 @@ fn try_bound(
 
 /// The same claim with a bound of this many nanoseconds.
 pub(crate) fn claim_with(alloc: Global, claim: &Claim, bound_ns: u64) -> Result<Claim, AllocError>
-    requires { IsLawful (claim_data claim.now) }
+    requires in_range { bound_ns ≤ max_bound_ns }
     ensures { IfOk result (λ other. claim_data other ≡ with_bound (claim_data claim.now) bound_ns) }
 {
+    nanoseconds_lie_between_their_ticks();
     Ok(Claim {
         client: claim.client,
         servers: Vec::from_slice(alloc, claim.servers.as_slice())?,
@@ -163,7 +160,6 @@ pub(crate) fn claim_with(alloc: Global, claim: &Claim, bound_ns: u64) -> Result<
 /// The number of the piece that holds a tick of the span, from 0, if the span is cut every `step_s`
 /// seconds. The tick is one of Unix time, of 2^-32 s.
 pub fn piece_holding(claim: &Claim, step_s: u32, tick: u64) -> u64
-    requires claim { IsLawful (claim_data claim.now) }
     requires step { IsStep step_s }
     requires from_first { claim.now.first ≤ℤ pos tick }
     requires to_last { pos tick ≤ℤ claim.now.last }

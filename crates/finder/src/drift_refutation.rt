@@ -4,7 +4,7 @@ ghost use Rattle.std.specs.Prelude.{◌≡◌, ◌≤ℤ◌, true, pos, length, 
 ghost use Rattle.std.specs.Prelude.{MatchOption};
 ghost use Rattle.std.specs.Int.{int_min};
 ghost use Rattle.certificate.specs.Refutation.{data_of as refutation_data};
-ghost use Rattle.claim_file.specs.Claim.{IsLawful, data_of as claim_data};
+ghost use Rattle.claim_file.specs.Claim.{data_of as claim_data};
 ghost use Rattle.courses.specs.ConflictTable.{IsConflictTable};
 ghost use Rattle.courses.specs.ConflictsView.{data_of};
 ghost use Rattle.courses.specs.DriftRefutation.{IsRefutedWithDrift};
@@ -50,7 +50,6 @@ pub fn find_refutation_with_drift<X: ToExchange>(
     claim: &Claim,
     places: &[Place],
 ) -> Result<Option<Refutation>, AllocError>
-    requires claim { IsLawful (claim_data claim.now) }
     requires exchanges { All (IsLawfulExchange (length claim.now.servers.items))
         (map X.shown exchanges.now) }
     ensures found { IfOk result (λ result. IfSome result (λ found. IsRefutedWithDrift
@@ -74,7 +73,6 @@ fn find_by_conflicts<X: ToExchange>(
     conflicts: &Conflicts,
     places: &[Place],
 ) -> Option<Refutation>
-    requires claim { IsLawful (claim_data claim.now) }
     requires exchanges { All (IsLawfulExchange (length claim.now.servers.items))
         (map X.shown exchanges.now) }
     requires groups { (data_of conflicts.now).groups ≡ length claim.now.groups.items }
@@ -101,7 +99,6 @@ pub(crate) fn find_with_cover<X: ToExchange>(
     cover: Groups,
     readings: &[u64],
 ) -> Option<Refutation>
-    requires claim { IsLawful (claim_data claim.now) }
     requires exchanges { All (IsLawfulExchange (length claim.now.servers.items))
         (map X.shown exchanges.now) }
     requires groups { (data_of conflicts.now).groups ≡ length claim.now.groups.items }
@@ -128,7 +125,6 @@ fn find_at<X: ToExchange>(
     conflicts: &Conflicts,
     place: Place,
 ) -> Option<Refutation>
-    requires claim { IsLawful (claim_data claim.now) }
     requires exchanges { All (IsLawfulExchange (length claim.now.servers.items))
         (map X.shown exchanges.now) }
     requires groups { (data_of conflicts.now).groups ≡ length claim.now.groups.items }
@@ -153,7 +149,6 @@ fn find_on<X: ToExchange>(
     place: Place,
     side: Side,
 ) -> Option<Refutation>
-    requires claim { IsLawful (claim_data claim.now) }
     requires exchanges { All (IsLawfulExchange (length claim.now.servers.items))
         (map X.shown exchanges.now) }
     requires groups { (data_of conflicts.now).groups ≡ length claim.now.groups.items }
@@ -182,7 +177,6 @@ fn candidate(
     leeways: &[i128; 32],
     false_groups: Groups,
 ) -> Option<Refutation>
-    requires { IsLawful (claim_data claim.now) }
     ensures { MatchOption result
         (IsBounded claim.now.bound leeways.now (holds false_groups))
         (λ made. IsMade (claim_data claim.now) side reading leeways.now (holds false_groups)

@@ -1,7 +1,7 @@
 //! The envelope of a claim.
 
 ghost use Rattle.std.specs.Prelude.{◌≡◌, ◌≤◌, IfOk, length};
-ghost use Rattle.claim_file.specs.Claim.{IsLawful, data_of as claim_data};
+ghost use Rattle.claim_file.specs.Claim.{data_of as claim_data};
 ghost use Rattle.pairing.specs.Exchange.{most_exchanges};
 ghost use Rattle.finder.specs.Answer.{FindsEnvelope};
 ghost use Rattle.finder.specs.Envelope.{data_of, envelope_to, IsLawfulEnvelope};
@@ -45,7 +45,6 @@ pub fn find_envelope(
     claim: &Claim,
     step_s: u32,
 ) -> Result<Envelope, FindFault>
-    requires claim { IsLawful (claim_data claim.now) }
     requires samples { AreSamplesOf (claim_data claim.now) samples.now }
     requires few { length samples.now ≤ most_exchanges }
     requires step { IsStep step_s }
@@ -61,7 +60,6 @@ pub fn find_envelope_over<S: SampleSource>(
     claim: &Claim,
     step_s: u32,
 ) -> Result<Envelope, FindFault>
-    requires claim { IsLawful (claim_data claim.now) }
     requires samples { AreSamplesOf (claim_data claim.now) (S.samples samples) }
     requires few { length (S.samples samples) ≤ most_exchanges }
     requires step { IsStep step_s }
@@ -85,7 +83,6 @@ fn envelope_to<S: SampleSource>(
     step_s: u32,
     count: u32,
 ) -> Result<Envelope, AllocError>
-    requires claim { IsLawful (claim_data claim.now) }
     requires samples { AreSamplesOf (claim_data claim.now) (S.samples samples) }
     requires few { length (S.samples samples) ≤ most_exchanges }
     ensures value { IfOk result (λ found.

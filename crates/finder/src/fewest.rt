@@ -2,7 +2,7 @@
 
 ghost use Rattle.std.specs.Prelude.{◌≡◌, ◌≤◌, IfOk, length, map};
 ghost use Rattle.certificate.specs.Certificate.{piece_data};
-ghost use Rattle.claim_file.specs.Claim.{IsLawful, data_of as claim_data};
+ghost use Rattle.claim_file.specs.Claim.{data_of as claim_data};
 ghost use Rattle.pairing.specs.Exchange.{most_exchanges};
 ghost use Rattle.sweep.specs.Pieces.{ArePieces};
 ghost use Rattle.finder.specs.Fewest.{pieces_over};
@@ -53,7 +53,6 @@ pub enum Fewest {
 /// `TooManyPieces` comes if 100,000 pieces don't reach the span's end, and `Memory` if none is
 /// left.
 pub fn find_fewest(alloc: Global, samples: &[Sample], claim: &Claim) -> Result<Fewest, FindFault>
-    requires claim { IsLawful (claim_data claim.now) }
     requires samples { AreSamplesOf (claim_data claim.now) samples.now }
     requires few { length samples.now ≤ most_exchanges }
     ensures { FindsFewest samples.now (claim_data claim.now) result }
@@ -67,7 +66,6 @@ pub fn find_fewest_over<S: SampleSource>(
     samples: S,
     claim: &Claim,
 ) -> Result<Fewest, FindFault>
-    requires claim { IsLawful (claim_data claim.now) }
     requires samples { AreSamplesOf (claim_data claim.now) (S.samples samples) }
     requires few { length (S.samples samples) ≤ most_exchanges }
     ensures { FindsFewest (S.samples samples) (claim_data claim.now) result }
@@ -84,7 +82,6 @@ pub(crate) fn fewest_by<S: SampleSource>(
     claim: &Claim,
     tables: &[BestTable],
 ) -> Result<Fewest, FindFault>
-    requires claim { IsLawful (claim_data claim.now) }
     requires samples { AreSamplesOf (claim_data claim.now) (S.samples samples) }
     requires few { length (S.samples samples) ≤ most_exchanges }
     requires tables { AreTablesFor (S.samples samples) (claim_data claim.now) tables.now }
@@ -116,7 +113,6 @@ fn certificate_over<S: SampleSource>(
     claim: &Claim,
     ends: &[i128],
 ) -> Result<Certificate, AllocError>
-    requires claim { IsLawful (claim_data claim.now) }
     requires samples { AreSamplesOf (claim_data claim.now) (S.samples samples) }
     requires few { length (S.samples samples) ≤ most_exchanges }
     requires pieces { ArePieces claim.now.first ends.now }

@@ -1,7 +1,7 @@
 //! What is found.
 
 ghost use Rattle.std.specs.Prelude.{◌≡◌, ◌≤◌, IfOk, length};
-ghost use Rattle.claim_file.specs.Claim.{IsLawful, data_of as claim_data};
+ghost use Rattle.claim_file.specs.Claim.{data_of as claim_data};
 ghost use Rattle.pairing.specs.Exchange.{most_exchanges};
 ghost use Rattle.finder.specs.Answer.{Finds};
 ghost use Rattle.finder.specs.Found.{data_of, found_without, first_failing};
@@ -53,7 +53,6 @@ pub fn find(
     claim: &Claim,
     step_s: u32,
 ) -> Result<Found, FindFault>
-    requires claim { IsLawful (claim_data claim.now) }
     requires samples { AreSamplesOf (claim_data claim.now) samples.now }
     requires few { length samples.now ≤ most_exchanges }
     requires step { IsStep step_s }
@@ -69,7 +68,6 @@ pub fn find_over<S: SampleSource>(
     claim: &Claim,
     step_s: u32,
 ) -> Result<Found, FindFault>
-    requires claim { IsLawful (claim_data claim.now) }
     requires samples { AreSamplesOf (claim_data claim.now) (S.samples samples) }
     requires few { length (S.samples samples) ≤ most_exchanges }
     requires step { IsStep step_s }
@@ -97,7 +95,6 @@ fn find_pieces<S: SampleSource>(
     step_s: u32,
     count: u32,
 ) -> Result<Found, AllocError>
-    requires claim { IsLawful (claim_data claim.now) }
     requires samples { AreSamplesOf (claim_data claim.now) (S.samples samples) }
     requires few { length (S.samples samples) ≤ most_exchanges }
     requires count { count ≡ count_of (claim_data claim.now) step_s }

@@ -5,7 +5,7 @@
 //! next, many are passed at once.
 
 ghost use Rattle.std.specs.Prelude.{◌≤◌, IfOk};
-ghost use Rattle.claim_file.specs.Claim.{IsLawful, data_of as claim_data, max_bound_ns};
+ghost use Rattle.claim_file.specs.Claim.{data_of as claim_data, max_bound_ns};
 ghost use Rattle.finder.specs.Reach.{IsTabled};
 
 use crate::carried::{MOST_BOUND_NS, claim_with};
@@ -13,7 +13,6 @@ use crate::longest::{Pace, is_as_long, longest_piece};
 use crate::trial::trial;
 use certificate::MAX_PIECES;
 use claim_file::Claim;
-use era_unfold::laws::nanoseconds_lie_between_their_ticks;
 use std::alloc::{AllocError, Global};
 use sweep::BestTable;
 
@@ -26,7 +25,6 @@ pub(crate) fn likely_least(
     claim: &Claim,
     start: u64,
 ) -> Result<u64, AllocError>
-    requires claim { IsLawful (claim_data claim.now) }
     requires tables { IsTabled (claim_data claim.now) tables.now }
     requires in_range { start ≤ max_bound_ns }
     ensures from_start { IfOk result (λ bound_ns. start ≤ bound_ns) }
@@ -50,7 +48,6 @@ fn least_from(
     near: u64,
     is_near: bool,
 ) -> Result<u64, AllocError>
-    requires claim { IsLawful (claim_data claim.now) }
     requires tables { IsTabled (claim_data claim.now) tables.now }
     requires in_range { start ≤ max_bound_ns }
     ensures from_start { IfOk result (λ bound_ns. start ≤ bound_ns) }
@@ -77,11 +74,9 @@ fn is_likely_enough(
     bound_ns: u64,
     is_near: bool,
 ) -> Result<bool, AllocError>
-    requires claim { IsLawful (claim_data claim.now) }
     requires tables { IsTabled (claim_data claim.now) tables.now }
     requires in_range { bound_ns ≤ max_bound_ns }
 {
-    nanoseconds_lie_between_their_ticks();
     let claim = claim_with(alloc, claim, bound_ns)?;
     Ok(is_likely_carried(tables, &claim, is_near))
 }
@@ -90,7 +85,6 @@ fn is_likely_enough(
 /// one length as many as have been skipped before and as many again are taken to have it too, if
 /// the piece behind them has; but if the bound `is_near` the least one, only after many.
 fn is_likely_carried(tables: &[BestTable], claim: &Claim, is_near: bool) -> bool
-    requires claim { IsLawful (claim_data claim.now) }
     requires tables { IsTabled (claim_data claim.now) tables.now }
 {
     let before = if is_near { 16 } else { 1 };

@@ -1,7 +1,7 @@
 //! The hull of a piece.
 
 ghost use Rattle.std.specs.Prelude.{◌≡◌, ◌<◌, length, All};
-ghost use Rattle.claim_file.specs.Claim.{IsLawful, data_of};
+ghost use Rattle.claim_file.specs.Claim.{data_of};
 ghost use Rattle.span_cover.specs.Piece.{IsPiece};
 ghost use Rattle.span_cover.specs.Group.{piece_hull};
 ghost use Rattle.finder.specs.Entry.{AreNamed, parts_named};
@@ -22,7 +22,6 @@ pub fn parts<S: SampleSource>(
     stretch: Stretch,
     entries: &ArrayVec<(u32, u32), 32>,
 ) -> ArrayVec<Part, 32>
-    requires claim { IsLawful (data_of claim.now) }
     requires samples { AreSamplesOf (data_of claim.now) (S.samples samples) }
     requires stretch { IsPiece stretch.begin stretch.end }
     requires named { AreNamed (length (S.samples samples)) entries.now.items }
@@ -46,7 +45,6 @@ pub(crate) fn hull_of<S: SampleSource>(
     stretch: Stretch,
     entries: &ArrayVec<(u32, u32), 32>,
 ) -> Hull
-    requires claim { IsLawful (data_of claim.now) }
     requires samples { AreSamplesOf (data_of claim.now) (S.samples samples) }
     requires stretch { IsPiece stretch.begin stretch.end }
     requires named { AreNamed (length (S.samples samples)) entries.now.items }

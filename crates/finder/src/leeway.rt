@@ -3,7 +3,7 @@
 ghost use Rattle.std.specs.Prelude.{◌≡◌, ◌↔◌, ◌^◌, ◌*◌, ◌/◌, ◌-◌, ◌<◌, ◌≤◌, ℤ, pos, ◌≤ℤ◌};
 ghost use Rattle.std.specs.Prelude.{unsigned_abs, slice_index, length, map, All, MatchOption};
 ghost use Rattle.std.specs.Prelude.{count_by};
-ghost use Rattle.claim_file.specs.Claim.{IsLawful, data_of as claim_data};
+ghost use Rattle.claim_file.specs.Claim.{data_of as claim_data};
 ghost use Rattle.courses.specs.Groups.{holds};
 ghost use Rattle.finder.specs.Leeway.{AreLeeways, IsLimit, IsNarrowed, IsTightest, IsUnlimited};
 ghost use Rattle.finder.specs.Leeway.{mark_at};
@@ -57,7 +57,6 @@ fn most_under(drift_ppb: u32, mark: Mark, reading: i128) -> i128
 
 /// The group of a server.
 pub(crate) fn group_of(claim: &Claim, server: u8) -> u8
-    requires claim { IsLawful (claim_data claim.now) }
     requires listed { server < length claim.now.servers.items }
     ensures exact { result ≡ slice_index claim.now.groups.items server }
     ensures range { result < 32 }
@@ -73,7 +72,6 @@ pub(crate) fn leeways_at<X: ToExchange>(
     side: Side,
     reading: u64,
 ) -> [i128; 32]
-    requires claim { IsLawful (claim_data claim.now) }
     requires exchanges { All (IsLawfulExchange (length claim.now.servers.items))
         (map X.shown exchanges.now) }
     ensures { AreLeeways (claim_data claim.now) (map X.shown exchanges.now) (length exchanges.now)

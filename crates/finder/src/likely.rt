@@ -2,7 +2,7 @@
 //!
 //! Nothing rests on it but the time: the length is confirmed by hulls.
 
-ghost use Rattle.claim_file.specs.Claim.{IsLawful, data_of};
+ghost use Rattle.claim_file.specs.Claim.{data_of};
 ghost use Rattle.finder.specs.Reach.{IsTabled};
 
 use arrayvec::ArrayVec;
@@ -21,7 +21,6 @@ pub(crate) fn likely_length(
     claim: &Claim,
     begin: u64,
 ) -> u64
-    requires claim { IsLawful (data_of claim.now) }
     requires tables { IsTabled (data_of claim.now) tables.now }
 {
     let bound = u64::try_from(claim.bound).unwrap_or(u64::MAX);

@@ -3,7 +3,7 @@
 ghost use Rattle.std.specs.Prelude.{◌≡◌, ◌≤◌, pos, ◌+ℤ◌, ◌≤ℤ◌, true, List, length, IfOk};
 ghost use Rattle.std.specs.Prelude.{IsTrue, MatchResult};
 ghost use Rattle.std.specs.Int.{int_min};
-ghost use Rattle.claim_file.specs.Claim.{IsLawful, data_of};
+ghost use Rattle.claim_file.specs.Claim.{data_of};
 ghost use Rattle.pairing.specs.Exchange.{most_exchanges};
 ghost use Rattle.sample_interval.specs.declared.kinds.Sample.{Sample};
 ghost use Rattle.finder.specs.Entry.{best_hull};
@@ -31,7 +31,6 @@ pub(crate) fn tables_for<S: SampleSource>(
     samples: S,
     claim: &Claim,
 ) -> Result<Vec<BestTable>, AllocError>
-    requires claim { IsLawful (data_of claim.now) }
     requires samples { AreSamplesOf (data_of claim.now) (S.samples samples) }
     requires few { length (S.samples samples) ≤ most_exchanges }
     ensures { IfOk result (λ tables.
@@ -51,7 +50,6 @@ pub(crate) fn hull_over(
     begin: u64,
     end: u64,
 ) -> Hull
-    requires claim { IsLawful (data_of claim.now) }
     requires tables { IsTabled (data_of claim.now) tables.now }
     requires in_order { begin ≤ end }
     ensures { (samples : List Sample) → AreTablesFor samples (data_of claim.now) tables.now →
@@ -70,7 +68,6 @@ pub(crate) fn hull_over(
 
 /// Whether the hull over a stretch shows that the error is within the bound there.
 fn is_shown(tables: &[BestTable], places: &mut Places, claim: &Claim, begin: u64, end: u64) -> bool
-    requires claim { IsLawful (data_of claim.now) }
     requires tables { IsTabled (data_of claim.now) tables.now }
     requires in_order { begin ≤ end }
     ensures { (samples : List Sample) → AreTablesFor samples (data_of claim.now) tables.now →
@@ -147,7 +144,6 @@ pub(crate) fn longest_piece(
     claim: &Claim,
     begin: u64,
 ) -> Result<u64, Hull>
-    requires claim { IsLawful (data_of claim.now) }
     requires tables { IsTabled (data_of claim.now) tables.now }
     requires in_span { pos begin ≤ℤ claim.now.last }
     ensures { (samples : List Sample) → AreTablesFor samples (data_of claim.now) tables.now →
@@ -175,7 +171,6 @@ pub(crate) fn is_as_long(
     begin: u64,
     length: u64,
 ) -> bool
-    requires claim { IsLawful (data_of claim.now) }
     requires tables { IsTabled (data_of claim.now) tables.now }
     ensures { IsTrue result → pos begin ≤ℤ claim.now.last }
 {
@@ -198,7 +193,6 @@ fn longest_end(
     next: u64,
     near: u64,
 ) -> u64
-    requires claim { IsLawful (data_of claim.now) }
     requires tables { IsTabled (data_of claim.now) tables.now }
     requires in_span { pos begin ≤ℤ claim.now.last }
     requires next { pos next ≡ int_min (pos begin +ℤ pos 1) claim.now.last }

@@ -3,7 +3,7 @@
 ghost use Rattle.std.specs.Prelude.{◌≡◌, ◌^◌, ◌<◌, ◌≤◌, ℤ, ℕ, pos, ◌≤ℤ◌, ◌<ℤ◌, unsigned_abs, List, length, map, All, IsNone, IfSome, option_map};
 ghost use Rattle.pairing.specs.declared.exchange.Exchange.{Exchange};
 ghost use Rattle.certificate.specs.Refutation.{data_of as refutation_data};
-ghost use Rattle.claim_file.specs.Claim.{IsLawful, data_of as claim_data};
+ghost use Rattle.claim_file.specs.Claim.{data_of as claim_data};
 ghost use Rattle.pairing.specs.Exchange.{IsLawful as IsLawfulExchange};
 ghost use Rattle.finder.specs.Room.{AreRooms, possible_by, room_at};
 ghost use Rattle.finder.specs.NearestRefutation.{IsErrorOf64Bits, IsNearest, IsNearestRefutation, NoneIsRefuted};
@@ -27,7 +27,6 @@ pub(crate) const LEAST_ERROR_BELOW: i128 = 1 << 63;
 /// have an exchange with no room for that error, in their order, and the first reading of the span.
 /// It takes no memory, and looks once at each exchange.
 pub fn find_refutation<X: ToExchange>(exchanges: &[X], claim: &Claim) -> Option<Refutation>
-    requires claim { IsLawful (claim_data claim.now) }
     requires exchanges { All (IsLawfulExchange (length claim.now.servers.items))
         (map X.shown exchanges.now) }
     ensures exact { option_map refutation_data result
@@ -51,7 +50,6 @@ pub fn find_refutation<X: ToExchange>(exchanges: &[X], claim: &Claim) -> Option<
 
 /// The nearest error, if each server leaves room for just the errors of its interval.
 fn nearest_error(rooms: &[Interval; 32], claim: &Claim) -> Option<i128>
-    requires claim { IsLawful (claim_data claim.now) }
     requires low { (server : ℕ) → server < 32 →
         unsigned_abs (room_at rooms.now server).lo ≤ 2 ^ 80 }
     requires high { (server : ℕ) → server < 32 →
@@ -76,7 +74,6 @@ fn nearest_error(rooms: &[Interval; 32], claim: &Claim) -> Option<i128>
 /// first error of all: each server that refuses this one refuses the other too. So these alone are
 /// looked at.
 fn nearest(rooms: &[Interval; 32], claim: &Claim, limit: i128) -> Option<i128>
-    requires claim { IsLawful (claim_data claim.now) }
     requires low { (server : ℕ) → server < 32 →
         unsigned_abs (room_at rooms.now server).lo ≤ 2 ^ 80 }
     requires beyond { claim.now.bound <ℤ limit }

@@ -8,7 +8,7 @@
 ghost use Rattle.std.specs.Prelude.{◌≡◌, ◌⊎◌, ◌<◌, ◌≤◌, ◌-◌, ℤ, pos, ◌≤ℤ◌, false, length, filter};
 ghost use Rattle.std.specs.Prelude.{All, IfOk, IfSome, IsSomeAnd, IsTrue, MatchOption};
 ghost use Rattle.std.specs.Option.{option_map};
-ghost use Rattle.claim_file.specs.Claim.{IsLawful, data_of as claim_data, max_bound_ns};
+ghost use Rattle.claim_file.specs.Claim.{data_of as claim_data, max_bound_ns};
 ghost use Rattle.courses.specs.Groups.{holds};
 ghost use Rattle.finder.specs.Fewest.{stretch_over};
 ghost use Rattle.finder.specs.Neediest as spec;
@@ -74,7 +74,6 @@ pub(crate) fn likely_bound(
     covers: &[Groups],
     samples: usize,
 ) -> Result<u64, AllocError>
-    requires claim { IsLawful (claim_data claim.now) }
     requires tables { IsTabled (claim_data claim.now) tables.now }
     ensures { IfOk result (λ bound_ns. bound_ns ≤ max_bound_ns) }
 {
@@ -209,7 +208,6 @@ pub(crate) fn neediest_tick(
     cover: Groups,
     splits: usize,
 ) -> Result<Option<Neediest>, AllocError>
-    requires claim { IsLawful (claim_data claim.now) }
     requires tables { IsTabled (claim_data claim.now) tables.now }
     ensures { IfOk result (λ found. OfTables (claim_data claim.now) tables.now (λ samples.
         MatchOption found (IsBoundless samples (claim_data claim.now) (holds cover))
@@ -259,7 +257,6 @@ fn may_need_more(
     gap: Gap,
     best: TickNeed,
 ) -> bool
-    requires claim { IsLawful (claim_data claim.now) }
     requires tables { IsTabled (claim_data claim.now) tables.now }
     requires gap { IsGap (claim_data claim.now) gap }
     ensures { (result ≡ false) → OfTables (claim_data claim.now) tables.now (λ samples.
@@ -289,7 +286,6 @@ fn tick_need(
     cover: Groups,
     begin: u64,
 ) -> Option<TickNeed>
-    requires claim { IsLawful (claim_data claim.now) }
     requires tables { IsTabled (claim_data claim.now) tables.now }
     requires in_span { pos begin ≤ℤ claim.now.last }
     ensures begin { IfSome result (λ tick. tick.begin ≡ begin) }
@@ -311,7 +307,6 @@ fn need_over(
     begin: u64,
     end: u64,
 ) -> Option<u128>
-    requires claim { IsLawful (claim_data claim.now) }
     requires tables { IsTabled (claim_data claim.now) tables.now }
     requires in_order { begin ≤ end }
     ensures { OfTables (claim_data claim.now) tables.now (λ samples. result ≡ need_of
@@ -335,7 +330,6 @@ fn hull_without(
     begin: u64,
     end: u64,
 ) -> Hull
-    requires claim { IsLawful (claim_data claim.now) }
     requires tables { IsTabled (claim_data claim.now) tables.now }
     requires in_order { begin ≤ end }
     ensures exact { OfTables (claim_data claim.now) tables.now (λ samples. result ≡
@@ -357,7 +351,6 @@ fn hull_without(
 
 /// The parts of the groups outside a cover.
 fn parts_without(all: &[Part], claim: &Claim, cover: Groups) -> ArrayVec<Part, 32>
-    requires claim { IsLawful (claim_data claim.now) }
     requires few { length all.now ≤ 32 }
     requires listed { All (λ part. part.server < length claim.now.groups.items) all.now }
     ensures exact { result.items ≡

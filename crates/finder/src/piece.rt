@@ -1,7 +1,7 @@
 //! The pieces of a span.
 
 ghost use Rattle.std.specs.Prelude.{◌≡◌, ◌<◌, ◌≤◌, ◌^◌, pos, ◌≤ℤ◌, ◌<ℤ◌, IfOk};
-ghost use Rattle.claim_file.specs.Claim.{IsLawful, data_of};
+ghost use Rattle.claim_file.specs.Claim.{data_of};
 ghost use Rattle.finder.specs.Piece.{count_of, ends_of, stretch_at};
 
 use claim_file::Claim;
@@ -12,7 +12,6 @@ use std::alloc::{AllocError, Global};
 /// How many pieces the span has that is cut every `step_s` seconds: the last is the first that ends
 /// with the span.
 pub(crate) fn piece_count(claim: &Claim, step_s: u32) -> u64
-    requires claim { IsLawful (data_of claim.now) }
     requires step { 0 < step_s }
     ensures { result ≡ count_of (data_of claim.now) step_s }
 {
@@ -44,7 +43,6 @@ pub(crate) fn piece_ends(
 
 /// The readings of the piece of this number. Each piece begins where the one before it ends.
 pub(crate) fn stretch_at(claim: &Claim, step_s: u32, number: u32) -> Stretch
-    requires { IsLawful (data_of claim.now) }
     ensures { result ≡ stretch_at (data_of claim.now) step_s number }
 {
     let begin = if number == 0 {

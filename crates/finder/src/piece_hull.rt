@@ -2,7 +2,7 @@
 
 ghost use Rattle.std.specs.Prelude.{◌≡◌, ◌<◌, ◌≤◌, length, All, slice_get};
 ghost use Rattle.std.specs.List.{filter_map};
-ghost use Rattle.claim_file.specs.Claim.{IsLawful, data_of as claim_data};
+ghost use Rattle.claim_file.specs.Claim.{data_of as claim_data};
 ghost use Rattle.finder.specs.Entry.{best_entries};
 ghost use Rattle.finder.specs.Envelope.{piece_data, piece_hull_at};
 ghost use Rattle.finder.specs.Piece.{stretch_at};
@@ -38,7 +38,6 @@ pub(crate) fn piece_hull_at<S: SampleSource>(
     tables: &[Vec<(u32, u32)>],
     number: u32,
 ) -> PieceHull
-    requires claim { IsLawful (claim_data claim.now) }
     requires samples { AreSamplesOf (claim_data claim.now) (S.samples samples) }
     requires few { length tables.now ≤ 32 }
     requires long { All (λ table. number < length table.items) tables.now }

@@ -1,7 +1,7 @@
 //! How far the longest pieces reach.
 
 ghost use Rattle.std.specs.Prelude.{◌≤◌, length, IfOk, List};
-ghost use Rattle.claim_file.specs.Claim.{IsLawful, data_of};
+ghost use Rattle.claim_file.specs.Claim.{data_of};
 ghost use Rattle.sample_interval.specs.declared.kinds.Sample.{Sample};
 ghost use Rattle.finder.specs.Reach.{AreTablesFor, IsReach, IsTabled};
 
@@ -30,7 +30,6 @@ pub(crate) fn longest_ends(
     tables: &[BestTable],
     claim: &Claim,
 ) -> Result<Reach, AllocError>
-    requires claim { IsLawful (data_of claim.now) }
     requires tables { IsTabled (data_of claim.now) tables.now }
     ensures { IfOk result (λ reach. (samples : List Sample) →
         AreTablesFor samples (data_of claim.now) tables.now →

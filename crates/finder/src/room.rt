@@ -1,7 +1,7 @@
 //! The errors for which exchanges leave room.
 
 ghost use Rattle.std.specs.Prelude.{◌≡◌, ◌^◌, ◌<◌, ◌≤◌, ◌≤ℤ◌, ◌+ℤ◌, ◌-ℤ◌, ℤ, ℕ, pos, not, unsigned_abs, filter, map, All};
-ghost use Rattle.claim_file.specs.Claim.{IsLawful, data_of as claim_data};
+ghost use Rattle.claim_file.specs.Claim.{data_of as claim_data};
 ghost use Rattle.intersection.specs.Interval.{leaves_out};
 ghost use Rattle.pairing.specs.Exchange.{IsLawful as IsLawfulExchange};
 ghost use Rattle.sample_interval.specs.Exchange.{IsOfSomeClaim};
@@ -131,7 +131,6 @@ pub(crate) fn refusing(rooms: &[Interval; 32], servers: u8, error: i128) -> Arra
 
 /// Whether at most `false_max` groups hold a server that leaves no room for the error.
 pub(crate) fn is_possible(rooms: &[Interval; 32], claim: &Claim, error: i128) -> bool
-    requires { IsLawful (claim_data claim.now) }
     ensures { result ≡ possible_by rooms.now (claim_data claim.now) error }
 {
     let liars = refusing(rooms, claim.servers.len() as u8, error);

@@ -77,7 +77,6 @@ pub fn exchange_samples<'a, X: ToExchange>(
     exchanges: &'a [X],
     claim: &Claim,
 ) -> ExchangeSamples<'a, X>
-    requires claim { IsLawful (claim_data claim.now) }
     requires exchanges { All (IsLawfulExchange (length claim.now.servers.items))
         (map X.shown exchanges.now) }
     ensures samples { ⟦<ExchangeSamples<'a, X> as SampleSource>⟧.samples result
@@ -96,7 +95,6 @@ pub fn exchange_samples<'a, X: ToExchange>(
 
 /// How many groups have a sample.
 fn groups_heard<X: ToExchange>(exchanges: &[X], claim: &Claim) -> u8
-    requires claim { IsLawful (claim_data claim.now) }
     requires exchanges { All (IsLawfulExchange (length claim.now.servers.items))
         (map X.shown exchanges.now) }
     ensures { result ≡ count_with_exchange (claim_data claim.now) (map X.shown exchanges.now) }
@@ -132,7 +130,6 @@ fn refutation_of<X: ToExchange>(
     tables: &[BestTable],
     readings: &[u64],
 ) -> Result<Search, AllocError>
-    requires claim { IsLawful (claim_data claim.now) }
     requires exchanges { All (IsLawfulExchange (length claim.now.servers.items))
         (map X.shown exchanges.now) }
     requires groups { (data_of conflicts.now).groups ≡ length claim.now.groups.items }
@@ -188,7 +185,6 @@ pub fn settle<X: ToExchange>(
     exchanges: &[X],
     claim: &Claim,
 ) -> Result<Settled, FindFault>
-    requires claim { IsLawful (claim_data claim.now) }
     requires exchanges { All (IsLawfulExchange (length claim.now.servers.items))
         (map X.shown exchanges.now) }
     requires few { length exchanges.now ≤ most_exchanges }

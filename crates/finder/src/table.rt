@@ -2,7 +2,7 @@
 
 ghost use Rattle.std.specs.Prelude.{◌≡◌, ℕ, ℤ, ◌≤◌, ◌<◌, length, All, IfOk, slice_get};
 ghost use Rattle.std.specs.List.{filter_map};
-ghost use Rattle.claim_file.specs.Claim.{IsLawful, data_of};
+ghost use Rattle.claim_file.specs.Claim.{data_of};
 ghost use Rattle.pairing.specs.Exchange.{most_exchanges};
 ghost use Rattle.sample_interval.specs.Sample.{IsLawfulSample};
 ghost use Rattle.sweep.specs.Pieces.{ArePieces, IsPieceAt};
@@ -26,7 +26,6 @@ pub(crate) fn tables<S: SampleSource>(
     step_s: u32,
     count: u32,
 ) -> Result<Vec<Vec<(u32, u32)>>, AllocError>
-    requires claim { IsLawful (data_of claim.now) }
     requires samples { All IsLawfulSample (S.samples samples) }
     requires few { length (S.samples samples) ≤ most_exchanges }
     ensures few { IfOk result (λ tables. length tables.items ≤ length claim.now.servers.items) }
@@ -51,7 +50,6 @@ pub(crate) fn tables_over<S: SampleSource>(
     first: i128,
     ends: &[i128],
 ) -> Result<Vec<Vec<(u32, u32)>>, AllocError>
-    requires claim { IsLawful (data_of claim.now) }
     requires samples { All IsLawfulSample (S.samples samples) }
     requires few { length (S.samples samples) ≤ most_exchanges }
     requires pieces { ArePieces first ends.now }

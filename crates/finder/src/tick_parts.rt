@@ -1,7 +1,7 @@
 //! What each server says about the clock's error at one reading of the clock, a tick.
 
 ghost use Rattle.std.specs.Prelude.{◌≡◌, ◌<◌, ℕ, ℤ, List, IfSome, length, All};
-ghost use Rattle.claim_file.specs.Claim.{IsLawful, data_of};
+ghost use Rattle.claim_file.specs.Claim.{data_of};
 ghost use Rattle.sample_interval.specs.declared.kinds.Sample.{Sample as TheSample};
 ghost use Rattle.span_cover.specs.Gathering.{Gathered};
 ghost use Rattle.span_cover.specs.Piece.{IsPiece};
@@ -19,7 +19,6 @@ use span_cover::{BestSamples, Part};
 ///
 /// The tick is one of Unix time, of 2^-32 s, from 0 to below 2^64. It may lie outside the span.
 pub fn best_parts<S: SampleSource>(samples: S, claim: &Claim, tick: i128) -> ArrayVec<Part, 32>
-    requires claim { IsLawful (data_of claim.now) }
     requires samples { AreSamplesOf (data_of claim.now) (S.samples samples) }
     requires tick { IsPiece tick tick }
     ensures exact { result.items ≡
@@ -38,7 +37,6 @@ pub fn best_parts<S: SampleSource>(samples: S, claim: &Claim, tick: i128) -> Arr
 
 /// The best samples of each server at a tick, by one pass over the samples.
 fn best_at<S: SampleSource>(samples: S, claim: &Claim, tick: i128) -> BestSamples
-    requires claim { IsLawful (data_of claim.now) }
     requires samples { AreSamplesOf (data_of claim.now) (S.samples samples) }
     requires tick { IsPiece tick tick }
     ensures { Gathered (S.samples samples) tick tick claim.now.drift_ppb result }

@@ -2,7 +2,7 @@
 
 ghost use Rattle.std.specs.Prelude.{◌≡◌, ◌-◌, ◌^◌, ◌<◌, ◌⊎◌, [], Err, OnOk, IfErr, IfSome};
 ghost use Rattle.pcap_reader.specs.Source.{IsFresh};
-ghost use Rattle.claim_file.specs.Claim.{IsLawful, data_of};
+ghost use Rattle.claim_file.specs.Claim.{data_of};
 ghost use Rattle.pairing.specs.Answer.{Collects, IsFromOutside, LeavesSource, answer_of};
 ghost use Rattle.pairing.specs.Gathering.{IsGatheredFrom};
 ghost use Rattle.pairing.specs.Compact.{compact_data};
@@ -27,7 +27,6 @@ fn gather<S: RecordSource>(
     claim: &Claim,
     gathering: &mut Gathering,
 ) -> Result<(), PairFault>
-    requires lawful { IsLawful (data_of claim.now) }
     requires fresh { IsFresh (S.state source.old) }
     requires room { (S.state source.old).fault_count < 2 ^ 64 - 1 }
     requires empty { IsGatheredFrom (data_of claim.now) []
@@ -56,16 +55,15 @@ fn gather<S: RecordSource>(
 /// whose hash is keyed by two numbers of `hasher`. Callers that don't trust the capture's writer
 /// should pass a hasher with a random key.
 ///
-/// The source has given nothing and answered no fault, and the claim keeps its limits. `Capture`
-/// comes if the source ends with a fault, `TooManyExchanges` if it ends whole with over 1,000,000
-/// exchanges, and `Memory` if no memory was left. After a fault the source is used no further.
+/// The source has given nothing and answered no fault. `Capture` comes if the source ends with a
+/// fault, `TooManyExchanges` if it ends whole with over 1,000,000 exchanges, and `Memory` if no
+/// memory was left. After a fault the source is used no further.
 pub fn collect_compact<S: RecordSource, H: BuildHasher + Drop>(
     alloc: Global,
     source: &mut S,
     claim: &Claim,
     hasher: H,
 ) -> Result<CompactCollection, PairFault>
-    requires claim { IsLawful (data_of claim.now) }
     requires fresh { IsFresh (S.state source.old) }
     requires room { (S.state source.old).fault_count < 2 ^ 64 - 1 }
     ensures { Collects compact_data (data_of claim.now) (S.state source.old) result
@@ -84,7 +82,6 @@ pub fn collect<S: RecordSource>(
     source: &mut S,
     claim: &Claim,
 ) -> Result<Collected, PairFault>
-    requires claim { IsLawful (data_of claim.now) }
     requires fresh { IsFresh (S.state source.old) }
     requires room { (S.state source.old).fault_count < 2 ^ 64 - 1 }
     ensures { Collects collection_data (data_of claim.now) (S.state source.old) result

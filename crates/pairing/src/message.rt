@@ -5,7 +5,7 @@ ghost use Rattle.std.specs.Str.{bytes_eq};
 ghost use Rattle.byte_stream.specs.Bytes.{IsBytes};
 ghost use Rattle.era_unfold.specs.Window.{per_second};
 ghost use Rattle.ntp_packet.specs.Packet.{packet_shown};
-ghost use Rattle.claim_file.specs.Claim.{IsLawful, data_of};
+ghost use Rattle.claim_file.specs.Claim.{data_of};
 ghost use Rattle.pairing.specs.Statement.{judged, message_in, message_of};
 ghost use Rattle.pairing.specs.Message.{reply_from, server_at, requested_server, replying_server};
 
@@ -54,7 +54,6 @@ fn place_of(servers: &[[u8; 4]], address: [u8; 4]) -> Option<usize>
 /// The number of the server with this address.
 #[inline(always)]
 fn server_at(claim: &Claim, address: [u8; 4]) -> Option<u8>
-    requires { IsLawful (data_of claim.now) }
     ensures { result ≡ server_at (data_of claim.now) address }
 {
     let place = place_of(&claim.servers, address)?;
@@ -66,7 +65,6 @@ fn server_at(claim: &Claim, address: [u8; 4]) -> Option<u8>
 #[inline(always)]
 #[tactic(auto, unfolding(crate::specs::Message::requested_server))]
 pub(crate) fn requested_server(claim: &Claim, packet: &Packet<'_>) -> Option<u8>
-    requires { IsLawful (data_of claim.now) }
     ensures { result ≡ requested_server (data_of claim.now) (packet_shown packet.now) }
 {
     let datagram = &packet.datagram;
@@ -84,7 +82,6 @@ pub(crate) fn requested_server(claim: &Claim, packet: &Packet<'_>) -> Option<u8>
 #[inline(always)]
 #[tactic(auto, unfolding(crate::specs::Message::replying_server))]
 pub(crate) fn replying_server(claim: &Claim, packet: &Packet<'_>) -> Option<u8>
-    requires { IsLawful (data_of claim.now) }
     ensures { result ≡ replying_server (data_of claim.now) (packet_shown packet.now) }
 {
     let datagram = &packet.datagram;
@@ -112,7 +109,6 @@ fn judge(server: u8, head: &RecordHead, packet: &Packet<'_>) -> Message
 /// What a packet says.
 #[inline(always)]
 fn message_in(claim: &Claim, head: &RecordHead, packet: &Packet<'_>) -> Option<Message>
-    requires claim { IsLawful (data_of claim.now) }
     requires part_of_a_second { head.now.sub < per_second head.now.unit }
     ensures { result ≡ message_in (data_of claim.now) head.now (packet_shown packet.now) }
 {
@@ -131,7 +127,6 @@ fn message_in(claim: &Claim, head: &RecordHead, packet: &Packet<'_>) -> Option<M
 #[inline(always)]
 #[tactic(auto, unfolding(crate::specs::Statement::message_of))]
 pub(crate) fn read_message(claim: &Claim, head: &RecordHead, bytes: &[u8]) -> Option<Message>
-    requires claim { IsLawful (data_of claim.now) }
     requires part_of_a_second { head.now.sub < per_second head.now.unit }
     ensures message { result
         ≡ message_of (data_of claim.now) (record { head = head.now; bytes = bytes.now }) }

@@ -14,7 +14,7 @@ piece_hull-requires-clause-listed g c =
     c.args.piece.now.entries.items c.add_parts.new.parts.items c.requires.listed c.in-Ok.ensures in
     listed_again c.as_slice.result.now c.add_parts.new.parts.items c.as_slice-in-Ok.result.now _
     c.as_slice.ensures.value
-    (ap length c.as_slice-in-Ok.ensures.value ∙ c.requires.claim.group_for_each) listed
+    (ap length c.as_slice-in-Ok.ensures.value ∙ c.args.claim.now.lawful.group_for_each) listed
 
 pub add_parts-requires-clause-stretch : goal.add_parts-requires-clause-stretch
 add_parts-requires-clause-stretch g c =
@@ -22,9 +22,9 @@ add_parts-requires-clause-stretch g c =
     let begin = to_z-of_z w128 c.args.begin c.ranges.begin in
     let fits = to_z-of_z w128 c.from.result (record { sfits = c.from.type_inv }) in
     let end = fits ∙ c.from.ensures in
-    let last = last_kept claim c.requires.claim in
+    let last = last_kept claim c.args.claim.now.lawful in
     uncut_piece (g.S.SampleSource.samples c.args.samples) claim c.args.begin (piece_data c.args.piece.now) _ _ _ begin
-    end last c.requires.from_1970 c.requires.claim.span_ends (rw fits at c.if-stretch-begin.false)
+    end last c.requires.from_1970 c.args.claim.now.lawful.span_ends (rw fits at c.if-stretch-begin.false)
     (rw fits at c.if-claim-stretch.false)
 
 pub returns-then-stretch-begin : goal.returns-then-stretch-begin
@@ -35,7 +35,7 @@ returns-then-stretch-begin g c =
     let begin = to_z-of_z w128 c.args.begin c.ranges.begin in
     let fits = to_z-of_z w128 c.from.result (record { sfits = c.from.type_inv }) in
     let end = fits ∙ c.from.ensures in
-    let last = last_kept claim c.requires.claim in
+    let last = last_kept claim c.args.claim.now.lawful in
     elim c.then-stretch-begin.branch [
       | then-stretch-begin-via-then-stretch-begin w ↦
           cut_before samples claim c.args.begin piece _ _ _ begin end last (rw fits at w.if-stretch-begin.true)
@@ -51,9 +51,9 @@ returns-in-Ok g c =
     let begin = to_z-of_z w128 c.args.begin c.ranges.begin in
     let fits = to_z-of_z w128 c.from.result (record { sfits = c.from.type_inv }) in
     let end = fits ∙ c.from.ensures in
-    let last = last_kept claim c.requires.claim in
+    let last = last_kept claim c.args.claim.now.lawful in
     c.hull_fault.ensures
-    ∙ ap₂ hull_fault (bound_kept claim c.requires.claim)
+    ∙ ap₂ hull_fault (bound_kept claim c.args.claim.now.lawful)
     (c.piece_hull.ensures
     ∙ ap₂ (λ groups parts. piece_hull groups claim.false_max parts) c.as_slice-in-Ok.ensures.value
     c.as_slice.ensures.value)
@@ -68,6 +68,6 @@ returns-in-Err g c =
     let begin = to_z-of_z w128 c.args.begin c.ranges.begin in
     let fits = to_z-of_z w128 c.from.result (record { sfits = c.from.type_inv }) in
     let end = fits ∙ c.from.ensures in
-    let last = last_kept claim c.requires.claim in
+    let last = last_kept claim c.args.claim.now.lawful in
     uncut samples claim c.args.begin (piece_data c.args.piece.now) _ _ _ begin end last (Err c.in-Err.why)
     (rw fits at c.if-stretch-begin.false) (rw fits at c.if-claim-stretch.false) c.in-Err.ensures

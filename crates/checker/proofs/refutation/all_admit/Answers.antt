@@ -3,9 +3,11 @@ use Rattle.pairing.specs.Exchange.{IsLawful as IsLawfulExchange}
 use Rattle.checker.proofs.Exchange.{lawful_at}
 use Rattle.checker.proofs.refutation.all_admit.Goals as goal
 
-pub allows-requires-clause-exchange : goal.allows-requires-clause-exchange
-allows-requires-clause-exchange g c =
+pub allows-requires : goal.allows-requires
+allows-requires g c =
     let at = slice_get-get_or c.args.exchanges.now _ c.exchange-item.result c.loop-exchange-test.true in
-    subst (IsLawfulExchange (length c.args.claim.now.servers.items)) (sym c.to_exchange.ensures)
-    (lawful_at g.X.ToExchange.shown c.args.exchanges.now _ c.loop-exchange.exchange-index c.exchange-item.result
-    (at ∙ ap Some (sym c.exchange-item.is)) c.requires.exchanges)
+    let lawful = lawful_at g.X.ToExchange.shown c.args.exchanges.now _ c.loop-exchange.exchange-index
+    c.exchange-item.result (at ∙ ap Some (sym c.exchange-item.is)) c.requires.exchanges in
+    record {
+      exchange = subst (IsLawfulExchange (length c.args.claim.now.servers.items)) (sym c.to_exchange.ensures) lawful;
+    }

@@ -14,9 +14,9 @@ returns g c =
       exact = (refuted, λ holds. c.is_refuted.ensures ∙ refuted_to claim xs refutation holds);
       tested = c.is_refuted.ensures;
       course = λ accepted agree.
-          c.accepted_refutations_have_a_course.ensures claim xs refutation c.requires.claim c.requires.exchanges agree
-          (refuted accepted);
+          c.accepted_refutations_have_a_course.ensures claim xs refutation c.args.claim.now.lawful c.requires.exchanges
+          agree (refuted accepted);
       no_yes = λ accepted certificate yes'.
-          c.yes_and_refutation_never_meet.ensures claim xs certificate refutation c.requires.claim
+          c.yes_and_refutation_never_meet.ensures claim xs certificate refutation c.args.claim.now.lawful
           c.requires.exchanges yes' (refuted accepted);
     }

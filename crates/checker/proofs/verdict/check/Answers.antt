@@ -7,5 +7,5 @@ returns c =
     let claim = claim_data c.args.claim.now in
     let certificate = certificate_data c.args.certificate.now in
     subst (IsVerdictOn claim c.args.samples.now certificate) (sym c.first_fault.ensures)
-    (c.verdicts_are_traceable.ensures claim c.args.samples.now certificate c.requires.claim
+    (c.verdicts_are_traceable.ensures claim c.args.samples.now certificate c.args.claim.now.lawful
     (record { lawful = c.requires.samples; listed = c.requires.listed }))

@@ -10,7 +10,7 @@ pub loop-number-init : goal.loop-number-init
 loop-number-init g c =
     let samples = g.S.SampleSource.samples c.args.samples in
     let claim = claim_data c.args.claim.now in
-    let lawful = c.requires.claim in
+    let lawful = c.args.claim.now.lawful in
     let first = first_kept claim lawful in
     let forward = lawful.span_forward in
     let ends = lawful.span_ends in
@@ -49,7 +49,7 @@ returns-then-begin-claim g c =
     let claim = claim_data c.args.claim.now in
     let over : length c.args.certificate.now.pieces.items ≤ c.loop-number.number = omega arith in
     covered samples claim c.args.certificate.now.pieces.items c.loop-number.number _ _ c.loop-number.invariant.rest over
-    (omega arith) (ap (to_z w128) c.if-begin-claim.true ∙ last_kept claim c.requires.claim)
+    (omega arith) (ap (to_z w128) c.if-begin-claim.true ∙ last_kept claim c.args.claim.now.lawful)
 
 pub returns : goal.returns
 returns g c =

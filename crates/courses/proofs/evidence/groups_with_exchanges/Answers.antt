@@ -12,7 +12,7 @@ index-requires g c =
     ∙ ap Some (sym c.exchange-item.is))
     (length c.args.claim.now.servers.items) c.to_exchange-exchange.result c.to_exchange-exchange.ensures
     c.requires.exchanges in
-    within_groups _ _ _ _ lawful.listed c.requires.claim.group_for_each c.args.claim.now.groups.ok.0
+    within_groups _ _ _ _ lawful.listed c.args.claim.now.lawful.group_for_each c.args.claim.now.groups.ok.0
 
 few_groups : (g read servers : ℕ) → read ≡ g → g < servers → servers ≤ 32 → read < 32
 few_groups g read servers is below few = omega arith
@@ -28,9 +28,9 @@ with-found-requires g c =
     c.requires.exchanges in
     let server = c.to_exchange-exchange.result.server in
     let below : server < length groups =
-    subst (λ (n : ℕ). server < n) (sym c.requires.claim.group_for_each) lawful.listed in
+    subst (λ (n : ℕ). server < n) (sym c.args.claim.now.lawful.group_for_each) lawful.listed in
     few_groups _ c.index.result.now (length c.args.claim.now.servers.items) c.index.ensures
-    (c.requires.claim.groups_in_range server c.index.result.now below) c.requires.claim.few_servers
+    (c.args.claim.now.lawful.groups_in_range server c.index.result.now below) c.args.claim.now.lawful.few_servers
 
 pub loop-exchange-preserved : goal.loop-exchange-preserved
 loop-exchange-preserved g c =
@@ -46,7 +46,7 @@ loop-exchange-preserved g c =
     let lawful = lawful_shown g.X.ToExchange.shown c.args.exchanges.now k c.exchange-item.result at
     (length c.args.claim.now.servers.items) x c.to_exchange-exchange.ensures c.requires.exchanges in
     let below : x.server < length groups =
-    subst (λ (n : ℕ). x.server < n) (sym c.requires.claim.group_for_each) lawful.listed in
+    subst (λ (n : ℕ). x.server < n) (sym c.args.claim.now.lawful.group_for_each) lawful.listed in
     one_more_heard claim xs x (drop k xs) (drop (k + 1) xs) (holds c.loop-exchange.found) (holds c.with-found.result)
     c.index.result.now split (sym (read_is groups 0 x.server c.index.result.now below c.index.ensures))
     c.with-found.ensures c.loop-exchange.invariant

@@ -6,4 +6,5 @@ returns g c =
     let (to, from) = c.in_ok-found.ensures.covers in
     let (has, has_from) = c.has_cover.ensures.exact in
     c.fits_are_settled.ensures.course (claim_data c.args.claim.now) (map g.X.ToExchange.shown c.args.exchanges.now)
-    c.has_cover.result c.requires.claim c.requires.exchanges (λ fits. from (has fits), λ course. has_from (to course))
+    c.has_cover.result c.args.claim.now.lawful c.requires.exchanges
+    (λ fits. from (has fits), λ course. has_from (to course))

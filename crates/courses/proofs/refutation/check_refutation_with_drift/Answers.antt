@@ -10,7 +10,7 @@ returns-then-is_against-clause-settles g c =
     let xs = map g.X.ToExchange.shown c.args.exchanges.now in
     let refutation = refutation_data c.args.refutation.now in
     IfOk-weaker c.do_agree.result (λ agree. agree ≡ do_agree claim xs refutation) (SettlesWithDrift claim xs refutation)
-    (λ agree is. c.refutations_are_settled.ensures claim xs refutation agree c.requires.claim c.requires.exchanges
-    (agreement claim xs refutation c.is_against.result c.is_against.ensures.tested c.is_against.ensures.exact
-    c.if-is_against.true agree is))
+    (λ agree is. c.refutations_are_settled.ensures claim xs refutation agree c.args.claim.now.lawful
+    c.requires.exchanges (agreement claim xs refutation c.is_against.result c.is_against.ensures.tested
+    c.is_against.ensures.exact c.if-is_against.true agree is))
     c.do_agree.ensures

@@ -25,7 +25,7 @@ loop-b-preserved c =
           (sym w.listed-is)
           (pushed claim xs a b c.loop-b.listed.items w.push.new.self.items
           record { a = a; b = b; pair = w.in-Some.pair } w.in_ok-push.ensures.items before
-          (lists claim xs c.requires.claim grounds.each table grounds.table_decides a b a_in b_in
+          (lists claim xs c.args.claim.now.lawful grounds.each table grounds.table_decides a b a_in b_in
           (sym c.is_listed.ensures ∙ w.if-is_listed.true))
           record {
             one = refl;
@@ -37,13 +37,13 @@ loop-b-preserved c =
           absurd (subst (IsFirstIfAny claim xs a b) w.in_default.is
           (w.in_ok-found.ensures claim xs refl grounds.in_order)
           (has_pair claim xs a b
-          (lists claim xs c.requires.claim grounds.each table grounds.table_decides a b a_in b_in
+          (lists claim xs c.args.claim.now.lawful grounds.each table grounds.table_decides a b a_in b_in
           (sym c.is_listed.ensures ∙ w.if-is_listed.true))))
       | else-is_listed w ↦
           subst (λ (list : Vec Conflict Global). AreListedUpto claim xs a (b + 1) (map conflict_data list.items))
           (sym w.listed-is)
           (not_listed claim xs a b (map conflict_data c.loop-b.listed.items) before
-          (lists_not claim xs c.requires.claim grounds.each table grounds.table_decides a b a_in b_in
+          (lists_not claim xs c.args.claim.now.lawful grounds.each table grounds.table_decides a b a_in b_in
           (sym c.is_listed.ensures ∙ w.if-is_listed.false)))
     ]
 
@@ -53,5 +53,5 @@ returns c =
     λ xs grounds listed.
     row_listed claim xs c.args.a c.loop-b.b (map conflict_data c.loop-b.listed.items)
     (c.loop-b.invariant xs grounds listed)
-    (λ b among. within_end b _ _ _ (listed_in_range claim xs c.requires.claim grounds.each c.args.a b among).1
+    (λ b among. within_end b _ _ _ (listed_in_range claim xs c.args.claim.now.lawful grounds.each c.args.a b among).1
     (c.groups-b-end.ensures.groups ∙ c.requires.groups) c.loop-b-test.false)

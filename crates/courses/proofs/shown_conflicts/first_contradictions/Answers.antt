@@ -28,5 +28,5 @@ returns g c =
     let claim = claim_data c.args.claim.now in
     let xs = map g.X.ToExchange.shown c.args.exchanges.now in
     all_listed claim xs c.loop-a.a (map conflict_data c.loop-a.listed.items) c.loop-a.invariant
-    (λ a b among. within_end a _ _ _ (listed_in_range claim xs c.requires.claim c.requires.exchanges a b among).0
+    (λ a b among. within_end a _ _ _ (listed_in_range claim xs c.args.claim.now.lawful c.requires.exchanges a b among).0
     (c.groups-a-end.ensures.groups ∙ c.requires.groups) c.loop-a-test.false)

@@ -21,7 +21,7 @@ returns c samples tabled =
       wider = c.wider_bounds_hold_too.ensures;
       down = c.nanoseconds_lie_between_their_ticks.ensures.down;
       more = c.more_nanoseconds_have_no_fewer_ticks.ensures.down;
-    }) samples claim c.requires.claim tabled.of_claim (record { bound_ns = l.bound_ns; tick = l.tick })
+    }) samples claim c.args.claim.now.lawful tabled.of_claim (record { bound_ns = l.bound_ns; tick = l.tick })
     l.invariant.small (l.invariant.carried samples tabled)
     (subst (λ (n : ℕ). IsFirst samples claim n (pos l.tick)) same (l.invariant.first samples tabled))
     (none_of _ _ c.in_ok-widest.widest (sym c.is_some.ensures ∙ c.if-is_some.false)

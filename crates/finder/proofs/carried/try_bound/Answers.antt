@@ -1,5 +1,5 @@
-use Rattle.finder.proofs.Common.{inl, inr, data_of, with_bound}
-use Rattle.finder.proofs.CarriedBound.{carried_by_ends, lawful_with, reached_by, samples_of_other, tables_for_other}
+use Rattle.finder.proofs.Common.{inl, inr, subst, data_of, IsLawful, with_bound}
+use Rattle.finder.proofs.CarriedBound.{carried_by_ends, reached_by, samples_of_other, tables_for_other}
 use Rattle.finder.proofs.carried.try_bound.Goals as goal
 
 pub returns-in-End : goal.returns-in-End
@@ -17,7 +17,7 @@ returns-in-End c samples tabled =
       covers = c.pieces_give_the_verdict.ensures.covers;
       held = c.best_hulls_hold_the_error.ensures;
     }) samples (with_bound claim n)
-    (lawful_with c.nanoseconds_lie_between_their_ticks.ensures.down claim n c.requires.in_range c.requires.claim)
+    (subst IsLawful c.in_ok-claim.ensures c.in_ok-claim.claim.lawful)
     (samples_of_other samples claim n tabled.of_claim) c.in-End.field-0.items (rw c.in-End.is at is)
 
 pub returns-in-Stuck : goal.returns-in-Stuck

@@ -10,8 +10,8 @@ returns-in_err-refutation-clause-held g c =
     let leeways = c.leeways_at-leeways.result in
     let are = subst (λ (n : ℕ). AreLeeways claim xs n c.args.side (pos c.args.place.reading) leeways)
     (sym (length-map c.args.exchanges.now g.X.ToExchange.shown)) c.leeways_at-leeways.ensures in
-    if_none c.from_residual.result _ (inl (held_if_bounded claim c.requires.claim xs c.requires.exchanges c.args.side
-    c.args.place.reading (holds c.args.place.cover) leeways (holds c.false_groups-false_groups.result) are
+    if_none c.from_residual.result _ (inl (held_if_bounded claim c.args.claim.now.lawful xs c.requires.exchanges
+    c.args.side c.args.place.reading (holds c.args.place.cover) leeways (holds c.false_groups-false_groups.result) are
     c.false_groups-false_groups.ensures c.in_err-refutation.ensures))
 
 pub returns-else-check_refutation_by_conflicts-clause-held :
@@ -22,7 +22,7 @@ returns-else-check_refutation_by_conflicts-clause-held g c =
     let leeways = c.leeways_at-leeways.result in
     let are = subst (λ (n : ℕ). AreLeeways claim xs n c.args.side (pos c.args.place.reading) leeways)
     (sym (length-map c.args.exchanges.now g.X.ToExchange.shown)) c.leeways_at-leeways.ensures in
-    inr (rounded claim c.requires.claim xs c.requires.exchanges c.args.side c.args.place.reading
+    inr (rounded claim c.args.claim.now.lawful xs c.requires.exchanges c.args.side c.args.place.reading
     (holds c.args.place.cover) leeways (holds c.false_groups-false_groups.result) are
     c.false_groups-false_groups.ensures (refutation_data c.in_ok-refutation.refutation) c.in_ok-refutation.ensures
     (λ refuted. true≢false (sym (c.check_refutation_by_conflicts.ensures.exact.1 refuted)

@@ -4,17 +4,11 @@ use Rattle.finder.proofs.EnvelopePieces.{envelope_is, lawful_pieces, least_more,
 use Rattle.finder.proofs.TablePieces.{best_tables, few_tables, long_tables}
 use Rattle.finder.proofs.envelope.envelope_to.Goals as goal
 
-pub tables-requires-clause-claim : goal.tables-requires-clause-claim
-tables-requires-clause-claim g c = c.requires.claim
-
 pub tables-requires-clause-samples : goal.tables-requires-clause-samples
 tables-requires-clause-samples g c = c.requires.samples.lawful
 
 pub tables-requires-clause-few : goal.tables-requires-clause-few
 tables-requires-clause-few g c = c.requires.few
-
-pub piece_hull_at-piece-requires-clause-claim : goal.piece_hull_at-piece-requires-clause-claim
-piece_hull_at-piece-requires-clause-claim g c = c.requires.claim
 
 pub piece_hull_at-piece-requires-clause-samples : goal.piece_hull_at-piece-requires-clause-samples
 piece_hull_at-piece-requires-clause-samples g c = c.requires.samples
@@ -22,7 +16,7 @@ piece_hull_at-piece-requires-clause-samples g c = c.requires.samples
 pub piece_hull_at-piece-requires-clause-few : goal.piece_hull_at-piece-requires-clause-few
 piece_hull_at-piece-requires-clause-few g c =
     few_tables _ c.as_slice.result.now c.in_ok-tables.tables.items c.as_slice.ensures.value c.in_ok-tables.ensures.few
-    c.requires.claim.few_servers
+    c.args.claim.now.lawful.few_servers
 
 pub piece_hull_at-piece-requires-clause-long : goal.piece_hull_at-piece-requires-clause-long
 piece_hull_at-piece-requires-clause-long g c =
@@ -69,7 +63,7 @@ returns-clause-lawful g c =
     let all : All (IsLawfulPiece (length samples)) (map piece_data c.loop-number.pieces.items) =
     rw c.loop-number.invariant.pieces
     (lawful_pieces samples (claim_data c.args.claim.now) c.args.step_s c.best_samples_are_the_first_best.ensures
-    c.requires.claim c.loop-number.number) in
+    c.args.claim.now.lawful c.loop-number.number) in
     record {
       pieces = All-map_back (IsLawfulPiece (length samples)) piece_data c.loop-number.pieces.items all;
       least = c.loop-number.invariant.below;

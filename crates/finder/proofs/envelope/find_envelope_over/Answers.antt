@@ -17,7 +17,7 @@ returns g c =
     let claim = claim_data c.args.claim.now in
     let samples = g.S.SampleSource.samples c.args.samples in
     let step = c.args.step_s in
-    let some = (c.last_piece_ends_with_the_span.ensures claim.first claim.last step c.requires.claim.span_forward
+    let some = (c.last_piece_ends_with_the_span.ensures claim.first claim.last step c.args.claim.now.lawful.span_forward
     c.requires.step.some).some in
     envelope_few samples claim step (rw c.piece_count-count.ensures at c.if-count.false)
     (c.least_bound_is_the_least.ensures.is (hull_at samples claim step) (count_of claim step) some)

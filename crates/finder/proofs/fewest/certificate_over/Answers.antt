@@ -5,7 +5,7 @@ use Rattle.finder.proofs.fewest.certificate_over.Goals as goal
 
 pub tables_over-requires-clause-pieces : goal.tables_over-requires-clause-pieces
 tables_over-requires-clause-pieces g c =
-    rw (first_kept (data_of c.args.claim.now) c.requires.claim) c.requires.pieces
+    rw (first_kept (data_of c.args.claim.now) c.args.claim.now.lawful) c.requires.pieces
 
 pub loop-number-init : goal.loop-number-init
 loop-number-init g c = ap (map piece_data) c.in_ok-pieces.ensures.items
@@ -30,7 +30,7 @@ loop-number-preserved g c =
     let p = end_after first (take k ends) in
     let q = get_or ends k (pos 0) in
     let at = piece_at_take first ends k (pos 0) below in
-    let there : IsPieceAt _ ends k p q = rw (first_kept claim c.requires.claim) at in
+    let there : IsPieceAt _ ends k p q = rw (first_kept claim c.args.claim.now.lawful) at in
     let entries = c.entries_at-entries.ensures
     ∙ best_tables k c.as_slice.result.now c.in_ok-tables.tables.items _ c.as_slice.ensures.value
     (c.in_ok-tables.ensures.best k p q there) in

@@ -14,8 +14,8 @@ returns-in_ok-found-in-End g c =
       each = c.pieces_give_the_verdict.ensures.each;
       covers = c.pieces_give_the_verdict.ensures.covers;
       held = c.best_hulls_hold_the_error.ensures;
-    }) (g.S.SampleSource.samples c.args.samples) (claim_data c.args.claim.now) c.requires.claim c.requires.samples
-    c.in_ok-found-in-End.found c.in-End.ends.items is
+    }) (g.S.SampleSource.samples c.args.samples) (claim_data c.args.claim.now) c.args.claim.now.lawful
+    c.requires.samples c.in_ok-found-in-End.found c.in-End.ends.items is
     (rw c.as_slice.ensures.value at c.in_ok-found-in-End.ensures)
 
 pub returns-in-Stuck : goal.returns-in-Stuck
@@ -27,9 +27,9 @@ returns-in-Stuck g c =
       each = c.pieces_give_the_verdict.ensures.each;
       covers = c.pieces_give_the_verdict.ensures.covers;
       held = c.best_hulls_hold_the_error.ensures;
-    }) (g.S.SampleSource.samples c.args.samples) (claim_data c.args.claim.now) c.requires.claim c.requires.samples
-    c.in-Stuck.begin c.in-Stuck.end c.from.result c.from-in-Stuck.result c.in-Stuck.hull c.from.ensures
-    c.from-in-Stuck.ensures
+    }) (g.S.SampleSource.samples c.args.samples) (claim_data c.args.claim.now) c.args.claim.now.lawful
+    c.requires.samples c.in-Stuck.begin c.in-Stuck.end c.from.result c.from-in-Stuck.result c.in-Stuck.hull
+    c.from.ensures c.from-in-Stuck.ensures
     (rw c.in-Stuck.is at c.in_ok-ends.ensures (g.S.SampleSource.samples c.args.samples) c.requires.tables)
 
 pub returns-in-TooLong : goal.returns-in-TooLong
@@ -41,7 +41,8 @@ returns-in-TooLong g c =
       each = c.pieces_give_the_verdict.ensures.each;
       covers = c.pieces_give_the_verdict.ensures.covers;
       held = c.best_hulls_hold_the_error.ensures;
-    }) (g.S.SampleSource.samples c.args.samples) (claim_data c.args.claim.now) c.requires.claim c.requires.samples
+    }) (g.S.SampleSource.samples c.args.samples) (claim_data c.args.claim.now) c.args.claim.now.lawful
+    c.requires.samples
     (rw c.in-TooLong.is at c.in_ok-ends.ensures (g.S.SampleSource.samples c.args.samples) c.requires.tables).0
 
 pub certificate_over-requires-clause-pieces : goal.certificate_over-requires-clause-pieces
@@ -57,5 +58,6 @@ certificate_over-requires-clause-pieces g c =
       held = c.best_hulls_hold_the_error.ensures;
     } in
     let is = rw c.in-End.is at c.in_ok-ends.ensures (g.S.SampleSource.samples c.args.samples) c.requires.tables in
-    rw (c.as_slice.ensures.value, is.are) (are_pieces laws samples claim c.requires.claim c.requires.samples
-    claim.first is.earlier (first_in_span laws samples claim c.requires.claim c.requires.samples) is.longest is.last)
+    rw (c.as_slice.ensures.value, is.are) (are_pieces laws samples claim c.args.claim.now.lawful c.requires.samples
+    claim.first is.earlier (first_in_span laws samples claim c.args.claim.now.lawful c.requires.samples) is.longest
+    is.last)

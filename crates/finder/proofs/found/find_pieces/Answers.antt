@@ -4,17 +4,11 @@ use Rattle.finder.proofs.SpanPieces.{end_fits, end_kept}
 use Rattle.finder.proofs.TablePieces.{best_tables, few_tables, long_tables}
 use Rattle.finder.proofs.found.find_pieces.Goals as goal
 
-pub tables-requires-clause-claim : goal.tables-requires-clause-claim
-tables-requires-clause-claim g c = c.requires.claim
-
 pub tables-requires-clause-samples : goal.tables-requires-clause-samples
 tables-requires-clause-samples g c = c.requires.samples.lawful
 
 pub tables-requires-clause-few : goal.tables-requires-clause-few
 tables-requires-clause-few g c = c.requires.few
-
-pub piece_hull_at-entries-requires-clause-claim : goal.piece_hull_at-entries-requires-clause-claim
-piece_hull_at-entries-requires-clause-claim g c = c.requires.claim
 
 pub piece_hull_at-entries-requires-clause-samples : goal.piece_hull_at-entries-requires-clause-samples
 piece_hull_at-entries-requires-clause-samples g c = c.requires.samples
@@ -22,7 +16,7 @@ piece_hull_at-entries-requires-clause-samples g c = c.requires.samples
 pub piece_hull_at-entries-requires-clause-few : goal.piece_hull_at-entries-requires-clause-few
 piece_hull_at-entries-requires-clause-few g c =
     few_tables _ c.as_slice.result.now c.in_ok-tables.tables.items c.as_slice.ensures.value c.in_ok-tables.ensures.few
-    c.requires.claim.few_servers
+    c.args.claim.now.lawful.few_servers
 
 pub piece_hull_at-entries-requires-clause-long : goal.piece_hull_at-entries-requires-clause-long
 piece_hull_at-entries-requires-clause-long g c =
@@ -39,7 +33,7 @@ returns-then-not-is_inside g c =
     let claim = claim_data c.args.claim.now in
     let hull = ap (λ (p : PieceHullData). p.hull) c.piece_hull_at-entries.ensures in
     let outside : is_inside claim.bound c.piece_hull_at-entries.result.hull ≡ false =
-    rw (bound_kept claim c.requires.claim) at (sym c.is_inside.ensures ∙ c.if-not-is_inside.true) in
+    rw (bound_kept claim c.args.claim.now.lawful) at (sym c.is_inside.ensures ∙ c.if-not-is_inside.true) in
     let below : c.loop-number.number < count_of claim c.args.step_s =
     rw c.requires.count at c.loop-number-test.true in
     found_failing (g.S.SampleSource.samples c.args.samples) claim c.args.step_s c.loop-number.number _ below hull
@@ -48,8 +42,8 @@ returns-then-not-is_inside g c =
 pub overflow_cast-stretch : goal.overflow_cast-stretch
 overflow_cast-stretch g c =
     let claim = claim_data c.args.claim.now in
-    end_fits claim c.requires.claim c.args.step_s c.loop-number.number _
-    (end_kept claim c.requires.claim c.args.step_s c.loop-number.number _
+    end_fits claim c.args.claim.now.lawful c.args.step_s c.loop-number.number _
+    (end_kept claim c.args.claim.now.lawful c.args.step_s c.loop-number.number _
     (ap (λ (p : PieceHullData). p.stretch.end) c.piece_hull_at-entries.ensures))
 
 pub loop-number-preserved : goal.loop-number-preserved
@@ -59,9 +53,9 @@ loop-number-preserved g c =
     let step = c.args.step_s in
     let number = c.loop-number.number in
     let piece = c.piece_hull_at-entries.ensures in
-    let end = end_kept claim c.requires.claim step number _ (ap (λ (p : PieceHullData). p.stretch.end) piece) in
+    let end = end_kept claim c.args.claim.now.lawful step number _ (ap (λ (p : PieceHullData). p.stretch.end) piece) in
     let inside : is_inside claim.bound c.piece_hull_at-entries.result.hull ≡ true =
-    rw (bound_kept claim c.requires.claim) at (sym c.is_inside.ensures ∙ c.if-not-is_inside.false) in
+    rw (bound_kept claim c.args.claim.now.lawful) at (sym c.is_inside.ensures ∙ c.if-not-is_inside.false) in
     record {
       pieces = ap (map piece_data) c.in_ok-push.ensures.items ∙ map-append piece_data c.loop-number.pieces.items _
           ∙ pieces_more samples claim step number _ _ _ c.loop-number.invariant.pieces

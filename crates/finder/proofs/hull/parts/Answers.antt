@@ -31,7 +31,7 @@ pub part_of-requires-clause-stretch : goal.part_of-requires-clause-stretch
 part_of-requires-clause-stretch g c = c.requires.stretch
 
 pub part_of-requires-clause-rate : goal.part_of-requires-clause-rate
-part_of-requires-clause-rate g c = c.requires.claim.drift_in_range
+part_of-requires-clause-rate g c = c.args.claim.now.lawful.drift_in_range
 
 pub loop-entry-preserved : goal.loop-entry-preserved
 loop-entry-preserved g c =

@@ -10,10 +10,11 @@ mark_of-mark-requires-clause-exchange g c = record {
       c.held-item.is c.to_exchange-exchange.ensures _ c.requires.exchanges;
 }
 
-pub group_of-requires-clause-listed : goal.group_of-requires-clause-listed
-group_of-requires-clause-listed g c =
-    (lawful_of g.X.ToExchange.shown c.args.exchanges.now c.loop-held.held-index _ _ c.loop-held-test.true
-    c.held-item.is c.to_exchange-exchange.ensures _ c.requires.exchanges).listed
+pub group_of-requires : goal.group_of-requires
+group_of-requires g c = record {
+  listed = (lawful_of g.X.ToExchange.shown c.args.exchanges.now c.loop-held.held-index _ _ c.loop-held-test.true
+      c.held-item.is c.to_exchange-exchange.ensures _ c.requires.exchanges).listed;
+}
 
 pub loop-held-init : goal.loop-held-init
 loop-held-init g c = record {
@@ -26,7 +27,7 @@ loop-held-init g c = record {
 pub loop-held-preserved : goal.loop-held-preserved
 loop-held-preserved g c =
     let claim = claim_data c.args.claim.now in
-    let lawful = c.requires.claim in
+    let lawful = c.args.claim.now.lawful in
     let xs = map g.X.ToExchange.shown c.args.exchanges.now in
     let x = c.to_exchange-exchange.result in
     let reading = pos c.args.reading in

@@ -11,7 +11,7 @@ piece_hull-requires-clause-listed c =
     let claim = data_of c.args.claim.now in
     let samples = c.requires.tables.0 in
     let tabled = c.requires.tables.1 in
-    let count = ap (λ xs. length xs) c.as_slice-2.ensures.value ∙ c.requires.claim.group_for_each in
+    let count = ap (λ xs. length xs) c.as_slice-2.ensures.value ∙ c.args.claim.now.lawful.group_for_each in
     rw (c.as_slice.ensures.value, count, c.parts_near-parts.ensures samples (length claim.servers) tabled.are)
     (listed_said c.best_samples_are_the_first_best.ensures samples claim _ _ tabled.of_claim)
 

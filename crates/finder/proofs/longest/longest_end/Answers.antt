@@ -11,9 +11,9 @@ loop-low-init c samples tabled =
       each = c.pieces_give_the_verdict.ensures.each;
       covers = c.pieces_give_the_verdict.ensures.covers;
       held = c.best_hulls_hold_the_error.ensures;
-    }) samples (data_of c.args.claim.now) c.requires.claim tabled.of_claim
+    }) samples (data_of c.args.claim.now) c.args.claim.now.lawful tabled.of_claim
     c.args.begin c.args.next c.requires.in_span c.requires.next _
-    (last_is (data_of c.args.claim.now) c.requires.claim) (c.requires.shown samples tabled)
+    (last_is (data_of c.args.claim.now) c.args.claim.now.lawful) (c.requires.shown samples tabled)
 
 pub is_shown-requires-clause-in_order : goal.is_shown-requires-clause-in_order
 is_shown-requires-clause-in_order c =
@@ -33,7 +33,7 @@ loop-low-preserved-then-is_shown c samples tabled =
       each = c.pieces_give_the_verdict.ensures.each;
       covers = c.pieces_give_the_verdict.ensures.covers;
       held = c.best_hulls_hold_the_error.ensures;
-    }) samples (data_of c.args.claim.now) c.requires.claim tabled.of_claim
+    }) samples (data_of c.args.claim.now) c.args.claim.now.lawful tabled.of_claim
     c.args.begin c.args.next c.requires.in_span c.requires.next c.loop-low.low c.loop-low.high _
     (c.loop-low.invariant samples tabled) (omega arith) (omega arith)
     (sym (c.is_shown.ensures samples tabled) ∙ c.if-is_shown.true)
@@ -48,7 +48,7 @@ loop-low-preserved c samples tabled =
       each = c.pieces_give_the_verdict.ensures.each;
       covers = c.pieces_give_the_verdict.ensures.covers;
       held = c.best_hulls_hold_the_error.ensures;
-    }) samples (data_of c.args.claim.now) c.requires.claim tabled.of_claim
+    }) samples (data_of c.args.claim.now) c.args.claim.now.lawful tabled.of_claim
     c.args.begin c.args.next c.requires.in_span c.requires.next c.loop-low.low c.loop-low.high
     (c.trial-middle.result + 1)
     (c.loop-low.invariant samples tabled) (omega arith) (omega arith) (c.requires.shown samples tabled)
@@ -63,6 +63,6 @@ returns c samples tabled =
       each = c.pieces_give_the_verdict.ensures.each;
       covers = c.pieces_give_the_verdict.ensures.covers;
       held = c.best_hulls_hold_the_error.ensures;
-    }) samples (data_of c.args.claim.now) c.requires.claim tabled.of_claim
+    }) samples (data_of c.args.claim.now) c.args.claim.now.lawful tabled.of_claim
     c.args.begin c.args.next c.requires.in_span c.requires.next c.loop-low.low c.loop-low.high
     (c.loop-low.invariant samples tabled) c.loop-low-test.false (c.requires.shown samples tabled)

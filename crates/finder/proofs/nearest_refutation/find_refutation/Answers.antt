@@ -5,11 +5,11 @@ use Rattle.finder.proofs.nearest_refutation.find_refutation.Goals as goal
 
 pub rooms_of-rooms-requires-clause-from_zero : goal.rooms_of-rooms-requires-clause-from_zero
 rooms_of-rooms-requires-clause-from_zero g c =
-    rw (reading_kept (claim_data c.args.claim.now) c.requires.claim) c.requires.claim.reading_not_negative
+    rw (reading_kept (claim_data c.args.claim.now) c.args.claim.now.lawful) c.args.claim.now.lawful.reading_not_negative
 
 pub rooms_of-rooms-requires-clause-at_most_a_second : goal.rooms_of-rooms-requires-clause-at_most_a_second
 rooms_of-rooms-requires-clause-at_most_a_second g c =
-    rw (reading_kept (claim_data c.args.claim.now) c.requires.claim) c.requires.claim.reading_in_range
+    rw (reading_kept (claim_data c.args.claim.now) c.args.claim.now.lawful) c.args.claim.now.lawful.reading_in_range
 
 pub nearest_error-requires-clause-low : goal.nearest_error-requires-clause-low
 nearest_error-requires-clause-low g c server below = (c.rooms_of-rooms.ensures.rooms server below).low
@@ -21,14 +21,14 @@ pub returns-in_err-error-clause-none : goal.returns-in_err-error-clause-none
 returns-in_err-error-clause-none g c none =
     let claim = claim_data c.args.claim.now in
     let xs = map g.X.ToExchange.shown c.args.exchanges.now in
-    let are = rw (reading_kept claim c.requires.claim) at c.rooms_of-rooms.ensures.rooms in
-    says_none c.test_is_passed_where_room_is_left.ensures claim c.requires.claim xs c.requires.exchanges
+    let are = rw (reading_kept claim c.args.claim.now.lawful) at c.rooms_of-rooms.ensures.rooms in
+    says_none c.test_is_passed_where_room_is_left.ensures claim c.args.claim.now.lawful xs c.requires.exchanges
     (sym (c.in_err-error.ensures.exact xs are))
 
 pub returns : goal.returns
 returns g c =
     let claim = claim_data c.args.claim.now in
-    let lawful = c.requires.claim in
+    let lawful = c.args.claim.now.lawful in
     let xs = map g.X.ToExchange.shown c.args.exchanges.now in
     let law = c.test_is_passed_where_room_is_left.ensures in
     let found = c.in_ok-error.error in

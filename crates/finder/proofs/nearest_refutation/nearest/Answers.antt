@@ -14,32 +14,33 @@ next_kept claim lawful =
 pub returns-then-is_possible : goal.returns-then-is_possible
 returns-then-is_possible c =
     let claim = claim_data c.args.claim.now in
-    let bound = bound_kept claim c.requires.claim in
-    let next = next_kept claim c.requires.claim in
+    let bound = bound_kept claim c.args.claim.now.lawful in
+    let next = next_kept claim c.args.claim.now.lawful in
     let passes : possible_by c.args.rooms.now claim (claim.bound +ℤ pos 1) ≡ true =
     rw (bound, next) at (sym c.is_possible.ensures ∙ c.if-is_possible.true) in
-    rw (bound, next) (next_is_nearest c.args.rooms.now claim (few_groups claim c.requires.claim) c.args.limit
+    rw (bound, next) (next_is_nearest c.args.rooms.now claim (few_groups claim c.args.claim.now.lawful) c.args.limit
     c.requires.beyond passes)
 
 pub loop-server-init : goal.loop-server-init
 loop-server-init c =
     let claim = claim_data c.args.claim.now in
-    let not_below = c.requires.claim.bound_not_negative in
+    let not_below = c.args.claim.now.lawful.bound_not_negative in
     let beyond = c.requires.beyond in
     let in_range = c.requires.in_range in
     let limit = to_z-of_z w128 c.args.limit c.ranges.limit in
     let after = w128_keeps (c.args.limit +ℤ pos 1) (omega (arith, ints)) in
-    rw (limit, after) (nothing_so_far c.args.rooms.now claim (few_groups claim c.requires.claim) c.args.limit beyond)
+    rw (limit, after) (nothing_so_far c.args.rooms.now claim (few_groups claim c.args.claim.now.lawful) c.args.limit
+    beyond)
 
 pub loop-server-preserved : goal.loop-server-preserved
 loop-server-preserved c =
     let claim = claim_data c.args.claim.now in
-    let bound = bound_kept claim c.requires.claim in
+    let bound = bound_kept claim c.args.claim.now.lawful in
     let rooms = c.args.rooms.now in
     let server = c.loop-server.server in
     let low = c.requires.low server c.loop-server-test.true in
     let error = w128_keeps (room_at rooms server).lo (omega (arith, low)) in
-    let few = few_groups claim c.requires.claim in
+    let few = few_groups claim c.args.claim.now.lawful in
     elim c.if-claim-error.branch [
       | then-claim-error+then-error-first+then-is_possible-2 w ↦
           let above = rw (bound, error) at w.if-claim-error.true in
@@ -66,13 +67,13 @@ fails : (c : Else-is_possible)
     → possible_by c.args.rooms.now (claim_data c.args.claim.now) (c.args.claim.now.bound +ℤ pos 1) ≡ false
 fails c =
     let claim = claim_data c.args.claim.now in
-    rw (bound_kept claim c.requires.claim, next_kept claim c.requires.claim) at
+    rw (bound_kept claim c.args.claim.now.lawful, next_kept claim c.args.claim.now.lawful) at
     (sym c.is_possible.ensures ∙ c.if-is_possible.false)
 
 pub returns-then-first-limit : goal.returns-then-first-limit
 returns-then-first-limit c =
     let claim = claim_data c.args.claim.now in
-    let few = few_groups claim c.requires.claim in
+    let few = few_groups claim c.args.claim.now.lawful in
     let limit = to_z-of_z w128 c.args.limit c.ranges.limit in
     let within = rw limit at c.if-first-limit.true in
     let up = c.loop-server-test.false in
@@ -84,7 +85,7 @@ returns-then-first-limit c =
 pub returns-else-first-limit : goal.returns-else-first-limit
 returns-else-first-limit c =
     let claim = claim_data c.args.claim.now in
-    let few = few_groups claim c.requires.claim in
+    let few = few_groups claim c.args.claim.now.lawful in
     let limit = to_z-of_z w128 c.args.limit c.ranges.limit in
     let outside = rw limit at c.if-first-limit.false in
     let up = c.loop-server-test.false in

@@ -6,7 +6,7 @@ use Rattle.finder.proofs.nearest_refutation.nearest_error.Goals.{In_default}
 pub returns-in-Some-clause-exact : goal.returns-in-Some-clause-exact
 returns-in-Some-clause-exact c xs are =
     let claim = claim_data c.args.claim.now in
-    let lawful = c.requires.claim in
+    let lawful = c.args.claim.now.lawful in
     let rooms = c.args.rooms.now in
     let not_below = lawful.bound_not_negative in
     let not_above = lawful.bound_in_range in
@@ -22,7 +22,7 @@ none_above : (c : In_default) (xs : List Exchange) → AreRooms c.args.claim.now
     → nearest (is_possible (claim_data c.args.claim.now) xs) c.args.claim.now.bound greatest_error ≡ None
 none_above c xs are =
     let claim = claim_data c.args.claim.now in
-    let lawful = c.requires.claim in
+    let lawful = c.args.claim.now.lawful in
     let not_above = lawful.bound_in_range in
     none_found claim lawful c.args.rooms.now (is_possible claim xs)
     (possible_is claim lawful xs c.args.rooms.now are) greatest_error (omega (arith, ints)) (omega (arith, ints))
@@ -31,7 +31,7 @@ none_above c xs are =
 pub returns-in-Some-nearest-clause-exact : goal.returns-in-Some-nearest-clause-exact
 returns-in-Some-nearest-clause-exact c xs are =
     let claim = claim_data c.args.claim.now in
-    let lawful = c.requires.claim in
+    let lawful = c.args.claim.now.lawful in
     let rooms = c.args.rooms.now in
     let not_below = lawful.bound_not_negative in
     let not_above = lawful.bound_in_range in
@@ -50,7 +50,7 @@ returns-in-Some-nearest-clause-exact c xs are =
 pub returns-in-None-clause-exact : goal.returns-in-None-clause-exact
 returns-in-None-clause-exact c xs are =
     let claim = claim_data c.args.claim.now in
-    let lawful = c.requires.claim in
+    let lawful = c.args.claim.now.lawful in
     let not_above = lawful.bound_in_range in
     let none = none_above (goal.at.returns-in-None-clause-exact c).In_default xs are in
     let none_below = none_found claim lawful c.mirrored.result (λ (e : ℤ). is_possible claim xs (neg_ℤ e))

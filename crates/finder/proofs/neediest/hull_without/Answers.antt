@@ -14,7 +14,7 @@ parts_without-parts-requires-clause-listed c =
     let tabled = c.requires.tables.1 in
     rw (
       c.as_slice.ensures.value,
-      c.requires.claim.group_for_each,
+      c.args.claim.now.lawful.group_for_each,
       c.parts_near-all.ensures samples (length claim.servers) tabled.are,
     )
     (listed_said c.best_samples_are_the_first_best.ensures samples claim _ _ tabled.of_claim)
@@ -29,7 +29,7 @@ piece_hull-requires-clause-listed c =
       c.as_slice-3.ensures.value,
       c.parts_without-parts.ensures.exact,
       c.as_slice.ensures.value,
-      c.requires.claim.group_for_each,
+      c.args.claim.now.lawful.group_for_each,
       c.parts_near-all.ensures samples (length claim.servers) tabled.are,
     )
     (All-filter (has_say claim.groups (holds c.args.cover)) (λ part. part.server < length claim.servers) _

@@ -9,7 +9,7 @@ use Rattle.finder.proofs.neediest.neediest_tick.Goals.{then-may_need_more+in-Som
 pub loop-init : goal.loop-init
 loop-init c =
     let claim = data_of c.args.claim.now in
-    let lawful = c.requires.claim in
+    let lawful = c.args.claim.now.lawful in
     let first = c.in-Some.first in
     let last = c.in-Some-tick_need.last in
     let begins : pos first.begin ≡ claim.first = ap (λ n. pos n) c.in-Some.ensures.begin ∙ first_is claim lawful in

@@ -7,12 +7,12 @@ pub overflow_mul-step : goal.overflow_mul-step
 overflow_mul-step c = ticks_fit c.args.step_s c.from-step.result c.from-step.ensures c.ranges.step_s
 
 pub overflow_sub-length : goal.overflow_sub-length
-overflow_sub-length c = length_fits (data_of c.args.claim.now) c.requires.claim
+overflow_sub-length c = length_fits (data_of c.args.claim.now) c.args.claim.now.lawful
 
 pub overflow_cast-length : goal.overflow_cast-length
 overflow_cast-length c =
     let claim = data_of c.args.claim.now in
-    (length_from_zero claim c.requires.claim, length_fits_unsigned claim c.requires.claim)
+    (length_from_zero claim c.args.claim.now.lawful, length_fits_unsigned claim c.args.claim.now.lawful)
 
 pub div_ceil-requires : goal.div_ceil-requires
 div_ceil-requires c = some_ticks c.args.step_s c.from-step.result c.from-step.ensures c.requires.step
@@ -20,14 +20,15 @@ div_ceil-requires c = some_ticks c.args.step_s c.from-step.result c.from-step.en
 pub overflow_cast-result : goal.overflow_cast-result
 overflow_cast-result c =
     let claim = data_of c.args.claim.now in
-    let kept = ap unsigned_abs (length_kept claim c.requires.claim) in
+    let kept = ap unsigned_abs (length_kept claim c.args.claim.now.lawful) in
     count_fits _ _ c.div_ceil.result c.max.result
     (some_ticks c.args.step_s c.from-step.result c.from-step.ensures c.requires.step)
-    (subst (λ (n : ℕ). n < 2 ^ 64) (sym kept) (length_below claim c.requires.claim)) c.div_ceil.ensures c.max.ensures
+    (subst (λ (n : ℕ). n < 2 ^ 64) (sym kept) (length_below claim c.args.claim.now.lawful)) c.div_ceil.ensures
+    c.max.ensures
 
 pub returns : goal.returns
 returns c =
     let claim = data_of c.args.claim.now in
-    let length = ap unsigned_abs (length_kept claim c.requires.claim) in
+    let length = ap unsigned_abs (length_kept claim c.args.claim.now.lawful) in
     count_from claim.first claim.last c.args.step_s c.from-step.result _ c.div_ceil.result c.max.result
     c.requires.step c.from-step.ensures length c.div_ceil.ensures c.max.ensures

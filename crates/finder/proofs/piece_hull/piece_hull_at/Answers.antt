@@ -7,7 +7,7 @@ use Rattle.finder.proofs.piece_hull.piece_hull_at.Goals as goal
 pub hull_of-hull-requires-clause-stretch : goal.hull_of-hull-requires-clause-stretch
 hull_of-hull-requires-clause-stretch g c =
     rw c.stretch_at-stretch.ensures
-    (piece_of_claim (claim_data c.args.claim.now) c.requires.claim c.args.step_s c.args.number)
+    (piece_of_claim (claim_data c.args.claim.now) c.args.claim.now.lawful c.args.step_s c.args.number)
 
 pub hull_of-hull-requires-clause-named : goal.hull_of-hull-requires-clause-named
 hull_of-hull-requires-clause-named g c =

@@ -9,12 +9,12 @@ loop-pace-preserved c =
     let long = c.in-Ok.ensures some.0 some.1 in
     let within = long.in_span in
     let kept = tick_kept c.in-Ok.end c.from.result (in_64_bits c.in-Ok.end
-    c.args.claim.now.last within c.requires.claim.span_ends) c.from.ensures in
+    c.args.claim.now.last within c.args.claim.now.lawful.span_ends) c.from.ensures in
     record {
       longest = λ samples tabled. reach_more samples claim c.loop-pace.ends.items c.push.new.self.items
           c.loop-pace.begin c.in-Ok.end _ (c.loop-pace.invariant.longest samples tabled)
           c.loop-pace.invariant.begins (c.in-Ok.ensures samples tabled) kept c.in_ok-push.ensures.items
-          (before_last c.in-Ok.end _ c.args.claim.now.last within (last_is claim c.requires.claim)
+          (before_last c.in-Ok.end _ c.args.claim.now.last within (last_is claim c.args.claim.now.lawful)
           c.if-begin-last.false);
       begins = reach_begins some.0 claim c.loop-pace.ends.items c.push.new.self.items
           c.loop-pace.begin c.in-Ok.end _ (c.loop-pace.invariant.longest some.0 some.1)

@@ -4,7 +4,7 @@ use Rattle.finder.proofs.settlement.exchange_samples.Goals as goal
 
 pub invariant_of-result : goal.invariant_of-result
 invariant_of-result g c =
-    let claim = c.requires.claim in
+    let claim = c.args.claim.now.lawful in
     record {
       lawful = λ k d below. of_most_servers (length c.args.claim.now.servers.items) _ claim.few_servers
           (c.requires.exchanges k d below);
@@ -15,4 +15,4 @@ invariant_of-result g c =
 pub returns-clause-of_claim : goal.returns-clause-of_claim
 returns-clause-of_claim g c =
     c.samples_of_exchanges_keep_limits.ensures.of_claim (claim_data c.args.claim.now)
-    (map g.X.ToExchange.shown c.args.exchanges.now) c.requires.claim c.requires.exchanges
+    (map g.X.ToExchange.shown c.args.exchanges.now) c.args.claim.now.lawful c.requires.exchanges

@@ -32,7 +32,7 @@ returns-in-Some-find_refutation g c =
     let found = refutation_data c.in-Some-find_refutation.steady in
     let stands = c.refutations_without_drift_stand.ensures.stand claim xs found
     c.in-Some-find_refutation.ensures.found.accepted in
-    c.refutations_are_settled.ensures claim xs found true c.requires.claim c.requires.exchanges
+    c.refutations_are_settled.ensures claim xs found true c.args.claim.now.lawful c.requires.exchanges
     ((λ _. stands), λ _. refl)
 
 pub returns-in-None : goal.returns-in-None
@@ -43,20 +43,20 @@ returns-in-None g c =
     let held = IsHeldAtAll claim xs c.args.readings.now in
     let same = c.as_slice-covers.ensures.value in
     let least = least_covers claim xs d c.requires.groups
-    (λ is_in. c.tables_settle_covers.ensures.each claim xs d is_in c.requires.claim c.requires.exchanges
+    (λ is_in. c.tables_settle_covers.ensures.each claim xs d is_in c.args.claim.now.lawful c.requires.exchanges
     c.requires.groups c.requires.table) c.covers-least.result.items c.covers-least.ensures.covers
     c.covers-least.ensures.minimal c.covers-least.ensures.few c.covers-least.ensures.different
     c.covers-least.ensures.all_or_64 in
     let cover_of : (course : Course) → Fits claim xs course
     → IsCover claim xs (holds_false claim.groups course.is_false) =
-    (λ course fits. c.false_groups_are_a_cover.ensures claim xs course c.requires.claim c.requires.exchanges fits) in (
+    (λ course fits. c.false_groups_are_a_cover.ensures claim xs course c.args.claim.now.lawful c.requires.exchanges fits) in (
       c.in-None.ensures.none refl,
       are_held claim xs c.args.readings.now c.covers-least.result.items least cover_of _ (ap length same)
           (subst (All held) same (all_tried held c.as_slice-covers.result.now c.loop-cover.cover-index
           c.loop-cover-test.false c.loop-cover.invariant.held)),
       none_beyond claim xs c.as_slice-covers.result.now (subst (AreLeastCovers claim xs) (sym same) least) cover_of
           (λ cover most course none fits false' observed. c.neediest_ticks_bound_the_error.ensures claim xs cover most
-          course c.requires.claim c.requires.exchanges none fits false' observed)
+          course c.args.claim.now.lawful c.requires.exchanges none fits false' observed)
           c.loop-cover.cover-index c.loop-cover.most c.if_all.result c.loop-cover-test.false
           c.loop-cover.invariant.needs c.if_all.ensures,
     )

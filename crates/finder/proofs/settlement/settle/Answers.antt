@@ -12,7 +12,7 @@ returns-then-not-has_cover g c =
       settled = none_fits claim xs _ c.in_ok-listed.ensures
           (fits_not c.has_cover.result c.if-not-has_cover.true c.has_cover.ensures.exact
           c.in_ok-conflicts.ensures.covers)
-          (c.some_course_fits_where_a_cover_is_small.ensures claim xs c.requires.claim c.requires.exchanges)
+          (c.some_course_fits_where_a_cover_is_small.ensures claim xs c.args.claim.now.lawful c.requires.exchanges)
           (λ is_in ends. c.ends_of_all_conflicts_are_a_cover.ensures claim xs _ is_in c.in_ok-listed.ensures ends);
       within = tt;
       refused = tt;
@@ -26,7 +26,7 @@ returns-then-groups-claim g c =
     let test = c.if-groups-claim.true in
     let few : c.groups_heard-groups.result ≤ c.args.claim.now.false_max = omega arith in
     record {
-      settled = unheard claim xs c.requires.exchanges c.requires.claim
+      settled = unheard claim xs c.requires.exchanges c.args.claim.now.lawful
           (c.few_groups_are_no_evidence.ensures claim xs)
           (c.no_evidence_gives_no_yes.ensures claim xs) c.groups_heard-groups.result
           c.groups_heard-groups.ensures few;
@@ -41,7 +41,7 @@ returns-in-Ok-Certificate g c =
     let xs = map g.X.ToExchange.shown c.args.exchanges.now in
     record {
       settled = shown_by claim xs c.in-Ok-Certificate.certificate
-          (λ reading. c.some_course_is_observed_at_any_reading.ensures claim xs reading c.requires.claim
+          (λ reading. c.some_course_is_observed_at_any_reading.ensures claim xs reading c.args.claim.now.lawful
           c.requires.exchanges (fits_if c.has_cover.result c.if-not-has_cover.false c.has_cover.ensures.exact
           c.in_ok-conflicts.ensures.covers))
           (subst (λ (samples : List Sample).
@@ -57,7 +57,7 @@ pub overflow_cast-ends : goal.overflow_cast-ends
 overflow_cast-ends g c =
     let claim = claim_data c.args.claim.now in
     let stuck = rw (c.in-Ok-Nothing.is, c.in-Ok-Nothing.field-0-is) at c.fewest_by.ensures.stuck in
-    let tick = stuck_within claim c.requires.claim _ c.in-Ok-Nothing.begin c.in-Ok-Nothing.end
+    let tick = stuck_within claim c.args.claim.now.lawful _ c.in-Ok-Nothing.begin c.in-Ok-Nothing.end
     c.in-Ok-Nothing.hull stuck in
     rw tick.begin_kept (tick.begin_fits)
 
@@ -65,7 +65,7 @@ pub overflow_cast-ends-in-Ok-Nothing : goal.overflow_cast-ends-in-Ok-Nothing
 overflow_cast-ends-in-Ok-Nothing g c =
     let claim = claim_data c.args.claim.now in
     let stuck = rw (c.in-Ok-Nothing.is, c.in-Ok-Nothing.field-0-is) at c.fewest_by.ensures.stuck in
-    let tick = stuck_within claim c.requires.claim _ c.in-Ok-Nothing.begin c.in-Ok-Nothing.end
+    let tick = stuck_within claim c.args.claim.now.lawful _ c.in-Ok-Nothing.begin c.in-Ok-Nothing.end
     c.in-Ok-Nothing.hull stuck in
     rw tick.end_kept (tick.end_fits)
 
@@ -109,7 +109,7 @@ returns-in-Err-TooManyPieces g c =
         record {
           heard = heard claim xs c.groups_heard-groups.result c.groups_heard-groups.ensures c.if-groups-claim.false;
           courses = λ reading. c.some_course_is_observed_at_any_reading.ensures claim xs reading
-              c.requires.claim c.requires.exchanges (fits_if c.has_cover.result c.if-not-has_cover.false
+              c.args.claim.now.lawful c.requires.exchanges (fits_if c.has_cover.result c.if-not-has_cover.false
               c.has_cover.ensures.exact c.in_ok-conflicts.ensures.covers);
           too_long = ⊎_elim (λ memory. absurd cc) (λ long. long.1) finds.refused;
           none_accepted = finds.too_many refl;
@@ -130,14 +130,14 @@ returns-in-Ok-Nothing g c =
     FindsFewest samples claim (Ok (found.Nothing begin end c.in-Ok-Nothing.hull)))
     c.exchange_samples-samples.ensures.samples
     (rw (c.in-Ok-Nothing.is, c.in-Ok-Nothing.field-0-is) at c.fewest_by.ensures) in
-    let tick = stuck_within claim c.requires.claim _ begin end c.in-Ok-Nothing.hull finds.stuck in
+    let tick = stuck_within claim c.args.claim.now.lawful _ begin end c.in-Ok-Nothing.hull finds.stuck in
     let searched = rw (c.in-Nothing.is, tick.begin_kept, tick.end_kept)
     at c.in_ok-refutation-in-Ok-Nothing.ensures in
     record {
       settled = rw (tick.begin_kept, tick.end_kept) (left_open claim xs begin end c.in-Ok-Nothing.hull
           c.in-Nothing.covers tick.forward
           (heard claim xs c.groups_heard-groups.result c.groups_heard-groups.ensures c.if-groups-claim.false)
-          (λ reading. c.some_course_is_observed_at_any_reading.ensures claim xs reading c.requires.claim
+          (λ reading. c.some_course_is_observed_at_any_reading.ensures claim xs reading c.args.claim.now.lawful
           c.requires.exchanges course) finds searched.0 searched.1);
       within = searched.2;
       refused = tt;

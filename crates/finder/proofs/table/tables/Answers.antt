@@ -4,18 +4,18 @@ use Rattle.finder.proofs.TablePieces.{are_pieces_of, as_many_long, piece_of}
 use Rattle.finder.proofs.table.tables.Goals as goal
 
 pub piece_ends-requires-clause-from_zero : goal.piece_ends-requires-clause-from_zero
-piece_ends-requires-clause-from_zero g c = first_from_zero (data_of c.args.claim.now) c.requires.claim
+piece_ends-requires-clause-from_zero g c = first_from_zero (data_of c.args.claim.now) c.args.claim.now.lawful
 
 pub piece_ends-requires-clause-in_order : goal.piece_ends-requires-clause-in_order
-piece_ends-requires-clause-in_order g c = span_in_order (data_of c.args.claim.now) c.requires.claim
+piece_ends-requires-clause-in_order g c = span_in_order (data_of c.args.claim.now) c.args.claim.now.lawful
 
 pub piece_ends-requires-clause-in_range : goal.piece_ends-requires-clause-in_range
-piece_ends-requires-clause-in_range g c = last_in_range (data_of c.args.claim.now) c.requires.claim
+piece_ends-requires-clause-in_range g c = last_in_range (data_of c.args.claim.now) c.args.claim.now.lawful
 
 pub tables_over-requires-clause-pieces : goal.tables_over-requires-clause-pieces
 tables_over-requires-clause-pieces g c =
     let claim = c.args.claim.now in
-    let lawful = c.requires.claim in
+    let lawful = c.args.claim.now.lawful in
     let first = first_kept (data_of claim) lawful in
     let last = last_kept (data_of claim) lawful in
     are_pieces_of claim.first claim.last c.args.step_s c.args.count _ _ _ c.in_ok-ends.ends.items
@@ -25,16 +25,16 @@ tables_over-requires-clause-pieces g c =
 pub returns-clause-long : goal.returns-clause-long
 returns-clause-long g c =
     let claim = c.args.claim.now in
-    let first = first_kept (data_of claim) c.requires.claim in
-    let last = last_kept (data_of claim) c.requires.claim in
+    let first = first_kept (data_of claim) c.args.claim.now.lawful in
+    let last = last_kept (data_of claim) c.args.claim.now.lawful in
     as_many_long claim.first claim.last c.args.step_s c.args.count _ _ _ c.in_ok-ends.ends.items _
     first last first c.as_slice.ensures.value c.in_ok-ends.ensures _ c.in_ok-tables.ensures.long
 
 pub returns-clause-best : goal.returns-clause-best
 returns-clause-best g c k below =
     let claim = c.args.claim.now in
-    let first = first_kept (data_of claim) c.requires.claim in
-    let last = last_kept (data_of claim) c.requires.claim in
+    let first = first_kept (data_of claim) c.args.claim.now.lawful in
+    let last = last_kept (data_of claim) c.args.claim.now.lawful in
     c.in_ok-tables.ensures.best k (piece_begin_of claim.first claim.last c.args.step_s k)
     (piece_end_of claim.first claim.last c.args.step_s k)
     (piece_of claim.first claim.last c.args.step_s c.args.count _ _ _ c.in_ok-ends.ends.items _

@@ -7,7 +7,7 @@ use Rattle.finder.proofs.table.tables_over.Goals.{in-Some+in_ok-push, in_default
 
 pub overflow_cast-server : goal.overflow_cast-server
 overflow_cast-server g c =
-    server_fits (data_of c.args.claim.now) c.requires.claim c.loop-server.server c.len-server-end.result
+    server_fits (data_of c.args.claim.now) c.args.claim.now.lawful c.loop-server.server c.len-server-end.result
     c.loop-server-test.true (c.len-server-end.ensures ∙ c.args.claim.now.servers.ok.0)
 
 pub best_of_pieces-requires-clause-samples : goal.best_of_pieces-requires-clause-samples
@@ -23,7 +23,7 @@ pub best_of_pieces-requires-clause-pieces : goal.best_of_pieces-requires-clause-
 best_of_pieces-requires-clause-pieces g c = rw (to_z-of_z w128 c.args.first c.ranges.first) c.requires.pieces
 
 pub best_of_pieces-requires-clause-rate : goal.best_of_pieces-requires-clause-rate
-best_of_pieces-requires-clause-rate g c = c.requires.claim.drift_in_range
+best_of_pieces-requires-clause-rate g c = c.args.claim.now.lawful.drift_in_range
 
 pub loop-server-preserved : goal.loop-server-preserved
 loop-server-preserved g c =

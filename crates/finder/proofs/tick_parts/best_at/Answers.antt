@@ -13,7 +13,7 @@ take-requires-clause-server g c =
     All-slice_get (λ sample. sample.server < length c.args.claim.now.servers.items)
     (g.S.SampleSource.samples c.args.samples) c.loop-number.number c.sample_at.result
     c.requires.samples.listed c.sample_at.ensures in
-    omega (arith, listed, c.requires.claim.few_servers)
+    omega (arith, listed, c.args.claim.now.lawful.few_servers)
 
 pub loop-number-preserved : goal.loop-number-preserved
 loop-number-preserved g c =

@@ -10,7 +10,7 @@ loop-server-preserved g c =
     let says = best_part samples claim.drift_ppb (to_z w128 (of_z w128 c.args.tick)) in
     let server = c.loop-server.server in
     let within : server < length claim.servers.items =
-    omega (arith, c.loop-server-test.true, c.len-server-end.ensures, c.requires.claim.few_servers) in
+    omega (arith, c.loop-server-test.true, c.len-server-end.ensures, c.args.claim.now.lawful.few_servers) in
     let is : c.part_at.result ≡ says server = c.part_at.ensures.exact samples _ _ c.best_at-best.ensures in
     elim c.match-part_at.branch [
       | in-Some w ↦

@@ -11,7 +11,7 @@ index-requires g c =
     ∙ ap Some (sym c.exchange-item.is))
     (length c.args.claim.now.servers.items) c.to_exchange-exchange.result c.to_exchange-exchange.ensures
     c.requires.exchanges in
-    within_groups _ _ _ _ lawful.listed c.requires.claim.group_for_each c.args.claim.now.groups.ok.0
+    within_groups _ _ _ _ lawful.listed c.args.claim.now.lawful.group_for_each c.args.claim.now.groups.ok.0
 
 pub add-requires-clause-exchange : goal.add-requires-clause-exchange
 add-requires-clause-exchange g c =
@@ -36,7 +36,7 @@ returns-then-not-branch-clause-possible g c =
     let lawful = lawful_shown g.X.ToExchange.shown c.args.exchanges.now k c.exchange-item.result at
     (length c.args.claim.now.servers.items) x c.to_exchange-exchange.ensures c.requires.exchanges in
     let below : x.server < length groups =
-    subst (λ n. x.server < n) (sym c.requires.claim.group_for_each) lawful.listed in
+    subst (λ n. x.server < n) (sym c.args.claim.now.lawful.group_for_each) lawful.listed in
     let lows = c.args.self.now.lows.items in
     let highs = c.args.self.now.highs.items in
     let now = c.loop-exchange.self in
@@ -61,7 +61,7 @@ loop-exchange-preserved g c =
     let lawful = lawful_shown g.X.ToExchange.shown c.args.exchanges.now k c.exchange-item.result at
     (length c.args.claim.now.servers.items) x c.to_exchange-exchange.ensures c.requires.exchanges in
     let below : x.server < length groups =
-    subst (λ n. x.server < n) (sym c.requires.claim.group_for_each) lawful.listed in
+    subst (λ n. x.server < n) (sym c.args.claim.now.lawful.group_for_each) lawful.listed in
     let lows = c.args.self.now.lows.items in
     let highs = c.args.self.now.highs.items in
     let now = c.loop-exchange.self in

@@ -4,13 +4,14 @@ use Rattle.courses.proofs.Numbering.{IsNumbering, past_other, past_own}
 use Rattle.courses.proofs.numbered_marks.NumberedMarks.of_group.Goals as goal
 use Rattle.courses.proofs.numbered_marks.NumberedMarks.of_group.Goals.{then-is_of+in_ok-push+in_ok-push-2+in_ok-push-3, else-is_of}
 
-pub is_of-requires-clause-exchange : goal.is_of-requires-clause-exchange
-is_of-requires-clause-exchange g c =
-    lawful_shown g.X.ToExchange.shown c.args.exchanges.now c.loop-number.number c.index-exchanges-number.result
-    (slice_get-get_or c.args.exchanges.now _ c.index-exchanges-number.result c.loop-number-test.true
-    ∙ ap Some (sym c.index-exchanges-number.is))
-    (length c.args.claim.now.servers.items) c.to_exchange-exchange.result c.to_exchange-exchange.ensures
-    c.requires.exchanges
+pub is_of-requires : goal.is_of-requires
+is_of-requires g c = record {
+  exchange = lawful_shown g.X.ToExchange.shown c.args.exchanges.now c.loop-number.number c.index-exchanges-number.result
+      (slice_get-get_or c.args.exchanges.now _ c.index-exchanges-number.result c.loop-number-test.true
+      ∙ ap Some (sym c.index-exchanges-number.is))
+      (length c.args.claim.now.servers.items) c.to_exchange-exchange.result c.to_exchange-exchange.ensures
+      c.requires.exchanges;
+}
 
 pub low_mark-requires-clause-exchange : goal.low_mark-requires-clause-exchange
 low_mark-requires-clause-exchange g c = record {
