@@ -1,7 +1,7 @@
 -- What the least bound that a certificate carries shows.
 use Rattle.audit.proofs.Common.{◌≡◌, List, Option, Some, None, Result, Ok, Err, subst, IfOk, Sample, LeastCarried, EvidenceData, samples_in, IsLeastBoundOf}
 use Rattle.std.specs.declared.alloc.AllocError.{AllocError}
-use Rattle.courses.specs.Cover.{SomeCourse}
+use Rattle.feasibility.specs.Cover.{SomeCourse}
 use Rattle.finder.specs.Carried.{FindsLeastBound, IsNeverEmpty}
 
 module _ (e : EvidenceData) (never : SomeCourse e.claim e.collection.exchanges → IsNeverEmpty (samples_in e) e.claim)

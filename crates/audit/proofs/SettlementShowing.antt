@@ -1,8 +1,8 @@
 -- What a settled claim shows.
 use Rattle.audit.proofs.Common.{◌≡◌, ℕ, ◌<◌, ◌⊎◌, ⊎_elim, List, length, map, get_or, Err, refl, sym, subst, AllPairs, get_or-map, length-map, slice_get_within, CertificateData, SameRequest, Exchange, IsVerdictOn, ClaimData, FindFault, SettledData, HasTooManyPieces, IsSettledAs, RunFault, IsMadeFor, refused, verdict_on, EvidenceData, samples_in, find_run_fault_of, IsSettlementOf, IsSettledOf}
-use Rattle.courses.specs.Contradiction.{AreAllConflicts, IsFirstContradiction, ShownConflict}
-use Rattle.courses.specs.PairMarks.{conflict_data}
-use Rattle.courses.specs.declared.shown_conflicts.Conflict.{Conflict}
+use Rattle.feasibility.specs.Contradiction.{AreAllConflicts, IsFirstContradiction, ShownConflict}
+use Rattle.feasibility.specs.PairMarks.{conflict_data}
+use Rattle.feasibility.specs.declared.shown_conflicts.Conflict.{Conflict}
 use Rattle.finder.specs.declared.fault.FindFault.TheVariants as finds
 use Rattle.finder.specs.Settlement as settles
 

@@ -5,7 +5,7 @@
 -- evidence and of the bytes that give it.
 use Rattle.std.specs.Prelude.{ℕ, pos, ◌<◌, ◌≤◌, Bool, true, false, Option, Some, None, Ok, IfSome}
 use Rattle.claim_file.specs.Claim.{ClaimData, max_bound_ns}
-use Rattle.courses.specs.Cover.{SomeCourse}
+use Rattle.feasibility.specs.Cover.{SomeCourse}
 use Rattle.finder.specs.Carried.{FindsLeastBound, IsCarried, piece_holding}
 use Rattle.finder.specs.Envelope.{with_bound}
 use Rattle.finder.specs.Fewest.{NoneOfFewIsAccepted}

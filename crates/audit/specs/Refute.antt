@@ -8,8 +8,8 @@ use Rattle.checker.specs.Course.{Course}
 use Rattle.checker.specs.Refutation.{HasCourse, IsAgainst, IsRefuted}
 use Rattle.checker.specs.RefutationTest.{is_refuted}
 use Rattle.checker.specs.declared.verdict.Verdict.TheVariants as verdicts
-use Rattle.courses.specs.DriftRefutation.{HasDriftCourse, IsRefutedWithDrift, Shows}
-use Rattle.courses.specs.DriftTest.{is_refuted_with_drift}
+use Rattle.feasibility.specs.DriftRefutation.{HasDriftCourse, IsRefutedWithDrift, Shows}
+use Rattle.feasibility.specs.DriftTest.{is_refuted_with_drift}
 use Rattle.report.specs.RefutationInput.{refutation_read}
 use Rattle.report.specs.declared.fault.Outcome.{Outcome}
 use Rattle.report.specs.declared.fault.Outcome.TheVariants.{Yes, No}

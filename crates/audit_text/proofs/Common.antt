@@ -8,7 +8,7 @@ pub use Rattle.std.proofs.lemmas.List.{drop_all, get_or-map, length-map, take_al
 pub use Rattle.std.specs.Prelude.{flat_map, option_map, slice_get, ◌==◌, ◌||◌}
 pub use Rattle.std.specs.Result.{IfOk}
 pub use Rattle.claim_file.specs.Claim.{ClaimData, data_of}
-pub use Rattle.courses.specs.PairMarks.{conflict_data}
+pub use Rattle.feasibility.specs.PairMarks.{conflict_data}
 pub use Rattle.finder.specs.Envelope.{IsLawfulPiece, piece_data}
 pub use Rattle.line_writer.specs.Field.{Address, FieldData, High, Label, Low, Named, Number, TimeAbove, Word}
 pub use Rattle.line_writer.specs.Field.{field_data, line_of, next_text, rest_text, text_of}

@@ -3,7 +3,7 @@ use Rattle.std.specs.Prelude.{ℕ, ℤ, Option, Some, List, [], ◌∷◌, ◌++
 use Rattle.line_writer.specs.Field.{line_of, Word, Named, Number, Address, TimeBelow, TimeAbove}
 use Rattle.line_writer.specs.declared.field.Style.{Style}
 use Rattle.claim_file.specs.Claim.{ClaimData, group_count}
-use Rattle.courses.specs.Contradiction.{ShownConflict}
+use Rattle.feasibility.specs.Contradiction.{ShownConflict}
 use Rattle.intersection.specs.declared.kinds.Hull.{Hull}
 use Rattle.pairing.specs.declared.exchange.Exchange.{Exchange}
 use Rattle.audit_text.specs.SampleLine.{server_of}

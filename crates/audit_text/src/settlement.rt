@@ -2,7 +2,7 @@
 
 ghost use Rattle.std.specs.Prelude.{◌≡◌, ◌<◌, ◌++◌, IfOk, length, map, flat_map, All};
 ghost use Rattle.claim_file.specs.Claim.{data_of};
-ghost use Rattle.courses.specs.PairMarks.{conflict_data};
+ghost use Rattle.feasibility.specs.PairMarks.{conflict_data};
 ghost use Rattle.pairing.specs.Exchange.{IsLawful as IsLawfulExchange};
 ghost use Rattle.audit_text.specs.Settlement as spec;
 ghost use Rattle.audit_text.specs.Settlement.{conflict_line, pair_line};
@@ -10,7 +10,7 @@ ghost use Rattle.audit_text.specs.Settlement.{conflict_line, pair_line};
 use crate::sample_line::server_of;
 use crate::table::{for_person, hull_high, hull_low};
 use claim_file::{Claim, group_count};
-use courses::Conflict;
+use feasibility::Conflict;
 use intersection::kinds::Hull;
 use line_writer::{Field, Style, add_line};
 use pairing::{Exchange, ToExchange};

@@ -55,8 +55,8 @@ pub use Rattle.checker.specs.declared.verdict.Why.{Why}
 pub use Rattle.checker.specs.declared.verdict.Why.TheVariants.{Contradiction, Cut, Exceeds, Uncovered}
 pub use Rattle.claim_file.specs.Claim.{ClaimData, IsLawful, data_of, max_bound, max_bound_ns, max_drift_ppb}
 pub use Rattle.claim_file.specs.Group.{servers_of}
-pub use Rattle.courses.specs.Cover.{HasSmallCover, IsCover, SomeCourse, group_of, size_of}
-pub use Rattle.courses.specs.Groups.{AreApart, HoldsOne, HoldsOneOr64, holds}
+pub use Rattle.feasibility.specs.Cover.{HasSmallCover, IsCover, SomeCourse, group_of, size_of}
+pub use Rattle.feasibility.specs.Groups.{AreApart, HoldsOne, HoldsOneOr64, holds}
 pub use Rattle.era_unfold.specs.Nanoseconds.{nanoseconds_per_second, ticks_down}
 pub use Rattle.era_unfold.specs.Ratio.{IsCeiling}
 unfoldable pub use Rattle.era_unfold.specs.Ratio.{ceiling_of}
@@ -65,8 +65,8 @@ pub use Rattle.intersection.specs.Interval.{leaves_out}
 pub use Rattle.intersection.specs.declared.kinds.Hull.{Hull}
 pub use Rattle.intersection.specs.declared.kinds.Hull.TheVariants.{Bounded, Empty, Unbounded}
 pub use Rattle.intersection.specs.declared.kinds.Interval.{Interval}
-pub use Rattle.marks.specs.Mark.{AreCompatible, high_mark, low_mark}
-pub use Rattle.marks.specs.declared.mark.Mark.{Mark}
+pub use Rattle.error_marks.specs.Mark.{AreCompatible, high_mark, low_mark}
+pub use Rattle.error_marks.specs.declared.mark.Mark.{Mark}
 pub use Rattle.pairing.specs.Exchange.{IsInRange}
 pub use Rattle.pairing.specs.declared.exchange.Exchange.{Exchange}
 pub use Rattle.sample_interval.specs.Sample.{IsLawfulSample, sample_of}

@@ -11,10 +11,10 @@ use Rattle.checker.specs.Course.{Fits}
 use Rattle.checker.specs.Traceability.{IsInHull, IsWithin}
 use Rattle.checker.proofs.Hull.{entry_holds, Laws as HullLaws}
 use Rattle.checker.proofs.PieceFit.{fits_piece}
-use Rattle.courses.specs.Members.{passing}
-use Rattle.courses.proofs.CoverCounts.{both_hold, passing_same, passing_split}
-use Rattle.courses.proofs.CoverList.{passing_within}
-use Rattle.courses.proofs.CoverWithin.{passing_below}
+use Rattle.feasibility.specs.Members.{passing}
+use Rattle.feasibility.proofs.CoverCounts.{both_hold, passing_same, passing_split}
+use Rattle.feasibility.proofs.CoverList.{passing_within}
+use Rattle.feasibility.proofs.CoverWithin.{passing_below}
 use Rattle.finder.proofs.HeldError.{few_false}
 use Rattle.finder.proofs.List.{All-slice_get}
 use Rattle.finder.proofs.Narrow.{Laws}

@@ -4,18 +4,18 @@ use Rattle.std.specs.Prelude.{nat_lt}
 use Rattle.finder.proofs.Common.{◌≡◌, ℕ, zero, suc, ◌+◌, ◌-◌, ◌<◌, ◌≤◌, ℤ, pos, neg_ℤ, ◌+ℤ◌, ◌-ℤ◌, ◌*ℤ◌, ◌≤ℤ◌, ◌<ℤ◌, Bool, true, false, not, ◌&&◌, ◌||◌, inl, inr, is_some, ◌⊎◌, ⊎_elim, Option, None, Some, List, [], ◌∷◌, length, get_or, refl, sym, ap, ◌∙◌, subst, arith, ◌↔◌, All, Any, IfNone, count_by, slice_index, AllPairs, int_min, list_any, clamps, ints, and_parts, lt-ltb, or_cases, nat_tests, All-cons, All-head, All-nil, All-tail, list_any-append, slice_get_within, RefutationData, ClaimData, IsLawful, max_bound, Exchange, low_mark, high_mark, Course, holds_false, are_different, IsCover, size_of, AreApart, HoldsOne, HoldsOneOr64, holds, numbers_below, AreHeld, AreLeeways, DoLet, HasFalse, HoldsFor, IsBounded, IsCandidate, IsHeld, IsHeldAtAll, IsMade, IsNarrowed, IsOff, IsRounded, greatest_of, leeway_in, mark_at, no_limit, turned, IsErrorOf64Bits, Side, Above, Below, by_test, not-true, lt_next_cases, ≤ℤ-from_equal, or_from, and_from, or-false}
 use Rattle.pairing.specs.Exchange.{IsLawful as IsLawfulExchange}
 use Rattle.checker.specs.Course.{Fits}
-use Rattle.courses.specs.Conflicts.{ConflictData, group_count, HoldsNoLess as HoldsNoLessBy, IsCover as IsCoverBy}
-use Rattle.courses.specs.DriftRefutation.{IsRefutedWithDrift}
-use Rattle.courses.specs.LeastCovers.{AreLeastCovers}
-use Rattle.courses.specs.Members.{LieWithin, passing}
-use Rattle.courses.specs.declared.groups.Groups.{Groups}
-use Rattle.courses.proofs.Converse.{keeps_low, keeps_high}
-use Rattle.courses.proofs.CoverCounts.{passing_one, passing_same}
-use Rattle.courses.proofs.CoverList.{passing_both, passing_within}
-use Rattle.courses.proofs.CoverWithin.{passing_below}
-use Rattle.courses.proofs.Covers.{listed_in_groups, server_is_true}
-use Rattle.courses.proofs.KeptMarks.{kept_are_compatible}
-use Rattle.courses.proofs.Scaling.{times-sub}
+use Rattle.feasibility.specs.Conflicts.{ConflictData, group_count, HoldsNoLess as HoldsNoLessBy, IsCover as IsCoverBy}
+use Rattle.feasibility.specs.DriftRefutation.{IsRefutedWithDrift}
+use Rattle.feasibility.specs.LeastCovers.{AreLeastCovers}
+use Rattle.feasibility.specs.Members.{LieWithin, passing}
+use Rattle.feasibility.specs.declared.groups.Groups.{Groups}
+use Rattle.feasibility.proofs.Converse.{keeps_low, keeps_high}
+use Rattle.feasibility.proofs.CoverCounts.{passing_one, passing_same}
+use Rattle.feasibility.proofs.CoverList.{passing_both, passing_within}
+use Rattle.feasibility.proofs.CoverWithin.{passing_below}
+use Rattle.feasibility.proofs.Covers.{listed_in_groups, server_is_true}
+use Rattle.feasibility.proofs.KeptMarks.{kept_are_compatible}
+use Rattle.feasibility.proofs.Scaling.{times-sub}
 use Rattle.finder.specs.declared.drift_refutation.Place.{Place}
 use Rattle.finder.proofs.GroupLeeway.{same_default}
 

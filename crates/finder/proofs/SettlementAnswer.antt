@@ -4,14 +4,14 @@ use Rattle.std.specs.Prelude.{Bool, length}
 use Rattle.pairing.specs.Exchange.{IsLawful as IsLawfulExchange}
 use Rattle.certificate.specs.Certificate.{data_of as certificate_data}
 use Rattle.intersection.specs.Fineness.{times_le}
-use Rattle.courses.specs.Contradiction.{AreAllConflicts, HoldsAnEnd, ShownConflict}
-use Rattle.courses.specs.DriftSettlement.{SettlesWithDrift}
-use Rattle.courses.specs.Evidence.{IsNoEvidence, count_with_exchange}
+use Rattle.feasibility.specs.Contradiction.{AreAllConflicts, HoldsAnEnd, ShownConflict}
+use Rattle.feasibility.specs.DriftSettlement.{SettlesWithDrift}
+use Rattle.feasibility.specs.Evidence.{IsNoEvidence, count_with_exchange}
 use Rattle.std.proofs.Common.{get_or, IfSome, IsSomeAnd, IsTrue, MatchOption, Option, Some, None, ⊎_elim}
 use Rattle.checker.specs.Course.{Fits as FitsExchanges}
 use Rattle.checker.specs.Traceability.{IsWithin}
-use Rattle.courses.specs.LeastCovers.{AreLeastCovers}
-use Rattle.courses.specs.declared.groups.Groups.{Groups}
+use Rattle.feasibility.specs.LeastCovers.{AreLeastCovers}
+use Rattle.feasibility.specs.declared.groups.Groups.{Groups}
 use Rattle.finder.specs.declared.neediest.Neediest.{Neediest}
 use Rattle.finder.proofs.Common.{Bool, ◌+◌, pos, holds, holds_false, HasFalse, IsBoundless, IsNeediest, NoneNeedsMore, need_of, tick_without}
 use Rattle.finder.proofs.GapSearch.{more_enough}

@@ -13,14 +13,14 @@ use Rattle.checker.specs.Groups.{holds_false}
 use Rattle.checker.specs.RefutationTest.{are_different}
 use Rattle.claim_file.specs.Claim.{ClaimData}
 use Rattle.certificate.specs.Refutation.{RefutationData}
-use Rattle.courses.specs.Cover.{group_of, servers_of}
-use Rattle.courses.specs.DriftRefutation.{IsRefutedWithDrift}
-use Rattle.courses.specs.Groups.{holds}
-use Rattle.courses.specs.LeastCovers.{AreLeastCovers}
-use Rattle.courses.specs.Members.{LieWithin}
-use Rattle.courses.specs.declared.groups.Groups.{Groups}
-use Rattle.marks.specs.Mark.{low_mark, high_mark, AreCompatible}
-use Rattle.marks.specs.declared.mark.Mark.{Mark}
+use Rattle.feasibility.specs.Cover.{group_of, servers_of}
+use Rattle.feasibility.specs.DriftRefutation.{IsRefutedWithDrift}
+use Rattle.feasibility.specs.Groups.{holds}
+use Rattle.feasibility.specs.LeastCovers.{AreLeastCovers}
+use Rattle.feasibility.specs.Members.{LieWithin}
+use Rattle.feasibility.specs.declared.groups.Groups.{Groups}
+use Rattle.error_marks.specs.Mark.{low_mark, high_mark, AreCompatible}
+use Rattle.error_marks.specs.declared.mark.Mark.{Mark}
 use Rattle.pairing.specs.declared.exchange.Exchange.{Exchange}
 use Rattle.span_cover.specs.Group.{numbers_below}
 use Rattle.sample_interval.specs.Moment.{error_of}

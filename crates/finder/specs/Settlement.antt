@@ -15,12 +15,12 @@ use Rattle.checker.specs.Course.{Course, Fits}
 use Rattle.checker.specs.Traceability.{HoldsError, IsObservedIn, IsWithin, samples_of}
 use Rattle.checker.specs.Verdict.{verdict_of}
 use Rattle.checker.specs.declared.verdict.Verdict.TheVariants.{Yes}
-use Rattle.courses.specs.Contradiction.{ShownConflict, AreAllConflicts, NoFewHoldAnEnd}
-use Rattle.courses.specs.Cover.{SomeCourse, SomeCourseAt}
-use Rattle.courses.specs.DriftRefutation.{IsRefutedWithDrift, HasDriftCourse}
-use Rattle.courses.specs.DriftSettlement.{SettlesWithDrift}
-use Rattle.courses.specs.Evidence.{IsNoEvidence, count_with_exchange}
-use Rattle.courses.specs.PairMarks.{conflict_data}
+use Rattle.feasibility.specs.Contradiction.{ShownConflict, AreAllConflicts, NoFewHoldAnEnd}
+use Rattle.feasibility.specs.Cover.{SomeCourse, SomeCourseAt}
+use Rattle.feasibility.specs.DriftRefutation.{IsRefutedWithDrift, HasDriftCourse}
+use Rattle.feasibility.specs.DriftSettlement.{SettlesWithDrift}
+use Rattle.feasibility.specs.Evidence.{IsNoEvidence, count_with_exchange}
+use Rattle.feasibility.specs.PairMarks.{conflict_data}
 use Rattle.finder.specs.Fewest.{HasFewest, IsOfLongest, IsStuck, IsTooLong, NoneIsAccepted, NoneOfFewIsAccepted, stretch_over}
 use Rattle.finder.specs.Leeway.{AreHeld}
 use Rattle.finder.specs.NearestRefutation.{NoneIsRefuted}

@@ -21,7 +21,7 @@ use crate::reach::{Reach, longest_ends};
 use crate::trial::trial;
 use checker::laws::{pieces_give_the_verdict, wider_bounds_hold_too};
 use claim_file::Claim;
-use courses::Groups;
+use feasibility::Groups;
 use era_unfold::laws::{more_nanoseconds_have_no_fewer_ticks, nanoseconds_lie_between_their_ticks};
 use era_unfold::{TICKS_PER_SECOND, ns_down};
 use sample_interval::SampleSource;

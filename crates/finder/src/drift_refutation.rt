@@ -5,11 +5,11 @@ ghost use Rattle.std.specs.Prelude.{MatchOption};
 ghost use Rattle.std.specs.Int.{int_min};
 ghost use Rattle.certificate.specs.Refutation.{data_of as refutation_data};
 ghost use Rattle.claim_file.specs.Claim.{data_of as claim_data};
-ghost use Rattle.courses.specs.ConflictTable.{IsConflictTable};
-ghost use Rattle.courses.specs.ConflictsView.{data_of};
-ghost use Rattle.courses.specs.DriftRefutation.{IsRefutedWithDrift};
-ghost use Rattle.courses.specs.DriftSettlement.{SettlesWithDrift};
-ghost use Rattle.courses.specs.Groups.{holds};
+ghost use Rattle.feasibility.specs.ConflictTable.{IsConflictTable};
+ghost use Rattle.feasibility.specs.ConflictsView.{data_of};
+ghost use Rattle.feasibility.specs.DriftRefutation.{IsRefutedWithDrift};
+ghost use Rattle.feasibility.specs.DriftSettlement.{SettlesWithDrift};
+ghost use Rattle.feasibility.specs.Groups.{holds};
 ghost use Rattle.finder.specs.Leeway.{ArePlacesHeld, IsHeld, IsHeldAtAll, greatest_of, turned};
 ghost use Rattle.finder.specs.Leeway.{IsBounded, IsMade};
 ghost use Rattle.finder.specs.declared.side.Side.{Side};
@@ -20,14 +20,14 @@ use crate::nearest_refutation::{GREATEST_ERROR, LEAST_ERROR_BELOW};
 use crate::side::Side;
 use certificate::Refutation;
 use claim_file::Claim;
-use courses::{Conflicts, Groups, check_refutation_by_conflicts, conflicts_of};
+use feasibility::{Conflicts, Groups, check_refutation_by_conflicts, conflicts_of};
 use pairing::ToExchange;
 use std::alloc::{AllocError, Global};
 
 /// Where a refutation is looked for.
 #[derive(Clone, Copy)]
 pub struct Place {
-    /// The groups that are taken for false: [`courses::Conflicts::covers`] has those to try.
+    /// The groups that are taken for false: [`feasibility::Conflicts::covers`] has those to try.
     pub cover: Groups,
     /// The reading, in Unix ticks. One outside the span finds none.
     pub reading: u64,
@@ -43,7 +43,7 @@ pub struct Place {
 /// next to the bound.
 ///
 /// The marks are gathered and held against each other once, with the memory of
-/// `courses::conflicts_of`. Then it looks twice at each exchange for each place and side.
+/// `feasibility::conflicts_of`. Then it looks twice at each exchange for each place and side.
 pub fn find_refutation_with_drift<X: ToExchange>(
     alloc: Global,
     exchanges: &[X],
@@ -66,7 +66,7 @@ pub fn find_refutation_with_drift<X: ToExchange>(
     Ok(find_by_conflicts(exchanges, claim, &conflicts, places))
 }
 
-/// The same, by what [`courses::conflicts_of`] makes of the same exchanges. It takes no memory.
+/// The same, by what [`feasibility::conflicts_of`] makes of the same exchanges. It takes no memory.
 fn find_by_conflicts<X: ToExchange>(
     exchanges: &[X],
     claim: &Claim,

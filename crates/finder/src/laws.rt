@@ -11,7 +11,7 @@ ghost use Rattle.checker.specs.Course.{Course, Fits};
 ghost use Rattle.checker.specs.Traceability.{HoldsError, IsObservedIn, IsWithin, samples_of};
 ghost use Rattle.checker.specs.Verdict.{parts_after, parts_fault, hull_fault, verdict_of};
 ghost use Rattle.checker.specs.declared.verdict.Verdict.{Verdict};
-ghost use Rattle.courses.specs.Cover.{SomeCourse};
+ghost use Rattle.feasibility.specs.Cover.{SomeCourse};
 ghost use Rattle.span_cover.specs.Group.{is_inside, piece_hull};
 ghost use Rattle.span_cover.specs.Piece.{IsPiece};
 ghost use Rattle.span_cover.specs.declared.stretch.Stretch.{Stretch};
@@ -32,7 +32,7 @@ use checker::laws::{
     few_groups_leave_the_error_out, hulls_hold_the_error, narrower_parts_narrow,
     parts_are_of_samples, pieces_give_the_verdict,
 };
-use courses::laws::some_course_is_observed_at_any_reading;
+use feasibility::laws::some_course_is_observed_at_any_reading;
 use era_unfold::laws::{
     nanoseconds_lie_between_their_ticks, ratios_are_rounded_as_little_as_can_be,
 };

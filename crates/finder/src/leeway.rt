@@ -4,19 +4,19 @@ ghost use Rattle.std.specs.Prelude.{◌≡◌, ◌↔◌, ◌^◌, ◌*◌, ◌/
 ghost use Rattle.std.specs.Prelude.{unsigned_abs, slice_index, length, map, All, MatchOption};
 ghost use Rattle.std.specs.Prelude.{count_by};
 ghost use Rattle.claim_file.specs.Claim.{data_of as claim_data};
-ghost use Rattle.courses.specs.Groups.{holds};
+ghost use Rattle.feasibility.specs.Groups.{holds};
 ghost use Rattle.finder.specs.Leeway.{AreLeeways, IsLimit, IsNarrowed, IsTightest, IsUnlimited};
 ghost use Rattle.finder.specs.Leeway.{mark_at};
-ghost use Rattle.marks.specs.Mark.{AreCompatible};
-ghost use Rattle.marks.specs.Range.{IsWithinRange};
+ghost use Rattle.error_marks.specs.Mark.{AreCompatible};
+ghost use Rattle.error_marks.specs.Range.{IsWithinRange};
 ghost use Rattle.pairing.specs.Exchange.{IsLawful as IsLawfulExchange};
 ghost use Rattle.sample_interval.specs.Widening.{IsRate};
 ghost use Rattle.span_cover.specs.Group.{numbers_below};
 
 use crate::side::Side;
 use claim_file::Claim;
-use courses::Groups;
-use marks::Mark;
+use feasibility::Groups;
+use error_marks::Mark;
 use pairing::ToExchange;
 use sample_interval::PARTS;
 

@@ -9,7 +9,7 @@ ghost use Rattle.std.specs.Prelude.{◌≡◌, ◌⊎◌, ◌<◌, ◌≤◌, �
 ghost use Rattle.std.specs.Prelude.{All, IfOk, IfSome, IsSomeAnd, IsTrue, MatchOption};
 ghost use Rattle.std.specs.Option.{option_map};
 ghost use Rattle.claim_file.specs.Claim.{data_of as claim_data, max_bound_ns};
-ghost use Rattle.courses.specs.Groups.{holds};
+ghost use Rattle.feasibility.specs.Groups.{holds};
 ghost use Rattle.finder.specs.Fewest.{stretch_over};
 ghost use Rattle.finder.specs.Neediest as spec;
 ghost use Rattle.finder.specs.Neediest.{AreHalves, IsBoundless, IsGap, IsNeediest, IsWithin};
@@ -24,7 +24,7 @@ use crate::leeway::group_of;
 use crate::longest::tick_after;
 use arrayvec::ArrayVec;
 use claim_file::Claim;
-use courses::Groups;
+use feasibility::Groups;
 use intersection::kinds::Hull;
 use sample_interval::PARTS;
 use span_cover::laws::best_samples_are_the_first_best;

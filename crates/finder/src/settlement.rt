@@ -10,9 +10,9 @@
 ghost use Rattle.std.specs.Prelude.{◌≡◌, ◌<◌, ◌≤◌, length, map, All, IfOk, IfSome, Some};
 ghost use Rattle.claim_file.specs.Claim.{IsLawful, data_of as claim_data};
 ghost use Rattle.checker.specs.Traceability.{samples_of};
-ghost use Rattle.courses.specs.ConflictTable.{IsConflictTable};
-ghost use Rattle.courses.specs.ConflictsView.{data_of};
-ghost use Rattle.courses.specs.Evidence.{count_with_exchange};
+ghost use Rattle.feasibility.specs.ConflictTable.{IsConflictTable};
+ghost use Rattle.feasibility.specs.ConflictsView.{data_of};
+ghost use Rattle.feasibility.specs.Evidence.{count_with_exchange};
 ghost use Rattle.finder.specs.Reach.{AreTablesFor};
 ghost use Rattle.checker.specs.Samples.{AreSamplesOf};
 ghost use Rattle.finder.specs.Settlement.{IsSearched, Settles};
@@ -27,13 +27,13 @@ use crate::nearest_refutation::find_refutation;
 use crate::neediest::{most_with, neediest_tick, splits_for};
 use certificate::{Certificate, Refutation};
 use claim_file::Claim;
-use courses::laws::{
+use feasibility::laws::{
     ends_of_all_conflicts_are_a_cover, false_groups_are_a_cover, few_groups_are_no_evidence,
     no_evidence_gives_no_yes, refutations_are_settled, refutations_without_drift_stand,
     some_course_fits_where_a_cover_is_small, some_course_is_observed_at_any_reading,
     tables_settle_covers,
 };
-use courses::{Conflict, Conflicts, conflicts_of, first_contradictions, groups_with_exchanges};
+use feasibility::{Conflict, Conflicts, conflicts_of, first_contradictions, groups_with_exchanges};
 use intersection::kinds::Hull;
 use pairing::ToExchange;
 use sample_interval::{ExchangeSamples, SampleSource};

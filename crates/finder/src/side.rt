@@ -3,11 +3,11 @@
 ghost use Rattle.std.specs.Prelude.{◌≡◌, ◌↔◌, ◌^◌, ◌≤◌, ℤ, pos, ◌≤ℤ◌, unsigned_abs};
 ghost use Rattle.claim_file.specs.Claim.{ClaimData};
 ghost use Rattle.finder.specs.Leeway.{Lets, limit_of, mark_at, turned};
-ghost use Rattle.marks.specs.Mark.{AreCompatible};
-ghost use Rattle.marks.specs.Range.{IsWithinRange};
+ghost use Rattle.error_marks.specs.Mark.{AreCompatible};
+ghost use Rattle.error_marks.specs.Range.{IsWithinRange};
 ghost use Rattle.sample_interval.specs.Exchange.{IsOfSomeClaim};
 
-use marks::{Mark, high_mark, low_mark};
+use error_marks::{Mark, high_mark, low_mark};
 use pairing::Exchange;
 
 /// To which side of zero an error is looked for.

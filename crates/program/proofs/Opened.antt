@@ -2,7 +2,7 @@
 use Rattle.std.proofs.Common.{◌≡◌, List, Option, ℕ, subst, sym}
 use Rattle.byte_stream.specs.State.{FeedState, SinkState}
 use Rattle.audit.specs.Question.{AskedData}
-use Rattle.in_memory.specs.Holding.{Feeds}
+use Rattle.summed_inputs.specs.Holding.{Feeds}
 use Rattle.program.specs.Drafted.{DraftsOn}
 use Rattle.program.specs.Files.{DraftsState, FilesState}
 use Rattle.program.specs.Opening.{AreOpened, Places}

@@ -10,7 +10,7 @@ use Rattle.report.specs.declared.fault.RunFault.{RunFault}
 use Rattle.report.specs.declared.fault.RunFault.TheVariants.{Memory, Write}
 use Rattle.audit.specs.Question.{AskedData}
 use Rattle.audit.specs.Run.{RunsFor, RunsTwice}
-use Rattle.in_memory.specs.Holding.{Feeds}
+use Rattle.summed_inputs.specs.Holding.{Feeds}
 use Rattle.program.specs.Files.{DraftsState, IsEmpty, IsHindered, IsPlaced}
 use Rattle.program.specs.Inputs.{run_over}
 use Rattle.program.specs.Invocation.{is_human}

@@ -3,8 +3,8 @@ use Rattle.std.specs.Prelude.{ℕ, List, Option}
 use Rattle.std.specs.Option.{option_map}
 use Rattle.byte_stream.specs.State.{FeedState, SinkState}
 use Rattle.report.specs.Run.{RunState, run_state}
-use Rattle.in_memory.specs.Holding.{Feeds, feeds}
-use Rattle.in_memory.specs.Sums.{SumsData, sums_data}
+use Rattle.summed_inputs.specs.Holding.{Feeds, feeds}
+use Rattle.summed_inputs.specs.Sums.{SumsData, sums_data}
 use Rattle.program.specs.declared.inputs.Inputs.{Inputs}
 
 -- their feeds

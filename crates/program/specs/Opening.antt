@@ -7,7 +7,7 @@ use Rattle.report.specs.declared.fault.Input.{Input}
 use Rattle.report.specs.declared.fault.Input.TheVariants as inputs
 use Rattle.report.specs.declared.fault.RunFault.{RunFault}
 use Rattle.report.specs.declared.fault.RunFault.TheVariants.{Device}
-use Rattle.in_memory.specs.Holding.{Feeds}
+use Rattle.summed_inputs.specs.Holding.{Feeds}
 use Rattle.program.specs.Files.{FilesState, IsFeedOf, MayBeMissing, MayBeThere, Standing}
 
 -- which input is opened, and by which path

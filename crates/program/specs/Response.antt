@@ -10,9 +10,9 @@ use Rattle.report.specs.declared.fault.Outcome.{Outcome}
 use Rattle.report.specs.declared.fault.RunFault.{RunFault}
 use Rattle.audit.specs.Question.{AskedData}
 use Rattle.audit.specs.Run.{AnswersFor, ShowsAt}
-use Rattle.in_memory.specs.Answer.{JudgesBySums}
-use Rattle.in_memory.specs.Holding.{Feeds, limit_of}
-use Rattle.in_memory.specs.InputBytes.{InputBytesData, data_of}
+use Rattle.summed_inputs.specs.Answer.{JudgesBySums}
+use Rattle.summed_inputs.specs.Holding.{Feeds, limit_of}
+use Rattle.summed_inputs.specs.InputBytes.{InputBytesData, data_of}
 use Rattle.program.specs.Inputs.{SumNames, run_over, sum_names, sums_of}
 use Rattle.program.specs.Opening.{Place, Places}
 use Rattle.program.specs.declared.response.Summed.{Summed}

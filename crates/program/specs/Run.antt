@@ -14,7 +14,7 @@ use Rattle.report.specs.declared.conclusion.Conclusion.{Conclusion}
 use Rattle.report.specs.declared.fault.Input.TheVariants.{Capture}
 use Rattle.report.specs.declared.fault.Outcome.TheVariants.{Yes}
 use Rattle.audit.specs.Question.{AskedData}
-use Rattle.in_memory.specs.Holding.{Feeds}
+use Rattle.summed_inputs.specs.Holding.{Feeds}
 use Rattle.program.specs.Drafted.{IsDraftedOver}
 use Rattle.program.specs.Files.{IsFeedOf}
 use Rattle.program.specs.Invocation.{judged_of, judged_places, listed_name, places_of, requested}

@@ -20,7 +20,7 @@ use crate::invocation::Paths;
 use audit::{Question, Request, Style, run, run_twice};
 use byte_stream::Sink;
 use fault_words::Obstacle;
-use in_memory::NamedFeed;
+use summed_inputs::NamedFeed;
 use report::{Outcome, RunFault};
 use std::alloc::{AllocError, Global};
 use std::hash::BuildHasher;

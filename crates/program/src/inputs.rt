@@ -6,7 +6,7 @@ ghost use Rattle.std.specs.Option.{option_to_list};
 ghost use Rattle.byte_stream.specs.State.{IsReadable};
 ghost use Rattle.report.specs.Run.{no_feed};
 ghost use Rattle.report.specs.declared.fault.Input.TheVariants.{Sums};
-ghost use Rattle.in_memory.specs.Holding.{feeds};
+ghost use Rattle.summed_inputs.specs.Holding.{feeds};
 ghost use Rattle.program.specs.Files.{IsFeedOf};
 ghost use Rattle.program.specs.Invocation.{judged_places, places_of};
 ghost use Rattle.program.specs.Opening.{AreOpened, IsFirstUnopened, IsSumsOf, order_of, place};

@@ -1,7 +1,7 @@
 //! A feed under the operand that names it.
 
 use byte_stream::{Feed, FeedFault};
-use in_memory::NamedFeed;
+use summed_inputs::NamedFeed;
 
 /// An input that was opened, under its name.
 #[derive(Drop)]

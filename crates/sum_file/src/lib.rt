@@ -3,7 +3,7 @@
 //! `read_sums` gives the sums of a text, or its first bad line. `digest_of` finds the digest that
 //! they give to a name.
 //!
-//! The digest of an input under its name, as `digest_for` of `in_memory/src/sums.rt` looks for it,
+//! The digest of an input under its name, as `digest_for` of `summed_inputs/src/sums.rt` looks for it,
 //! with its proof:
 //!
 //! ```text

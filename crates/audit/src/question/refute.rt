@@ -18,7 +18,7 @@ use byte_stream::Sink;
 use certificate::Refutation;
 use checker::check_refutation;
 use claim_file::Claim;
-use courses::check_refutation_with_drift;
+use feasibility::check_refutation_with_drift;
 use line_writer::Style;
 use report::{Outcome, RunFault, publish};
 use std::alloc::{AllocError, Global};

@@ -1,8 +1,8 @@
 use Rattle.finder.proofs.Common.{true, length, map, refl, sym, ap, subst, All, data_of as claim_data, Course, IsCover, IsHeldAtAll, holds_false, samples_of}
 use Rattle.checker.specs.Course.{Fits}
-use Rattle.courses.specs.LeastCovers.{AreLeastCovers}
+use Rattle.feasibility.specs.LeastCovers.{AreLeastCovers}
 use Rattle.certificate.specs.Refutation.{data_of as refutation_data}
-use Rattle.courses.specs.ConflictsView.{data_of}
+use Rattle.feasibility.specs.ConflictsView.{data_of}
 use Rattle.finder.proofs.HeldError.{all_tried, are_held, least_covers, one_more_tried}
 use Rattle.finder.proofs.SettlementAnswer.{none_beyond, one_more_needs}
 use Rattle.finder.proofs.settlement.refutation_of.Goals as goal

@@ -1,6 +1,6 @@
 use Rattle.std.proofs.Common.{refl, true≢false, sym, ◌∙◌}
 use Rattle.report.specs.Run.{no_feed}
-use Rattle.in_memory.specs.Holding.{feeds}
+use Rattle.summed_inputs.specs.Holding.{feeds}
 use Rattle.program.proofs.Over.{runs_over, twice_over}
 use Rattle.program.proofs.drafted.draft.Goals as goal
 

@@ -3,8 +3,8 @@ use Rattle.std.specs.Prelude.{IfSome}
 use Rattle.byte_stream.specs.State.{SinkState}
 use Rattle.report.specs.declared.conclusion.Conclusion.{Conclusion}
 use Rattle.audit.specs.Question.{AskedData}
-use Rattle.in_memory.specs.Holding.{Feeds}
-use Rattle.in_memory.specs.InputBytes.{InputBytesData}
+use Rattle.summed_inputs.specs.Holding.{Feeds}
+use Rattle.summed_inputs.specs.InputBytes.{InputBytesData}
 use Rattle.program.specs.Inputs.{SumNames}
 use Rattle.program.specs.Response.{IsJudgedBy}
 use Rattle.program.proofs.response.answer_by_file.Goals as goal

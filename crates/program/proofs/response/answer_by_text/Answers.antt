@@ -1,4 +1,4 @@
-use Rattle.in_memory.specs.Holding.{feeds}
+use Rattle.summed_inputs.specs.Holding.{feeds}
 use Rattle.program.proofs.response.answer_by_text.Goals as goal
 
 pub returns : goal.returns

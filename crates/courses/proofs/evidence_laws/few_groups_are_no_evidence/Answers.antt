@@ -1,5 +1,0 @@
-use Rattle.courses.proofs.HeardGroups.{no_evidence}
-use Rattle.courses.proofs.evidence_laws.few_groups_are_no_evidence.Goals as goal
-
-pub returns : goal.returns
-returns c = no_evidence

@@ -1,7 +1,0 @@
-use Rattle.courses.proofs.Common.{map, data_of as claim_data, holds}
-use Rattle.courses.proofs.GroupRefutation.{IsHeldTo}
-use Rattle.courses.proofs.group_refutation.is_compatible_outside.Given as goal
-
-abbrev pub invariant-loop-exchange : goal.invariant-loop-exchange
-invariant-loop-exchange g l =
-    IsHeldTo (claim_data l.claim) l.mark (holds l.groups) (map g.X.ToExchange.shown l.exchanges) l.exchange-index

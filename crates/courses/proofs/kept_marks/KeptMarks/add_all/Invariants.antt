@@ -1,9 +1,0 @@
-use Rattle.courses.proofs.Common.{drop, map, is_liar}
-use Rattle.courses.proofs.KeptMarkLists.{IsGathering}
-use Rattle.courses.proofs.kept_marks.KeptMarks.add_all.Given as goal
-
-abbrev pub invariant-loop-exchange : goal.invariant-loop-exchange
-invariant-loop-exchange g l =
-    let xs = map g.X.ToExchange.shown l.exchanges in
-    IsGathering l.claim.reading (is_liar l.liars) xs (drop l.exchange-index xs)
-    l.initial.self.lows.items l.initial.self.highs.items l.self.lows.items l.self.highs.items

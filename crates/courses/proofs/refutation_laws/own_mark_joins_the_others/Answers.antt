@@ -1,5 +1,0 @@
-use Rattle.courses.proofs.OwnMark.{among_others, from_others}
-use Rattle.courses.proofs.refutation_laws.own_mark_joins_the_others.Goals as goal
-
-pub returns : goal.returns
-returns c claim xs refutation = (among_others claim xs refutation, from_others claim xs refutation)

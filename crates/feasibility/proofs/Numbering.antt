@@ -1,0 +1,98 @@
+-- The numbers and marks of a group, as they are gathered.
+use Rattle.feasibility.proofs.Common.{◌≡◌, ℕ, ◌+◌, ◌<◌, ◌⊎◌, ⊎_elim, List, [], ◌∷◌, ◌++◌, drop, length, map, Bool, true, false, refl, sym, ap, ◌∙◌, subst, get_or, arith, All, ◌==◌, filter, get_or-append, length-append, append_snoc, get_or-append_seam, ClaimData, low_mark, high_mark, IsWithinRange, Mark, Exchange, group_of, group_lows, group_highs, numbers_from, group_numbers, not_lt_zero}
+use Rattle.feasibility.proofs.KeptMarkLists.{with_last}
+use Rattle.feasibility.proofs.PassingNumbers.{kept, left_out, counted, not_counted}
+
+-- the exchanges before the one with this number were gone through
+pub record IsNumbering (claim : ClaimData) (group : ℕ) (xs : List Exchange) (k : ℕ) (numbers : List ℕ)
+    (lows highs : List Mark) : Type 0 where
+  pub numbers_are :
+      group_numbers claim xs group ≡ numbers ++ numbers_from (λ x. group_of claim x == group) k (drop k xs)
+  pub lows_are : group_lows claim xs group ≡ lows ++ group_lows claim (drop k xs) group
+  pub highs_are : group_highs claim xs group ≡ highs ++ group_highs claim (drop k xs) group
+  pub low_count : length lows ≡ length numbers
+  pub high_count : length highs ≡ length numbers
+  pub low_range : All IsWithinRange lows
+  pub high_range : All IsWithinRange highs
+
+as_many : (ms ms' : List Mark) (m : Mark) (ns ns' : List ℕ) (n : ℕ) → ms' ≡ ms ++ m ∷ [] → ns' ≡ ns ++ n ∷ []
+    → length ms ≡ length ns → length ms' ≡ length ns'
+as_many ms ms' m ns ns' n is is' same =
+    let long = ap length is ∙ length-append ms (m ∷ []) in
+    let long' = ap length is' ∙ length-append ns (n ∷ []) in
+    omega (arith, long, long')
+
+module _ (claim : ClaimData) (group : ℕ) (xs : List Exchange) where
+  abbrev is_of : Exchange → Bool
+  is_of x = group_of claim x == group
+
+  module _ (k : ℕ) (x : Exchange) (numbers : List ℕ) (lows highs : List Mark) (split : drop k xs ≡ x ∷ drop (k + 1) xs)
+      (before : IsNumbering claim group xs k numbers lows highs) where
+    abbrev rest : List Exchange
+    rest = drop (k + 1) xs
+
+    pub past_other : is_of x ≡ false → IsNumbering claim group xs (k + 1) numbers lows highs
+    past_other other =
+        let out = ap (filter is_of) split ∙ left_out is_of x rest other in
+        record {
+          numbers_are = before.numbers_are ∙ ap (λ (ys : List Exchange). numbers ++ numbers_from is_of k ys) split
+              ∙ ap (λ (ns : List ℕ). numbers ++ ns) (not_counted is_of k x rest other);
+          lows_are = before.lows_are ∙ ap (λ (ys : List Exchange). lows ++ map (low_mark claim.reading) ys) out;
+          highs_are = before.highs_are ∙ ap (λ (ys : List Exchange). highs ++ map (high_mark claim.reading) ys) out;
+          low_count = before.low_count;
+          high_count = before.high_count;
+          low_range = before.low_range;
+          high_range = before.high_range;
+        }
+
+    module _ (numbers' : List ℕ) (lows' highs' : List Mark) (numbers_grow : numbers' ≡ numbers ++ k ∷ [])
+        (lows_grow : lows' ≡ lows ++ low_mark claim.reading x ∷ [])
+        (highs_grow : highs' ≡ highs ++ high_mark claim.reading x ∷ []) where
+      marks_past : (f : Exchange → Mark) (whole ms ms' : List Mark) → is_of x ≡ true
+          → whole ≡ ms ++ map f (filter is_of (drop k xs)) → ms' ≡ ms ++ f x ∷ []
+          → whole ≡ ms' ++ map f (filter is_of rest)
+      marks_past f whole ms ms' own is grow =
+          is ∙ ap (λ (ys : List Exchange). ms ++ map f ys) (ap (filter is_of) split ∙ kept is_of x rest own)
+          ∙ sym (append_snoc ms (f x) (map f (filter is_of rest)))
+          ∙ ap (λ (ns : List Mark). ns ++ map f (filter is_of rest)) (sym grow)
+
+      pub past_own : is_of x ≡ true → IsWithinRange (low_mark claim.reading x)
+          → IsWithinRange (high_mark claim.reading x) → IsNumbering claim group xs (k + 1) numbers' lows' highs'
+      past_own own low high = record {
+        numbers_are = before.numbers_are ∙ ap (λ (ys : List Exchange). numbers ++ numbers_from is_of k ys) split
+            ∙ ap (λ (ns : List ℕ). numbers ++ ns) (counted is_of k x rest own)
+            ∙ sym (append_snoc numbers k (numbers_from is_of (k + 1) rest))
+            ∙ ap (λ (ns : List ℕ). ns ++ numbers_from is_of (k + 1) rest) (sym numbers_grow);
+        lows_are = marks_past (low_mark claim.reading) _ lows lows' own before.lows_are lows_grow;
+        highs_are = marks_past (high_mark claim.reading) _ highs highs' own before.highs_are highs_grow;
+        low_count = as_many lows lows' _ numbers numbers' k lows_grow numbers_grow before.low_count;
+        high_count = as_many highs highs' _ numbers numbers' k highs_grow numbers_grow before.high_count;
+        low_range = with_last lows (low_mark claim.reading x) lows' lows_grow before.low_range low;
+        high_range = with_last highs (high_mark claim.reading x) highs' highs_grow before.high_range high;
+      }
+
+-- ---- a list for each group, one group after another
+
+before_or_last : (k n m : ℕ) → k < m → m ≡ n + 1 → (k < n) ⊎ (k ≡ n)
+before_or_last k n m lt eq = grind arith
+
+module _ {X : Type 0} (P : ℕ → X → Type 0) where
+  abbrev EachInOrder : List X → Type 0
+  EachInOrder items = (k : ℕ) (d : X) → k < length items → P k (get_or items k d)
+
+  pub none_in_order : (items : List X) → items ≡ [] → EachInOrder items
+  none_in_order items is k d below = absurd (not_lt_zero k (subst (λ (ms : List X). k < length ms) is below))
+
+  module _ (before : List X) (last : X) (items : List X) (is : items ≡ before ++ last ∷ []) where
+    pub one_longer : (n : ℕ) → length before ≡ n → length items ≡ n + 1
+    one_longer n same = ap length is ∙ length-append before (last ∷ []) ∙ ap (λ (k : ℕ). k + 1) same
+
+    pub one_more_in_order : (n : ℕ) → length before ≡ n → EachInOrder before → P n last → EachInOrder items
+    one_more_in_order n same each of_last k d below = ⊎_elim
+        (λ (lt : k < length before). subst (P k)
+        (sym (ap (λ (ms : List X). get_or ms k d) is ∙ get_or-append before (last ∷ []) d k lt)) (each k d lt))
+        (λ (eq : k ≡ length before). subst (λ (j : ℕ). P j (get_or items j d)) (sym eq)
+        (subst (P (length before))
+        (sym (ap (λ (ms : List X). get_or ms (length before) d) is ∙ get_or-append_seam before last [] d))
+        (subst (λ (j : ℕ). P j last) (sym same) of_last)))
+        (before_or_last k (length before) (length items) below (one_longer (length before) refl))

@@ -1,0 +1,126 @@
+-- Refutations of which the error never changes, among those of which it may drift.
+use Rattle.feasibility.proofs.Common.{◌≡◌, ℕ, ◌+◌, ◌-◌, ◌*◌, ◌≤◌, ℤ, pos, ◌+ℤ◌, ◌-ℤ◌, ◌≤ℤ◌, unsigned_abs, false, List, Some, subst, arith, slice_index_or, int_min, int_max, ints, clamps, by_lt_z, slice_get-get_or, ClaimData, RefutationData, Exchange, Mark, low_mark, high_mark, IsPossible, AreCompatible, billion, request_start, reply_end, is_liar, AdmitsError, Admits, IsRefuted, mark_of, IsRefutedWithDrift, ≤ℤ_trans, All-slice_get, compatible_in_order}
+use Rattle.std.specs.Prelude.{slice_get}
+use Rattle.feasibility.proofs.Scaling.{product_from}
+use Rattle.feasibility.proofs.TrueExchanges.{true_at, all_true, marks_at, all_marks, all_pairs}
+
+-- ---- marks in order
+
+none_above : (low high : ℤ) (x : ℕ) → low ≤ℤ high → low -ℤ high ≡ pos x → x ≡ 0
+none_above low high x h at = omega (arith, ints)
+
+nothing : (k p d x : ℕ) → x ≡ 0 → k * x ≤ p * d
+nothing k p d x none = rw none (omega arith)
+
+ordered_by : (low high : ℤ) (x : ℕ) → low -ℤ high ≡ pos x → billion * x ≤ 0 → low ≤ℤ high
+ordered_by low high x at h = omega (arith, ints)
+
+-- without a drift, compatible marks are in order
+pub in_order_without_drift : (low high : Mark) → AreCompatible 0 low high → low.error ≤ℤ high.error
+in_order_without_drift low high agree = by_lt_z high.error low.error
+    (λ above.
+    let x : ℕ = unsigned_abs (low.error -ℤ high.error) in
+    let at : low.error -ℤ high.error ≡ pos x = omega (arith, ints) in
+    by_lt_z high.place low.place
+    (λ back.
+    let d : ℕ = unsigned_abs (low.place -ℤ high.place) in
+    let h = product_from (billion + 0) 0 x d (low.error -ℤ high.error) (low.place -ℤ high.place) at
+    (omega (arith, ints)) (agree.rises back) in
+    ordered_by low.error high.error x at (omega (arith, h)))
+    (λ forth.
+    let d : ℕ = unsigned_abs (high.place -ℤ low.place) in
+    let h = product_from (billion - 0) 0 x d (low.error -ℤ high.error) (high.place -ℤ low.place) at
+    (omega (arith, ints)) (agree.falls forth) in
+    ordered_by low.error high.error x at (omega (arith, h))))
+    (λ no_more. no_more)
+
+-- ---- one exchange, and one error
+
+module _ (start end t2 t3 distance error : ℤ) where
+  low_below : AdmitsError start end t2 t3 distance error → ((start -ℤ int_min t2 t3) -ℤ distance) ≤ℤ error
+  low_below room =
+      let first = room.leaves_before_receipt in
+      let second = room.leaves_before_answer in
+      omega (arith, ints, clamps)
+
+  high_above : AdmitsError start end t2 t3 distance error → error ≤ℤ ((end -ℤ int_max t2 t3) +ℤ distance)
+  high_above room =
+      let first = room.receives_before_arrival in
+      let second = room.answers_before_arrival in
+      omega (arith, ints, clamps)
+
+  room_from : ((start -ℤ int_min t2 t3) -ℤ distance) ≤ℤ error → error ≤ℤ ((end -ℤ int_max t2 t3) +ℤ distance)
+      → start ≤ℤ end → (t2 -ℤ distance) ≤ℤ (t3 +ℤ distance) → AdmitsError start end t2 t3 distance error
+  room_from low high leaves receives = record {
+    leaves_before_receipt = omega (arith, ints, clamps);
+    leaves_before_answer = omega (arith, ints, clamps);
+    leaves_before_arrival = leaves;
+    receives_before_answer = receives;
+    receives_before_arrival = omega (arith, ints, clamps);
+    answers_before_arrival = omega (arith, ints, clamps);
+  }
+
+module _ (claim : ClaimData) (xs : List Exchange) (r : RefutationData) where
+  module _ (refuted : IsRefuted claim xs r) where
+    room_at : (k : ℕ) (x : Exchange) → slice_get xs k ≡ Some x → is_liar r.liars x.server ≡ false
+        → Admits claim.reading r.error x
+    room_at k x at true' =
+        All-slice_get (λ y. is_liar r.liars y.server ≡ false → Admits claim.reading r.error y) xs k x
+        refuted.admits at true'
+
+    low_at : (k : ℕ) (x : Exchange) → slice_get xs k ≡ Some x → is_liar r.liars x.server ≡ false
+        → (low_mark claim.reading x).error ≤ℤ r.error
+    low_at k x at true' =
+        low_below (request_start x claim.reading) (reply_end x claim.reading) x.t2 x.t3 x.distance r.error
+        (room_at k x at true')
+
+    high_at : (k : ℕ) (x : Exchange) → slice_get xs k ≡ Some x → is_liar r.liars x.server ≡ false
+        → r.error ≤ℤ (high_mark claim.reading x).error
+    high_at k x at true' =
+        high_above (request_start x claim.reading) (reply_end x claim.reading) x.t2 x.t3 x.distance r.error
+        (room_at k x at true')
+
+    -- what is refuted with one error throughout is refuted with drift
+    pub refuted_with_drift : IsRefutedWithDrift claim xs r
+    refuted_with_drift = record {
+      against = refuted.against;
+      agree = record {
+        possible = all_true (is_liar r.liars) xs (IsPossible claim.reading)
+            (λ k x at true'. let room = room_at k x at true' in record {
+              leaves_before_arrival = room.leaves_before_arrival;
+              receives_before_answer = room.receives_before_answer;
+            });
+        compatible = all_pairs (is_liar r.liars) xs claim.drift_ppb claim.reading
+            (λ i j x y at_i at_j true_x true_y.
+            compatible_in_order claim.drift_ppb (low_mark claim.reading x) (high_mark claim.reading y)
+            (≤ℤ_trans _ _ _ (low_at i x at_i true_x) (high_at j y at_j true_y)));
+      };
+      reading_low = all_marks (is_liar r.liars) xs (AreCompatible claim.drift_ppb (mark_of r))
+          (high_mark claim.reading)
+          (λ j y at_j true_y. compatible_in_order claim.drift_ppb (mark_of r) (high_mark claim.reading y)
+          (high_at j y at_j true_y));
+      reading_high = all_marks (is_liar r.liars) xs (λ low. AreCompatible claim.drift_ppb low (mark_of r))
+          (low_mark claim.reading)
+          (λ i x at_i true_x. compatible_in_order claim.drift_ppb (low_mark claim.reading x) (mark_of r)
+          (low_at i x at_i true_x));
+    }
+
+  -- without a drift it is the other way too
+  pub refuted_without_drift : claim.drift_ppb ≡ 0 → IsRefutedWithDrift claim xs r → IsRefuted claim xs r
+  refuted_without_drift none refuted = record {
+    against = refuted.against;
+    admits = λ k d below true'.
+        let x = slice_index_or xs k d in
+        let at : slice_get xs k ≡ Some x = slice_get-get_or xs k d below in
+        let possible = true_at (is_liar r.liars) xs (IsPossible claim.reading) k x refuted.agree.possible at true' in
+        let low = marks_at (is_liar r.liars) xs (λ low. AreCompatible claim.drift_ppb low (mark_of r))
+        (low_mark claim.reading) k x refuted.reading_high at true' in
+        let high = marks_at (is_liar r.liars) xs (AreCompatible claim.drift_ppb (mark_of r))
+        (high_mark claim.reading) k x refuted.reading_low at true' in
+        room_from (request_start x claim.reading) (reply_end x claim.reading) x.t2 x.t3 x.distance r.error
+        (in_order_without_drift (low_mark claim.reading x) (mark_of r)
+        (subst (λ (p : ℕ). AreCompatible p (low_mark claim.reading x) (mark_of r)) none low))
+        (in_order_without_drift (mark_of r) (high_mark claim.reading x)
+        (subst (λ (p : ℕ). AreCompatible p (mark_of r) (high_mark claim.reading x)) none high))
+        possible.leaves_before_arrival possible.receives_before_answer;
+  }

@@ -1,0 +1,77 @@
+use Rattle.feasibility.proofs.Common.{rules, ℤ, to_z, of_z, ◌≡◌, ℕ, ◌+◌, [], ◌∷◌, ◌++◌, Some, drop, length, map, sym, ap, ◌∙◌, subst, Vec, Global, w128, slice_get-get_or, data_of as claim_data, low_mark, high_mark, IsWithinRange, Mark}
+use Rattle.feasibility.proofs.KeptMarkLists.{first_left, lawful_shown}
+use Rattle.feasibility.proofs.Numbering.{IsNumbering, past_other, past_own}
+use Rattle.feasibility.proofs.numbered_marks.NumberedMarks.of_group.Goals as goal
+use Rattle.feasibility.proofs.numbered_marks.NumberedMarks.of_group.Goals.{then-is_of+in_ok-push+in_ok-push-2+in_ok-push-3, else-is_of}
+
+pub is_of-requires : goal.is_of-requires
+is_of-requires g c = record {
+  exchange = lawful_shown g.X.ToExchange.shown c.args.exchanges.now c.loop-number.number c.index-exchanges-number.result
+      (slice_get-get_or c.args.exchanges.now _ c.index-exchanges-number.result c.loop-number-test.true
+      ∙ ap Some (sym c.index-exchanges-number.is))
+      (length c.args.claim.now.servers.items) c.to_exchange-exchange.result c.to_exchange-exchange.ensures
+      c.requires.exchanges;
+}
+
+pub low_mark-requires-clause-exchange : goal.low_mark-requires-clause-exchange
+low_mark-requires-clause-exchange g c = record {
+  servers = length c.args.claim.now.servers.items;
+  lawful = lawful_shown g.X.ToExchange.shown c.args.exchanges.now c.loop-number.number c.index-exchanges-number.result
+      (slice_get-get_or c.args.exchanges.now _ c.index-exchanges-number.result c.loop-number-test.true
+      ∙ ap Some (sym c.index-exchanges-number.is))
+      (length c.args.claim.now.servers.items) c.to_exchange-exchange.result c.to_exchange-exchange.ensures
+      c.requires.exchanges;
+}
+
+pub high_mark-requires-clause-exchange : goal.high_mark-requires-clause-exchange
+high_mark-requires-clause-exchange g c = record {
+  servers = length c.args.claim.now.servers.items;
+  lawful = lawful_shown g.X.ToExchange.shown c.args.exchanges.now c.loop-number.number c.index-exchanges-number.result
+      (slice_get-get_or c.args.exchanges.now _ c.index-exchanges-number.result c.loop-number-test.true
+      ∙ ap Some (sym c.index-exchanges-number.is))
+      (length c.args.claim.now.servers.items) c.to_exchange-exchange.result c.to_exchange-exchange.ensures
+      c.requires.exchanges;
+}
+
+pub loop-number-preserved : goal.loop-number-preserved
+loop-number-preserved g c =
+    let claim = claim_data c.args.claim.now in
+    let xs = map g.X.ToExchange.shown c.args.exchanges.now in
+    let k = c.loop-number.number in
+    let x = c.to_exchange-exchange.result in
+    let numbers = c.loop-number.numbers.items in
+    let lows = c.loop-number.lows.items in
+    let highs = c.loop-number.highs.items in
+    let split : drop k xs ≡ x ∷ drop (k + 1) xs =
+    first_left g.X.ToExchange.shown c.args.exchanges.now k c.index-exchanges-number.result
+    (slice_get-get_or c.args.exchanges.now _ c.index-exchanges-number.result c.loop-number-test.true
+    ∙ ap Some (sym c.index-exchanges-number.is)) x c.to_exchange-exchange.ensures in
+    let lists : (ns : Vec ℕ Global) (ls hs : Vec Mark Global) → c.if-is_of.numbers ≡ ns → c.if-is_of.lows ≡ ls
+    → c.if-is_of.highs ≡ hs → IsNumbering claim c.args.group xs (k + 1) ns.items ls.items hs.items
+    → IsNumbering claim c.args.group xs (k + 1) c.if-is_of.numbers.items c.if-is_of.lows.items c.if-is_of.highs.items =
+    (λ ns ls hs ns_are ls_are hs_are h.
+    subst (λ (v : Vec ℕ Global).
+    IsNumbering claim c.args.group xs (k + 1) v.items c.if-is_of.lows.items c.if-is_of.highs.items) (sym ns_are)
+    (subst (λ (v : Vec Mark Global).
+    IsNumbering claim c.args.group xs (k + 1) ns.items v.items c.if-is_of.highs.items) (sym ls_are)
+    (subst (λ (v : Vec Mark Global). IsNumbering claim c.args.group xs (k + 1) ns.items ls.items v.items)
+    (sym hs_are) h))) in
+    let reading : to_z w128 (of_z w128 c.args.claim.now.reading) ≡ c.args.claim.now.reading = search rules in
+    elim c.if-is_of.branch [
+      | then-is_of+in_ok-push+in_ok-push-2+in_ok-push-3 w ↦
+          let low_is = w.low_mark.ensures.exact ∙ ap (λ (allowance : ℤ). low_mark allowance x) reading in
+          let high_is = w.high_mark.ensures.exact ∙ ap (λ (allowance : ℤ). high_mark allowance x) reading in
+          lists w.push.new.self w.push-then-is_of.new.self w.push-then-is_of-2.new.self w.numbers-is w.lows-is
+          w.highs-is
+          (past_own claim c.args.group xs k x numbers lows highs split c.loop-number.invariant w.push.new.self.items
+          w.push-then-is_of.new.self.items w.push-then-is_of-2.new.self.items w.in_ok-push.ensures.items
+          (w.in_ok-push-2.ensures.items ∙ ap (λ (m : Mark). lows ++ m ∷ []) low_is)
+          (w.in_ok-push-3.ensures.items ∙ ap (λ (m : Mark). highs ++ m ∷ []) high_is)
+          (sym c.is_of.ensures ∙ w.if-is_of.true)
+          (subst IsWithinRange low_is w.low_mark.ensures.range)
+          (subst IsWithinRange high_is w.high_mark.ensures.range))
+      | else-is_of w ↦
+          lists c.loop-number.numbers c.loop-number.lows c.loop-number.highs w.numbers-is w.lows-is w.highs-is
+          (past_other claim c.args.group xs k x numbers lows highs split c.loop-number.invariant
+          (sym c.is_of.ensures ∙ w.if-is_of.false))
+    ]

@@ -1,0 +1,32 @@
+//! What holds where no more groups have an exchange than may be false.
+
+ghost use Rattle.std.specs.Prelude.{◌≡◌, ℕ, ◌≤◌, List, length, All};
+ghost use Rattle.certificate.specs.Certificate.{CertificateData};
+ghost use Rattle.checker.specs.Traceability.{samples_of};
+ghost use Rattle.checker.specs.Verdict.{verdict_of};
+ghost use Rattle.checker.specs.declared.verdict.Verdict.TheVariants.{Yes};
+ghost use Rattle.claim_file.specs.Claim.{ClaimData, IsLawful};
+ghost use Rattle.feasibility.specs.Evidence.{IsNoEvidence, count_with_exchange};
+ghost use Rattle.pairing.specs.Exchange.{IsLawful as IsLawfulExchange};
+ghost use Rattle.pairing.specs.declared.exchange.Exchange.{Exchange};
+
+use checker::laws::verdicts_are_traceable;
+
+/// If no more groups have an exchange than may be false, the exchanges are no evidence: for every
+/// error and every reading of the clock a course fits.
+pub fn few_groups_are_no_evidence()
+    ensures { (claim : ClaimData) (xs : List Exchange) → IsLawful claim →
+        All (IsLawfulExchange (length claim.servers)) xs →
+        count_with_exchange claim xs ≤ claim.false_max →
+        IsNoEvidence claim xs (count_with_exchange claim xs) }
+{}
+
+/// Where exchanges are no evidence, no certificate gets a yes, whatever the claim's bound.
+pub fn no_evidence_gives_no_yes()
+    ensures { (claim : ClaimData) (xs : List Exchange) (groups : ℕ)
+        (certificate : CertificateData) → IsLawful claim →
+        All (IsLawfulExchange (length claim.servers)) xs → IsNoEvidence claim xs groups →
+        ¬ (verdict_of (samples_of xs claim) claim certificate ≡ Yes) }
+{
+    verdicts_are_traceable();
+}

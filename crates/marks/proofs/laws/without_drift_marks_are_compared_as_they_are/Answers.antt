@@ -1,5 +1,0 @@
-use Rattle.marks.proofs.Rate.{without_drift}
-use Rattle.marks.proofs.laws.without_drift_marks_are_compared_as_they_are.Goals as goal
-
-pub returns : goal.returns
-returns c = without_drift

@@ -1,0 +1,21 @@
+use Rattle.std.proofs.Common.{◌≡◌, ℕ, List, refl}
+use Rattle.byte_stream.specs.Bytes.{IsBytes}
+use Rattle.finder.specs.Settlement.{SettledData, shown}
+use Rattle.report.specs.declared.fault.Outcome.TheVariants.{Yes, No}
+use Rattle.audit.specs.Settle.{IsSettledFrom, settled_outcome}
+use Rattle.summed_inputs.specs.Shown.{IsSettledShown}
+use Rattle.summed_inputs.proofs.laws.settle_is_an_answer.Goals as goal
+
+-- only a certificate is a yes
+is_shown : (claim capture : List ℕ) → IsBytes capture → (settled : SettledData) → Yes ≡ settled_outcome settled →
+    IsSettledFrom settled claim capture → IsSettledShown claim capture
+is_shown claim capture bytes (shown certificate) is holds =
+    record { certificate = certificate; shown = holds; in_relations = holds.in_relations bytes }
+is_shown claim capture bytes settled is holds = absurd (let wrong : Yes ≡ No = is in cc)
+
+pub returns-clause-yes : goal.returns-clause-yes
+returns-clause-yes c claim second capture bytes shows =
+    let by = shows Yes refl in is_shown claim capture bytes by.settled by.outcome_is by.holds
+
+pub returns-clause-no : goal.returns-clause-no
+returns-clause-no c claim second capture shows = shows No refl

@@ -1,0 +1,82 @@
+-- What is said of a run whose inputs are held to their sums, with no premise that their bytes are
+-- known beforehand.
+use Rattle.std.specs.Prelude.{◌≡◌, ◌⊎◌, ◌≤◌, ℕ, false, List, Some, Err}
+use Rattle.std.specs.Io.KnownBytes.{Keeps}
+use Rattle.byte_stream.specs.State.{SinkState}
+use Rattle.report.specs.Run.{RunState, run_state}
+use Rattle.report.specs.Conclusion.{Answers, Concludes, conclusion_of}
+use Rattle.report.specs.declared.conclusion.Conclusion.{Conclusion}
+use Rattle.report.specs.declared.fault.Outcome.{Outcome}
+use Rattle.report.specs.declared.fault.RunFault.{RunFault}
+use Rattle.audit.specs.Finding.{ShowsFinding}
+use Rattle.audit.specs.Report.{report_of_bytes}
+use Rattle.audit.specs.Run.{ShowsAt}
+use Rattle.audit.specs.Question.{AskedData, Finding, QuestionData}
+use Rattle.audit.specs.Second.{SecondKind}
+use Rattle.summed_inputs.specs.Holding.{AreSummed, CountFaults, Feeds, IsUnjudgedFor}
+use Rattle.summed_inputs.specs.Holding.{TakeAtMost, feed_of, feeds}
+use Rattle.summed_inputs.specs.InputBytes.{InputBytesData}
+use Rattle.summed_inputs.specs.Sums.{SumsData}
+
+-- the feeds of a run
+abbrev pub feeds_of : RunState → Feeds
+feeds_of run = feeds run.claim run.second run.capture
+
+-- none of a run's inputs has failed
+pub record HaveNotFailed (run : RunState) : Type 0 where
+  pub claim : run.claim.faults ≡ 0
+  pub second : run.second.faults ≡ 0
+  pub capture : run.capture.faults ≡ 0
+
+-- what an exit status shows of these bytes of claim, second input and capture
+abbrev pub ShowsOfBytes : ℕ → QuestionData → List ℕ → List ℕ → List ℕ → Type 0
+ShowsOfBytes status question claim second capture =
+    ShowsAt status question (feed_of claim) (feed_of second) (feed_of capture)
+
+-- The text that is written, the fault that is reported and the exit status are those that the
+-- definitions have for these bytes of claim, second input and capture; of `settle` and `envelope`
+-- those for a finding, which shows what it says. The bytes are in memory, so the fault isn't that
+-- of a device of theirs. The status shows what it shows of them.
+pub record IsAnsweredFor (asked : AskedData) (claim second capture : List ℕ)
+    (sink sink' err err' : SinkState) (conclusion : Conclusion) : Type 0 where
+  pub ended : RunState
+  pub sink_is : ended.sink ≡ sink'
+  pub unfailed : HaveNotFailed ended
+  pub finding : Finding
+  pub found : ShowsFinding finding (feed_of claim) (feed_of capture)
+  pub answers : Answers
+      (report_of_bytes asked finding (Some claim) (Some second) (Some capture))
+      (run_state (feed_of claim) (feed_of second) (feed_of capture) sink) ended err err' conclusion
+  pub shows : ShowsOfBytes conclusion.code asked.question claim second capture
+
+-- What was read of claim, second input and capture has the sums that are given for it, and is
+-- answered for. No device of an input failed.
+pub record IsJudged (asked : AskedData) (sums : SumsData) (before after : RunState)
+    (err err' : SinkState) (read : InputBytesData) (conclusion : Conclusion) : Type 0 where
+  pub summed : AreSummed asked.second sums (feeds_of before) read
+  pub answered : IsAnsweredFor asked read.claim read.second read.capture before.sink after.sink
+      err err' conclusion
+  pub claim_unfailed : after.claim.faults ≡ before.claim.faults
+  pub second_unfailed : after.second.faults ≡ before.second.faults
+  pub capture_unfailed : after.capture.faults ≡ before.capture.faults
+
+-- A run is given up before anything is judged: the fault is reported, and nothing is written.
+pub record IsUnjudged (kind : SecondKind) (sums : SumsData) (before after : RunState)
+    (err err' : SinkState) (read : InputBytesData) (conclusion : Conclusion) : Type 0 where
+  pub fault : RunFault
+  pub fault_is : IsUnjudgedFor kind sums (feeds_of before) (feeds_of after) read fault
+  pub unwritten : Keeps before.sink.contents after.sink.contents
+  pub closed : after.sink.is_open ≡ false
+  pub concludes : Concludes (Err fault) err err'
+  pub conclusion_is : conclusion ≡ conclusion_of (Err fault)
+  pub counts_faults : CountFaults {A = Outcome} (Err fault) (feeds_of before) (feeds_of after)
+
+-- What a run promises that is held to sums and hands back what it read: that is judged, or the run
+-- is given up; and it's judged at status 0 and 1.
+pub record JudgesBySums (asked : AskedData) (sums : SumsData) (before after : RunState)
+    (err err' : SinkState) (read : InputBytesData) (conclusion : Conclusion) : Type 0 where
+  pub either : IsJudged asked sums before after err err' read conclusion
+      ⊎ IsUnjudged asked.second sums before after err err' read conclusion
+  pub judged : conclusion.code ≤ 1 → IsJudged asked sums before after err err' read conclusion
+  pub closed : err'.is_open ≡ false
+  pub at_most : TakeAtMost asked.second (feeds_of before) (feeds_of after)

@@ -1,0 +1,79 @@
+//! One input, read whole and held to its sum.
+
+ghost use Rattle.std.specs.Prelude.{◌≡◌, ◌+◌, ◌↔◌, IsOk, IfOk, IfErr};
+ghost use Rattle.byte_stream.specs.Bytes.{IsBytes};
+ghost use Rattle.byte_stream.specs.Fault.{CountsFault};
+ghost use Rattle.byte_stream.specs.Intake.{TakesAtMost};
+ghost use Rattle.byte_stream.specs.State.{IsReadable};
+ghost use Rattle.report.specs.Input.{read_failed};
+ghost use Rattle.report.specs.declared.fault.RunFault.TheVariants.{Sums as Refused};
+ghost use Rattle.report.specs.declared.fault.SumsFault.TheVariants.{Differ};
+ghost use Rattle.sha2.specs.Sha256.{sha256};
+ghost use Rattle.summed_inputs.specs.Holding.{IsHeld, IsUnheld, limit_of};
+
+use crate::sums::MAX_SUMS;
+use byte_stream::Feed;
+use report::{Input, MAX_CERTIFICATE, MAX_CLAIM, MAX_REFUTATION, RunFault, SumsFault, read_onto};
+use sha2::{Digest, Sha256};
+use std::alloc::Global;
+
+/// The greatest length of a capture that is held in memory, in bytes: 16 GiB.
+const MAX_CAPTURE: u64 = 17_179_869_184;
+
+/// The greatest length of an input, in bytes.
+pub(crate) fn limit(which: Input) -> u64
+    ensures { result ≡ limit_of which }
+{
+    match which {
+        Input::Claim => MAX_CLAIM,
+        Input::Capture => MAX_CAPTURE,
+        Input::Certificate => MAX_CERTIFICATE,
+        Input::Refutation => MAX_REFUTATION,
+        Input::Sums => MAX_SUMS,
+    }
+}
+
+/// The SHA-256 of bytes.
+fn digest(bytes: &[u8]) -> [u8; 32]
+    ensures digest { result ≡ sha256 bytes.now }
+    ensures bytes { IsBytes bytes.now }
+{
+    Sha256::digest(bytes)
+}
+
+/// Holds the bytes of an input to a digest, their SHA-256. The fault is that they have another.
+fn hold(which: Input, read: &[u8], sum: &[u8; 32]) -> Result<(), RunFault>
+    ensures held { IsOk result ↔ (sha256 read.now ≡ sum.now) }
+    ensures fault { IfErr result (λ fault. fault ≡ Refused (Differ which)) }
+    ensures bytes { IsBytes read.now }
+{
+    if digest(read) == *sum {
+        Ok(())
+    } else {
+        Err(RunFault::Sums(SumsFault::Differ(which)))
+    }
+}
+
+/// Reads an input whole, and holds it to a digest, its SHA-256. `read` gets what was read.
+///
+/// `Sums` comes if its bytes have another digest, `TooBig` if it has more than its limit, after one
+/// byte past it, and `Device` exactly if the feed failed.
+pub(crate) fn read_held<F: Feed>(
+    alloc: Global,
+    feed: &mut F,
+    which: Input,
+    sum: &[u8; 32],
+    read: &mut Vec<u8>,
+) -> Result<(), RunFault>
+    requires { IsReadable (F.state feed.old) }
+    ensures held { IfOk result (λ done.
+        IsHeld sum.now (F.state feed.old).remaining read.new.items) }
+    ensures fault { IfErr result
+        (IsUnheld which sum.now (F.state feed.old).remaining read.new.items) }
+    ensures counts_fault { CountsFault (read_failed result)
+        (F.state feed.old).faults (F.state feed.new).faults }
+    ensures at_most { TakesAtMost (limit_of which + 1) (F.state feed.old) (F.state feed.new) }
+{
+    read_onto(alloc, feed, which, limit(which), read)?;
+    hold(which, read.as_slice(), sum)
+}

@@ -1,0 +1,37 @@
+//! A question, answered on inputs that are read whole into memory and held to their sums.
+//!
+//! What a file holds isn't known before it is read, so nothing can be promised beforehand of its
+//! bytes. Here the inputs are read whole into memory, each is held to the SHA-256 that a file of
+//! sums gives for its name, the same memory is judged, by the engine of the crate audit, and it is
+//! handed back. Of exit status 0 and 1 [`answer_by_sums`] says that what it hands back has these
+//! sums, and that the answer is the definitions' for it (`specs/Answer`); [`laws`] say what that
+//! shows.
+//!
+//! Once the inputs are held to their sums, their bytes are lent to the engine, as `answer_with` of
+//! `summed_inputs/src/memory_answer.rt` does, with its proof:
+//!
+//! ```text
+//! let mut claim = LentFeed::new(read.claim.as_slice());
+//! let capture = LentFeed::new(read.capture.as_slice());
+//! let claim = &mut claim;
+//! answer(alloc, question, style, claim, second, capture, to, hasher).1
+//! ```
+
+#![tactic(auto)]
+
+mod engine;
+mod holding;
+mod input_bytes;
+mod inputs;
+pub mod laws;
+mod lent_feed;
+mod memory_answer;
+mod named_feed;
+mod second;
+mod sums;
+
+pub use engine::answer_by_sums;
+pub use input_bytes::InputBytes;
+pub use named_feed::NamedFeed;
+pub use second::SummedSource;
+pub use sums::MAX_SUMS;
