@@ -2,7 +2,7 @@
 
 ghost use Rattle.std.specs.Prelude.{◌≡◌, ◌≤◌, ◌++◌, IfOk, length};
 ghost use Rattle.line_writer.specs.Field.{field_data};
-ghost use Rattle.claim_file.specs.Claim.{IsLawful, data_of};
+ghost use Rattle.claim_file.specs.Claim.{data_of};
 ghost use Rattle.pairing.specs.Exchange.{most_exchanges};
 ghost use Rattle.pairing.specs.Compact.{compact_data};
 ghost use Rattle.audit_text.specs.CheckReport as spec;
@@ -55,7 +55,6 @@ fn add_client(
     claim: &Claim,
     groups: u32,
 ) -> Result<(), AllocError>
-    requires { IsLawful (data_of claim.now) }
     ensures { IfOk result (λ _. text.new.items ≡
         text.old.items ++ client_line style (data_of claim.now) groups) }
 {
@@ -73,7 +72,6 @@ fn add_client(
 /// Adds the line of the span and of the numbers that are claimed.
 #[tactic(auto, unfolding(crate::specs::CheckReport::span_line))]
 fn add_span(text: &mut Vec<u8>, style: Style, claim: &Claim) -> Result<(), AllocError>
-    requires { IsLawful (data_of claim.now) }
     ensures { IfOk result (λ _. text.new.items ≡
         text.old.items ++ span_line style (data_of claim.now)) }
 {
@@ -175,7 +173,6 @@ pub fn check_text(
     held: &CompactCollection,
     findings: &Findings,
 ) -> Result<Vec<u8>, AllocError>
-    requires lawful { IsLawful (data_of claim.now) }
     requires few { length held.now.exchanges.items ≤ most_exchanges }
     ensures { IfOk result (λ text. text.items ≡
         spec.check_text style (data_of claim.now) (compact_data held.now) findings.now) }

@@ -2,7 +2,7 @@
 
 ghost use Rattle.std.specs.Prelude.{◌≡◌, ◌^◌, ◌<◌, ◌≤◌, ◌++◌, IfOk, length, map, flat_map, All};
 ghost use Rattle.certificate.specs.Certificate.{max_pieces};
-ghost use Rattle.claim_file.specs.Claim.{IsLawful, data_of};
+ghost use Rattle.claim_file.specs.Claim.{data_of};
 ghost use Rattle.finder.specs.Envelope.{data_of as envelope_data, piece_data};
 ghost use Rattle.finder.specs.Envelope.{IsLawfulEnvelope, IsLawfulPiece};
 ghost use Rattle.checker.specs.Samples.{AreSamplesOf};
@@ -174,7 +174,6 @@ fn add_servers<S: SampleSource>(
     number: u32,
     piece: &PieceHull,
 ) -> Result<(), AllocError>
-    requires claim { IsLawful (data_of claim.now) }
     requires samples { AreSamplesOf (data_of claim.now) (S.samples samples) }
     requires piece { IsLawfulPiece (length (S.samples samples)) (piece_data piece.now) }
     ensures { IfOk result (λ _. text.new.items ≡ text.old.items ++ server_lines
@@ -218,7 +217,6 @@ fn add_lines<S: SampleSource>(
     number: u32,
     piece: &PieceHull,
 ) -> Result<(), AllocError>
-    requires claim { IsLawful (data_of claim.now) }
     requires samples { AreSamplesOf (data_of claim.now) (S.samples samples) }
     requires piece { IsLawfulPiece (length (S.samples samples)) (piece_data piece.now) }
     ensures { IfOk result (λ _. text.new.items ≡ text.old.items ++ piece_lines
@@ -239,7 +237,6 @@ fn add_pieces<S: SampleSource>(
     claim: &Claim,
     pieces: &[PieceHull],
 ) -> Result<(), AllocError>
-    requires claim { IsLawful (data_of claim.now) }
     requires samples { AreSamplesOf (data_of claim.now) (S.samples samples) }
     requires few { length pieces.now ≤ max_pieces }
     requires pieces { All (λ piece. IsLawfulPiece (length (S.samples samples)) (piece_data piece))
@@ -271,7 +268,6 @@ pub fn envelope_text<S: SampleSource>(
     envelope: &finder::Envelope,
     least: LeastLine,
 ) -> Result<Vec<u8>, AllocError>
-    requires claim { IsLawful (data_of claim.now) }
     requires samples { AreSamplesOf (data_of claim.now) (S.samples samples) }
     requires few { length envelope.now.pieces.items ≤ max_pieces }
     requires envelope { IsLawfulEnvelope (length (S.samples samples)) envelope.now }

@@ -1,7 +1,7 @@
 //! The line of `samples` for one sample.
 
 ghost use Rattle.std.specs.Prelude.{◌≡◌, ◌+◌, ◌<◌, ◌≤◌, [], ◌∷◌, ◌++◌, IfOk, codes, length};
-ghost use Rattle.claim_file.specs.Claim.{IsLawful, data_of};
+ghost use Rattle.claim_file.specs.Claim.{data_of};
 ghost use Rattle.line_writer.specs.Field.{Address, High, Label, Low, Number};
 ghost use Rattle.line_writer.specs.declared.field.Style.TheVariants.{Plain};
 ghost use Rattle.line_writer.specs.declared.line.TheConstants.{CAPACITY};
@@ -87,7 +87,6 @@ fn put_errors(line: &mut Line, least: i128, greatest: i128)
 /// Writes the line of a sample, for a program, in place of what `line` held: at most 400 bytes.
 #[tactic(auto, unfolding(crate::specs::SampleLine::sample_line))]
 pub fn write_sample_line(line: &mut Line, claim: &Claim, number: u32, x: &Exchange)
-    requires lawful { IsLawful (data_of claim.now) }
     requires exchange { IsOfSomeClaim x.now }
     requires listed { x.now.server < length claim.now.servers.items }
     ensures text { line.new ≡ sample_line Plain (data_of claim.now) number x.now }
@@ -112,7 +111,6 @@ pub(crate) fn add_sample(
     number: u32,
     x: &Exchange,
 ) -> Result<(), AllocError>
-    requires lawful { IsLawful (data_of claim.now) }
     requires exchange { IsOfSomeClaim x.now }
     requires listed { x.now.server < length claim.now.servers.items }
     ensures { IfOk result (λ _. text.new.items ≡

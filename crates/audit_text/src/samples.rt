@@ -1,7 +1,7 @@
 //! The text of `samples`.
 
 ghost use Rattle.std.specs.Prelude.{◌≡◌, ◌++◌, IfOk, length, map};
-ghost use Rattle.claim_file.specs.Claim.{IsLawful, data_of};
+ghost use Rattle.claim_file.specs.Claim.{data_of};
 ghost use Rattle.pairing.specs.Exchange.{AreLawful};
 ghost use Rattle.pairing.specs.Compact.{exchange_shown, compact_data};
 ghost use Rattle.audit_text.specs.Samples as spec;
@@ -23,7 +23,6 @@ fn add_samples(
     claim: &Claim,
     exchanges: &[CompactExchange],
 ) -> Result<(), AllocError>
-    requires lawful { IsLawful (data_of claim.now) }
     requires exchanges { AreLawful (length claim.now.servers.items)
         (map exchange_shown exchanges.now) }
     ensures { IfOk result (λ _. text.new.items ≡ text.old.items ++ rows_from
@@ -44,7 +43,6 @@ pub fn samples_text(
     claim: &Claim,
     held: &CompactCollection,
 ) -> Result<Vec<u8>, AllocError>
-    requires lawful { IsLawful (data_of claim.now) }
     requires exchanges { AreLawful (length claim.now.servers.items) (compact_data held.now).exchanges }
     ensures { IfOk result (λ text.
         text.items ≡ spec.samples_text style (data_of claim.now) (compact_data held.now)) }

@@ -9,7 +9,7 @@ pub use Rattle.std.proofs.lemmas.Bool.{and_from, and_left, and_parts, and_right,
 pub use Rattle.std.proofs.lemmas.Bool.{eqb-true, ne_eqb, or_from, or_left, or_parts, or_right, true_from_ne_false}
 pub use Rattle.std.proofs.lemmas.Bool.{le-leb, leb-true, lt-ltb, ltb-true}
 pub use Rattle.std.proofs.lemmas.Bool.Decides.{nat_tests}
-pub use Rattle.std.proofs.lemmas.Int.{by_lt_z, clamps, fits_signed_from_abs, ints, to_z-of_z, unsigned_abs-mul}
+pub use Rattle.std.proofs.lemmas.Int.{by_lt_z, clamps, ints, to_z-of_z, unsigned_abs-mul}
 pub use Rattle.std.proofs.lemmas.List.{append-nil, append_assoc, get_or-map, get_or_default, length-map}
 pub use Rattle.std.proofs.lemmas.List.Elements.{All-cons, All-get_or, All-map, All-nil, All-push, AllZip-get_or}
 pub use Rattle.std.proofs.lemmas.List.Elements.{AllZip-push, filter-append, length_all_zip, recursion_from_All}

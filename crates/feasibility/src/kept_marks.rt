@@ -2,7 +2,6 @@
 
 ghost use Rattle.std.specs.Prelude.{◌≡◌, [], ◌∷◌, ◌++◌, ◌↔◌, IfOk, IsTrue, IsPermutation, length, map, All};
 ghost use Rattle.std.specs.List.{list_all};
-ghost use Rattle.claim_file.specs.Claim.{data_of as claim_data};
 ghost use Rattle.pairing.specs.Exchange.{IsLawful as IsLawfulExchange};
 ghost use Rattle.checker.specs.Refutation.{is_liar};
 ghost use Rattle.feasibility.specs.DriftTest.{all_compatible, is_possible};

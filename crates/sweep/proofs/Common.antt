@@ -3,7 +3,7 @@ pub use Rattle.std.proofs.Common.{Bool, FitsSigned, Global, IsSome, List, MatchO
 pub use Rattle.std.proofs.Common.{[], add-one, ap, arith, cond, false, get_or, inl, inr, le_trans, length}
 pub use Rattle.std.proofs.Common.{length-set, map, max, nat_eq, neg_ℤ, of_z, pos, refl, reverse, rules, set}
 pub use Rattle.std.proofs.Common.{subst, suc, sym, take, to_z, true, true≢false, unsigned_abs, zero, ℕ, ℤ}
-pub use Rattle.std.proofs.Common.{⊎_elim, ◌*◌, ◌++◌, ◌+ℤ◌, ◌+◌, ◌-ℤ◌, ◌-◌, ◌/◌, ◌<ℤ◌, ◌<◌, ◌^◌, ◌||◌, ◌∙◌, ◌∷◌, ◌≡◌}
+pub use Rattle.std.proofs.Common.{⊎_elim, ◌*◌, ◌++◌, ◌+ℤ◌, ◌+◌, ◌-ℤ◌, ◌-◌, ◌/◌, ◌<ℤ◌, ◌<◌, ◌^◌, ◌∙◌, ◌∷◌, ◌≡◌}
 pub use Rattle.std.proofs.Common.{◌≢◌, ◌≤ℤ◌, ◌≤◌, ◌⊎◌}
 pub use Rattle.std.proofs.Math.Nat.{div-div-eq-div-mul, div-mul-le_self, div-one, le_of_mul-le-mul_left, mul-add-div}
 pub use Rattle.std.proofs.Math.Nat.{mul-le-mul_right}

@@ -24,7 +24,6 @@ add_lines-requires g c =
     let samples = g.S.SampleSource.samples c.args.samples in
     let piece = c.index-pieces-number.result in
     record {
-      claim = c.requires.claim;
       samples = c.requires.samples;
       piece = subst (λ (p : PieceHull). IsLawfulPiece (length samples) (piece_data p))
           (sym c.index-pieces-number.is) (c.requires.pieces c.loop-number.number piece c.loop-number-test.true);

@@ -5,7 +5,7 @@ pub returns : goal.returns
 unfolding sample_line
 returns c =
     let claim = c.args.claim.now in
-    let lawful = c.requires.lawful in
+    let lawful = c.args.claim.now.lawful in
     let x = c.args.x.now in
     let small : unsigned_abs claim.reading < 2 ^ 127 =
     omega (arith, ints, lawful.reading_not_negative, lawful.reading_in_range) in

@@ -13,7 +13,7 @@ unfolding sample_line
 returns-clause-text c =
     let x = c.args.x.now in
     let claim = data_of c.args.claim.now in
-    let lawful = c.requires.lawful in
+    let lawful = c.args.claim.now.lawful in
     let small : unsigned_abs claim.reading < 2 ^ 127 =
     omega (arith, ints, lawful.reading_not_negative, lawful.reading_in_range) in
     let reading = w128_keeps claim.reading small in
