@@ -5,7 +5,7 @@ ghost use Rattle.byte_stream.specs.Fault.{CountsFault};
 ghost use Rattle.byte_stream.specs.Intake.{TakesAtMost};
 ghost use Rattle.byte_stream.specs.State.{IsReadable};
 ghost use Rattle.pcap_reader.specs.Limit.{most_taken};
-ghost use Rattle.claim_file.specs.Claim.{IsLawful, data_of};
+ghost use Rattle.claim_file.specs.Claim.{data_of};
 ghost use Rattle.pairing.specs.Exchange.{AreLawful};
 ghost use Rattle.pairing.specs.Compact.{compact_data};
 ghost use Rattle.report.specs.Reading.{Reads};
@@ -44,7 +44,6 @@ pub(crate) fn read_capture_from<F: Feed, H: BuildHasher + Drop>(
     claim: &Claim,
     hasher: H,
 ) -> (F, Result<CompactCollection, RunFault>)
-    requires claim { IsLawful (data_of claim.now) }
     requires feed { IsReadable (F.state feed) }
     ensures known { IfSome (F.state feed).remaining (λ bytes.
         Reads compact_data (capture_read (data_of claim.now) bytes) result.1) }

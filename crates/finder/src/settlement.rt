@@ -8,7 +8,7 @@
 //! cover left out (neediest.rt), and one without drift last. The claim is open if none stands.
 
 ghost use Rattle.std.specs.Prelude.{◌≡◌, ◌<◌, ◌≤◌, length, map, All, IfOk, IfSome, Some};
-ghost use Rattle.claim_file.specs.Claim.{IsLawful, data_of as claim_data};
+ghost use Rattle.claim_file.specs.Claim.{data_of as claim_data};
 ghost use Rattle.checker.specs.Traceability.{samples_of};
 ghost use Rattle.feasibility.specs.ConflictTable.{IsConflictTable};
 ghost use Rattle.feasibility.specs.ConflictsView.{data_of};

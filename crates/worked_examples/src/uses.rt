@@ -17,7 +17,7 @@ ghost use Rattle.std.specs.Prelude.{
 };
 ghost use Rattle.certificate.specs.Certificate.{max_pieces};
 ghost use Rattle.checker.specs.Traceability.{IsTraceable};
-ghost use Rattle.claim_file.specs.Claim.{IsLawful, data_of};
+ghost use Rattle.claim_file.specs.Claim.{data_of};
 ghost use Rattle.intersection.specs.Hull.{IsAdmissible, HullHolds};
 ghost use Rattle.pcap_reader.specs.Source.{IsFresh};
 ghost use Rattle.sample_interval.specs.Sample.{IsLawfulSample};
@@ -62,7 +62,6 @@ pub fn agreed_by_two(a: Interval, b: Interval, c: Interval) -> Hull
 /// Whether a certificate shows its claim: then the clock's error is within the claimed bound over
 /// the claimed span, in every course of events that fits exchanges with these samples.
 pub fn is_shown(samples: &[Sample], claim: &Claim, certificate: &Certificate) -> bool
-    requires claim { IsLawful (data_of claim.now) }
     requires samples { All IsLawfulSample samples.now }
     requires listed { All (λ sample. sample.server < length claim.now.servers.items) samples.now }
     requires pieces { vec_len certificate.now.pieces ≤ max_pieces }

@@ -2,7 +2,7 @@
 
 ghost use Rattle.std.specs.Prelude.{◌≡◌, ◌<◌, IfOk, length, All};
 ghost use Rattle.byte_stream.specs.State.{IsWritable};
-ghost use Rattle.claim_file.specs.Claim.{IsLawful, data_of};
+ghost use Rattle.claim_file.specs.Claim.{data_of};
 ghost use Rattle.span_cover.specs.Piece.{IsPiece};
 ghost use Rattle.audit.specs.At as spec;
 ghost use Rattle.audit.specs.At.{at};
@@ -45,7 +45,6 @@ fn hull_text(
     claim: &Claim,
     parts: &[Part],
 ) -> Result<Vec<u8>, AllocError>
-    requires lawful { IsLawful (data_of claim.now) }
     requires listed { All (λ part. part.server < length claim.now.servers.items) parts.now }
     ensures { IfOk result (λ text.
         text.items ≡ spec.hull_text style (data_of claim.now) parts.now) }
