@@ -1,8 +1,8 @@
 -- Which tick of the span needs the widest bound where the groups of a cover have no say.
 --
 -- If those groups are false, as many more may be as the claim allows besides them. What all others
--- say over a tick, the piece from a reading to the next one, has a hull, and the bound that it needs
--- reaches to both its ends.
+-- say over a tick, the piece from a reading to the next one, has a hull, and the bound that it
+-- needs reaches to both its ends.
 use Rattle.std.specs.Prelude.{◌≡◌, ◌⊎◌, ℕ, ◌-◌, ◌≤◌, ℤ, pos, ◌≤ℤ◌, ◌<ℤ◌, Bool, not, List, filter}
 use Rattle.std.specs.Prelude.{slice_index, count_by, Option, Some, None, IsSomeAnd, IsTrue}
 use Rattle.claim_file.specs.Claim.{ClaimData}
