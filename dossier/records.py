@@ -22,9 +22,10 @@ def default_of(default: Any) -> Any:
 
 
 def begin(self: Any, *given: Any, **named: Any) -> None:
-    own, named = self.own_fields, {**dict(zip(self.own_fields, given)), **named}
+    own, count = self.own_fields, len(given) + len(named)
+    named.update(zip(own, given))
     values = {name: named[name] if name in named else default_of(default) for name, default in own.items()}
-    if not named.keys() <= own.keys() or any(value is NEEDED for value in values.values()):
+    if len(named) < count or not named.keys() <= own.keys() or any(value is NEEDED for value in values.values()):
         raise TypeError(f"{type(self).__name__} has other fields than {', '.join(named)}")
     vars(self).update(values)
     if hasattr(self, "__post_init__"):
