@@ -7,9 +7,6 @@ from collections.abc import Callable
 from functools import partial
 from typing import TYPE_CHECKING, Any, NamedTuple
 
-NEEDED = object()
-"""What a field has that has to be given."""
-
 
 class Anew(NamedTuple):
     """What a field has that gets a value of its own in each record."""
@@ -17,15 +14,27 @@ class Anew(NamedTuple):
     default_factory: Callable[[], Any]
 
 
+def missing() -> Any:
+    raise TypeError("a field isn't given")
+
+
+NEEDED = Anew(missing)
+"""What a field has that has to be given."""
+
+
 def default_of(default: Any) -> Any:
     return default.default_factory() if isinstance(default, Anew) else default
 
 
 def begin(self: Any, *given: Any, **named: Any) -> None:
-    own, named = self.own_fields, {**dict(zip(self.own_fields, given)), **named}
-    values = {name: named[name] if name in named else default_of(default) for name, default in own.items()}
-    if not named.keys() <= own.keys() or any(value is NEEDED for value in values.values()):
-        raise TypeError(f"{type(self).__name__} has other fields than {', '.join(named)}")
+    own, count = self.own_fields, len(given) + len(named)
+    named.update(zip(own, given))
+    values = {**own, **named}
+    if len(named) < count or len(values) > len(own):
+        raise TypeError(f"{type(self).__name__} has no such fields as {', '.join(named)}")
+    for name in self.anew:
+        if name not in named:
+            values[name] = default_of(own[name])
     vars(self).update(values)
     if hasattr(self, "__post_init__"):
         self.__post_init__()
@@ -44,6 +53,7 @@ else:
         if kind is None:
             return partial(dataclass, frozen=frozen)
         kind.own_fields = {name: vars(kind).get(name, NEEDED) for name in kind.__annotations__}
+        kind.anew = [name for name, default in kind.own_fields.items() if isinstance(default, Anew)]
         kind.__init__ = begin
         kind.__eq__ = lambda self, other: type(self) is type(other) and vars(self) == vars(other)
         kind.__hash__ = lambda self: hash(tuple(vars(self).values()))

@@ -241,7 +241,7 @@ def said(value: Any) -> Any:
     """A record as JSON has it."""
     if hasattr(value, "own_fields"):
         return {field.rstrip("_"): said(own) for field, default in value.own_fields.items()
-                if (own := getattr(value, field)) != default_of(default)}
+                for own in [getattr(value, field)] if default is NEEDED or own != default_of(default)}
     if isinstance(value, dict):
         return {name: said(item) for name, item in value.items()}
     return list(map(said, value)) if isinstance(value, (list, tuple)) else value

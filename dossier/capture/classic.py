@@ -162,7 +162,8 @@ def join(captures: dict[str, Classic], path: str) -> Extent | None:
     unit = min(capture.unit for capture in captures.values())
     if (row := in_a_row(list(captures.values()))) is not None:
         write(path, chain([new_header(unit, first.kind)], *map(Classic.blocks, row)))
-        return Extent(HEADER + sum(capture.size - HEADER for capture in row), merged(row))
+        stamps = b"".join(capture.extent.stamps.tobytes() for capture in row)
+        return Extent(HEADER + sum(capture.size - HEADER for capture in row), array("Q", stamps))
 
     def records(number: int, name: str, capture: Classic) -> Iterator[tuple[int, int, bytes]]:
         of, end = SECOND // capture.unit, HEADER
@@ -186,13 +187,6 @@ def in_a_row(captures: list[Classic]) -> list[Classic] | None:
     if any(max(one.extent.stamps) >= min(next_.extent.stamps) for one, next_ in pairwise(row)):
         return None
     return row if sum(len(capture.extent.stamps) for capture in row) < MOST_RECORDS else None
-
-
-def merged(row: list[Classic]) -> array[int]:
-    stamps = array("Q")
-    for capture in row:
-        stamps.extend(capture.extent.stamps)
-    return stamps
 
 
 def runs_of(capture: Classic, spans: list[tuple[int, int]]) -> list[Runs]:

@@ -255,16 +255,12 @@ def answer(work: Work) -> Result:
 # ---- private folders
 
 
-def place_of_copies() -> str:
-    where = os.environ.get("TMPDIR", "") or next((place for place in PLACES if os.access(place, os.W_OK)), PLACES[0])
-    return os.path.abspath(where)
-
-
 @contextmanager
 def private_folder() -> Iterator[str]:
     """A new folder (0700), which is taken away at the end."""
-    place = f"{place_of_copies()}/ntpaudit-{os.urandom(8).hex()}"
+    where = os.environ.get("TMPDIR", "") or next((place for place in PLACES if os.access(place, os.W_OK)), PLACES[0])
     try:
+        place = f"{os.path.abspath(where)}/ntpaudit-{os.urandom(8).hex()}"
         make_private(place)
     except OSError as error:
         raise fault(f"no folder for private copies can be made ({error.strerror}): TMPDIR names another place",

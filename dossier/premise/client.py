@@ -20,8 +20,6 @@ MOST_BYTES = 1 << 28
 """A larger log or configuration is refused."""
 STEP_OF_NTPD = "0.128"
 """Seconds from which ntpd steps if `tinker step` isn't set."""
-
-
 NUMBER = re.compile(r"[+-]?[0-9]{1,15}(\.[0-9]{0,15})?([eE][+-]?[0-9]{1,2})?")
 
 

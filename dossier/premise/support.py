@@ -7,7 +7,6 @@ from ..units import civil, shown_time
 from .backing import Backing
 from .leap import EXPIRED, NONE
 
-
 MORE = "That is more than the claim grants.", ""
 
 

@@ -2,8 +2,10 @@
 on none that comes after it.
 """
 import ast
-from collections.abc import Iterator
+import dataclasses
+from collections.abc import Callable, Iterator
 from pathlib import Path
+from typing import Any
 
 from tests.support import ROOT, check, files_in
 
@@ -73,3 +75,41 @@ def test_sources() -> None:
         check(f"what {path.name} calls", wrong=(sorted(set(wrong)), []),
               packages=(list(packages_of(path, tree)), []))
     check("what is watched is called", never=(OPENING & seen, lambda found: len(found) > 5))
+
+
+def kind_by(module: Any) -> Any:
+    """A class of records by a module."""
+    @module.dataclass(frozen=True)
+    class Kind:
+        one: int
+        two: str = "b"
+        three: list[int] = module.field(default_factory=list)
+    return Kind
+
+
+def outcome(call: Callable[[Any], object], kind: Any) -> object:
+    try:
+        return call(kind)
+    except (TypeError, AttributeError) as error:
+        return TypeError if isinstance(error, TypeError) else AttributeError
+
+
+def test_records() -> None:
+    """Records are what dataclasses of the standard library are."""
+    from dossier import records
+    ours, theirs = kind_by(records), kind_by(dataclasses)
+    for name, call in {
+        "all given": lambda kind: vars(kind(1, "c", [2])), "some left out": lambda kind: vars(kind(1)),
+        "named": lambda kind: list(vars(kind(three=[3], one=1)).items()), "none": lambda kind: kind(),
+        "one is missing": lambda kind: kind(two="c"), "one too many": lambda kind: kind(1, "c", [], 4),
+        "one that isn't known": lambda kind: kind(1, four=4), "one twice": lambda kind: kind(1, one=1),
+        "the same": lambda kind: kind(1) == kind(1, "b"), "another": lambda kind: kind(1) == kind(2),
+        "other kinds": lambda kind: (kind(1) == 1, kind(1) != vars(kind(1))),
+        "sums": lambda kind: len({kind(1, "b", ()), kind(1, "b", ()), kind(2, "b", ())}),
+        "none of a list": lambda kind: hash(kind(1)), "its own list": lambda kind: kind(1).three is kind(1).three,
+        "set": lambda kind: setattr(kind(1), "one", 2), "taken away": lambda kind: delattr(kind(1), "one"),
+    }.items():
+        check(f"records: {name}", seen=(outcome(call, ours), outcome(call, theirs)))
+    small = ours(1, three=[3])
+    check("records: changed", other=(vars(records.replace(small, two="c")), {"one": 1, "two": "c", "three": [3]}),
+          kept=(records.asdict(small), {"one": 1, "two": "b", "three": [3]}))
