@@ -85,7 +85,9 @@ def follow(wanted: Wanted, metrics: str | None, seconds: int, has_colour: bool) 
             looks += 1
             time.sleep(max(0.0, at + seconds - time.monotonic()))
     except KeyboardInterrupt:
-        print("\n" * screen.is_shown + f"ended after {looks} looks, the last with status {status}", flush=True)
+        if screen.is_shown:
+            print()
+        print(f"ended after {looks} looks, the last with status {status}", flush=True)
         return status
 
 
