@@ -141,7 +141,8 @@ def wider(least: str, claim: Claim) -> list[str]:
     return [] if amount == "none" else [f"wider by {milliseconds(int(amount) - claim['bound_ns'])} ms"]
 
 
-def check(lines: list[str]) -> list[str]:
+def check(lines: list[str], fits: bool) -> list[str]:
+    """Before the verdict a person is told whether any course fits."""
     shown = []
     for row in lines:
         f = row.split(" ")
@@ -152,11 +153,12 @@ def check(lines: list[str]) -> list[str]:
         elif f[:2] == ["advice", "reference"]:
             row = f"advice reference {reference(f[2])}"
         shown.append(row)
-    return shown
+    return [*shown[:-1], "a course fits" if fits else "no course fits: see settle", shown[-1]]
 
 
-def of(words: Sequence[str], text: bytes) -> bytes:
-    """What a command prints with `--human`, of its words and what it prints without."""
+def of(words: Sequence[str], text: bytes, fits: bool = True) -> bytes:
+    """What a command prints with `--human`, of its words and what it prints without. `fits` says whether any course
+    fits the whole capture."""
     command, lines = words[0], text.decode().splitlines()
     if command in ("samples", "at") and lines:
         lines = {"samples": samples, "at": at}[command](lines)
@@ -166,6 +168,6 @@ def of(words: Sequence[str], text: bytes) -> bytes:
         lines = find(lines, read_claim(words[1]), words[words.index("--step") + 1] if "--step" in words else "64")
     elif command == "refute" and lines:
         lines = refute(lines, read_claim(words[1]), json.loads(Path(words[3]).read_text()))
-    elif command == "check":
-        lines = check(lines)
+    elif command == "check" and lines:
+        lines = check(lines, fits)
     return "".join(f"{row}\n" for row in lines).encode()

@@ -3,7 +3,8 @@
 The reading is tests/second/shown.py, some lines of Python in whole numbers that share nothing with the program. It is
 compared byte for byte
 
-- for the claims and captures of data/, with each command that has the option
+- for the claims and captures of data/, with each command that has the option; that a course fits is worked out from
+  the listing
 - for 1,024 random ranges: with ends below zero, at whole nanoseconds, and one tick beside them
 - for each day from 1970 to 2106, and for random times of a day
 - for 300 random refutations: with errors at a bound, one tick beside it, and as far as errors go
@@ -22,8 +23,8 @@ from datetime import datetime, timedelta, timezone
 from pathlib import Path
 
 from tests.support import DATA, ROOT, Ran, check, files_in, program, run
-from tests.second import shown, slips
-from tests.second.claims import Claim
+from tests.second import exchanges, marks, shown, slips
+from tests.second.claims import Claim, read_claim
 from tests.second.columns import MOMENT, PIECE, SAMPLE, TICKS, ends_shown, read
 from tests.second.commands import CAPTURE, CERTIFICATE, CLAIM, COMMANDS, PLAIN, TIME, variants
 
@@ -42,7 +43,15 @@ def compare(name: str, words: Words, flag: str = "--human") -> tuple[str, Ran, R
     """Runs a command with the option and without, and gives what it is to be compared with, and what both printed."""
     status, plain, error = run([PROGRAM, *words])
     seen = run([PROGRAM, *words, flag])
-    return name, seen, (status, shown.of([str(word) for word in words], plain), slips_of(words, status) or error), plain
+    text = shown.of([str(word) for word in words], plain, words[0] != "check" or not plain or does_fit(*words[1:3]))
+    return name, seen, (status, text, slips_of(words, status) or error), plain
+
+
+def does_fit(claim: Path | str, capture: Path | str) -> bool:
+    """Whether any course fits what the listing of a capture says, by tests/second/marks.py."""
+    said = read_claim(str(claim))
+    samples = exchanges.evidence_of(said, run([PROGRAM, "list", capture])[1]).samples
+    return bool(marks.smallest_covers(said, marks.contradictions(said, samples)))
 
 
 def slips_of(words: Words, status: int | str) -> bytes:

@@ -40,7 +40,7 @@ pub use Rattle.claim_file.specs.Claim.{ClaimData, IsLawful}
 pub use Rattle.claim_file.specs.Reading.{NamedData, claim_from, claim_of, claim_with, is_in_range, named_of}
 pub use Rattle.claim_file.specs.Reading.{within_limits}
 pub use Rattle.claim_file.specs.Time.{IsTime, time_of}
-pub use Rattle.feasibility.specs.DriftSettlement.{SettlesWithDrift}
+pub use Rattle.feasibility.specs.DriftSettlement.{SettlesFit, SettlesWithDrift}
 pub use Rattle.era_unfold.specs.Nanoseconds.{nanoseconds_per_second}
 unfoldable pub use Rattle.era_unfold.specs.Nanoseconds.{ticks_down, ticks_up}
 pub use Rattle.era_unfold.specs.Ratio.{IsCeiling, IsFloor, ceiling_of, floor_of}

@@ -1,5 +1,5 @@
 -- What an outcome shows, from the bytes of the inputs.
-use Rattle.audit.proofs.Common.{◌≡◌, ℕ, true, List, Option, Some, None, Result, Ok, Err, refl, sym, subst, inl, inr, IfSome, IfOk, MatchResult, FeedState, SinkState, CertificateData, RefutationData, SettledData, LeastCarried, FindFault, find_run_fault_of, Outcome, RunFault, certificate_read, claim_read, IsMadeFor, Publishes, Ready, Report, whole_text, refutation_read, capture_read, ArePiecesTraced, HasVerdictYes, IsTracedTo, EvidenceData, GiveEvidence, IsEvidenceOf, OfClaimAndCapture, CourseContests, ShowsHeadline, GivesNanoseconds, AreInputsOf, AskedData, Finding, QuestionData, ShowsOf, no_finding, SecondData, SecondKind, certificate_said, certificate_second, of_certificate, of_refutation, refutation_said, refutation_second, second_read, IsContestedOf, InputsData, IsOfMaking, IsUnfound, PublishesWhole, Tells, IsFindingFrom, IsFindingOf, IsSettlementFrom, IsSettlementOf, ShowsFinding, IsLeastBoundOf, IsSettledFrom, IsSettledOf, IsShownOf}
+use Rattle.audit.proofs.Common.{◌≡◌, ℕ, true, List, Option, Some, None, Result, Ok, Err, refl, sym, subst, inl, inr, IfSome, IfOk, MatchResult, FeedState, SinkState, CertificateData, RefutationData, SettledData, LeastCarried, FindFault, find_run_fault_of, Outcome, RunFault, certificate_read, claim_read, IsMadeFor, Publishes, Ready, Report, whole_text, refutation_read, capture_read, ArePiecesTraced, HasVerdictYes, IsTracedTo, EvidenceData, GiveEvidence, IsEvidenceOf, OfClaimAndCapture, CourseContests, ShowsHeadline, GivesNanoseconds, AreInputsOf, AskedData, Finding, QuestionData, ShowsOf, no_finding, SecondData, SecondKind, certificate_said, certificate_second, of_certificate, of_refutation, refutation_said, refutation_second, second_read, IsContestedOf, InputsData, IsOfMaking, IsUnfound, PublishesWhole, Tells, IsFindingFrom, IsFindingOf, IsSettlementFrom, IsSettlementOf, ShowsFinding, IsLeastBoundOf, SettlesFit, Bool, IsSettledFrom, IsSettledOf, IsShownOf}
 use Rattle.finder.specs.Settlement as settles
 use Rattle.finder.specs.declared.fault.FindFault.TheVariants as finds
 use Rattle.report.specs.declared.fault.RunFault.TheVariants as faults
@@ -113,10 +113,16 @@ module _ (laws : BytesLaws) (b f : List ℕ) (e : EvidenceData) (is : IsEvidence
   least_of None h = tt
   least_of (Some found) h = give_of (λ evidence. IsLeastBoundOf evidence found) h
 
+  fits_of : (fits : Option Bool) → IfSome fits (SettlesFit e.claim e.collection.exchanges)
+      → IfSome fits (λ told. GiveEvidence (λ evidence. SettlesFit evidence.claim evidence.collection.exchanges told) b f)
+  fits_of None h = tt
+  fits_of (Some fits) h = give_of (λ evidence. SettlesFit evidence.claim evidence.collection.exchanges fits) h
+
   finding_of : (finding : Finding) → IsFindingOf e finding → IsFindingFrom finding b f
   finding_of finding h = record {
     settled = settlement_of finding.settled h.settled;
     least = least_of finding.least h.least;
+    fits = fits_of finding.fits h.fits;
   }
 
 -- ---- a run
@@ -133,7 +139,7 @@ finding_shown laws e finding claim capture claim_is capture_is found =
 nothing_of : (claim capture : Option (List ℕ)) → IfSome claim (λ b. IfSome capture (IsFindingFrom no_finding b))
 nothing_of None capture = tt
 nothing_of (Some b) None = tt
-nothing_of (Some b) (Some f) = record { settled = inl refl; least = tt }
+nothing_of (Some b) (Some f) = record { settled = inl refl; least = tt; fits = tt }
 
 pub nothing_shown : (claim capture : FeedState) → ShowsFinding no_finding claim capture
 nothing_shown claim capture = nothing_of claim.remaining capture.remaining
@@ -142,7 +148,7 @@ nothing_shown claim capture = nothing_of claim.remaining capture.remaining
 
 -- nothing was looked for, and nothing is said
 pub nothing_found : (e : EvidenceData) → IsFindingOf e no_finding
-nothing_found e = record { settled = tt; least = tt }
+nothing_found e = record { settled = tt; least = tt; fits = tt }
 
 -- memory was refused before anything was found
 pub memory_unfound : (question : QuestionData) (inputs : InputsData) → IsUnfound question inputs faults.Memory

@@ -1,8 +1,17 @@
 -- What a verdict shows.
-use Rattle.audit.proofs.Common.{◌≡◌, refl, sym, ap, subst, CertificateData, IsVerdictOn, IsBytes, Outcome, Yes, No, HasVerdict, IsDenied, IsTracedByPieces, IsTracedTo, check, outcome_of, EvidenceData, samples_in, ShowsOf, OfClaimAndCapture, IsShown, ShowsHeadline, GivesNanoseconds, certificate_said, certificate_second}
+use Rattle.audit.proofs.Common.{◌≡◌, Bool, Some, refl, sym, ap, subst, CertificateData, IsVerdictOn, IsBytes, Outcome, Yes, No, HasVerdict, IsDenied, IsTracedByPieces, IsTracedTo, check, outcome_of, EvidenceData, samples_in, ShowsOf, OfClaimAndCapture, IsShown, ShowsHeadline, GivesNanoseconds, certificate_said, certificate_second}
 use Rattle.checker.specs.declared.verdict.Verdict.{Verdict}
 use Rattle.checker.specs.declared.verdict.Verdict.TheVariants as verdicts
+use Rattle.line_writer.specs.declared.field.Style.{Style}
+use Rattle.line_writer.specs.declared.field.Style.TheVariants as styles
+use Rattle.audit.specs.Check.{IsEnoughFor}
 use Rattle.audit.proofs.Showing.{of_certificate_bytes, of_inputs, pieces_traced, traced_to}
+
+-- that it is known whether any course fits is enough in any style
+pub fits_known : (style : Style) (fits : Bool) → IsEnoughFor style (Some fits)
+fits_known styles.Plain fits = refl
+fits_known styles.Human fits = refl
+fits_known styles.Columns fits = refl
 
 module _ (certificate : CertificateData) (e : EvidenceData) where
   shown : (verdict : Verdict) → IsVerdictOn e.claim (samples_in e) certificate verdict →

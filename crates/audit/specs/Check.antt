@@ -1,5 +1,6 @@
 -- The report of `check`, and what its outcome says about every course of events.
-use Rattle.std.specs.Prelude.{◌≡◌, ℕ, List, length, Some, Ok, slice_get, IfSome, IsSomeAnd}
+use Rattle.std.specs.Prelude.{◌≡◌, ℕ, Bool, List, length, Option, Some, None, Ok, slice_get, IfSome}
+use Rattle.std.specs.Prelude.{IsSome, IsSomeAnd}
 use Rattle.byte_stream.specs.Bytes.{IsBytes}
 use Rattle.byte_stream.specs.State.{FeedState}
 use Rattle.certificate.specs.Certificate.{PieceData, CertificateData}
@@ -24,12 +25,13 @@ use Rattle.report.specs.declared.fault.Outcome.TheVariants as outcomes
 use Rattle.report.specs.declared.fault.RunFault.TheVariants.{Memory}
 use Rattle.report.specs.Reports.{Report, refused, whole_text}
 use Rattle.line_writer.specs.declared.field.Style.{Style}
+use Rattle.line_writer.specs.declared.field.Style.TheVariants.{Plain}
 use Rattle.audit_text.specs.declared.check_report.Findings.{Findings}
 use Rattle.audit_text.specs.CheckReport.{check_text}
 use Rattle.audit.specs.CaptureInput.{capture_read}
 use Rattle.audit.specs.Evidence.{EvidenceData, IsEvidenceOf, OfClaimAndCapture, samples_in}
 use Rattle.audit.specs.Headline.{IsShown}
-use Rattle.audit.specs.Question.{QuestionData}
+use Rattle.audit.specs.Question.{Finding, QuestionData, no_finding}
 use Rattle.audit.specs.Second.{SecondData, certificate_said}
 
 -- the outcome of a verdict
@@ -42,21 +44,38 @@ abbrev pub verdict_on : CertificateData → EvidenceData → Verdict
 verdict_on certificate e = verdict_of (samples_in e) e.claim certificate
 
 -- what is calculated for the report beside the counts: how many groups and how many servers with
--- an exchange there are, the one reference identifier, how many pieces, and the verdict
-abbrev pub findings_on : CertificateData → EvidenceData → Findings
-findings_on certificate e = record {
+-- an exchange there are, the one reference identifier, how many pieces, and the verdict; and
+-- whether any course fits, if that is told
+abbrev pub findings_on : CertificateData → EvidenceData → Option Bool → Findings
+findings_on certificate e fits = record {
   groups = group_count e.claim.groups;
   sources = source_count e.collection.exchanges (length e.claim.servers);
   reference = common_reference e.collection.exchanges;
   pieces = length certificate.pieces;
+  fits = fits;
   verdict = verdict_on certificate e;
 }
 
+-- whether any course fits, if that is told in this style: a person is told, so it has to be known
+abbrev pub fits_told : Style → Option Bool → Option (Option Bool)
+fits_told Plain found = Some None
+fits_told style None = None
+fits_told style (Some fits) = Some (Some fits)
+
 -- the report of `check` on a certificate, a claim and the exchanges of a capture
-abbrev pub check_report : Style → CertificateData → EvidenceData → Report
-check_report style certificate e =
-    whole_text (check_text style e.claim e.collection (findings_on certificate e))
+abbrev pub check_report : Style → CertificateData → EvidenceData → Option (Option Bool) → Report
+check_report style certificate e (Some fits) =
+    whole_text (check_text style e.claim e.collection (findings_on certificate e fits))
     (outcome_of (verdict_on certificate e))
+check_report style certificate e None = refused Memory
+
+-- what was found of whether any course fits
+abbrev pub fit_finding : Option Bool → Finding
+fit_finding found = record no_finding { fits = found }
+
+-- What was found is enough for a text in this style.
+abbrev pub IsEnoughFor : Style → Option Bool → Type 0
+IsEnoughFor style found = IsSome (fits_told style found)
 
 -- The verdict is yes. So the error is within the bound in every course of events that fits the
 -- exchanges, and piece by piece in every one that fits what the piece names of them.
@@ -141,13 +160,14 @@ ShowsVerdict claim second capture outcomes.Yes = IsTraced claim second capture
 ShowsVerdict claim second capture outcomes.No = IsNotTraced claim second capture
 
 -- the report on a certificate; nothing else is checked
-abbrev pub report_on : Style → SecondData → EvidenceData → Report
-report_on style (certificate_said certificate) e = check_report style certificate e
-report_on style said e = refused Memory
+abbrev pub report_on : Style → Finding → SecondData → EvidenceData → Report
+report_on style finding (certificate_said certificate) e =
+    check_report style certificate e (fits_told style finding.fits)
+report_on style finding said e = refused Memory
 
 -- does a certificate show the claim?
 abbrev pub check : QuestionData
 check = record {
-  report = λ style finding said e. report_on style said e;
+  report = λ style finding said e. report_on style finding said e;
   Shows = ShowsVerdict;
 }

@@ -78,7 +78,7 @@ IsEnveloped step outcome claim capture =
 
 -- what the report is on
 abbrev pub envelope_finding : EnvelopeFinding → Finding
-envelope_finding found = record { settled = no_finding.settled; least = found.least }
+envelope_finding found = record no_finding { least = found.least }
 
 -- This is the envelope of evidence, with a least bound if one is asked for.
 pub record IsEnvelopeFor (asked : Envelope) (e : EvidenceData) (found : EnvelopeFinding)

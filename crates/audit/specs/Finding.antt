@@ -1,6 +1,7 @@
 -- What a finding shows of the evidence, and of the bytes that give it.
 use Rattle.std.specs.Prelude.{◌≡◌, ◌⊎◌, ℕ, List, Result, Ok, Err, IfSome}
 use Rattle.byte_stream.specs.State.{FeedState}
+use Rattle.feasibility.specs.DriftSettlement.{SettlesFit}
 use Rattle.finder.specs.Settlement.{HasTooManyPieces, SettledData}
 use Rattle.finder.specs.declared.fault.FindFault.{FindFault}
 use Rattle.finder.specs.declared.fault.FindFault.TheVariants.{TooManyPieces, Memory}
@@ -20,6 +21,7 @@ IsSettlementOf e (Err Memory) = Unit {0}
 pub record IsFindingOf (e : EvidenceData) (finding : Finding) : Type 0 where
   pub settled : IsSettlementOf e finding.settled
   pub least : IfSome finding.least (IsLeastBoundOf e)
+  pub fits : IfSome finding.fits (SettlesFit e.claim e.collection.exchanges)
 
 -- ---- what it shows of bytes
 
@@ -32,6 +34,8 @@ pub record IsFindingFrom (finding : Finding) (claim capture : List ℕ) : Type 0
   pub settled : IsSettlementFrom finding.settled claim capture
   pub least : IfSome finding.least (λ found.
       GiveEvidence (λ e. IsLeastBoundOf e found) claim capture)
+  pub fits : IfSome finding.fits (λ told.
+      GiveEvidence (λ e. SettlesFit e.claim e.collection.exchanges told) claim capture)
 
 -- the same of inputs, if their bytes are known
 abbrev pub ShowsFinding : Finding → FeedState → FeedState → Type 0

@@ -1,6 +1,6 @@
 -- What a question is: the report that is made of a second input and evidence, and what its outcome
 -- shows of the bytes of the inputs. Each question stands in a module of its own.
-use Rattle.std.specs.Prelude.{◌≡◌, Option, None, Result, Ok, Err, IfSome}
+use Rattle.std.specs.Prelude.{◌≡◌, Bool, Option, None, Result, Ok, Err, IfSome}
 use Rattle.byte_stream.specs.State.{FeedState}
 use Rattle.finder.specs.Settlement.{SettledData}
 use Rattle.finder.specs.declared.carried.LeastCarried.{LeastCarried}
@@ -16,20 +16,21 @@ use Rattle.audit.specs.Evidence.{EvidenceData}
 use Rattle.audit.specs.Second.{SecondData, SecondKind, second_read}
 
 -- What was found that has no definition of its own: what settles a claim, or why it isn't known;
--- and the least bound that a certificate carries, if one was looked for. `specs/Finding` says what
--- it shows.
+-- the least bound that a certificate carries, and whether any course of events fits, if these were
+-- looked for. `specs/Finding` says what it shows.
 pub record Finding : Type 0 where
   pub settled : Result SettledData FindFault
   pub least : Option (Option LeastCarried)
+  pub fits : Option Bool
 
 -- nothing was found, for want of memory or because nothing was looked for
 abbrev pub no_finding : Finding
-no_finding = record { settled = Err Memory; least = None }
+no_finding = record { settled = Err Memory; least = None; fits = None }
 
 pub record QuestionData : Type 1 where
   -- the report on what the second input says and on evidence, in a style: a person is told of a
-  -- certificate or a refutation, and a program gets it. `settle` and `envelope` report what was
-  -- found.
+  -- certificate or a refutation, and a program gets it. `settle`, `envelope` and `check` report
+  -- what was found.
   pub report : Style → Finding → SecondData → EvidenceData → Report
   -- what the outcome of a run shows whose claim, second input and capture begin so
   pub Shows : FeedState → FeedState → FeedState → Outcome → Type 0

@@ -110,7 +110,8 @@ settle_report style finding e (Err fault) = refused (find_run_fault_of fault)
 
 -- what the report is on
 abbrev pub finding_of : Settlement → Finding
-finding_of found = record { settled = Ok (settled_data found.settled); least = found.least }
+finding_of found =
+    record { settled = Ok (settled_data found.settled); least = found.least; fits = None }
 
 -- ---- what a finding shows of evidence
 

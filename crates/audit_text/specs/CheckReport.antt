@@ -1,5 +1,5 @@
 -- The text of `check`: what is claimed, what the capture has, what is advised, and the verdict.
-use Rattle.std.specs.Prelude.{ℕ, nat_lt, if◌then◌else◌, Option, None, Some}
+use Rattle.std.specs.Prelude.{ℕ, nat_lt, if◌then◌else◌, Bool, true, false, Option, None, Some}
 use Rattle.std.specs.Prelude.{List, [], ◌∷◌, ◌++◌, length, codes}
 use Rattle.line_writer.specs.Field.{FieldData, line_of, Word, Named, Second, Nanoseconds, Billionths}
 use Rattle.line_writer.specs.Field.{Address, Reference, Nothing}
@@ -55,6 +55,12 @@ reference_advice style (Some reference) =
 abbrev pub pieces_line : Style → ℕ → List ℕ
 pieces_line style pieces = line_of style (Named (codes "pieces") pieces ∷ [])
 
+-- whether any course of events fits the whole capture, if that is told
+abbrev pub fits_line : Style → Option Bool → List ℕ
+fits_line style None = []
+fits_line style (Some true) = line_of style (Word (codes "a course fits") ∷ [])
+fits_line style (Some false) = line_of style (Word (codes "no course fits: see settle") ∷ [])
+
 -- the word for each reason
 abbrev pub why_word : Why → List ℕ
 why_word Cut = codes "cut"
@@ -78,4 +84,5 @@ check_text style claim collection findings =
     client_line style claim findings.groups ++ span_line style claim ++
     counts_line collection.counts (length collection.exchanges) ++
     sources_advice style findings.sources ++ reference_advice style findings.reference ++
-    pieces_line style findings.pieces ++ verdict_line style findings.verdict
+    pieces_line style findings.pieces ++ fits_line style findings.fits ++
+    verdict_line style findings.verdict

@@ -6,8 +6,9 @@ ghost use Rattle.claim_file.specs.Claim.{data_of};
 ghost use Rattle.pairing.specs.Exchange.{most_exchanges};
 ghost use Rattle.pairing.specs.Compact.{compact_data};
 ghost use Rattle.audit_text.specs.CheckReport as spec;
-ghost use Rattle.audit_text.specs.CheckReport.{client_line, groups_field, pieces_line, reference_advice};
-ghost use Rattle.audit_text.specs.CheckReport.{sources_advice, span_line, verdict_line, why_word};
+ghost use Rattle.audit_text.specs.CheckReport.{client_line, fits_line, groups_field, pieces_line};
+ghost use Rattle.audit_text.specs.CheckReport.{reference_advice, sources_advice, span_line, verdict_line};
+ghost use Rattle.audit_text.specs.CheckReport.{why_word};
 
 use crate::counts_line::add_counts;
 use crate::second::second_of;
@@ -32,6 +33,8 @@ pub struct Findings {
     pub reference: Option<[u8; 4]>,
     /// How many pieces the certificate has.
     pub pieces: u32,
+    /// Whether any course of events fits the whole capture, if that is told.
+    pub fits: Option<bool>,
     /// The verdict on the certificate.
     pub verdict: Verdict,
 }
@@ -128,6 +131,17 @@ fn add_pieces(text: &mut Vec<u8>, style: Style, pieces: u32) -> Result<(), Alloc
     add_line(text, style, &[Field::Named("pieces", u64::from(pieces))])
 }
 
+/// Adds the line of whether any course of events fits the whole capture, if that is told.
+fn add_fits(text: &mut Vec<u8>, style: Style, fits: Option<bool>) -> Result<(), AllocError>
+    ensures { IfOk result (λ _. text.new.items ≡ text.old.items ++ fits_line style fits) }
+{
+    match fits {
+        Some(true) => add_line(text, style, &[Field::Word("a course fits")]),
+        Some(false) => add_line(text, style, &[Field::Word("no course fits: see settle")]),
+        None => Ok(()),
+    }
+}
+
 /// The word for a reason.
 fn why_word(why: &Why) -> &'static str
     ensures { result.now ≡ why_word why.now }
@@ -163,8 +177,8 @@ fn add_verdict(text: &mut Vec<u8>, style: Style, verdict: &Verdict) -> Result<()
     }
 }
 
-/// The text of `check`: what is claimed, what became of the capture's records, what is advised, and
-/// the verdict on a certificate.
+/// The text of `check`: what is claimed, what became of the capture's records, what is advised, for
+/// a person whether any course fits, and the verdict on a certificate.
 #[tactic(auto, unfolding(crate::specs::CheckReport::check_text))]
 pub fn check_text(
     alloc: Global,
@@ -184,6 +198,7 @@ pub fn check_text(
     add_sources_advice(&mut text, style, findings.sources)?;
     add_reference_advice(&mut text, style, findings.reference)?;
     add_pieces(&mut text, style, findings.pieces)?;
+    add_fits(&mut text, style, findings.fits)?;
     add_verdict(&mut text, style, &findings.verdict)?;
     Ok(text)
 }

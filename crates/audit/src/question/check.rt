@@ -1,13 +1,12 @@
 //! What is made for `check`.
 
-ghost use Rattle.std.specs.Prelude.{◌≡◌, ◌≤◌, vec_len};
+ghost use Rattle.std.specs.Prelude.{◌≡◌, ◌≤◌, Some, vec_len};
 ghost use Rattle.certificate.specs.Certificate.{data_of as certificate_data, max_pieces};
 ghost use Rattle.claim_file.specs.Claim.{data_of};
 ghost use Rattle.checker.specs.Traceability.{IsVerdictOn};
 ghost use Rattle.audit.specs.Check as spec;
-ghost use Rattle.audit.specs.Check.{check};
+ghost use Rattle.audit.specs.Check.{IsEnoughFor, check, fit_finding};
 ghost use Rattle.audit.specs.Evidence.{IsLawfulEvidence, evidence_data, samples_in};
-ghost use Rattle.audit.specs.Question.{no_finding};
 
 use crate::evidence::Evidence;
 use crate::laws::{bounds_of_bytes_hold_in_nanoseconds, yes_shows_the_headline};
@@ -18,10 +17,11 @@ use byte_stream::Sink;
 use certificate::Certificate;
 use checker::{Verdict, check_exchanges};
 use claim_file::group_count;
+use feasibility::course_fits;
 use line_writer::Style;
 use pairing::{common_reference, source_count};
 use report::{Outcome, RunFault};
-use std::alloc::Global;
+use std::alloc::{AllocError, Global};
 
 /// Does a certificate, the second input, show the claim?
 #[derive(Clone, Copy, Debug)]
@@ -37,12 +37,26 @@ fn outcome_of(verdict: &Verdict) -> Outcome
     }
 }
 
-/// What is calculated for the report, the verdict among it.
-fn findings_on(certificate: &Certificate, evidence: &Evidence) -> Findings
+/// Whether any course of events fits, if that is told in this style.
+fn fits_told(style: Style, found: &Option<bool>) -> Option<bool>
+    requires { IsEnoughFor style found.now }
+    ensures { spec.fits_told style found.now ≡ Some result }
+{
+    match style {
+        Style::Plain => None,
+        _ => match found {
+            Some(fits) => Some(*fits),
+            None => unreachable!(),
+        },
+    }
+}
+
+/// What is calculated for the report, the verdict among it, beside whether any course fits.
+fn findings_on(certificate: &Certificate, evidence: &Evidence, fits: Option<bool>) -> Findings
     requires pieces { vec_len certificate.now.pieces ≤ max_pieces }
     requires evidence { IsLawfulEvidence evidence.now }
     ensures exact { result ≡
-        spec.findings_on (certificate_data certificate.now) (evidence_data evidence.now) }
+        spec.findings_on (certificate_data certificate.now) (evidence_data evidence.now) fits }
     ensures verdict { IsVerdictOn (data_of evidence.now.claim)
         (samples_in (evidence_data evidence.now)) (certificate_data certificate.now)
         result.verdict }
@@ -54,6 +68,7 @@ fn findings_on(certificate: &Certificate, evidence: &Evidence) -> Findings
         sources: source_count(exchanges, claim.servers.len() as u8),
         reference: common_reference(exchanges),
         pieces: certificate.pieces.len() as u32,
+        fits,
         verdict: check_exchanges(exchanges, claim, certificate),
     }
 }
@@ -61,22 +76,28 @@ fn findings_on(certificate: &Certificate, evidence: &Evidence) -> Findings
 impl Question for Check {
     type Second = Certificate;
 
-    type Finding = ();
+    type Finding = Option<bool>;
 
     ghost asks = { λ _. check };
 
-    ghost finding = { λ _. no_finding };
+    ghost finding = { fit_finding };
 
-    ghost IsFound = { λ _ _ _ _. Unit {0} };
+    ghost IsFound = { λ _ style _ found. IsEnoughFor style found };
 
     fn find(
         self,
-        _alloc: Global,
-        _style: Style,
+        alloc: Global,
+        style: Style,
         _second: &Certificate,
-        _evidence: &Evidence,
-    ) -> Result<(), RunFault> {
-        Ok(())
+        evidence: &Evidence,
+    ) -> Result<Option<bool>, RunFault> {
+        match style {
+            Style::Plain => Ok(None),
+            _ => match course_fits(alloc, &evidence.held.exchanges, &evidence.claim) {
+                Ok(fits) => Ok(Some(fits)),
+                Err(AllocError) => Err(RunFault::Memory),
+            },
+        }
     }
 
     fn tell<S: Sink>(
@@ -85,12 +106,12 @@ impl Question for Check {
         style: Style,
         second: &Certificate,
         evidence: &Evidence,
-        _found: &(),
+        found: &Option<bool>,
         out: &mut S,
     ) -> Result<Outcome, RunFault> {
         bounds_of_bytes_hold_in_nanoseconds();
         yes_shows_the_headline();
-        let findings = findings_on(second, evidence);
+        let findings = findings_on(second, evidence, fits_told(style, found));
         let text = check_text(alloc, style, &evidence.claim, &evidence.held, &findings);
         publish_text(out, text, outcome_of(&findings.verdict))
     }

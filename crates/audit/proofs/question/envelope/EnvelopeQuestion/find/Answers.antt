@@ -4,7 +4,11 @@ use Rattle.audit.proofs.Showing.{making_fault, memory_unfound, nothing_found}
 use Rattle.audit.proofs.question.envelope.EnvelopeQuestion.find.Goals as goal
 
 pub returns-in-Ok-least_if-clause-found : goal.returns-in-Ok-least_if-clause-found
-returns-in-Ok-least_if-clause-found c = record { settled = tt; least = c.in-Ok-least_if.ensures.least }
+returns-in-Ok-least_if-clause-found c = record {
+  settled = tt;
+  least = c.in-Ok-least_if.ensures.least;
+  fits = tt;
+}
 
 pub returns-in-Ok-least_if-clause-in_style : goal.returns-in-Ok-least_if-clause-in_style
 returns-in-Ok-least_if-clause-in_style c = record {

@@ -16,6 +16,7 @@ returns-in-Ok-with_least c =
       found = record {
         settled = rw c.in-Ok-with_least.ensures.settled holds;
         least = c.in-Ok-with_least.ensures.least;
+        fits = tt;
       };
       in_style = c.in-Ok-with_least.ensures.enough;
       for_a_program = refl;
@@ -29,10 +30,11 @@ pub returns-in-Err-clause-fault : goal.returns-in-Err-clause-fault
 returns-in-Err-clause-fault c =
     let settles = rw c.deref.ensures.value at c.in-Err.ensures in
     record {
-      finding = record { settled = Err c.in-Err.fault; least = None };
+      finding = record { settled = Err c.in-Err.fault; least = None; fits = None };
       found = record {
         settled = fault_found (evidence_data c.args.evidence.now) c.in-Err.fault settles.refused;
         least = tt;
+        fits = tt;
       };
       of_making = making_fault c.in-Err.fault c.run_fault_of.result c.run_fault_of.ensures;
       is_made = λ style. refused_made c.in-Err.fault c.run_fault_of.result c.run_fault_of.ensures;
