@@ -32,10 +32,10 @@ use checker::laws::{
     few_groups_leave_the_error_out, hulls_hold_the_error, narrower_parts_narrow,
     parts_are_of_samples, pieces_give_the_verdict,
 };
-use feasibility::laws::some_course_is_observed_at_any_reading;
 use era_unfold::laws::{
     nanoseconds_lie_between_their_ticks, ratios_are_rounded_as_little_as_can_be,
 };
+use feasibility::laws::some_course_is_observed_at_any_reading;
 use intersection::kinds::Hull;
 use intersection::laws::{every_list_has_a_hull, whole_points_are_fine_enough};
 use sample_interval::laws::{

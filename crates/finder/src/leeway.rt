@@ -15,8 +15,8 @@ ghost use Rattle.span_cover.specs.Group.{numbers_below};
 
 use crate::side::Side;
 use claim_file::Claim;
-use feasibility::Groups;
 use error_marks::Mark;
+use feasibility::Groups;
 use pairing::ToExchange;
 use sample_interval::PARTS;
 

@@ -20,10 +20,10 @@ use crate::invocation::Paths;
 use audit::{Question, Request, Style, run, run_twice};
 use byte_stream::Sink;
 use fault_words::Obstacle;
-use summed_inputs::NamedFeed;
 use report::{Outcome, RunFault};
 use std::alloc::{AllocError, Global};
 use std::hash::BuildHasher;
+use summed_inputs::NamedFeed;
 
 /// Answers a question for a program in a draft, and for a person on `out` too, if the style is one
 /// for a person.

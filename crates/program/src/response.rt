@@ -13,10 +13,10 @@ use crate::inputs::{Inputs, Opened};
 use crate::invocation::Judgement;
 use audit::{Check, Outputs, Question, Style, answer};
 use byte_stream::Sink;
-use summed_inputs::{InputBytes, MAX_SUMS, NamedFeed, SummedSource, answer_by_sums};
 use report::{Conclusion, Input, conclude, read_input};
 use std::alloc::Global;
 use std::hash::BuildHasher;
+use summed_inputs::{InputBytes, MAX_SUMS, NamedFeed, SummedSource, answer_by_sums};
 
 /// What was read of the files of a run that is held to sums.
 #[derive(Drop)]
