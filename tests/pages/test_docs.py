@@ -119,12 +119,12 @@ def hold_quotes(document: Path) -> None:
 
 def test_examples() -> None:
     """The root documentation of each library opens with an example, which stands in the file that it names, indented or
-    not. The three crates that are there for the tests alone need none."""
+    not. lemma_base, which has no code, and the three crates that are there for the tests alone need none."""
     for root in sorted(ROOT.glob("crates/*/src/lib.rt")):
         crate = root.relative_to(ROOT / "crates").parts[0]
         text = "\n".join(re.findall(r"^//! ?(.*)$", root.read_text("utf-8"), flags=re.M))
         shown = re.search(r"`([\w/]+\.rt)`(?:(?!\.rt`|```).)*\n\n```text\n(.*?)^```$", text, flags=re.M | re.S)
-        if crate not in ("vectors", "worked_examples", "worked_runs"):
+        if crate not in ("lemma_base", "vectors", "worked_examples", "worked_runs"):
             check(f"{crate}'s root documentation", shows_an_example=(bool(shown), True))
         if shown:
             path, quote = shown.groups()
@@ -168,11 +168,11 @@ def test_columns() -> None:
 
 # The most words of a page, or of several together.
 LIMITS = {
-    "README.md": 890, "SECURITY.md": 150, "docs/STABILITY.md": 440, "docs/PROMISES.md": 1730,
-    "docs/THEOREM.md": 3460, "docs/DEFINITIONS.md": 3930,
-    "docs/DECISIONS.md": 1570, "docs/FORMATS.md": 3560, "docs/GUIDE.md": 2840, "docs/REFUSALS.md": 1030,
+    "README.md": 890, "SECURITY.md": 150, "docs/STABILITY.md": 440, "docs/PROMISES.md": 1740,
+    "docs/THEOREM.md": 3480, "docs/DEFINITIONS.md": 3930,
+    "docs/DECISIONS.md": 1600, "docs/FORMATS.md": 3560, "docs/GUIDE.md": 2840, "docs/REFUSALS.md": 1030,
     "docs/DOSSIER.md docs/AUDITING.md": 2500, "docs/FLEET.md": 1050, "docs/BOUND.md": 590,
-    "second/README.md": 250, "ARCHITECTURE.md CONTRIBUTING.md": 2200, "CHANGELOG.md": 800,
+    "second/README.md": 250, "ARCHITECTURE.md CONTRIBUTING.md": 2260, "CHANGELOG.md": 800,
     "bench/README.md": 1290, "data/README.md": 740,
 }
 
