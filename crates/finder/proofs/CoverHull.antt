@@ -1,5 +1,5 @@
 -- What the groups outside a cover say holds the error of each course in which those of the cover are false.
-use Rattle.finder.proofs.Common.{◌≡◌, ℕ, zero, suc, ◌+◌, ◌-◌, ◌*◌, ◌/◌, ◌<◌, ◌≤◌, ℤ, pos, neg_ℤ, ◌*ℤ◌, unsigned_abs, Bool, true, false, not, ◌&&◌, ◌==◌, List, [], ◌∷◌, length, get_or, refl, sym, ap, ◌∙◌, arith, ints, clamps, nat_tests, ⊎_elim, All, All-filter, filter, count_by, slice_index, and_parts, and_from, Any-from_list_any, list_any-from_Any, ClaimData, IsLawful, Hull, Unbounded, Empty, Bounded, Exchange, Course, Sample, Part, Stretch, holds_false, false_group_count, numbers_below, best_entries, parts_named, group_intervals, IsOfSamples, AreSamplesOf, samples_of, IsObservedIn, HasFalse, IsInSpan, NeedsAtMost, NoneNeedsMore, has_say, hull_without, next_tick, stretch_over, tick_without}
+use Rattle.finder.proofs.Common.{◌≡◌, ℕ, zero, suc, ◌+◌, ◌-◌, ◌*◌, ◌/◌, ◌<◌, ◌≤◌, ℤ, pos, neg_ℤ, ◌*ℤ◌, unsigned_abs, Bool, true, false, not, ◌&&◌, ◌==◌, List, [], ◌∷◌, length, get_or, refl, sym, ap, ◌∙◌, arith, ints, clamps, nat_tests, ⊎_elim, All, All-filter, filter, count_by, slice_index, and_parts, and_from, Any-from_list_any, list_any-from_Any, ClaimData, IsLawful, Hull, Unbounded, Empty, Bounded, Exchange, Course, Sample, Part, Stretch, holds_false, false_group_count, numbers_below, best_entries, parts_named, group_intervals, IsOfSamples, AreSamplesOf, samples_of, IsObservedIn, HasFalse, IsInSpan, NeedsAtMost, NoneNeedsMore, has_say, hull_without, next_tick, stretch_over, tick_without, All-slice_get}
 use Rattle.std.proofs.lemmas.List.Elements.{filter_passes}
 use Rattle.std.specs.Prelude.{nat_lt}
 use Rattle.intersection.specs.Fineness.{times_le}
@@ -12,11 +12,10 @@ use Rattle.checker.specs.Traceability.{IsInHull, IsWithin}
 use Rattle.checker.proofs.Hull.{entry_holds, Laws as HullLaws}
 use Rattle.checker.proofs.PieceFit.{fits_piece}
 use Rattle.feasibility.specs.Members.{passing}
-use Rattle.feasibility.proofs.CoverCounts.{both_hold, passing_same, passing_split}
+use Rattle.feasibility.proofs.CoverCounts.{passing_same, passing_split}
 use Rattle.feasibility.proofs.CoverList.{passing_within}
 use Rattle.feasibility.proofs.CoverWithin.{passing_below}
 use Rattle.finder.proofs.HeldError.{few_false}
-use Rattle.finder.proofs.List.{All-slice_get}
 use Rattle.finder.proofs.Narrow.{Laws}
 use Rattle.finder.proofs.Nearest.{int_cases}
 use Rattle.finder.proofs.Verdict.{entries_accepted}
@@ -75,7 +74,7 @@ module _ (claim : ClaimData) (lawful : IsLawful claim) (xs : List Exchange)
       (λ k is.
       let there = outside claim.groups cover course.is_false k
       (and_parts (left k) (nat_lt k (length claim.groups)) is).0 in
-      both_hold (false_in k) (not (cover k)) there.0 (ap not there.1)) in
+      and_from (false_in k) (not (cover k)) there.0 (ap not there.1)) in
       let split = passing_split false_in cover in
       let all = passing_same (λ k. false_in k && cover k) cover (λ k. absorbs (false_in k) (cover k) (false' k)) in
       let few = few_false claim lawful xs each course fits in

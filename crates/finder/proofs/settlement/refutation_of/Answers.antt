@@ -7,9 +7,10 @@ use Rattle.finder.proofs.HeldError.{all_tried, are_held, least_covers, one_more_
 use Rattle.finder.proofs.SettlementAnswer.{none_beyond, one_more_needs}
 use Rattle.finder.proofs.settlement.refutation_of.Goals as goal
 
-pub neediest_tick-requires-clause-tables : goal.neediest_tick-requires-clause-tables
-neediest_tick-requires-clause-tables g c =
-    (samples_of (map g.X.ToExchange.shown c.args.exchanges.now) (claim_data c.args.claim.now), c.requires.tables)
+pub neediest_tick-requires : goal.neediest_tick-requires
+neediest_tick-requires g c = record {
+  tables = samples_of (map g.X.ToExchange.shown c.args.exchanges.now) (claim_data c.args.claim.now), c.requires.tables;
+}
 
 pub loop-cover-preserved : goal.loop-cover-preserved
 loop-cover-preserved g c =
