@@ -9,7 +9,8 @@ use Rattle.finder.proofs.settlement.refutation_of.Goals as goal
 
 pub neediest_tick-requires : goal.neediest_tick-requires
 neediest_tick-requires g c = record {
-  tables = samples_of (map g.X.ToExchange.shown c.args.exchanges.now) (claim_data c.args.claim.now), c.requires.tables;
+  tables =
+      (samples_of (map g.X.ToExchange.shown c.args.exchanges.now) (claim_data c.args.claim.now), c.requires.tables);
 }
 
 pub loop-cover-preserved : goal.loop-cover-preserved
