@@ -36,7 +36,7 @@ fn bare<'a>(alloc: Global) -> Command<'a>
     ensures { IsProgram (table.program_of []) result }
 {
     Command::new(alloc, "ntpaudit")
-        .version("0.9.0 (logic dac8208d650f15bf)")
+        .version("0.9.1 (logic dac8208d650f15bf)")
         .about("What a packet capture of NTP shows about a clock")
         .after_help(HELP)
         .subcommand_required(true)
