@@ -12,38 +12,41 @@ line has to say. Classic format, little-endian, microseconds.
 import argparse
 import struct
 import sys
+from collections.abc import Iterator
 
 MOST_RECORDS = 4_000_000
 START = 1_700_000_000
 SECONDS_TO_1970 = 2_208_988_800
 SERVERS = 8
 
+Address = tuple[int, int, int, int]
 
-def ethernet(kind):
+
+def ethernet(kind: int) -> bytes:
     return bytes.fromhex("020000000001" "020000000002") + struct.pack(">H", kind)
 
 
-def ipv4(protocol, source, destination, length):
+def ipv4(protocol: int, source: Address, destination: Address, length: int) -> bytes:
     head = struct.pack(">BBHHHBBH", 0x45, 0, 20 + length, 0, 0x4000, 64, protocol, 0)
     return ethernet(0x0800) + head + bytes(source) + bytes(destination)
 
 
-def udp(source, destination, source_port, destination_port, payload):
+def udp(source: Address, destination: Address, source_port: int, destination_port: int, payload: bytes) -> bytes:
     head = struct.pack(">HHHH", source_port, destination_port, 8 + len(payload), 0)
     return ipv4(17, source, destination, 8 + len(payload)) + head + payload
 
 
-def tcp(source, destination, payload):
+def tcp(source: Address, destination: Address, payload: bytes) -> bytes:
     head = struct.pack(">HHIIBBHHH", 443, 50000, 1, 1, 0x50, 0x10, 512, 0, 0)
     return ipv4(6, source, destination, 20 + len(payload)) + head + payload
 
 
-def other_frames(has_big):
+def other_frames(has_big: bool) -> list[bytes]:
     """A DNS query, a TCP acknowledgement, a TCP segment with data and an ARP request."""
     client, host = (192, 0, 2, 100), (198, 51, 100, 7)
     query = bytes.fromhex("1234 0100 0001 0000 0000 0000 03 6e7470 07 6578616d706c65 00 0001 0001")
     data = bytes(range(256)) * (60_000 // 256 + 1)
-    arp = struct.pack(">HHBBH", 1, 0x0800, 6, 4, 1) + bytes.fromhex("020000000001") + bytes(client) + bytes(6) + bytes(host)
+    arp = struct.pack(">HHBBH6s4s6x4s", 1, 0x0800, 6, 4, 1, bytes.fromhex("020000000001"), bytes(client), bytes(host))
     return [
         udp(client, host, 53535, 53, query),
         tcp(client, host, b""),
@@ -52,7 +55,7 @@ def other_frames(has_big):
     ]
 
 
-def frames(has_big, interval=0):
+def frames(has_big: bool, interval: int = 0) -> Iterator[tuple[int, bytes, bool]]:
     """Endlessly the time in microseconds, the frame, and whether it is an NTP packet."""
     client, server, others = (192, 0, 2, 100), (192, 0, 2, 1), other_frames(has_big)
     reference = struct.pack(">II", START + SECONDS_TO_1970 - 30, 0)
@@ -82,12 +85,12 @@ def frames(has_big, interval=0):
         exchange += 1
 
 
-def main():
+def main() -> None:
     words = argparse.ArgumentParser(description=__doc__, formatter_class=argparse.RawDescriptionHelpFormatter)
     words.add_argument("file")
-    size = words.add_mutually_exclusive_group()
-    size.add_argument("--records", type=int, default=2_000_000)
-    size.add_argument("--bytes", type=int)
+    length = words.add_mutually_exclusive_group()
+    length.add_argument("--records", type=int, default=2_000_000)
+    length.add_argument("--bytes", type=int)
     kind = words.add_mutually_exclusive_group()
     kind.add_argument("--big-frames", action="store_true")
     kind.add_argument("--only-ntp", action="store_true")

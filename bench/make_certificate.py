@@ -13,11 +13,11 @@ from datetime import datetime, timezone
 TICKS = 2**32
 
 
-def second_of(time):
+def second_of(time: str) -> int:
     return int(datetime.strptime(time, "%Y-%m-%dT%H:%M:%SZ").replace(tzinfo=timezone.utc).timestamp())
 
 
-def main():
+def main() -> None:
     words = argparse.ArgumentParser(description=__doc__, formatter_class=argparse.RawDescriptionHelpFormatter)
     words.add_argument("file")
     words.add_argument("--exchanges", type=int, required=True)

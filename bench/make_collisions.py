@@ -47,13 +47,13 @@ int main(int count, char **words) {
 """
 
 
-def fold(state, word, length):
+def fold(state: int, word: int, length: int) -> int:
     """The hasher's state after a number of this many bytes."""
     product = (state ^ word) * (MULTIPLIER ^ 2 * length)
     return (product ^ product >> 64) % 2**64
 
 
-def colliding(count):
+def colliding(count: int) -> tuple[int, ...]:
     """Timestamps whose keys begin their search at the same place, in a table that holds this many."""
     low, high = PORT & 255, PORT >> 8
     start, multiplier = fold(STATE, fold(STATE, 0, 8), 8), fold(STATE, 1, 8) | 1
@@ -63,11 +63,11 @@ def colliding(count):
         source, search = Path(folder) / "search.c", Path(folder) / "search"
         source.write_text(SEARCH)
         subprocess.run(["cc", "-O2", "-o", search, source], check=True)
-        words = [search, hex(state), hex(MULTIPLIER ^ 16), hex(multiplier), hex(2**bits - 1), str(count)]
+        words = [str(search), hex(state), hex(MULTIPLIER ^ 16), hex(multiplier), hex(2**bits - 1), str(count)]
         return struct.unpack(f"={count}Q", subprocess.run(words, check=True, stdout=subprocess.PIPE).stdout)
 
 
-def main():
+def main() -> None:
     words = argparse.ArgumentParser(description=__doc__, formatter_class=argparse.RawDescriptionHelpFormatter)
     words.add_argument("file")
     words.add_argument("--requests", type=int, default=200_000)
