@@ -4,12 +4,14 @@
   make_collisions.py FILE [--requests N] [--random]
 
 What a client's port, server and transmit timestamp hash to is known where the seed is, so anybody who can put packets
-into a capture can choose transmit timestamps whose hashes begin at one place of the table. Here they are found by trial,
-with a small program that the C compiler makes: 200,000 of them (if nothing is said) take half a minute. With --random
-the timestamps are any. The capture has N requests of the client 192.0.2.100 from one port to one server, and no reply.
+into a capture can choose transmit timestamps whose hashes begin at one place of the table. Here they are found by
+trial, with a small program that the C compiler makes: 200,000 of them (if nothing is said) take half a minute. With
+--random the timestamps are any. The capture has N requests of the client 192.0.2.100 from one port to one server, and
+no reply.
 
-The hash is that of `crates/pairing/src/hashing.rt`, with the two numbers that FoldHasher of the toolchain's crate `core`
-gives, whose seed is fixed. The program takes two random numbers, and no file can hold keys that collide under those.
+The hash is that of `crates/pairing/src/hashing.rt`, with the two numbers that FoldHasher of the toolchain's crate
+`core` gives, whose seed is fixed. The program takes two random numbers, and no file can hold keys that collide under
+those.
 """
 import argparse
 import random

@@ -213,7 +213,7 @@ def add() -> None:
     machine's."""
     version = said("--version").split()[1].decode()
     (OLDER / version).mkdir()
-    newest = OLDER / max(FORMS)
+    newest = OLDER / max(FORMS.keys() - {version})
     leap_list(OLDER / version / "leap-seconds.list")
     for name in VERDICTS:
         (OLDER / version / name).mkdir()
