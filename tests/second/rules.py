@@ -9,6 +9,7 @@ A claim is the value of its file, and servers and samples go by their numbers. T
 """
 import datetime
 import json
+from bisect import bisect_left, bisect_right
 from collections.abc import Callable, Collection, Iterable
 from itertools import accumulate
 
@@ -135,8 +136,10 @@ def hull_of(claim: Claim, of_servers: Intervals) -> Hull:
             of_groups.append((max(low for low, _ in own), min(high for _, high in own)))
     if len(of_groups) <= claim["false_max"]:
         return None
-    ends = [end for both in of_groups for end in both]
-    points = [p for p in ends if sum(p < low or high < p for low, high in of_groups) <= claim["false_max"]]
+    lows = sorted(low for low, high in of_groups if low <= high)
+    highs = sorted(high for low, high in of_groups if low <= high)
+    most = claim["false_max"] - (len(of_groups) - len(lows))
+    points = [p for p in lows + highs if len(lows) - bisect_right(lows, p) + bisect_left(highs, p) <= most]
     return (min(points), max(points)) if points else ()
 
 
