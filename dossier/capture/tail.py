@@ -86,11 +86,10 @@ class Growing:
             length *= 2
         yield self.folder.part(self.name, HEADER, self.size), 0, True
 
-    @property
-    def last(self) -> int:
-        """The Unix second of its last whole record; 0 if it has none."""
+    def last(self, latest: float) -> int:
+        """The last Unix second of its whole records, but for those that are later than some time; 0 if it has none."""
         data, begin, _ = next(self.endings())
-        return max((second for second, _ in self.heads.walk(data, begin)), default=0)
+        return max((second for second, _ in self.heads.walk(data, begin) if second <= latest), default=0)
 
     def since(self, second: int) -> tuple[bytes, bool]:
         """A capture of its records since a Unix second, torn at its end if the file is; and whether the file begins

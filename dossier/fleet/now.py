@@ -37,7 +37,7 @@ MINUTE, HOUR = 60, 60
 """Seconds; and minutes of the band."""
 MOST_PIECES = 10_000
 AHEAD = 3600
-"""Seconds by which a file may have been begun later than now: a later one was begun under another clock."""
+"""Seconds by which a file may have been begun later than now, and a record made: what is later is of another clock."""
 
 
 class Wanted(NamedTuple):
@@ -118,7 +118,7 @@ def silent(wanted: Wanted, claim: Claim, recorder: str, last: int) -> Moment:
 def moment_of(wanted: Wanted, claim: Claim, folder: Folder, recorder: str, names: list[str]) -> Moment:
     """Of a recorder, by the names of its files, the newest first."""
     span = MINUTE * wanted.minutes
-    last = next(filter(None, (file.last for file in growing(folder, names))), 0)
+    last = next(filter(None, (file.last(time.time() + AHEAD) for file in growing(folder, names))), 0)
     if last < time.time() - span:
         return silent(wanted, claim, recorder, last)
     capture = audited(dict(copies(growing(folder, names), last - 2 * span)))

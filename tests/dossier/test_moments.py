@@ -78,6 +78,9 @@ def test_now(place: Path) -> None:
     status, lines, _ = now(old)
     check("a recorder that is silent", status=(status, 1), told=(f"nothing was recorded since {civil(begin - 910)}"
                                                                  in lines[0] and "no evidence" in lines[0], True))
+    recorded(place / "later", begin, (last + 10**8, last + 10**8 + 1500, RIGHT))
+    status, lines, _ = now(place / "later")
+    check("records of another time", status=(status, 1), told=("nothing was recorded" in lines[0], True))
     (place / "none").mkdir()
     status, lines, _ = now(place / "none")
     check("no recorder", run=(status, 1), told=("nothing was recorded" in lines[0], True))
@@ -185,7 +188,8 @@ def test_tail(place: Path) -> None:
         with Folder(str(place)) as folder:
             file = Growing(folder, f"{name}.pcap")
             seconds = [int.from_bytes(record[:4], "little") for record in own]
-            check(f"the last record of {name}", last=(file.last, seconds[-1]), size=(len(data) > 1 << 21, True))
+            check(f"the last record of {name}", size=(len(data) > 1 << 21, True),
+                  last=(file.last(1 << 40), seconds[-1]), earlier=(file.last(seconds[-1] - 1), seconds[-1] - 1))
             for second in (seconds[0] - 1, seconds[0], seconds[0] + 1, 1_000_002_000, 1_000_003_900, seconds[-1],
                            seconds[-1] + 1):
                 first = next((k for k, own_second in enumerate(seconds) if own_second >= second), len(own))
@@ -208,4 +212,4 @@ def test_many_ways(place: Path) -> None:
         file = Growing(folder, "f.pcap")
         check("many ways", size=(len(data) // 16 > 3 * MOST_PLACES, True),
               same=(file.since(begin + count - 9) == (data[:24] + b"".join(own[-9:]), True), True),
-              last=(file.last, begin + count - 1), left=(file.heads.left, 0))
+              last=(file.last(1 << 40), begin + count - 1), left=(file.heads.left, 0))
