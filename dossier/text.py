@@ -1,19 +1,31 @@
 """Names and texts of strangers, made fit to be shown: nothing in them is interpreted by a terminal."""
+import re
 import shlex
 import sys
 
+BLANK = re.compile("[\u034f\u115f\u1160\u17b4\u17b5\u180b-\u180f\u2800\u3164\ufe00-\ufe0f\uffa0\U000e0100-\U000e01ef]")
+"""What counts as printable, and isn't seen: two names may differ in it alone."""
+
 
 def plain(words: str) -> str:
-    """The text with whatever isn't printable spelled out, as in `a\\x0ab`: line feeds, escape codes, marks that turn
-    the direction of writing, and bytes that are no UTF-8."""
-    return words if words.isprintable() else "".join(c if c.isprintable() else spelled(c) for c in words)
+    """The text with whatever isn't printable, or isn't seen, spelled out, as in `a\\x0ab`: line feeds, escape codes,
+    marks that turn the direction of writing, and bytes that are no UTF-8."""
+    if words.isascii() and words.isprintable():
+        return words
+    return "".join(c if c.isprintable() and not BLANK.match(c) else spelled(c) for c in words)
 
 
 def spelled(c: str) -> str:
     number = ord(c)
     if 0xDC80 <= number <= 0xDCFF:  # (a byte that is no UTF-8, as Python has it in names of files)
         return f"\\x{number - 0xDC00:02x}"
-    return f"\\x{number:02x}" if number < 0x100 else f"\\u{number:04x}"
+    return f"\\x{number:02x}" if number < 0x100 else f"\\u{number:04x}" if number < 0x10000 else f"\\U{number:08x}"
+
+
+def label(name: str) -> str:
+    """A name where a line begins, which can't look like what the line says behind it: a space behind a colon or another
+    space, and one at an end, is spelled out too."""
+    return re.sub("(?<=[: ]) |^ | $", r"\\x20", plain(name))
 
 
 def reference(digits: str) -> str:

@@ -15,7 +15,7 @@ from ..folder.registry import Known
 from ..folder.result import Result
 from ..premise.leap import record_by
 from ..records import dataclass
-from ..text import plain
+from ..text import label
 from ..verdict.making import Making, sums_of_inputs
 from ..verdict.sentences import line_of, refusal_of
 from .metrics import Sample, of_record, of_verdict, write_metrics
@@ -79,7 +79,7 @@ def audit(wanted: Wanted, path: str, _: int) -> Result:
         with wanted.known.alone(folder):
             place(folder, {**made, files.AUDIT: [text]}, stale - record.outputs.keys())
     wanted.known.add(sum_of(text), record)
-    removed = [f"{'':14}{plain(path)}: its signature was removed"] if is_signed else []
+    removed = [f"{'':14}{label(path)}: its signature was removed"] if is_signed else []
     return result_of(path, record, wanted.known, "", removed)
 
 
@@ -121,17 +121,19 @@ def change_of(folder: Folder, record: Record) -> str:
     now = sums_of_inputs(folder, record)
     for name, sum_ in record.inputs.items():
         if now.get(name) != sum_:
-            return f"{name} isn't the file that was audited ({short(now.get(name))}, {files.AUDIT} has {short(sum_)})"
+            return (f"{label(name)} isn't the file that was audited ({short(now.get(name))}, {files.AUDIT} has "
+                    f"{short(sum_)})")
     new = sorted(now.keys() - record.inputs.keys())
     if new:
-        return f"{new[0]} is new, and {files.AUDIT} has no sum of it"
-    for name, sum_ in record.outputs.items():
+        return f"{label(new[0])} is new, and {files.AUDIT} has no sum of it"
+    for name, sum_ in (record.outputs | record.packed).items():
         if record.is_left_out(name) and not folder.has(name):
             continue
         if not folder.has(name):
-            return f"{name} isn't there"
+            return f"{label(name)} isn't there"
         if folder.sum(name) != sum_:
-            return f"{name} was changed since the audit ({short(folder.sum(name))}, {files.AUDIT} has {short(sum_)})"
+            return (f"{label(name)} was changed since the audit ({short(folder.sum(name))}, {files.AUDIT} has "
+                    f"{short(sum_)})")
     more = next(filter(folder.has, sorted(LEFT - record.outputs.keys())), None)
     return f"{more} isn't of this audit: {files.AUDIT} has no sum of it" if more else ""
 

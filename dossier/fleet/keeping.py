@@ -21,7 +21,7 @@ from ..folder.placing import Copy, blocks_of, copy_of, is_ones_own, place, remov
 from ..folder.registry import Known
 from ..folder.result import Result
 from ..records import replace
-from ..text import plain
+from ..text import label, plain
 from ..units import DAY
 from .audit import change_of
 from .verify import audit_json
@@ -47,7 +47,7 @@ def keep_all(folders: list[str], years: int | None, force: bool, known: Known, s
         line = found.refusal.line if found.refusal else found.lines[0]
         if line == GONE:
             remove_folder(path)
-        print(f"{plain(path)}: {plain(line)}", flush=True)
+        print(f"{label(path)}: {plain(line)}", flush=True)
         worst = max(worst, found.status)
     return worst
 
@@ -154,6 +154,5 @@ def take_rest(folder: Folder, record: Record) -> None:
 
 def take_all(folder: Folder, record: Record) -> None:
     """Takes away what the record names, which is unchanged, itself last."""
-    packed_files = (f"{name}.zst" for name in (record.kept.sums if record.kept else ()))
-    for name in (*record.outputs, *record.inputs, *packed_files, files.SIGNATURE, files.AUDIT):
+    for name in (*record.outputs, *record.inputs, *record.packed, files.SIGNATURE, files.AUDIT):
         take_away(folder.place, name)

@@ -15,7 +15,7 @@ from ..folder.registry import Known
 from ..folder.result import Result
 from ..records import replace
 from ..schema import said
-from ..text import plain
+from ..text import label, plain
 from ..units import now
 from .audit import change_of
 from .signature import NAMESPACE, NO_KEYGEN, signed_in
@@ -40,7 +40,7 @@ def sign_all(folders: list[str], key: str, known: Known, seconds: int, leaps: Le
             except Fault as refused:
                 found = Result(refused.status, [refused.line])
         lines = [found.refusal.line] if found.refusal else found.lines
-        print(f"{plain(path)}: {plain(lines[0])}", flush=True)
+        print(f"{label(path)}: {plain(lines[0])}", flush=True)
         worst = summed(worst, found.status)
     return worst
 

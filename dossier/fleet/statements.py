@@ -11,7 +11,7 @@ from ..folder.registry import Known
 from ..folder.result import Year
 from ..records import dataclass, field, replace
 from ..schema import Count, Name, Sum, Text, Time, is_time, length, or_nothing, read_typed, within
-from ..text import count, plain
+from ..text import count, label, plain
 from ..units import now, ns_ms, ns_up_ms, seconds_of
 from .days import Wanted, is_day, year_of
 
@@ -134,25 +134,33 @@ def folders_above(path: str) -> set[str]:
     return {"/".join(parts[:k]) or "/" for k in range(1, len(parts) + 1)}
 
 
+def may_be(name: str, machine: str) -> bool:
+    """Whether a machine may have been called so where its year was made: its folder's own name is the same. What stands
+    before that is no part of a sentence: it is as here, or has no blank."""
+    above, own = os.path.split(name)
+    is_here = plain(os.path.abspath(machine)).endswith(f"/{os.path.normpath(name).lstrip('./')}")
+    return own == plain(os.path.basename(machine)) and (is_here or above == plain(above) and " " not in above)
+
+
 def difference(folder: Folder, known: Known, leaps: LeapList) -> str:
     """The first difference between what stands in a year and what its days come to, by what is known here; nothing if
     there is none."""
     found = read_statements(folder.data(YEAR))
     for stated in found.machines:
-        data = folder.data(stated.file)
+        data, name = folder.data(stated.file), label(stated.machine)
         if sum_of(data) != stated.sha256:
-            return f"{stated.file} isn't the file that {YEAR} names"
+            return f"{label(stated.file)} isn't the file that {YEAR} names"
         days = days_in(folder, stated)
         machines = {os.path.dirname(day) or "." for day in days}
         if len(machines) > 1:
-            return f"{stated.file} has days of several machines"
+            return f"{label(stated.file)} has days of several machines"
         for machine in machines:
             wanted = Wanted(found.year, known, leaps, seconds_of(found.made))
             year = year_of(wanted, machine, [os.path.basename(day) for day in days])
             if sums_of(folder.path, year) != data:
-                return f"{stated.machine}: a day isn't the one that {stated.file} names"
-            if os.path.basename(stated.machine) != plain(os.path.basename(machine)):
-                return f"{stated.machine}: its days are in {machine}, which has another name"
+                return f"{name}: a day isn't the one that {stated.file} names"
+            if not may_be(stated.machine, machine):
+                return f"{name}: its days are in {machine}, which has another name"
             if stated_of(replace(year, machine=stated.machine), stated.file, data) != stated:
-                return f"{stated.machine}: the statement doesn't follow from its days, as they are known here"
+                return f"{name}: the statement doesn't follow from its days, as they are known here"
     return ""

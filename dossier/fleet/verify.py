@@ -17,7 +17,7 @@ from ..folder.result import Result
 from ..premise.leap import record_by
 from ..records import replace
 from ..schema import first_difference, said
-from ..text import plain
+from ..text import label, plain
 from ..units import now
 from ..verdict.making import Earlier, Making, no_earlier
 from ..verdict.second import Second
@@ -179,7 +179,7 @@ def verify_all(folders: list[str], verifier: Verifier, signers: Signers, seconds
         copies = [seen[sum_] for sum_ in found.captures if seen.setdefault(sum_, path) != path]
         lines = [found.refusal.line] if found.refusal else found.lines
         for line in [*lines, *(f"({TWICE} {copy})" for copy in copies)]:
-            print(f"{plain(path)}: {plain(line)}", flush=True)
+            print(f"{label(path)}: {plain(line)}", flush=True)
         worst = summed(worst, found.status)
     return worst
 

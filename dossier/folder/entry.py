@@ -4,10 +4,11 @@ import re
 from typing import Annotated, Any, Final, Literal
 
 from .. import VERSION
-from ..fault import DEVICE, REFUSED as INPUT_REFUSED, fault
+from ..fault import DEVICE, REFUSED as INPUT_REFUSED, Fault, fault
 from ..records import dataclass, field
 from ..schema import (Address, Count, Mangled, Name, Nanoseconds, Seconds, Small, Sum, Text, Ticks, Time, is_name,
                       is_time, length, mangled, matching, or_nothing, parsed, said, typed, within)
+from ..text import plain
 from ..units import now
 from .claim import Claim
 from .files import AUDIT, CLAIM, JOINED, LEFT, LIMITS, is_capture
@@ -46,6 +47,11 @@ def is_left(name: str) -> bool:
     """Whether an audit leaves a file of this name, seen from the record's folder."""
     day, _, file = name.rpartition("/")
     return file in LEFT | {CLAIM} and bool(re.fullmatch(OF_A_DAY, day)) if day else file in LEFT
+
+
+def is_packable(name: str) -> bool:
+    """Whether it is the name of a capture that isn't packed."""
+    return is_capture(name) and is_capture(f"{name}.zst")
 
 
 Left = Annotated[str, is_left]
@@ -239,6 +245,11 @@ class Refusal:
     what: Text = ""
 
 
+def refusal_by(found: Fault) -> Refusal:
+    """A fault as JSON has it: a name in it may hold bytes that are no UTF-8."""
+    return Refusal(plain(found.line), found.status, plain(found.why), plain(found.what))
+
+
 @dataclass(frozen=True)
 class Made:
     """The program by which an audit was made."""
@@ -260,7 +271,7 @@ class Kept:
     """How a folder is kept for years: its captures are packed by zstd, each in a file with `.zst` behind its name, and
     what was made of them isn't there."""
 
-    sums: dict[Annotated[str, is_capture], Sum] = field(default_factory=dict)
+    sums: dict[Annotated[str, is_packable], Sum] = field(default_factory=dict)
     """The SHA-256 of each packed file, by the name of the capture in it."""
 
 
@@ -299,6 +310,11 @@ class Record:
     def is_left_out(self, name: str) -> bool:
         """Whether an output isn't there since the folder is kept: it may be made anew."""
         return self.kept is not None and name.rpartition("/")[2] == JOINED
+
+    @property
+    def packed(self) -> dict[str, str]:
+        """The SHA-256 of each packed file, by its own name."""
+        return {f"{name}.zst": sum_ for name, sum_ in (self.kept.sums if self.kept else {}).items()}
 
     @property
     def captures(self) -> frozenset[str]:

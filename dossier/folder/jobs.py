@@ -20,7 +20,7 @@ from typing import NamedTuple
 
 from ..fault import DEVICE, MEMORY, MISSING, REFUSED, Fault, fault
 from ..schema import read_typed, said
-from .entry import Refusal
+from .entry import refusal_by
 from .files import BLOCK, own, own_data
 from .placing import ROOM, make_private, nameless, write
 from .progress import Progress
@@ -199,7 +199,7 @@ def outcome(path: str, number: int, work: Work) -> Result:
 
 
 def failed(found: Fault) -> Result:
-    return Result(status=found.status, refusal=Refusal(found.line, found.status, found.why, found.what))
+    return Result(status=found.status, refusal=refusal_by(found))
 
 
 def run_all(paths: list[str], work: Work, seconds: int, jobs: int = 1,

@@ -13,6 +13,7 @@ from ..folder.result import Row
 from ..premise.backing import backing
 from ..premise.premises import premises
 from ..premise.support import support
+from ..text import label
 from ..units import SECOND
 from ..verdict.apart import ranges_of
 from ..verdict.sentences import fit, sentence, span, to_do, warned
@@ -45,13 +46,13 @@ def article(path: str, folder: Folder, record: Record, entry: Entry, signature: 
     """The head of an article, and the rest of it."""
     day = "" if entry.part == "." else f", {entry.part}"
     twice = judged if judged and entry.answer != OPEN else None
-    head = parts().whole(f"{path}{day}", entry, sentence(entry), signature, in_words(signature), twice)
+    head = parts().whole(f"{label(path)}{day}", entry, sentence(entry), signature, in_words(signature), twice)
     return str(head), str(parts().rest(record, entry, seen(name, folder, record, entry)))
 
 
-def short_article(path: str, row: Row, line: str, signature: Signature) -> str:
+def short_article(row: Row, line: str, signature: Signature) -> str:
     """A folder that has no verdict here."""
-    return str(parts().short(path, row, line, signature, in_words(signature)))
+    return str(parts().short(row.machine, row, line, signature, in_words(signature)))
 
 
 def seen(name: str, folder: Folder, record: Record, entry: Entry) -> dict[str, object]:
@@ -60,10 +61,10 @@ def seen(name: str, folder: Folder, record: Record, entry: Entry) -> dict[str, o
     envelope = read_envelope(folder.data(entry.within(files.ENVELOPE)))
     label = (f"The clock's error in ms, {span(claim)}, in pieces of {entry.envelope_step} s. Above 0 the clock "
              "is ahead of UTC. The band is the hull: what is left if no more were wrong than granted.")
-    drawn, kept, backed = ranges_of(envelope), evidence(folder), backing(folder, record.inputs)
+    drawn, backed = ranges_of(envelope), backing(folder, record.inputs)
+    kept = evidence(folder) if files.EVIDENCE in record.inputs else {}
     strokes = {address: stroke(place) for place, address in enumerate(drawn)}
     apart = {server for warning in entry.warnings if warning.kind == "apart" for server in warning.servers}
-    packed = record.kept.sums if record.kept else {}
     return {
         "remarks": [to_do(entry), fit(entry)], "warnings": warned(entry),
         "conflicts": reason.conflicts if entry.verdict == NOTHING_FITS and reason else [],
@@ -77,7 +78,7 @@ def seen(name: str, folder: Folder, record: Record, entry: Entry) -> dict[str, o
         "calls": list(map(shlex.join, calls(record, entry))),
         "is_left_out": record.is_left_out(capture_of(record, entry)),
         "sums": [*((file, "input", sum_) for file, sum_ in record.inputs.items()),
-                 *((f"{file}.zst", "the same, packed", sum_) for file, sum_ in packed.items()),
+                 *((file, "the same, packed", sum_) for file, sum_ in record.packed.items()),
                  *((file, "left by the audit", sum_) for file, sum_ in entry.outputs.items()),
                  (record.program.version or "ntpaudit", "the program", record.program.sha256)]}
 

@@ -21,7 +21,7 @@ from ..folder.registry import Known
 from ..folder.result import Result, Row, Section
 from ..premise.leap import record_by
 from ..records import replace
-from ..text import capital, count, plain
+from ..text import capital, count
 from ..verdict.sentences import TWICE
 from . import templates
 from .article import article, parts, short_article
@@ -58,6 +58,11 @@ class Shown(NamedTuple):
         return self.section.row
 
     @property
+    def folder(self) -> str:
+        """The name of the place of its folder, whatever others are called like it."""
+        return self.name.partition("-")[0]
+
+    @property
     def link(self) -> str:
         return self.file or f"#{self.name}"
 
@@ -81,6 +86,11 @@ class Looking(NamedTuple):
     leaps: LeapList
     verifier: Verifier | None
     has_articles: bool
+
+    def at(self, paths: list[str], seconds: int) -> Iterator[Result]:
+        """The sections of each folder. One whose process handed nothing back has those that say so."""
+        for path, result in run_all(paths, self.look, seconds):
+            yield self.refused(path, result.refusal, Signature(NONE)) if result.refusal else result
 
     def look(self, path: str, number: int) -> Result:
         """The sections of a folder, whatever stands in it. Its status is 2 if it was refused for that."""
@@ -127,7 +137,7 @@ class Looking(NamedTuple):
 
     def short(self, path: str, row: Row, line: str, signature: Signature, metrics: Sequence[Sample] = ()) -> Result:
         """A folder without a verdict. It has an audit, unless there is no other reason why nothing is shown."""
-        section = Section(row, short_article(path, row, line, signature) if self.has_articles else "")
+        section = Section(row, short_article(row, line, signature) if self.has_articles else "")
         is_audit = row.verdict in (NOT_VERIFIED, DISPUTED) or bool(metrics)
         return Result(sections=[section], metrics=[*metrics, *of_verdict(path, row.verdict)],
                       verdicts=[row.verdict] if is_audit else [])
@@ -138,17 +148,17 @@ def name_of(number: int, part: int) -> str:
 
 
 def mark_twins(found: list[Shown]) -> set[str]:
-    """Warns of a capture that is in several folders, which are given by the names of their lines."""
-    where: dict[str, dict[str, None]] = {}
+    """Warns of a capture that is in several folders, which are given by the names of their places."""
+    where: dict[str, dict[str, str]] = {}
     for one in found:
         for sum_ in one.section.captures:
-            where.setdefault(sum_, {})[one.row.machine] = None
+            where.setdefault(sum_, {})[one.folder] = one.row.machine
     for one in found:
         for sum_ in one.section.captures:
-            if others := [other for other in where[sum_] if other != one.row.machine]:
+            if others := [machine for other, machine in where[sum_].items() if other != one.folder]:
                 one.row.twice.append(f"{TWICE} {', '.join(others[:FEW])}{' ..' if others[FEW:] else ''}.")
         one.row.warnings[:0] = one.row.twice
-    return {one.row.machine for one in found if one.row.twice}
+    return {one.folder for one in found if one.row.twice}
 
 
 def write_page(folders: list[str], given: argparse.Namespace, known: Known, leaps: LeapList,
@@ -159,9 +169,7 @@ def write_page(folders: list[str], given: argparse.Namespace, known: Known, leap
     if looking.has_articles:
         parts()  # (which the processes of all folders have then, or none is begun)
     worst, has_audit, found, metrics = 0, False, list[Shown](), list[Sample]()
-    for number, (path, result) in enumerate(run_all(folders, looking.look, given.limit)):
-        if result.refusal:
-            result = looking.refused(path, result.refusal, Signature(NONE))
+    for number, result in enumerate(looking.at(folders, given.limit)):
         worst, has_audit = max(worst, result.status), has_audit or bool(result.verdicts)
         metrics += result.metrics
         shown = [Shown(section, name_of(number, part), f"{number + 1:05}.html" if given.split else "")
@@ -169,9 +177,8 @@ def write_page(folders: list[str], given: argparse.Namespace, known: Known, leap
         found += list(written(shown, given)) if given.split else shown
     twins = mark_twins(found)
     if given.split:
-        again = [number for number, path in enumerate(folders) if plain(path) in twins]
-        looked_at = run_all([folders[number] for number in again], looking.look, given.limit)
-        for number, (_, result) in zip(again, looked_at):
+        again = [number for number in range(len(folders)) if name_of(number, 0) in twins]
+        for number, result in zip(again, looking.at([folders[number] for number in again], given.limit)):
             rows = [one.row for one in found if one.file == f"{number + 1:05}.html"]
             list(written([Shown(replace(section, row=row), name_of(number, part), f"{number + 1:05}.html")
                           for part, (section, row) in enumerate(zip(result.sections, rows))], given))

@@ -9,7 +9,7 @@ from ..folder.entry import OPEN, WORST_FIRST, Entry
 from ..folder.registry import Judgement
 from ..folder.result import Row
 from ..records import asdict, replace
-from ..text import plain
+from ..text import label, plain
 from ..units import civil
 from ..verdict.alerts import warning_words
 from ..verdict.sentences import reason, to_do
@@ -22,7 +22,7 @@ def badness_of(row: Row) -> tuple[int, int]:
 
 def row_without_verdict(folder: str, verdict: str, why: str, what: str, signature: Signature) -> Row:
     """A folder that has no figures: nobody audited it, or nobody verified that here."""
-    return Row(plain(folder), "", verdict=verdict, reason=plain(why), to_do=plain(what), signature=signature.state,
+    return Row(label(folder), "", verdict=verdict, reason=plain(why), to_do=plain(what), signature=signature.state,
                signer=plain(signature.signer), signed_at=plain(signature.at))
 
 

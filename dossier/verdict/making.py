@@ -12,7 +12,7 @@ from ..capture.captures import cut, thinned, unpacked
 from ..capture.twice import once
 from ..fault import DEVICE, Fault, fault
 from ..folder.claim import Claim, parts_of
-from ..folder.entry import Entry, Kept, LeapList, Options, Record, Refusal
+from ..folder.entry import Entry, Kept, LeapList, Options, Record, Refusal, refusal_by
 from ..folder.evidence import evidence_files
 from ..folder.files import CLAIM, JOINED, MOST_OF_A_CAPTURE, Folder, is_capture, own_data, size_of, sum_of_file, too_big
 from ..folder.placing import copy_of, move
@@ -158,4 +158,4 @@ class Making:
                       self.kept)
 
     def refused(self, found: Fault) -> Record:
-        return self.of([], Refusal(found.line, found.status, found.why, found.what))
+        return self.of([], refusal_by(found))

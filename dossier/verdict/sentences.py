@@ -7,7 +7,7 @@ from ..folder.claim import Claim
 from ..folder.entry import (AGAINST, NO_EVIDENCE, NOTHING_FITS, OPEN, REFUSED, REFUTED, UNSUPPORTED, YES, Entry, Gap,
                             Reason, Step, side_of)
 from ..folder.files import CLAIM, REFUTATION
-from ..text import capital, count, is_or_are, listed, operand, plain
+from ..text import capital, count, is_or_are, label, listed, operand, plain
 from ..units import (SECOND, TICKS, between, bound_ticks, civil, from_to, high_ms, low_ms, ns_ms, ns_up_ms, outward,
                      range_ms, shown_time)
 from . import alerts
@@ -314,12 +314,12 @@ def course_of(entry: Entry) -> str:
 
 def refusal_of(folder: str, line: str, verdict: str = REFUSED) -> str:
     """One line for a terminal, of a folder without a verdict."""
-    return f"{verdict:14}{plain(folder)}: {plain(line).replace('`', '')}"
+    return f"{verdict:14}{label(folder)}: {plain(line).replace('`', '')}"
 
 
 def line_of(folder: str, entry: Entry) -> str:
     """One line for a terminal: the verdict, the folder, and the figures."""
-    name = plain(folder) + ("" if entry.part == "." else f" {entry.part}")
+    name = label(folder) + ("" if entry.part == "." else f" {entry.part}")
     return f"{entry.verdict:14}{name}: {'; '.join(filter(None, [figures(entry), in_short(entry)]))}{against(entry)}"
 
 

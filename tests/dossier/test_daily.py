@@ -515,6 +515,21 @@ def test_kept_by_strangers(place: Path) -> None:
             (folder / file).unlink(missing_ok=True)
         for file, data in kept.items():
             (folder / file).write_bytes(data)
+    whole = folder_of(place, "whole")
+    dossier("audit", whole)
+    record = json.loads((whole / "audit.json").read_text())
+    (whole / "audit.json").write_bytes(forged(kept={"sums": {"f.pcap": "0" * 64}})["audit.json"])
+    check("the sum of a packed file that isn't there",
+          run=(dossier("verify", whole)[:2], (1, f"{whole}: f.pcap.zst isn't there\n".encode())),
+          page=("0" * 64 in dossier("page", "--verify", whole)[1].decode(), False))
+    (whole / "f.pcap.gz").write_bytes(gzip.compress((whole / "f.pcap").read_bytes()[:24]))
+    (whole / "f.pcap.gz.zst").write_bytes(other)
+    dossier("audit", "--again", whole)
+    record = json.loads((whole / "audit.json").read_text())
+    of_other = {"f.pcap.gz": hashlib.sha256(other).hexdigest()}
+    (whole / "audit.json").write_bytes(forged(kept={"sums": of_other})["audit.json"])
+    check("a packed file that isn't one of a capture", said=(b"isn't one that is taken (kept sums" in
+                                                             dossier("verify", whole)[1], True))
     joined = folder_of(place, "joined")
     (joined / "g.pcap").write_bytes((joined / "f.pcap").read_bytes()[:24])
     dossier("audit", joined)

@@ -21,9 +21,9 @@ from pathlib import Path
 from typing import Any
 from unittest.mock import patch
 
-from tests.support import DATA, SECONDS, Ran, check, run
-from tests.dossier.audits import (ENVIRONMENT, PROGRAM, SCRIPT, SEARCH, check_page, dossier, folder_of, parts_left,
-                                  rows, skipped, table)
+from tests.support import DATA, ROOT, SECONDS, Ran, check, run
+from tests.dossier.audits import (ENVIRONMENT, KEEP, PROGRAM, SCRIPT, SEARCH, check_page, dossier, folder_of,
+                                  parts_left, rows, skipped, table)
 from tests.dossier.test_evidence import key_of, why_no_link
 
 KILOBYTES = 3_000_000
@@ -507,6 +507,19 @@ def test_programs(place: Path) -> None:
           path=("PATH=." in said.read_text(), False))
 
 
+def test_names_of_modules(place: Path) -> None:
+    """A folder beside the script that has the name of a module: nothing of it is run, and it is a folder as any."""
+    place = place / "repository"
+    shutil.copytree(ROOT / "dossier", place / "dossier", ignore=shutil.ignore_patterns("__pycache__"))
+    shutil.copy(SCRIPT, place)
+    for name in ("json", "msvcrt", "jinja2"):  # (of Python's, of none that is here, and of the system's)
+        folder = folder_of(place, name)
+        (folder / "__init__.py").write_text(f"open({str(place / 'owned')!r}, 'w')\n")
+        ran = [run(["./ntpaudit-dossier", *words, name], cwd=place, env=ENVIRONMENT)[0]
+               for words in (("audit",), ("verify",), ("page", "-o", "page.html"))]
+        check(f"a folder called {name}", status=(ran, [0, 0, 0]), owned=((place / "owned").exists(), False))
+
+
 # ---- what is said
 
 DEEP = "[" * 10_000 + "]" * 10_000
@@ -682,6 +695,64 @@ exit 2
           named=("magic. <u>\\x1b[31m\\xff: `touch owned`.pcap: isn't a classic pcap file." in rows[0]["reason"], True),
           cut=(rows[1]["reason"], "ntpaudit: capture 2 magic. <u>: " + 995 * "\\x1b" + "."),
           what=(rows[1]["to_do"], "<u>`\\x1b<i>"))
+
+
+def test_names_in_lines(place: Path) -> None:
+    """Names that would say something where a line begins, that aren't seen, or that are no UTF-8."""
+    folder = folder_of(place, "host")
+    dossier("audit", folder)
+    yes = folder / f"verified: yes{100 * ' '}.pcap"
+    shutil.copy(folder / "f.pcap", yes)
+    status, out, _ = dossier("verify", folder)
+    check("a capture called `verified: yes`", status=(status, 1), said=(re.findall(rb"verified: yes|  ", out), []))
+    yes.unlink()
+    other = folder.rename(place / "x: verified: yes (1")
+    (other / "audit.json").unlink()
+    for command in ("verify", "audit"):
+        out = dossier(command, other)[1]
+        check(f"a folder of that name by {command}", said=(b": verified: " in out, False))
+    for name in ("host\u3164", "host\ufe0f", "host\u2800", "host\U000e0100", "ho\u034fst", "host ", "ho  st"):
+        other = other.rename(place / name)
+        check(f"a folder called {ascii(name)}", machine=(table(other)[0]["machine"].isascii(), True),
+              line=(b"\\" in dossier("verify", other)[1].split(b": ")[0], True))
+    odd = folder_of(place, "odd")
+    (capture := os.fsencode(odd) + b"/f\xff.pcap", (odd / "f.pcap").rename(os.fsdecode(capture)))
+    dossier("audit", odd)
+    with open(capture, "ab") as opened:
+        opened.write(b"x")
+    for words in (("verify",), *KEEP):
+        status, out, _ = dossier(*words, odd)
+        check(f"a capture whose name is no UTF-8 by {words[0]}", status=(status, lambda status: status in (1, 2)),
+              said=(b"f\\xff.pcap isn't the file" in out, True))
+    os.unlink(capture)
+    os.mkfifo(capture)
+    said = [dossier(command, odd) for command in ("audit", "verify")]
+    check("no capture, whose name is no UTF-8", said=([(status, b": f\\xff.pcap is a FIFO\n" in out)
+                                                       for status, out, _ in said], [(2, True), (2, True)]))
+
+
+def test_second_look(place: Path) -> None:
+    """Copies of a capture in folders whose processes end when they are looked at again: the pages are written."""
+    from dossier import command_line
+    from dossier.folder.jobs import run_all
+    from dossier.page import page
+    folders = [folder_of(place, name) for name in ("one", "one\x01", "one\\x01")]
+    dossier("audit", "--state", place / "state", *folders)
+    calls = []
+
+    def ended(*_: Any) -> Any:
+        os.kill(os.getpid(), signal.SIGKILL)
+
+    def second(paths: list[str], work: Any, seconds: int) -> Any:
+        calls.append(paths)
+        return run_all(paths, ended if len(calls) == 2 else work, seconds)
+    with patch.object(page, "run_all", second), patch.dict(os.environ, ENVIRONMENT):
+        status = command_line.main(["page", "--state", str(place / "state"), "--split", str(place / "pages"),
+                                    *map(str, folders)])
+    check("processes that end at the second look", status=(status, 0), looked=(len(calls), 2),
+          pages=(sorted(path.name for path in (place / "pages").iterdir()),
+                 ["00001.html", "00002.html", "00003.html", "index.html"]),
+          copies=((place / "pages" / "index.html").read_text().count("so one of them is a copy"), 3))
 
 
 def test_own_faults(place: Path) -> None:

@@ -169,13 +169,16 @@ def test_signed_year(place: Path) -> None:
                                                                     and b"doesn't follow from its days" in out, True))
     year = json.loads(text)
     (machine,), sums = year["machines"], (pages / "00001.sums").read_text()
-    odd = sums.replace("2001-09-09", "day")
+    odd, more = sums.replace("2001-09-09", "day"), "web 2) was right on each day. And that of ("
     many = "".join(f"{sums[:64]}  ../fleet/web 1/{1000 + number}-01-01/audit.json\n" for number in range(5000))
     for name, machines, rows, words in (
             ("one machine's days as those of two", [machine, {**machine, "machine": "web 2"}], sums, "there twice"),
             ("another machine's name", [{**machine, "machine": "web 2",
                                          "statement": machine["statement"].replace("web 1", "web 2")}], sums,
              "which has another name"),
+            ("another machine's statement before its own", [
+                {**machine, "machine": f"{more}/{machine['machine']}",
+                 "statement": machine["statement"].replace("(", f"({more}/", 1)}], sums, "which has another name"),
             ("more days shown than are", [{**machine, "shown": 9}], sums, "doesn't follow from its days"),
             ("a folder that is no day", [{**machine, "sha256": sum_of(odd.encode())}], odd, "other files than audits"),
             ("days that aren't there", [{**machine, "sha256": sum_of(many.encode())}], many, "a day isn't the one")):
