@@ -46,7 +46,7 @@ def sign_all(folders: list[str], key: str, known: Known, seconds: int, leaps: Le
 
 
 def to_be_signed(known: Known, leaps: LeapList, path: str, _: int) -> Result:
-    """A folder's audit.json with the time in it, which is to be signed, if it was made or verified here. If a file
+    """A folder's audit.json as it was made or verified here, with the time in it, which is to be signed. If a file
     isn't what it says, that is said. A year's statements likewise, if they follow from days that are known here."""
     with Folder(path) as folder:
         is_ones_own(folder.place)
@@ -60,14 +60,15 @@ def to_be_signed(known: Known, leaps: LeapList, path: str, _: int) -> Result:
             raise fault(f"signed already; who wants another signature takes {files.SIGNATURE} away", DEVICE)
         if record.refusal:
             raise fault("the audit was refused, so there is nothing to sign", DEVICE)
-        if not known.shown(sum_of(data), record):
+        seen = known.shown(sum_of(data), record)
+        if not seen:
             raise fault("neither made nor verified here, so it isn't signed: `ntpaudit-dossier verify` comes first",
                         USAGE)
         if words := known.dispute(record):
             return Result(NOT_SHOWN, [f"{DISPUTED}: {words}"])
         if changed := change_of(folder, record):
             return Result(NOT_SHOWN, [changed])
-        return Result(text=record_text(replace(record, signed=now())).decode())
+        return Result(text=record_text(replace(seen, signed=now())).decode())
 
 
 def sign(known: Known, signed: bytes, signature: bytes, path: str, _: int) -> Result:
@@ -80,8 +81,8 @@ def sign(known: Known, signed: bytes, signature: bytes, path: str, _: int) -> Re
             place(folder, {YEAR: [signed], f"{YEAR}.sig": [signature]})
             return Result(lines=["signed"])
         data, record = audit_json(folder), read_record(signed)
-        seen = known.shown(sum_of(data), record)
-        if folder.has(files.SIGNATURE) or not seen or replace(read_record(data), signed=record.signed) != record:
+        seen = known.shown(sum_of(data), read_record(data))
+        if folder.has(files.SIGNATURE) or not seen or replace(seen, signed=record.signed) != record:
             raise fault(f"{files.AUDIT} has changed meanwhile")
         place(folder, {files.AUDIT: [signed], files.SIGNATURE: [signature]})
         known.add(sum_of(signed), seen)

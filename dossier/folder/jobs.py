@@ -81,7 +81,10 @@ def find_tool(name: str, why: str) -> str:
 
 def begun(words: Sequence[str], **how: object) -> subprocess.Popen[bytes]:
     """A program that runs beside this one."""
-    return subprocess.Popen(words, **{"env": ENVIRONMENT, "stdin": subprocess.DEVNULL, **how})  # type: ignore
+    try:
+        return subprocess.Popen(words, **{"env": ENVIRONMENT, "stdin": subprocess.DEVNULL, **how})  # type: ignore
+    except OSError as error:
+        raise fault(f"{os.path.basename(words[0])} can't be called ({error.strerror})", DEVICE) from None
 
 
 def stream(words: Sequence[str], take: Callable[[bytes], object], given: str = os.devnull,
@@ -112,10 +115,13 @@ class Process:
     def __init__(self, path: str, number: int, work: Work, bounds: Bounds, private: str):
         self.private, self.bounds, self.data = private, bounds, bytearray()
         self.end = time.monotonic() + bounds.seconds
-        make_private(private)
-        parent, (self.output, its_output) = os.getpid(), os.pipe()
         sys.stdout.flush()
-        self.process = os.fork()
+        try:
+            make_private(private)
+            parent, (self.output, its_output) = os.getpid(), os.pipe()
+            self.process = os.fork()
+        except OSError as error:
+            raise fault(f"no process can be begun for a folder ({error.strerror})", DEVICE) from None
         if not self.process:
             try:
                 limit(parent, bounds)

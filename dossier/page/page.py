@@ -47,20 +47,17 @@ DIFFER = "Believe neither program, keep the folder, and report it. `verify --sec
 
 
 class Shown(NamedTuple):
-    """A section on the page: the name of its place, and where the table leads, if that is another page."""
+    """A section on the page: the name of its place, where the table leads, if that is another page, and the folder,
+    whatever others are shown like it."""
 
     section: Section
     name: str
     file: str = ""
+    path: str = ""
 
     @property
     def row(self) -> Row:
         return self.section.row
-
-    @property
-    def folder(self) -> str:
-        """The name of the place of its folder, whatever others are called like it."""
-        return self.name.partition("-")[0]
 
     @property
     def link(self) -> str:
@@ -148,17 +145,17 @@ def name_of(number: int, part: int) -> str:
 
 
 def mark_twins(found: list[Shown]) -> set[str]:
-    """Warns of a capture that is in several folders, which are given by the names of their places."""
+    """Warns of a capture that is in several folders, which are given."""
     where: dict[str, dict[str, str]] = {}
     for one in found:
         for sum_ in one.section.captures:
-            where.setdefault(sum_, {})[one.folder] = one.row.machine
+            where.setdefault(sum_, {})[one.path] = one.row.machine
     for one in found:
         for sum_ in one.section.captures:
-            if others := [machine for other, machine in where[sum_].items() if other != one.folder]:
+            if others := [machine for other, machine in where[sum_].items() if other != one.path]:
                 one.row.twice.append(f"{TWICE} {', '.join(others[:FEW])}{' ..' if others[FEW:] else ''}.")
         one.row.warnings[:0] = one.row.twice
-    return {one.folder for one in found if one.row.twice}
+    return {one.path for one in found if one.row.twice}
 
 
 def write_page(folders: list[str], given: argparse.Namespace, known: Known, leaps: LeapList,
@@ -172,12 +169,12 @@ def write_page(folders: list[str], given: argparse.Namespace, known: Known, leap
     for number, result in enumerate(looking.at(folders, given.limit)):
         worst, has_audit = max(worst, result.status), has_audit or bool(result.verdicts)
         metrics += result.metrics
-        shown = [Shown(section, name_of(number, part), f"{number + 1:05}.html" if given.split else "")
+        shown = [Shown(section, name_of(number, part), f"{number + 1:05}.html" if given.split else "", folders[number])
                  for part, section in enumerate(result.sections)]
         found += list(written(shown, given)) if given.split else shown
     twins = mark_twins(found)
     if given.split:
-        again = [number for number in range(len(folders)) if name_of(number, 0) in twins]
+        again = [number for number, path in enumerate(folders) if path in twins]
         for number, result in zip(again, looking.at([folders[number] for number in again], given.limit)):
             rows = [one.row for one in found if one.file == f"{number + 1:05}.html"]
             list(written([Shown(replace(section, row=row), name_of(number, part), f"{number + 1:05}.html")

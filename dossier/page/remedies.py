@@ -6,6 +6,8 @@ REMEDIES = [
     ("folder is a link", "The folder isn't there itself.", "Name the folder to which the link leads."),
     ("take more room", "What the folder holds, unpacked, is more than a folder may take.",
      "Cut the span, or the capture."),
+    ("can't be called", "No other process may be begun, or the file is no program for this machine.",
+     "See `ulimit -u` and `ulimit -n`, and what NTPAUDIT names."),
     ("can't be worked on", "What failed stands in parentheses.", "See who may write where, and make room."),
     ("memory|ended by signal", "The program was refused memory, or was ended from outside.",
      "See what limits it: `ulimit -v`, a container's limit, or fewer `--jobs`."),

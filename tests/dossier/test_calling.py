@@ -7,7 +7,7 @@ from pathlib import Path
 from unittest.mock import patch
 from typing import Any
 
-from tests.support import DATA, ROOT, check, run
+from tests.support import DATA, ROOT, check, is_here, nobody, run
 from tests.dossier.audits import ENVIRONMENT, SCRIPT, dossier, folder_of, skipped
 
 
@@ -70,6 +70,21 @@ def test_statuses(place: Path) -> None:
         status, out, _ = run(["sh", "-c", script, SCRIPT], env=ENVIRONMENT)
         check(f"the status of {name}", is_one=(status in wanted.get(name, (0, 2, 3, 4, 70)), True),
               yes=(b"verified" in out, status == 0))
+    how = nobody("a user who may begin no process")
+    if how:
+        status, out, err = run(["prlimit", "--nproc=1", SCRIPT, "--version"], env=ENVIRONMENT, **how)
+        check("no process", run=((status, out), (4, b"")), said=(b"can't be called (Resource" in err, True))
+    (text := place / "text").write_text("ntpaudit")
+    text.chmod(0o755)
+    status, out, err = dossier("verify", folder, env={**ENVIRONMENT, "NTPAUDIT": str(text)})
+    check("a program that is none", run=((status, out, err), (4, b"", b"ntpaudit-dossier: text can't be called (Exec "
+                                                                     b"format error)\n")))
+    locale = place / "xx.ISO-8859-1"
+    if is_here("localedef", "names in another locale"):
+        run(["localedef", "-i", "en_US", "-f", "ISO-8859-1", locale])
+        (folder / "f.pcap").rename(folder / "f\u00fc.pcap")
+        status, _, _ = dossier("audit", folder, env={**ENVIRONMENT, "LOCPATH": str(place), "LC_ALL": locale.name})
+        check("names in another locale", audit=(status, 0), verified=(dossier("verify", folder)[0], 0))
     if os.geteuid():
         skipped("an unreadable current folder", "this isn't root")
     else:

@@ -151,6 +151,13 @@ def test_free_words(place: Path) -> None:
     made = float((place / "m.prom").read_text().split("ntpaudit_last_audit_timestamp_seconds{")[1].split()[1])
     check("the time of the last audit is that of verifying", near=(abs(made - time.time()) < 600, True))
     whole = json.loads((folder / "audit.json").read_text())
+    signed = Path(shutil.copytree(folder, place / "signed"))
+    dossier("sign", "--key", key_of(place, "key")[0], signed, env=mine)
+    theirs = json.loads((signed / "audit.json").read_text())
+    check("what is signed of free words", signed=(theirs["signed"] > "2001", True), program=(
+        theirs["program"]["version"] in (words, ""), False), made=(theirs["made"] > "2001-01-02", True),
+        by_others=(dossier("verify", signed, env=elsewhere(place / "others"))[0], 0),
+        known=(json.loads(dossier("page", "--json", signed, env=mine)[1])[0]["verdict"], "yes"))
     for field in ("made", "signed"):
         (folder / "audit.json").write_text(json.dumps({**whole, field: "9999-01-01T00:00:00Z"}))
         for command in ("verify", "page"):
