@@ -1,13 +1,16 @@
 """The audit of folders: of each one reused if it was made or verified here and nothing has changed since, or made and
 put in place."""
+import os
 from collections.abc import Iterable
+from contextlib import suppress
 from functools import partial
 
-from ..fault import NOT_SHOWN, USAGE, Fault, fault, summed
+from ..fault import DEVICE, NOT_SHOWN, USAGE, Fault, fault, summed
 from ..folder import files
 from ..folder.entry import DISPUTED, REFUSED, LeapList, Options, Record, read_record, record_text
-from ..folder.files import LEFT, Folder, sum_of
+from ..folder.files import FILE, LEFT, Folder, kind_of, sum_of
 from ..folder.jobs import run_all
+from ..folder.older import read_any
 from ..folder.placing import blocks_of, is_ones_own, place
 from ..folder.program import Program
 from ..folder.progress import Progress
@@ -77,10 +80,24 @@ def audit(wanted: Wanted, path: str, _: int) -> Result:
         text, stale = record_text(record), {*LEFT, *(old.outputs if old else ()), files.SIGNATURE}
         made: dict[str, Iterable[bytes]] = {name: blocks_of(name) for name in record.outputs}
         with wanted.known.alone(folder):
+            keep_recordings(folder, record)
             place(folder, {**made, files.AUDIT: [text]}, stale - record.outputs.keys())
     wanted.known.add(sum_of(text), record)
     removed = [f"{'':14}{label(path)}: its signature was removed"] if is_signed else []
     return result_of(path, record, wanted.known, "", removed)
+
+
+def keep_recordings(folder: Folder, record: Record) -> None:
+    """Refuses to put something in the place of a joined capture, or to take one away, that no audit left: it may be
+    somebody's only recording."""
+    left: dict[str, str] = {}
+    with suppress(Fault):
+        left = read_any(folder.data(files.AUDIT)).outputs
+    for name in {files.JOINED, *record.outputs}:
+        if os.path.basename(name) == files.JOINED and kind_of(folder.place, name) == FILE and \
+                folder.sum(name) not in (left.get(name), record.outputs.get(name)):
+            raise fault(f"{name} is what an audit leaves, and none left this one: if it is a recording, give it another "
+                        "name, such as f.pcap", DEVICE)
 
 
 def result_of(path: str, record: Record, known: Known, more: str, others: Iterable[str] = ()) -> Result:

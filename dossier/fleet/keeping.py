@@ -1,6 +1,6 @@
 """How audits are kept for years: their captures packed by zstd, without what may be made anew.
 
-A capture is taken away only after what was packed of it unpacked to the same bytes, and is in its place. How old a
+A capture is taken away only after what was packed of it unpacked to the same bytes, and is on the disk in its place. How old a
 folder is counts from the newest recording among those that are kept, and not from the clock, which may be wrong for a
 night.
 """
@@ -17,7 +17,7 @@ from ..folder import files
 from ..folder.entry import DISPUTED, Kept, Record, read_record, record_text
 from ..folder.files import Folder, is_capture, sum_of, sum_of_file
 from ..folder.jobs import find_tool, run_all, stream
-from ..folder.placing import Copy, blocks_of, copy_of, is_ones_own, place, remove_folder, take_away
+from ..folder.placing import Copy, blocks_of, copy_of, is_ones_own, make_last, place, remove_folder, take_away
 from ..folder.registry import Known
 from ..folder.result import Result
 from ..records import replace
@@ -145,9 +145,9 @@ def pack(folder: Folder, name: str, number: int) -> str:
 
 def take_rest(folder: Folder, record: Record) -> None:
     """Takes away what is packed, and what may be made anew."""
+    make_last(folder, [*record.packed, files.AUDIT])
     for name in record.kept.sums if record.kept else ():
-        if folder.has(f"{name}.zst"):
-            take_away(folder.place, name)
+        take_away(folder.place, name)
     for name in filter(record.is_left_out, record.outputs):
         take_away(folder.place, name)
 

@@ -11,7 +11,8 @@ from collections.abc import Iterable, Iterator
 from contextlib import contextmanager, suppress
 
 from ..fault import DEVICE, Fault, fault
-from .files import BLOCK, FILE, HOME, MOST_OF_A_CAPTURE, Folder, folder_at, held, kind_of, own, parent_of, read_named
+from .files import (BLOCK, FILE, HOME, MOST_OF_A_CAPTURE, OF_A_FILE, Folder, folder_at, held, kind_of, own, parent_of,
+                    read_named)
 
 
 def unwritable(name: str, error: OSError) -> Fault:
@@ -189,6 +190,17 @@ def take_away(folder: int, name: str) -> None:
         if day := os.path.dirname(name):
             with suppress(OSError):
                 os.rmdir(day, dir_fd=folder)
+
+
+def make_last(folder: Folder, names: Iterable[str]) -> None:
+    """Has files of a folder written to the disk, with their names, so that they outlast a loss of power."""
+    try:
+        for name in names:
+            with held(name, folder.place, OF_A_FILE | os.O_NOFOLLOW) as opened:
+                os.fsync(opened)
+        os.fsync(folder.place)
+    except OSError as error:
+        raise unwritable(folder.path, error) from None
 
 
 def make_in(parent: int, name: str) -> None:

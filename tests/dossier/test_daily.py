@@ -15,6 +15,7 @@ import time
 from calendar import timegm
 from pathlib import Path
 from typing import Any
+from unittest.mock import patch
 
 from tests.support import DATA, ROOT, check, run
 from tests.dossier.audits import (ENVIRONMENT, PROGRAM, SCRIPT, capture_of, check_page, dossier, folder_of, rows,
@@ -450,6 +451,30 @@ def test_keep(place: Path) -> None:
     check("a capture that is kept is the one that was recorded", same=((one / "f.pcap").read_bytes() == whole, True),
           verified=(dossier("verify", one)[0], 0), check=(run([PROGRAM, "check", one / "claim.json", one / "f.pcap",
                                                                one / "certificate.json"])[0], 0))
+    from dossier.fleet.keeping import keep
+    from dossier.folder.jobs import run_one
+    from dossier.folder.registry import Known
+    last = folder_of(place, "last")
+    dossier("audit", "--state", place / "state", last)
+    log, (fsync, unlink) = place / "log", (os.fsync, os.unlink)
+
+    def noted(words: str) -> None:
+        with open(log, "a") as opened:
+            opened.write(f"{words}\n")
+
+    def flushed(file: int) -> None:
+        noted(f"disk {os.path.basename(os.readlink(f'/proc/self/fd/{file}'))}")
+        fsync(file)
+
+    def taken(name: Any, **how: Any) -> None:
+        noted(f"away {os.path.basename(name)}")
+        unlink(name, **how)
+    with patch.object(os, "fsync", flushed), patch.object(os, "unlink", taken):
+        run_one(str(last), lambda path, _: keep(path, False, Known(str(place / "state"), True)))
+    lines = log.read_text().splitlines()
+    check("what is packed is on the disk before the capture goes", order=(
+        [line for line in lines if line.startswith("disk ") or line == "away f.pcap"],
+        ["disk f.pcap.zst", "disk audit.json", "disk last", "away f.pcap"]))
     packed_file = one / "f.pcap.zst"
     right = packed_file.read_bytes()
     packed_file.write_bytes(right[:-1])

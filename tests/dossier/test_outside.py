@@ -12,6 +12,7 @@ from typing import Any
 
 from tests.support import DATA, ROOT, Ran, check, run
 from tests.dossier.audits import ENVIRONMENT, KEEP, SCRIPT, dossier, folder_of, rows, skipped
+from tests.dossier.test_captures import records_of
 from tests.dossier.test_daily import DAY, hours_of, recorded
 from tests.dossier.test_evidence import key_of
 
@@ -94,6 +95,25 @@ def test_own_names(place: Path) -> None:
               left=([(path / "0").read_text() for path in sorted(place.glob("*/.ntpaudit-*")) if path.is_dir()],
                     ["mine"] * 4), file=((folder / f".ntpaudit-{9:016x}").exists(), True),
               parts=(len(list(place.rglob(".*"))), 5))
+
+
+def test_own_recordings(place: Path) -> None:
+    """A recording with the name of what an audit leaves: it stays, whatever the audit would put there, and however
+    often it is asked."""
+    for name, beside in rows(("alone", {}), ("beside others", {"f.pcap": 60, "g.pcap": 120})):
+        folder = folder_of(place, name)
+        whole = (folder / "f.pcap").rename(folder / "joined.pcap").read_bytes()
+        for file, count in beside.items():
+            (folder / file).write_bytes(whole[:24] + b"".join(records_of(whole)[count - 60 : count]))
+        for words in ((), ("--again",)):
+            status, out, _ = dossier("audit", *words, folder)
+            check(f"a recording called joined.pcap, {name}", status=(status, 4), same=(
+                (folder / "joined.pcap").read_bytes() == whole, True), said=(b"give it another name" in out, True),
+                left=(sorted(path.name for path in folder.iterdir()), sorted(["claim.json", "joined.pcap", *beside])))
+    (folder / "joined.pcap").unlink()
+    ran = [dossier("audit", *words, folder)[0] for words in ((), ("--again",))]
+    (folder / "audit.json").write_text((folder / "audit.json").read_text() + " ")
+    check("one that an audit left is replaced", run=([*ran, dossier("audit", folder)[0]], [0, 0, 0]))
 
 
 def test_links_in_paths(place: Path) -> None:
