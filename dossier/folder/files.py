@@ -9,8 +9,8 @@ import re
 import stat
 from collections.abc import Callable, Iterator
 from contextlib import contextmanager
+from io import BufferedReader
 from itertools import islice
-from typing import BinaryIO
 
 from ..fault import DEVICE, Fault, fault
 
@@ -253,16 +253,13 @@ def piped_or_named(path: str, most: int) -> bytes:
     try:
         if os.path.dirname(path) != "/dev/fd" or not stat.S_ISFIFO(os.stat(path).st_mode):
             return data_named(path, most)
-        with held(path, HOME, os.O_RDONLY | os.O_CLOEXEC) as opened:
-            blocks, size = list[bytes](), 0
-            while block := os.read(opened, BLOCK):
-                size += len(block)
-                if size > most:
-                    raise too_big(os.path.basename(path), most)
-                blocks.append(block)
-            return b"".join(blocks)
+        with own(path) as opened:
+            data = opened.read(most + 1)
     except OSError as error:
         raise unreadable(os.path.basename(path), error) from None
+    if len(data) > most:
+        raise too_big(os.path.basename(path), most)
+    return data
 
 
 # ---- private copies, which nobody else may write
@@ -270,7 +267,7 @@ def piped_or_named(path: str, most: int) -> bytes:
 Mapped = bytes | mmap.mmap
 
 
-def own(path: str) -> BinaryIO:
+def own(path: str) -> BufferedReader:
     return open(path, "rb")
 
 
@@ -289,11 +286,8 @@ def sum_of(data: bytes) -> str:
 
 def sum_of_file(path: str) -> str:
     """The SHA-256 of a file of one's own."""
-    found = hashlib.sha256()
     with own(path) as opened:
-        while block := opened.read(BLOCK):
-            found.update(block)
-    return found.hexdigest()
+        return hashlib.file_digest(opened, "sha256").hexdigest()
 
 
 def mapped(path: str) -> Mapped:

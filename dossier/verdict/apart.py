@@ -79,18 +79,20 @@ def meets_of(lows: list[int], highs: list[int], hulls: list[Hull]) -> list[bool]
             if not isinstance(hull, str)]
 
 
+def met_of(envelope: Envelope, gaps: list[Gap]) -> dict[str, list[bool]]:
+    """The same of each server by its address."""
+    hulls = hulls_of(envelope, gaps)
+    return {address: meets_of(*ends, hulls) for address, ends in envelope.servers.items()}
+
+
 def apart_of(envelope: Envelope, gaps: list[Gap]) -> list[str]:
     """The servers that stand apart all the time: no interval of theirs meets the hull, if there are hulls."""
-    hulls = hulls_of(envelope, gaps)
-    met = {address: meets_of(*ends, hulls) for address, ends in envelope.servers.items()}
-    return [address for address, own in met.items() if own and not any(own)]
+    return [address for address, own in met_of(envelope, gaps).items() if own and not any(own)]
 
 
 def suspects_of(envelope: Envelope, gaps: list[Gap]) -> list[str]:
     """The servers of which some interval misses the hull, and another one meets it or holds nothing."""
-    hulls = hulls_of(envelope, gaps)
-    met = {address: meets_of(*ends, hulls) for address, ends in envelope.servers.items()}
-    return [address for address, own in met.items()
+    return [address for address, own in met_of(envelope, gaps).items()
             if not all(own) and (any(own) or any(map(gt, *envelope.servers[address])))]
 
 
