@@ -1,5 +1,5 @@
 -- Lines that are all good, and one more line below them.
-use Rattle.sum_file.proofs.Common.{◌≡◌, ℕ, length, map, Bool, true, false, cond, ◌&&◌, List, [], ◌∷◌, ◌++◌, Option, Some, None, option_map, option_and_then, refl, sym, ap, ◌∙◌, list_all, length-map, list_all-append, line_of, all_said, agreed, SumData, agree, all_agree}
+use Rattle.sum_file.proofs.Common.{arith, ◌≡◌, ℕ, length, map, Bool, true, false, cond, ◌&&◌, List, [], ◌∷◌, ◌++◌, Option, Some, None, option_map, option_and_then, refl, sym, ap, ◌∙◌, list_all, length-map, list_all-append, line_of, all_said, agreed, SumData, agree, all_agree}
 use Rattle.sum_file.proofs.Pairs.{each_agrees}
 
 -- sums, if they agree
@@ -25,14 +25,11 @@ said_more : (first : Option SumData) (xs ys whole : Option (List SumData)) → w
     ≡ joined (option_and_then (λ sum. option_map (λ s. sum ∷ s) xs) first) ys
 said_more None xs ys whole is = refl
 said_more (Some sum) None ys whole is = ap (option_map (λ s. sum ∷ s)) is
-said_more (Some sum) (Some sums) ys whole is =
-    ap (option_map (λ s. sum ∷ s)) is ∙ option_map-cons sum sums ys
+said_more (Some sum) (Some sums) ys whole is = grind (arith, sum, option_map-cons)
 
 all_said-append : (xs ys : List (List ℕ)) → all_said (xs ++ ys) ≡ joined (all_said xs) (all_said ys)
-all_said-append [] ys =
-    elim (all_said ys) as (λ s. s ≡ option_map (λ t. [] ++ t) s) [ None ↦ refl | Some s ↦ refl ]
-all_said-append (x ∷ xs) ys =
-    said_more (line_of x) (all_said xs) (all_said ys) (all_said (xs ++ ys)) (all_said-append xs ys)
+all_said-append [] ys = grind arith
+all_said-append (x ∷ xs) ys = grind (arith, said_more, all_said-append xs ys)
 
 -- sums that a list says, if they agree
 if_agree-is : (said : Option (List SumData)) (sums : List SumData)
@@ -64,10 +61,7 @@ all_agree-push : (sums : List SumData) (sum : SumData)
     → all_agree (sums ++ sum ∷ []) ≡ (all_agree sums && each_agrees sums sum)
 all_agree-push [] sum = refl
 all_agree-push (s ∷ sums) sum =
-    ap (λ b. b && all_agree (sums ++ sum ∷ []))
-    (list_all-append (agree s) sums (sum ∷ []) ∙ ap (λ b. list_all (agree s) sums && b) (and_true (agree s sum)))
-    ∙ ap (λ b. (list_all (agree s) sums && agree s sum) && b) (all_agree-push sums sum)
-    ∙ and_moved (list_all (agree s) sums) (agree s sum) (all_agree sums) (each_agrees sums sum)
+    grind (arith, sum, list_all-append, and_true, and_moved, each_agrees, all_agree-push sums sum)
 
 -- sums among which two disagree still do with others after them
 front_disagrees : (here below with_more more : Bool) → (here && below) ≡ false → (below ≡ false → with_more ≡ false)
@@ -79,10 +73,7 @@ front_disagrees false below with_more more is kept = refl
 
 all_agree-front : (xs ys : List SumData) → all_agree xs ≡ false → all_agree (xs ++ ys) ≡ false
 all_agree-front [] ys is = cc
-all_agree-front (x ∷ xs) ys is =
-    ap (λ b. b && all_agree (xs ++ ys)) (list_all-append (agree x) xs ys)
-    ∙ front_disagrees (list_all (agree x) xs) (all_agree xs) (all_agree (xs ++ ys)) (list_all (agree x) ys) is
-    (all_agree-front xs ys)
+all_agree-front (x ∷ xs) ys is = grind (arith, list_all-append, front_disagrees, all_agree-front xs ys)
 
 -- one line more: it has to say a sum that agrees with those before it
 agreed_with : (sums : List SumData) (said : Option SumData) → all_agree sums ≡ true
@@ -90,9 +81,7 @@ agreed_with : (sums : List SumData) (said : Option SumData) → all_agree sums �
     (joined (Some sums) (option_and_then (λ sum. option_map (λ s. sum ∷ s) (Some [])) said))
     ≡ option_and_then (with_one sums) said
 agreed_with sums None together = refl
-agreed_with sums (Some sum) together =
-    ap (λ b. cond b (Some (sums ++ sum ∷ [])) None)
-    (all_agree-push sums sum ∙ ap (λ b. b && each_agrees sums sum) together)
+agreed_with sums (Some sum) together = grind (arith, sum, all_agree-push, each_agrees)
 
 pub agreed-push : (lines : List (List ℕ)) (line : List ℕ) (sums : List SumData) → agreed lines ≡ Some sums
     → agreed (lines ++ line ∷ [])
@@ -156,8 +145,7 @@ said-map (line ∷ lines) (sum ∷ sums) is =
 -- sums that lines say and that agree
 pub agreed-from : (lines : List (List ℕ)) (sums : List SumData) → map line_of lines ≡ map Some sums
     → all_agree sums ≡ true → agreed lines ≡ Some sums
-agreed-from lines sums said together =
-    ap (option_and_then if_agree) (said-map lines sums said) ∙ ap (λ b. cond b (Some sums) None) together
+agreed-from lines sums said together = grind (arith, option_and_then, said-map)
 
 -- as many lines as sums
 pub length-agreed : (lines : List (List ℕ)) (sums : List SumData) → agreed lines ≡ Some sums
