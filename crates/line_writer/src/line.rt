@@ -67,6 +67,7 @@ impl Line {
     }
 
     /// Writes a byte.
+    #[tactic(auto, using(crate::proofs::Last::places))]
     #[inline]
     pub fn put_byte(&mut self, byte: u8)
         requires { length self.old + 1 ≤ CAPACITY }
@@ -78,17 +79,15 @@ impl Line {
         self.start = start;
     }
 
-    /// Writes two bytes at once.
+    /// Writes two bytes.
     #[inline]
     pub fn put_pair(&mut self, first: u8, second: u8)
         requires { length self.old + 2 ≤ CAPACITY }
         ensures text { self.new ≡ first ∷ second ∷ self.old }
         ensures grows { length self.new ≡ length self.old + 2 }
     {
-        let start = self.start - 2;
-        self.scratch[start] = first;
-        self.scratch[start + 1] = second;
-        self.start = start;
+        self.put_byte(second);
+        self.put_byte(first);
     }
 
     /// Writes the bytes of a text.
@@ -114,6 +113,7 @@ impl Line {
     }
 
     /// Writes the last `count` of four bytes. The others are written too, where the next text goes.
+    #[tactic(auto, using(crate::proofs::Last::places))]
     #[inline]
     pub(crate) fn put_last(&mut self, bytes: [u8; 4], count: usize)
         requires few { count ≤ 4 }
