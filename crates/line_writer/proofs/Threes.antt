@@ -114,13 +114,6 @@ decimal_nine_more n wide fits = grind (arith, decimal_more, last_nine, append_as
 pub joined : {v u zs : List ℕ} (xs ys t : List ℕ) → v ≡ xs ++ u → u ≡ ys ++ t → zs ≡ xs ++ ys → v ≡ zs ++ t
 joined xs ys t e f g = rw (e, f, g, append_assoc) refl
 
--- the digits of a number after its zeros
-pub after_zeros : (n : ℕ) → drop (4 - length (decimal n)) (zero_padded 4 n) ≡ decimal n
-after_zeros n =
-    let e = length-replicate {A = ℕ} (4 - length (decimal n)) 48 in
-    subst (λ (k : ℕ). drop k (zero_padded 4 n) ≡ decimal n) e
-    (drop-append_seam (replicate {A = ℕ} (4 - length (decimal n)) 48) (decimal n))
-
 pub one_digit : (n : ℕ) → n < 10 → length (decimal n) ≡ 1
 one_digit n h = ap length (decimal_digit n h)
 

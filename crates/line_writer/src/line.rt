@@ -67,7 +67,6 @@ impl Line {
     }
 
     /// Writes a byte.
-    #[tactic(auto, using(crate::proofs::Last::places))]
     #[inline]
     pub fn put_byte(&mut self, byte: u8)
         requires { length self.old + 1 ≤ CAPACITY }
@@ -113,7 +112,6 @@ impl Line {
     }
 
     /// Writes the last `count` of four bytes. The others are written too, where the next text goes.
-    #[tactic(auto, using(crate::proofs::Last::places))]
     #[inline]
     pub(crate) fn put_last(&mut self, bytes: [u8; 4], count: usize)
         requires few { count ≤ 4 }

@@ -1,5 +1,5 @@
 use Rattle.std.proofs.Common.{◌≡◌, length, arith}
-use Rattle.line_writer.proofs.Last.{starts_within, grown_last, last_written}
+use Rattle.line_writer.proofs.Last.{last_written}
 use Rattle.line_writer.proofs.line.Line.put_last.Goals as goal
 
 pub returns-clause-text : goal.returns-clause-text
