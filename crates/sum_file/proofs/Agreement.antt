@@ -15,17 +15,12 @@ abbrev joined : Option (List SumData) → Option (List SumData) → Option (List
 joined None more = None
 joined (Some sums) more = option_map (λ s. sums ++ s) more
 
-option_map-cons : (sum : SumData) (sums : List SumData) (more : Option (List SumData))
-    → option_map (λ s. sum ∷ s) (joined (Some sums) more) ≡ joined (Some (sum ∷ sums)) more
-option_map-cons sum sums None = refl
-option_map-cons sum sums (Some more) = refl
-
 said_more : (first : Option SumData) (xs ys whole : Option (List SumData)) → whole ≡ joined xs ys
     → option_and_then (λ sum. option_map (λ s. sum ∷ s) whole) first
     ≡ joined (option_and_then (λ sum. option_map (λ s. sum ∷ s) xs) first) ys
 said_more None xs ys whole is = refl
 said_more (Some sum) None ys whole is = ap (option_map (λ s. sum ∷ s)) is
-said_more (Some sum) (Some sums) ys whole is = grind (arith, sum, option_map-cons)
+said_more (Some sum) (Some sums) ys whole is = grind (arith, sum)
 
 all_said-append : (xs ys : List (List ℕ)) → all_said (xs ++ ys) ≡ joined (all_said xs) (all_said ys)
 all_said-append [] ys = grind arith
@@ -46,34 +41,16 @@ pub agreed-said : (lines : List (List ℕ)) (sums : List SumData) → agreed lin
     → (all_said lines ≡ Some sums) × (all_agree sums ≡ true)
 agreed-said lines sums is = if_agree-is (all_said lines) sums is
 
-and_moved : (a b c d : Bool) → ((a && b) && (c && d)) ≡ ((a && c) && (b && d))
-and_moved true true c d = refl
-and_moved true false true d = refl
-and_moved true false false d = refl
-and_moved false b c d = refl
-
-and_true : (a : Bool) → (a && true) ≡ a
-and_true true = refl
-and_true false = refl
-
 -- one sum more
 all_agree-push : (sums : List SumData) (sum : SumData)
     → all_agree (sums ++ sum ∷ []) ≡ (all_agree sums && each_agrees sums sum)
 all_agree-push [] sum = refl
 all_agree-push (s ∷ sums) sum =
-    grind (arith, sum, list_all-append, and_true, and_moved, each_agrees, all_agree-push sums sum)
-
--- sums among which two disagree still do with others after them
-front_disagrees : (here below with_more more : Bool) → (here && below) ≡ false → (below ≡ false → with_more ≡ false)
-    → ((here && more) && with_more) ≡ false
-front_disagrees true true with_more more is kept = cc
-front_disagrees true false with_more true is kept = kept refl
-front_disagrees true false with_more false is kept = refl
-front_disagrees false below with_more more is kept = refl
+    grind (arith, sum, list_all-append, each_agrees, all_agree-push sums sum)
 
 all_agree-front : (xs ys : List SumData) → all_agree xs ≡ false → all_agree (xs ++ ys) ≡ false
 all_agree-front [] ys is = cc
-all_agree-front (x ∷ xs) ys is = grind (arith, list_all-append, front_disagrees, all_agree-front xs ys)
+all_agree-front (x ∷ xs) ys is = grind (arith, list_all-append, all_agree-front xs ys)
 
 -- one line more: it has to say a sum that agrees with those before it
 agreed_with : (sums : List SumData) (said : Option SumData) → all_agree sums ≡ true
