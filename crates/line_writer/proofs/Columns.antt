@@ -24,7 +24,4 @@ in_room field = omega arith
 -- blanks up to an end
 pub is_in_column : (width : ℕ) (text old : List ℕ) →
     replicate (length old + width - length (text ++ old)) 32 ++ (text ++ old) ≡ in_column width text ++ old
-is_in_column width text old =
-    let blanks : length old + width - length (text ++ old) ≡ width - length text =
-    omega (arith, length-append text old) in
-    rw (blanks, append_assoc) refl
+is_in_column width text old = grind (arith, length-append, append_assoc)

@@ -17,9 +17,7 @@ below_zero m d q some is (pos zero) h =
     let least = is.least 0 (omega (arith, ints)) in
     omega (arith, ints)
 below_zero m d q some is (pos (suc w)) h = absurd (omega (arith, ints))
-below_zero m d q some is (negsuc w) h =
-    let least = is.least (suc w) (omega (arith, ints)) in
-    omega (arith, ints)
+below_zero m d q some is (negsuc w) h = grind arith
 
 floor_below_zero : (m d q : ℕ) → 0 < d → IsCeiling m d q → IsSignedFloor (neg_ℤ (pos q)) (neg_ℤ (pos m)) d
 floor_below_zero m d q some is = (rw times (negated (q * d) m is.not_below), below_zero m d q some is)
@@ -27,9 +25,7 @@ floor_below_zero m d q some is = (rw times (negated (q * d) m is.not_below), bel
 above_zero : (m d q : ℕ) → 0 < d → IsFloor m d q → (whole : ℤ) →
     neg_ℤ (pos m) ≤ℤ (whole *ℤ pos d) → neg_ℤ (pos q) ≤ℤ whole
 above_zero m d q some is (pos w) h = omega (arith, ints)
-above_zero m d q some is (negsuc w) h =
-    let most = is.greatest (suc w) (omega (arith, ints)) in
-    omega (arith, ints)
+above_zero m d q some is (negsuc w) h = grind arith
 
 ceiling_below_zero : (m d q : ℕ) → 0 < d → IsFloor m d q → IsSignedCeiling (neg_ℤ (pos q)) (neg_ℤ (pos m)) d
 ceiling_below_zero m d q some is = (rw times (negated m (q * d) is.not_above), above_zero m d q some is)

@@ -14,9 +14,4 @@ one_room field short = omega arith
 pub short_room : (fields : List Field) → list_all (λ field. is_short (field_data field)) fields ≡ true →
     room_of (map field_data fields) ≤ 101 * length fields
 short_room [] all = omega arith
-short_room (field ∷ fields) all = at (is_short (field_data field)) refl all (short_room fields) where
-  at : (b : Bool) → is_short (field_data field) ≡ b → (b && list_all (λ f. is_short (field_data f)) fields) ≡ true →
-      (list_all (λ f. is_short (field_data f)) fields ≡ true → room_of (map field_data fields) ≤ 101 * length fields) →
-      room_of (map field_data (field ∷ fields)) ≤ 101 * length (field ∷ fields)
-  at true is rest more = omega (arith, one_room (field_data field) is, more rest)
-  at false is rest more = cc
+short_room (field ∷ fields) all = grind (arith, Bool, map, one_room, short_room fields)

@@ -1,80 +1,5 @@
 -- Pieces of text in the scratch array, each before those that stand there.
-use Rattle.line_writer.proofs.Common.{◌≡◌, ℕ, suc, ◌+◌, ◌-◌, ◌<◌, ◌≤◌, List, [], ◌∷◌, ◌++◌, length, get_or, set, drop, Fits, w64, arith, refl, ap, ◌∙◌, sym, length-append, length-drop, length-set, drop-cons, drop-drop, drop-append-le, drop-set_at}
-use lib.Seq.{drop-set-add}
-
--- the line may start this much further left
-pub left_within : (count start : ℕ) → count ≤ 4 → 4 ≤ start → count ≤ start
-left_within count start few from = omega arith
-
-module _ (start : ℕ) (from : 4 ≤ start) (to : start ≤ 516) where
-  pub pair_fits : Fits w64 (start - 2 + 1)
-  pair_fits = record { fits = omega arith }
-
-  pub after_second : start - 2 + 1 < 516
-  after_second = omega arith
-
-  pub one_left : 1 ≤ start
-  one_left = omega arith
-
-  pub two_left : 2 ≤ start
-  two_left = omega arith
-
-  pub three_left : 3 ≤ start
-  three_left = omega arith
-
-  pub first_place : start - 1 < 516
-  first_place = omega arith
-
-  pub second_place : start - 2 < 516
-  second_place = omega arith
-
-  pub third_place : start - 3 < 516
-  third_place = omega arith
-
-  pub fourth_place : start - 4 < 516
-  fourth_place = omega arith
-
--- one byte and two, and the text after them
-pub byte_written : (xs old : List ℕ) (s a : ℕ) → drop s xs ≡ old → length xs ≡ 516 → 4 ≤ s → s ≤ 516 →
-    drop (s - 1) (set xs (s - 1) a) ≡ a ∷ old
-byte_written xs old s a is all from to =
-    let next : s - 1 + 1 ≡ s = omega arith in
-    drop-set_at xs (s - 1) (s - 1) a refl (omega arith)
-    ∙ ap (λ (k : ℕ). a ∷ drop k xs) next ∙ ap (λ (l : List ℕ). a ∷ l) is
-
-pub pair_written : (xs old : List ℕ) (s a b : ℕ) → drop s xs ≡ old → length xs ≡ 516 → 4 ≤ s → s ≤ 516 →
-    drop (s - 2) (set (set xs (s - 2) a) (s - 2 + 1) b) ≡ a ∷ b ∷ old
-pair_written xs old s a b is all from to =
-    let next : suc (s - 2 + 1) ≡ s = omega arith in
-    drop-set-add (s - 2) (set xs (s - 2) a) 1 b
-    ∙ ap (λ (l : List ℕ). set l 1 b) (drop-set_at xs (s - 2) (s - 2) a refl (omega arith))
-    ∙ ap (λ (l : List ℕ). a ∷ set l 0 b) (drop-cons xs (s - 2 + 1) 0 (omega arith))
-    ∙ ap (λ (k : ℕ). a ∷ b ∷ drop k xs) next ∙ ap (λ (l : List ℕ). a ∷ b ∷ l) is
-
--- where the line starts once there are `count` bytes more
-module _ (scratch old : List ℕ) (start count : ℕ) (is : drop start scratch ≡ old) (all : length scratch ≡ 516)
-    (from : 4 ≤ start) (to : start ≤ 516) (room : length old + count ≤ 512) where
-  length_of : length old ≡ 516 - start
-  length_of = sym (ap length is) ∙ length-drop start scratch ∙ ap (λ (n : ℕ). n - start) all
-
-  pub room_left : count ≤ start
-  room_left = let e = length_of in omega arith
-
-  pub starts_within : (4 ≤ start - count) × (start - count ≤ 516)
-  starts_within = let e = length_of in (omega arith, omega arith)
-
--- how long the text is with a piece before it
-pub grown : (new piece old : List ℕ) → new ≡ piece ++ old → length new ≡ length old + length piece
-grown new piece old e =
-    let sum = ap length e ∙ length-append piece old in
-    omega arith
-
-pub grown_last : (new bytes old : List ℕ) (count : ℕ) → count ≤ 4 → length bytes ≡ 4 →
-    new ≡ drop (4 - count) bytes ++ old → length new ≡ length old + count
-grown_last new bytes old count few four e =
-    let sum = grown new (drop (4 - count) bytes) old e in
-    let part = length-drop (4 - count) bytes in
-    omega arith
+use Rattle.line_writer.proofs.Common.{◌≡◌, ℕ, ◌+◌, ◌-◌, ◌<◌, ◌≤◌, List, [], ◌∷◌, ◌++◌, length, get_or, set, drop, arith, refl, ap, ◌∙◌, sym, length-append, length-drop, length-set, drop-drop, drop-append-le, drop-set_at}
 
 -- four bytes as a list
 four_bytes : (bytes : List ℕ) → length bytes ≡ 4 →
@@ -107,12 +32,11 @@ module _ (xs : List ℕ) (s a b d e : ℕ) (from : 4 ≤ s) (to : s ≤ length x
       let l1 = length-set xs (s - 1) e in
       let l2 = same_two in
       let l3 = same_three in
-      let end : s - 1 + 1 ≡ s = omega arith in
       drop-set_at three (s - 4) (s - 4) a refl (omega arith)
       ∙ ap (λ (l : List ℕ). a ∷ l) (drop-set_at two (s - 3) (s - 4 + 1) b (omega arith) (omega arith)
       ∙ ap (λ (l : List ℕ). b ∷ l) (drop-set_at one (s - 2) (s - 3 + 1) d (omega arith) (omega arith)
       ∙ ap (λ (l : List ℕ). d ∷ l) (drop-set_at xs (s - 1) (s - 2 + 1) e (omega arith) (omega arith)
-      ∙ ap (λ (k : ℕ). e ∷ drop k xs) end)))
+      ∙ ap (λ (k : ℕ). e ∷ drop k xs) (omega arith))))
 
 -- the last `count` of four bytes that are written
 pub last_written : (xs bytes old : List ℕ) (s count : ℕ) → drop s xs ≡ old → length xs ≡ 516 → 4 ≤ s → s ≤ 516 →

@@ -3,6 +3,7 @@ pub mod FieldRoom
 pub mod Digits
 pub mod Last
 pub mod Pairs
+pub mod Tables
 pub mod Threes
 pub mod Parts
 pub mod Columns

@@ -1,5 +1,6 @@
 -- The table of all bytes' digits.
-use Rattle.line_writer.proofs.Common.{◌≡◌, ℕ, zero, suc, ◌+◌, ◌-◌, ◌*◌, ◌/◌, ◌%◌, ◌<◌, Bool, true, ◌&&◌, T, eqb, List, [], ◌∷◌, refl, length, get_or, drop, inl, inr, arith, eq-zero-or-pos, eqb→eq, drop-cons, add-one, and_l, and_r, encode_with, encode_lower, lower_digits}
+use Rattle.line_writer.proofs.Common.{◌≡◌, ℕ, ◌+◌, ◌-◌, ◌*◌, ◌/◌, ◌%◌, ◌^◌, ◌<◌, List, [], ◌∷◌, refl, length, get_or, drop, inl, inr, arith, eq-zero-or-pos, eqb→eq, drop-cons, add-one, and_l, and_r, encode_with, encode_lower, lower_digits}
+use Rattle.line_writer.proofs.Tables.{agrees_at}
 use Rattle.line_writer.specs.declared.hexadecimal.TheConstants.{PAIRS}
 
 -- the digits of a byte, and those of the table
@@ -12,24 +13,25 @@ low_digit b = get_or lower_digits (b % 16) 0
 abbrev digit_at : ℕ → ℕ
 digit_at i = get_or PAIRS i 0
 
-abbrev has_pair : ℕ → Bool
-has_pair b = eqb (digit_at (b * 2)) (high_digit b) && eqb (digit_at (b * 2 + 1)) (low_digit b)
+-- the byte at each place of the table
+abbrev place : ℕ → ℕ
+place i = get_or lower_digits (i / 2 / 16 ^ (1 - i % 2) % 16) 0
 
-abbrev has_pairs : ℕ → Bool
-has_pairs zero = true
-has_pairs (suc b) = has_pair b && has_pairs b
-
-below : (n b : ℕ) → T (has_pairs n) → b < n → T (has_pair b)
-below zero b t h = absurd (omega arith)
-below (suc n) b t h =
-    elim (eq-zero-or-pos (n - b)) [
-      | inl z ↦ let e : b ≡ n = omega arith in rw e (and_l (has_pair n) (has_pairs n) t)
-      | inr g ↦ below n b (and_r (has_pair n) (has_pairs n) t) (omega arith)
-    ]
+digit_in : (b i k : ℕ) → b < 256 → k < 2 → i ≡ b * 2 + k → digit_at i ≡ get_or lower_digits (b / 16 ^ (1 - k) % 16) 0
+digit_in b i k h few at =
+    let a : i / 2 ≡ b = omega arith in
+    let e : i % 2 ≡ k = omega arith in
+    let within : i < 512 = omega arith in
+    rw (agrees_at place 0 PAIRS i i tt within (omega arith), a, e) refl
 
 -- the two digits of a byte
 pub pair_at : (b : ℕ) → b < 256 → (digit_at (b * 2) ≡ high_digit b) × (digit_at (b * 2 + 1) ≡ low_digit b)
-pair_at b h = let t = below 256 b tt h in (eqb→eq _ _ (and_l _ _ t), eqb→eq _ _ (and_r _ _ t))
+pair_at b h =
+    let high : b / 16 % 16 ≡ b / 16 = omega arith in
+    let low : b / 1 % 16 ≡ b % 16 = omega arith in (
+      rw (digit_in b (b * 2) 0 h (omega arith) (omega arith), high) refl,
+      rw (digit_in b (b * 2 + 1) 1 h (omega arith) (omega arith), low) refl,
+    )
 
 -- one byte more of a text in hexadecimal
 pub encode_at : (bytes : List ℕ) (k : ℕ) → k < length bytes →

@@ -5,13 +5,9 @@ use Rattle.std.proofs.lemmas.Nat.{div-add-mod'}
 pub shorter_by_parts : (ticks : ℕ) →
     ticks / 4294967296 * 1000000000 + ticks % 4294967296 * 1000000000 / 4294967296 ≡ shorter ticks
 unfolding floor_of
-shorter_by_parts ticks =
-    sym (div-whole_and_part (ticks / 4294967296) (ticks % 4294967296) 4294967296 1000000000 (omega arith))
-    ∙ ap (λ n. n * 1000000000 / 4294967296) (div-add-mod' ticks 4294967296)
+shorter_by_parts ticks = grind (arith, div-whole_and_part, div-add-mod')
 
 pub longer_by_parts : (ticks : ℕ) →
     ticks / 4294967296 * 1000000000 + (ticks % 4294967296 * 1000000000 + 4294967295) / 4294967296 ≡ longer ticks
 unfolding ceiling_of
-longer_by_parts ticks =
-    sym (div-whole_and_part_up (ticks / 4294967296) (ticks % 4294967296) 4294967296 1000000000 (omega arith))
-    ∙ ap (λ n. (n * 1000000000 + 4294967295) / 4294967296) (div-add-mod' ticks 4294967296)
+longer_by_parts ticks = grind (arith, div-whole_and_part_up, div-add-mod')

@@ -9,14 +9,10 @@ use Rattle.line_writer.proofs.Calendar.{times}
 -- digits alone
 all_digits : (ds : List ℕ) → AllDigits 10 ds → list_all (λ byte. is_digit byte 10) ds ≡ true
 all_digits [] h = refl
-all_digits (c ∷ cs) h =
-    let first : is_digit c 10 ≡ true = grind (arith, nat_tests, h.0) in
-    rw first (all_digits cs h.1)
+all_digits (c ∷ cs) h = grind (arith, all_digits cs h.1)
 
 are_digits_from : (ds : List ℕ) → 0 < length ds → list_all (λ byte. is_digit byte 10) ds ≡ true → are_digits ds ≡ true
-are_digits_from ds some all =
-    let test : nat_lt 0 (length ds) ≡ true = grind (arith, nat_tests) in
-    rw test all
+are_digits_from ds some all = grind (arith, nat_lt)
 
 first_wide : (n : ℕ) → n < 10 ^ 64 → 0 < n → 48 < get_or (decimal n) 0 0
 first_wide n small =
@@ -30,20 +26,10 @@ first_wide n small =
 -- a number is written without a zero before other digits
 whole_decimal : (n : ℕ) → n < 10 ^ 64 → is_whole (decimal n) ≡ true
 whole_decimal zero small = rw (decimal_digit 0 (omega arith)) refl
-whole_decimal (suc n) small =
-    let is = decimal_is_IsNumeral_wide (suc n) small in
-    let all = are_digits_from (decimal (suc n)) is.0.0 (all_digits (decimal (suc n)) is.0.1) in
-    let first = first_wide (suc n) small (omega arith) in
-    let test : (slice_index (decimal (suc n)) 0 == 48) ≡ false = grind (arith, nat_tests, first) in
-    rw (all, test) (either (length (decimal (suc n)) == 1)) where
-      either : (b : Bool) → (b || true) ≡ true
-      either true = refl
-      either false = refl
+whole_decimal (suc n) small = grind (arith, decimal_is_IsNumeral_wide, are_digits_from, all_digits, first_wide, Bool)
 
 pub whole_back : (n : ℕ) → n < 10 ^ 64 → read_whole (decimal n) ≡ Some n
-whole_back n small =
-    let test = whole_decimal n small in
-    rw test (ap Some (decimal_is_IsNumeral_wide n small).1)
+whole_back n small = grind (arith, whole_decimal, decimal_is_IsNumeral_wide)
 
 -- zeros before digits are digits, and change no value
 zeros_digits : (k : ℕ) (ds : List ℕ) → list_all (λ byte. is_digit byte 10) ds ≡ true →
@@ -66,8 +52,7 @@ padded_length w n some fits small =
 
 padded_digits : (w n : ℕ) → 0 < w → n < 10 ^ w → n < 10 ^ 64 → are_digits (zero_padded w n) ≡ true
 padded_digits w n some fits small =
-    are_digits_from (zero_padded w n) (omega (arith, padded_length w n some fits small))
-    (zeros_digits (w - length (decimal n)) (decimal n) (all_digits (decimal n) (decimal_is_IsNumeral_wide n small).0.1))
+    grind (arith, are_digits_from, padded_length, zeros_digits, all_digits, decimal_is_IsNumeral_wide)
 
 padded_value : (w n : ℕ) → n < 10 ^ 64 → digits_value 10 (zero_padded w n) ≡ n
 padded_value w n small = zeros_value (w - length (decimal n)) (decimal n) ∙ (decimal_is_IsNumeral_wide n small).1
@@ -77,8 +62,7 @@ read_at : (places point : ℕ) (text whole part : List ℕ) → length text - pl
     take point text ≡ whole → slice_index text point ≡ 46 → drop (point + 1) text ≡ part →
     is_whole whole ≡ true → are_digits part ≡ true →
     read_decimal places text ≡ Some (digits_value 10 whole * 10 ^ places + digits_value 10 part)
-read_at places point text whole part at front sign behind whole_is part_is =
-    rw (at, front, sign, behind, whole_is, part_is) refl
+read_at places point text whole part at front sign behind whole_is part_is = grind arith
 
 joined : (places : ℕ) (whole part : List ℕ) → is_whole whole ≡ true → are_digits part ≡ true →
     length part ≡ places →
@@ -93,21 +77,13 @@ joined places whole part whole_is part_is long =
 decimal_parts : (places a b : ℕ) → 0 < places → a < 10 ^ 64 → b < 10 ^ places → b < 10 ^ 64 →
     read_decimal places (decimal a ++ codes "." ++ zero_padded places b) ≡ Some (a * 10 ^ places + b)
 decimal_parts places a b some small fits small_too =
-    joined places (decimal a) (zero_padded places b) (whole_decimal a small)
-    (padded_digits places b some fits small_too) (padded_length places b some fits small_too)
-    ∙ rw ((decimal_is_IsNumeral_wide a small).1, padded_value places b small_too) refl
+    grind (arith, joined, whole_decimal, padded_digits, padded_length, decimal_is_IsNumeral_wide, padded_value)
 
 pub milliseconds_back : (n : ℕ) → n < 10 ^ 64 → read_decimal 6 (milliseconds n) ≡ Some n
-milliseconds_back n small =
-    let whole : n / 1000000 * 1000000 + n % 1000000 ≡ n = omega arith in
-    decimal_parts 6 (n / 1000000) (n % 1000000) (omega arith) (omega arith) (omega arith) (omega arith)
-    ∙ ap Some whole
+milliseconds_back n small = grind (arith, decimal_parts)
 
 pub millionths_back : (n : ℕ) → n < 10 ^ 64 → read_decimal 3 (millionths n) ≡ Some n
-millionths_back n small =
-    let whole : n / 1000 * 1000 + n % 1000 ≡ n = omega arith in
-    decimal_parts 3 (n / 1000) (n % 1000) (omega arith) (omega arith) (omega arith) (omega arith)
-    ∙ ap Some whole
+millionths_back n small = grind (arith, decimal_parts)
 
 -- digits begin with no sign
 no_sign : (ds rest : List ℕ) → 0 < length ds → AllDigits 10 ds → (slice_index (ds ++ rest) 0 == 45) ≡ false
@@ -115,17 +91,8 @@ no_sign [] rest some all = absurd (omega arith)
 no_sign (c ∷ cs) rest some all = grind (arith, nat_tests, digit_from_value c all.0)
 
 pub signed_back : (z : ℤ) → unsigned_abs z < 10 ^ 64 → read_signed 6 (signed_milliseconds z) ≡ Some z
-signed_back (pos n) small =
-    let is = (decimal_is_IsNumeral_wide (n / 1000000) (omega arith)).0 in
-    let tail = zero_padded 6 (n % 1000000) in
-    let test : (slice_index (milliseconds n) 0 == 45) ≡ false =
-    rw (append_assoc (decimal (n / 1000000)) (codes ".") tail)
-    (no_sign (decimal (n / 1000000)) (codes "." ++ tail) is.0 is.1) in
-    let back = milliseconds_back n small in
-    rw (test, back) refl
-signed_back (negsuc n) small =
-    let back = milliseconds_back (suc n) small in
-    rw back refl
+signed_back (pos n) small = grind (arith, decimal_is_IsNumeral_wide, append_assoc, no_sign, milliseconds_back)
+signed_back (negsuc n) small = grind (arith, milliseconds_back)
 
 -- so many ticks have no more nanoseconds
 few_below : (ticks : ℕ) → shorter ticks ≤ ticks
@@ -165,13 +132,7 @@ two_value : (n : ℕ) → n < 100 → digits_value 10 (two_digits n) ≡ n
 two_value n h = omega (arith, digit (n / 10) (omega arith), digit (n % 10) (omega arith))
 
 four_are : (n : ℕ) → n < 10000 → are_digits (four_digits n) ≡ true
-four_are n h =
-    rw (
-      tells (n / 100 / 10) (omega arith),
-      tells (n / 100 % 10) (omega arith),
-      tells (n % 100 / 10) (omega arith),
-      tells (n % 100 % 10) (omega arith),
-    ) refl
+four_are n h = grind (arith, tells)
 
 four_value : (n : ℕ) → n < 10000 → digits_value 10 (four_digits n) ≡ n
 four_value n h =
@@ -191,8 +152,7 @@ clock year month day hour minute second =
 
 clock_is : (y m d h n s : ℕ) → y < 10000 → m < 100 → d < 100 → h < 100 → n < 100 → s < 100 →
     is_clock (clock y m d h n s) ≡ true
-clock_is y m d h n s a b e f g i =
-    rw (four_are y a, two_are m b, two_are d e, two_are h f, two_are n g, two_are s i) refl
+clock_is y m d h n s a b e f g i = grind (arith, four_are, two_are)
 
 -- a second of a day of the calendar
 second_says : (second : ℕ) → second < 2 ^ 32 → SaysSecond (clock_text second) second
@@ -233,10 +193,7 @@ part_says ds long digits =
 
 part_back : (part : ℕ) → part < 10 ^ 9 → read_part (part_text part ++ codes "Z") ≡ Some part
 part_back zero h = refl
-part_back (suc n) h =
-    part_says (zero_padded 9 (suc n)) (padded_length 9 (suc n) (omega arith) h (omega arith))
-    (padded_digits 9 (suc n) (omega arith) h (omega arith))
-    ∙ ap Some (padded_value 9 (suc n) (omega arith))
+part_back (suc n) h = grind (arith, part_says, padded_length, padded_digits, padded_value)
 
 pub second_back : (second : ℕ) → second < 2 ^ 32 → SaysMoment (time_text second) second 0
 second_back second h = record { clock = second_says second h; rest = refl }
@@ -263,10 +220,4 @@ zeros_are (suc k) = zeros_are k
 
 pub name_back : (name : List ℕ) (k : ℕ) → 1 ≤ length name → list_all is_printable name ≡ true →
     reference_text (name ++ replicate k 0) ≡ name
-name_back name k some printable =
-    let long = name_length name k printable in
-    let test : nat_lt 0 (length name) ≡ true = grind (arith, nat_tests) in
-    let rest = drop-append_seam name (replicate k 0) in
-    let front = take-append_seam name (replicate k 0) in
-    let zeros = zeros_are k in
-    rw (long, test, rest, zeros, front) refl
+name_back name k some printable = grind (arith, name_length, nat_lt, drop-append_seam, take-append_seam, zeros_are)

@@ -27,6 +27,7 @@ pub fn shown_ranges_hold_the_range()
 
 /// The first tick of the window of a capture's record, rounded up to a whole nanosecond, is the
 /// record's time, exactly.
+#[tactic(auto, using(crate::proofs::Moments::record_time))]
 pub fn first_ticks_of_windows_give_the_record_time()
     ensures { (unit : SubsecondUnit) (sec sub : ℕ) →
         longer (window_low unit sec sub) * per_second unit

@@ -78,17 +78,15 @@ impl Line {
         self.start = start;
     }
 
-    /// Writes two bytes at once.
+    /// Writes two bytes.
     #[inline]
     pub fn put_pair(&mut self, first: u8, second: u8)
         requires { length self.old + 2 ≤ CAPACITY }
         ensures text { self.new ≡ first ∷ second ∷ self.old }
         ensures grows { length self.new ≡ length self.old + 2 }
     {
-        let start = self.start - 2;
-        self.scratch[start] = first;
-        self.scratch[start + 1] = second;
-        self.start = start;
+        self.put_byte(second);
+        self.put_byte(first);
     }
 
     /// Writes the bytes of a text.

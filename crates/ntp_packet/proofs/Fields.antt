@@ -2,12 +2,16 @@
 use Rattle.std.proofs.Common.{◌≡◌, ℕ, ◌+◌, ◌-◌, ◌<◌, ◌^◌, List, arith}
 use Rattle.std.specs.Prelude.{pos, negsuc, ◌+ℤ◌, ◌≤ℤ◌, ◌⊎◌, slice_range}
 use Rattle.std.proofs.lemmas.Bool.Decides.{nat_tests}
+use Rattle.std.proofs.lemmas.Grind.{and_numeral}
 use Rattle.std.proofs.lemmas.Int.{ints}
 use Rattle.std.proofs.lemmas.List.Elements.{All-take, All-drop}
 use Rattle.byteorder.specs.Endian.{twos_complement}
 use Rattle.byteorder.specs.Numbers.{big_from-lt}
 use Rattle.byte_stream.specs.Bytes.{IsBytes, byte_at-lt}
 use Rattle.ntp_packet.specs.Header.{field}
+
+-- the bits that a mask leaves
+pub ruleset bits = (and_numeral)
 
 pub field-lt : (first width : ℕ) (bytes : List ℕ) → IsBytes bytes → field first width bytes < 256 ^ width
 unfolding field

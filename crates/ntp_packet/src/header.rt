@@ -48,7 +48,7 @@ impl NtpView<'_> {
     }
 
     /// The version number, 0 to 7.
-    #[tactic(auto, unfolding(crate::specs::Header::version_of))]
+    #[tactic(auto, unfolding(crate::specs::Header::version_of), using(crate::proofs::Fields::bits))]
     pub fn version(&self) -> u8
         ensures { result ≡ version_of self.now }
     {
@@ -56,7 +56,7 @@ impl NtpView<'_> {
     }
 
     /// The mode, 0 to 7. 3 is a client and 4 a server.
-    #[tactic(auto, unfolding(crate::specs::Header::mode_of))]
+    #[tactic(auto, unfolding(crate::specs::Header::mode_of), using(crate::proofs::Fields::bits))]
     pub fn mode(&self) -> u8
         ensures { result ≡ mode_of self.now }
     {

@@ -5,9 +5,7 @@ use Rattle.pcap_reader.proofs.Prefix.{header_front, header_fault}
 
 -- at first nothing is held
 pub held-none : {F : Type 0} (b : Buffered F) → b.end ≡ 0 → held_bytes b ≡ []
-held-none b none =
-    let empty : b.end - b.start ≡ 0 = omega arith in
-    ap (λ n. take n (drop b.start b.buffer.items)) empty
+held-none b none = grind arith
 
 pub Keeps-first : (all a : Option (List ℕ)) (held held' : List ℕ) → held ≡ [] →
     Keeps (prepend_known held all) (prepend_known held' a) → Keeps all (prepend_known held' a)
@@ -31,8 +29,7 @@ pub header_refused : (all a : Option (List ℕ)) (held : List ℕ) (e : CaptureF
 header_refused None a held e keeps end h = refusal_is None e (header_fault held e h) tt
 header_refused (Some x) None held e keeps end h = absurd keeps
 header_refused (Some x) (Some y) held e keeps end h =
-    let refused = capture_refused x e (ap header_of (sym keeps) ∙ header_front held y end ∙ h) in
-    refusal_is (Some x) e (header_fault held e h) refused
+    grind (arith, capture_refused, header_front, refusal_is, header_fault)
 
 -- the header is lawful, and was taken
 pub header_begun : (all a : Option (List ℕ)) (held rest : List ℕ) (f : Format) → Keeps all (prepend_known held a) →

@@ -21,14 +21,7 @@ capture_of-begins bytes f records rest h =
 
 capture_begins : (bytes : List ℕ) (f : Format) (records : List Record) → IsCapture bytes f records →
     BeginsWith bytes f records []
-capture_begins bytes f records h =
-    record {
-      header = h.header;
-      is_header = h.is_header;
-      are_records = h.are_records;
-      joined = h.joined
-          ∙ sym (append-nil (h.header ++ spelling f.order records));
-    }
+capture_begins bytes f records h = grind (arith, append-nil)
 
 -- what is to come, as an answer
 abbrev answer : List Record → Option CaptureFault → Result Coming CaptureFault
@@ -49,14 +42,8 @@ record IsBegun (bytes : List ℕ) (c : Coming) : Type 0 where
 
 begun : (bytes : List ℕ) (c : Coming) (r : Result Format CaptureFault) → header_of bytes ≡ r →
     capture_of bytes ≡ Ok c → IsBegun bytes c
-begun bytes c (Ok f) h found =
-    let e : answer (coming_from f 0 24 (drop 24 bytes)).records (coming_from f 0 24 (drop 24 bytes)).fault
-    ≡ answer c.records c.fault = sym (capture_of_begun bytes f h) ∙ found in
-    record { format = f; read = h; coming = cc }
-begun bytes c (Err e) h found =
-    let refused : capture_of bytes ≡ Err e = rw (capture_of, h) refl in
-    let wrong : Err e ≡ Ok c = sym refused ∙ found in
-    cc
+begun bytes c (Ok f) h found = grind (arith, capture_of_begun)
+begun bytes c (Err e) h found = grind arith
 
 -- what bytes begin with, of which something is to come
 pub record IsReadBy (bytes : List ℕ) (c : Coming) : Type 0 where
@@ -108,10 +95,7 @@ same_coming c d h = cc
 
 same_answer : (records others : List Record) (fault other_fault : Option CaptureFault) →
     answer records fault ≡ answer others other_fault → (records ≡ others) × (fault ≡ other_fault)
-same_answer records others fault other_fault h =
-    let e = same_coming (record { records = records; fault = fault })
-    (record { records = others; fault = other_fault }) h in
-    (ap (λ (c : Coming). c.records) e, ap (λ (c : Coming). c.fault) e)
+same_answer records others fault other_fault h = grind (arith, same_coming)
 
 same_format : (r : Result Format CaptureFault) (f g : Format) → r ≡ Ok f → r ≡ Ok g → f ≡ g
 same_format r f g hf hg = cc
@@ -173,18 +157,12 @@ refused bytes e h = rw (capture_of, h) refl
 
 header_refused : (bytes : List ℕ) (e : CaptureFault) (r : Result Format CaptureFault) → header_of bytes ≡ r →
     capture_of bytes ≡ Err e → header_of bytes ≡ Err e
-header_refused bytes e (Ok f) h found =
-    let begins = capture_of_begun bytes f h in
-    let wrong : Ok (coming_from f 0 24 (drop 24 bytes)) ≡ Err e = sym begins ∙ found in
-    cc
-header_refused bytes e (Err d) h found =
-    let same : Err d ≡ Err e = sym (refused bytes d h) ∙ found in
-    h ∙ cc
+header_refused bytes e (Ok f) h found = grind (arith, capture_of_begun)
+header_refused bytes e (Err d) h found = grind (arith, refused)
 
 pub refused_for_header : (bytes : List ℕ) (e : CaptureFault) → IsBytes bytes → capture_of bytes ≡ Err e →
     HasHeaderFault bytes e
-refused_for_header bytes e are_bytes h = header_has_fault bytes e are_bytes
-    (header_refused bytes e (header_of bytes) refl h)
+refused_for_header bytes e are_bytes h = grind (arith, header_has_fault, header_refused)
 
 pub header_fault_refused : (bytes : List ℕ) (e : CaptureFault) → IsBytes bytes → HasHeaderFault bytes e →
     capture_of bytes ≡ Err e
@@ -200,8 +178,7 @@ no_header bytes e f header rest h is_header joined =
 ended : (bytes : List ℕ) (records : List Record) (o : Option CaptureFault) →
     capture_of bytes ≡ Ok (record { records = records; fault = o }) → IsBytes bytes →
     ((f : Format) × ((records : List Record) × IsCapture bytes f records)) ⊎ ((e : CaptureFault) × HasFault bytes e)
-ended bytes records None h are_bytes = let read = what_is_read bytes records are_bytes h in inl
-    (read.0, (records, read.1))
+ended bytes records None h are_bytes = grind (arith, what_is_read)
 ended bytes records (Some e) h are_bytes = inr (e, inr (records, broken_after bytes records e are_bytes h))
 
 -- any bytes are a capture or have a fault

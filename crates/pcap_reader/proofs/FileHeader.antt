@@ -46,32 +46,15 @@ HasMagicNumber bytes (Some f) = number_in f.order 4 bytes ≡ magic_of f.unit
 
 format_number : (bytes : List ℕ) → HasMagicNumber bytes (format_of bytes)
 format_number bytes =
-    elim (cases_eq (number_in Big 4 bytes) (magic_of Micro)) [
-      | inl h ↦ subst (HasMagicNumber bytes) (sym (format_big_micro bytes h)) h
-      | inr d ↦ elim (cases_eq (number_in Big 4 bytes) (magic_of Nano)) [
-        | inl h ↦ subst (HasMagicNumber bytes) (sym (format_big_nano bytes d h)) h
-        | inr e ↦ elim (cases_eq (number_in Little 4 bytes) (magic_of Micro)) [
-          | inl h ↦ subst (HasMagicNumber bytes) (sym (format_little_micro bytes d e h)) h
-          | inr i ↦ elim (cases_eq (number_in Little 4 bytes) (magic_of Nano)) [
-            | inl h ↦ subst (HasMagicNumber bytes) (sym (format_little_nano bytes d e i h)) h
-            | inr j ↦ subst (HasMagicNumber bytes) (sym (format_none bytes d e i j)) tt
-          ]
-        ]
-      ]
-    ]
+    grind (arith, cases_eq, format_big_micro, format_big_nano, format_little_micro, format_little_nano, format_none)
 
 -- the magic number, the version and the link type, as bytes and as numbers
 pub format_magic : (bytes : List ℕ) (f : Format) → IsBytes bytes → 4 ≤ length bytes → format_of bytes ≡ Some f →
     HasMagic f bytes
-format_magic bytes f are_bytes long h =
-    let number : number_in f.order 4 bytes ≡ magic_of f.unit = subst (HasMagicNumber bytes) h (format_number bytes) in
-    sym (spelled-number_in_4 f.order bytes are_bytes long) ∙ ap (spelled f.order 4) number
+format_magic bytes f are_bytes long h = grind (arith, format_number, spelled-number_in_4)
 
 pub magic_format : (bytes : List ℕ) (f : Format) → HasMagic f bytes → format_of bytes ≡ Some f
-magic_format bytes f h =
-    let joined : bytes ≡ spelled f.order 4 (magic_of f.unit) ++ drop 4 bytes = sym (take-append-drop 4 bytes)
-    ∙ ap (λ xs. xs ++ drop 4 bytes) h in
-    ap format_of joined ∙ format_of-magic f.order f.unit (drop 4 bytes)
+magic_format bytes f h = grind (arith, take-append-drop, format_of-magic)
 
 -- the numbers of a version and a link type
 abbrev major_in : Format → List ℕ → ℕ
@@ -86,27 +69,10 @@ link_in f bytes = number_in f.order 4 (drop 20 bytes)
 has_version : (bytes : List ℕ) (f : Format) → IsBytes bytes → 24 ≤ length bytes → major_in f bytes ≡ 2 →
     minor_in f bytes ≡ 4 → HasVersion f bytes
 has_version bytes f are_bytes long major minor =
-    let first = spelled-number_in_2 f.order (drop 4 bytes) (bytes_after bytes 4 are_bytes)
-    (simp length-drop (omega arith)) in
-    let second = spelled-number_in_2 f.order (drop 6 bytes) (bytes_after bytes 6 are_bytes)
-    (simp length-drop (omega arith)) in
-    let e : take 2 (drop 4 bytes) ≡ spelled f.order 2 2 = sym first ∙ ap (spelled f.order 2) major in
-    let d : take 2 (drop 6 bytes) ≡ spelled f.order 2 4 = sym second ∙ ap (spelled f.order 2) minor in
-    let both = take-add 2 2 (drop 4 bytes) ∙ ap (λ xs. take 2 (drop 4 bytes) ++ take 2 xs) (drop-drop 2 4 bytes) in
-    both ∙ ap (λ xs. xs ++ take 2 (drop 6 bytes)) e ∙ ap (λ xs. spelled f.order 2 2 ++ xs) d
+    grind (arith, spelled-number_in_2, bytes_after, length-drop, take-add, drop-drop)
 
 version_numbers : (bytes : List ℕ) (f : Format) → HasVersion f bytes → (major_in f bytes ≡ 2) × (minor_in f bytes ≡ 4)
-version_numbers bytes f h =
-    let a = spelled f.order 2 2 in
-    let b = spelled f.order 2 4 in
-    let at_4 : drop 4 bytes ≡ a ++ (b ++ drop 4 (drop 4 bytes)) =
-    sym (take-append-drop 4 (drop 4 bytes)) ∙ ap (λ xs. xs ++ drop 4 (drop 4 bytes)) h
-    ∙ append_assoc a b (drop 4 (drop 4 bytes)) in
-    let at_6 = further bytes a (b ++ drop 4 (drop 4 bytes)) 4 2 at_4 (length-spelled f.order 2 2) in (
-      ap (number_in f.order 2) at_4 ∙ number_in-spelled f.order 2 2 _ (omega arith),
-      ap (number_in f.order 2) at_6
-          ∙ number_in-spelled f.order 2 4 _ (omega arith),
-    )
+version_numbers bytes f h = grind (arith, take-append-drop, append_assoc, further, length-spelled, number_in-spelled)
 
 has_link : (bytes : List ℕ) (f : Format) → IsBytes bytes → 24 ≤ length bytes → link_in f bytes ≡ 1 → HasLink f bytes
 has_link bytes f are_bytes long h =
@@ -137,13 +103,7 @@ link_wrong bytes f major minor link = rw (eq-eqb _ _ major, eq-eqb _ _ minor, ne
 
 version_wrong : (bytes : List ℕ) (f : Format) → IsBytes bytes → 24 ≤ length bytes → ¬ HasVersion f bytes →
     version_and_link f bytes ≡ Err Version
-version_wrong bytes f are_bytes long wrong = elim (cases_eq (major_in f bytes) 2) [
-  | inr d ↦ major_wrong bytes f d
-  | inl major ↦ elim (cases_eq (minor_in f bytes) 4) [
-    | inr d ↦ minor_wrong bytes f major d
-    | inl minor ↦ absurd (wrong (has_version bytes f are_bytes long major minor))
-  ]
-]
+version_wrong bytes f are_bytes long wrong = grind (arith, cases_eq, major_wrong, minor_wrong, has_version)
 
 -- the header, test by test
 header_short : (bytes : List ℕ) → length bytes < 24 → header_of bytes ≡ Err TornHeader
@@ -222,10 +182,7 @@ IsAnswered bytes (Err e) = HasHeaderFault bytes e
 
 answered_long : (bytes : List ℕ) (o : Option Format) → format_of bytes ≡ o → IsBytes bytes → 24 ≤ length bytes →
     IsAnswered bytes (header_of bytes)
-answered_long bytes None h are_bytes long =
-    let unfound = λ (f : Format) (m : HasMagic f bytes). let wrong : None ≡ Some f = sym h
-    ∙ magic_format bytes f m in absurd (cc) in
-    subst (IsAnswered bytes) (sym (header_no_format bytes long h)) (long, unfound)
+answered_long bytes None h are_bytes long = grind (arith, magic_format, header_no_format)
 answered_long bytes (Some f) h are_bytes long =
     let magic = format_magic bytes f are_bytes (omega arith) h in
     let found = header_format bytes f long h in
@@ -252,10 +209,7 @@ answered_long bytes (Some f) h are_bytes long =
     ]
 
 pub header_answered : (bytes : List ℕ) → IsBytes bytes → IsAnswered bytes (header_of bytes)
-header_answered bytes are_bytes = elim (cases_lt (length bytes) 24) [
-  | inl short ↦ subst (IsAnswered bytes) (sym (header_short bytes short)) short
-  | inr long ↦ answered_long bytes (format_of bytes) refl are_bytes long
-]
+header_answered bytes are_bytes = grind (arith, cases_lt, header_short, answered_long)
 
 pub header_is_read : (bytes : List ℕ) (f : Format) → IsBytes bytes → header_of bytes ≡ Ok f → IsHeaderRead bytes f
 header_is_read bytes f are_bytes h = subst (IsAnswered bytes) h (header_answered bytes are_bytes)

@@ -4,38 +4,25 @@ use Rattle.std.proofs.KnownBytes.{Consumes-nil, Consumes-trans, Keeps-trans}
 use Rattle.byte_stream.specs.declared.feed.FeedFault.{FeedFault}
 
 pub Pulls-none : (a : FeedState) (held held' : List ℕ) → held' ≡ held → Pulls a a held held'
-Pulls-none a held held' same =
-    record {
-      pulled = [];
-      consumed = Consumes-nil a.remaining;
-      joined = same ∙ sym (append-nil held);
-      counted = omega arith;
-    }
+Pulls-none a held held' same = grind (arith, Consumes-nil, append-nil)
 
 -- one pull more
 pub Pulls-more : (a b c : FeedState) (held held' held'' part : List ℕ) → Pulls a b held held' →
     Consumes b.remaining c.remaining part → c.taken ≤ b.taken + length part → held'' ≡ held' ++ part →
     Pulls a c held held''
 Pulls-more a b c held held' held'' part p consumed counted joined =
-    record {
-      pulled = p.pulled ++ part;
-      consumed = Consumes-trans a.remaining b.remaining c.remaining p.pulled part p.consumed consumed;
-      joined = joined ∙ ap (λ l. l ++ part) p.joined ∙ append_assoc held p.pulled part;
-      counted = omega (arith, length-append p.pulled part, p.counted);
-    }
+    grind (arith, Consumes-trans, append_assoc, length-append)
 
 keeps : (a b : Option (List ℕ)) (pulled held held' : List ℕ) → Consumes a b pulled → held' ≡ held ++ pulled →
     Keeps (prepend_known held a) (prepend_known held' b)
 keeps None b pulled held held' consumed joined = tt
 keeps (Some x) None pulled held held' consumed joined = absurd consumed
-keeps (Some x) (Some y) pulled held held' consumed joined =
-    ap (λ l. l ++ y) joined ∙ append_assoc held pulled y ∙ ap (λ l. held ++ l) (sym consumed)
+keeps (Some x) (Some y) pulled held held' consumed joined = grind (arith, append_assoc)
 
 -- what is still to come stays known, over one refill and over two
 pub refilled : {F : Type 0} (state : F → FeedState) (a b : Buffered F) →
     Pulls (state a.feed) (state b.feed) (held_bytes a) (held_bytes b) → Keeps (still_has state a) (still_has state b)
-refilled state a b p =
-    keeps (state a.feed).remaining (state b.feed).remaining p.pulled (held_bytes a) (held_bytes b) p.consumed p.joined
+refilled state a b p = grind (arith, keeps)
 
 pub refilled_twice : {F : Type 0} (state : F → FeedState) (a b c : Buffered F) →
     Pulls (state a.feed) (state b.feed) (held_bytes a) (held_bytes b) →
@@ -46,9 +33,7 @@ refilled_twice state a b c p q =
 
 -- so many bytes are held
 pub length-held : {F : Type 0} (b : Buffered F) → length (held_bytes b) ≡ b.end - b.start
-length-held b =
-    let bounds : b.end ≤ length b.buffer.items = omega (arith, b.in_bounds, b.buffer.ok.0) in
-    simp (length-take, length-drop) (omega arith)
+length-held b = grind (arith, length-take, length-drop)
 
 -- what was pulled was taken of what might be
 pub Refills-takes : {F : Type 0} (state : F → FeedState) (wanted : ℕ) (old : Buffered F)
@@ -65,6 +50,4 @@ Refills-takes state wanted old result new h =
 
 -- no bytes are the last 0 that were consumed
 pub last-none : {F : Type 0} (b : Buffered F) → last_bytes b 0 ≡ []
-last-none b =
-    let none : b.start - (b.start - 0) ≡ 0 = omega arith in
-    ap (λ n. take n (drop (b.start - 0) b.buffer.items)) none
+last-none b = grind arith

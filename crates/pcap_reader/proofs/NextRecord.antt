@@ -8,22 +8,13 @@ pub head_held : (head : RecordHead) (f : Format) (n p : ℕ) (first held more : 
     16 ≤ length first →
     ShowsHead f n p first head →
     (16 ≤ length (held ++ more)) × ShowsHead f n p (held ++ more) head
-head_held head f n p first held more same long shows =
-    let joined : first ++ more ≡ held ++ more = ap (λ l. l ++ more) same in (
-      omega (arith, length-append held more, ap length same),
-      λ rest.
-          let all : (held ++ more) ++ rest ≡ first ++ (more ++ rest) =
-          ap (λ l. l ++ rest) (sym joined) ∙ append_assoc first more rest in
-          rw (all) (shows (more ++ rest)),
-    )
+head_held head f n p first held more same long shows = grind (arith, length-append, append_assoc)
 
 -- other words for what an answer leaves
 pub IsNext-same : (o : Option Coming) (r : Result (Option RecordHead) CaptureFault) (after after' : Option Coming)
     (lent lent' : List ℕ) → after' ≡ after → lent' ≡ lent →
     IfSome o (λ c. IsNext c r after lent) → IfSome o (λ c. IsNext c r after' lent')
-IsNext-same o r after after' lent lent' e d h =
-    subst (λ a. IfSome o (λ c. IsNext c r a lent')) (sym e) (subst (λ l. IfSome o (λ c. IsNext c r after l))
-    (sym d) h)
+IsNext-same o r after after' lent lent' e d h = grind (arith, IfSome)
 
 -- where an answer says nothing of the bytes
 pub says_nothing : (o : Option Coming) → IfSome o (λ c. Unit {0})
@@ -38,11 +29,7 @@ module _ (f : Format) (n p : ℕ) where
       (λ c. IsNext c (Ok None) (option_map (coming_from f n p') (prepend_known held a)) lent)
   next_end None a p' held lent keeps none end = tt
   next_end (Some x) None p' held lent keeps none end = absurd keeps
-  next_end (Some x) (Some y) p' held lent keeps none end =
-      let empty : length (held ++ y) ≡ 0 = omega (arith, length-append held y, ap length end) in (
-        ap (coming_from f n p) (sym keeps) ∙ coming_from-nil f n p (held ++ y) empty,
-        ap Some (coming_from-nil f n p' (held ++ y) empty),
-      )
+  next_end (Some x) (Some y) p' held lent keeps none end = grind (arith, length-append, coming_from-nil)
 
   -- the bytes held show a fault, whatever follows them
   pub next_fault : (known a : Option (List ℕ)) (after : Option Coming) (held lent : List ℕ) (e : CaptureFault) →
@@ -51,9 +38,7 @@ module _ (f : Format) (n p : ℕ) where
   next_fault None a after held lent e keeps some end shows = tt
   next_fault (Some x) None after held lent e keeps some end shows = absurd keeps
   next_fault (Some x) (Some y) after held lent e keeps some end shows =
-      let more : 0 < length (held ++ y) = omega (arith, length-append held y) in
-      next_is_fault _ e _ lent (ap (coming_from f n p) (sym keeps) ∙ coming_from_fault f n p (held ++ y) e more
-      (shows y end))
+      grind (arith, length-append, next_is_fault, coming_from_fault)
 
   -- all that follows a header is held, and it's less than the header says
   pub next_torn : (known a : Option (List ℕ)) (after : Option Coming) (held lent : List ℕ) (head : RecordHead) →
@@ -65,11 +50,10 @@ module _ (f : Format) (n p : ℕ) where
   next_torn (Some x) (Some y) after held lent head keeps few long shows short end =
       let all = held ++ y in
       let size : length all ≡ length held = length-append held y ∙ omega (arith, ap length end) in
-      let more : 16 ≤ length all = omega arith in
       let some : 0 < length all = omega arith in
       let torn : length all < 16 + head.captured = omega arith in
       ap (coming_from f n p) (sym keeps)
-      ∙ coming_from_fault f n p all (TornRecord p) some (record_torn f n p all head few more (shows y) torn)
+      ∙ coming_from_fault f n p all (TornRecord p) some (record_torn f n p all head few (omega arith) (shows y) torn)
 
   -- a whole record is held
   pub next_whole : (known a : Option (List ℕ)) (held : List ℕ) (head : RecordHead) →

@@ -1,5 +1,5 @@
 -- Lists joined of parts of known length.
-use Rattle.pcap_reader.proofs.Common.{◌≡◌, ℕ, ◌+◌, ◌<◌, List, ◌++◌, length, take, drop, refl, sym, ◌∙◌, append_assoc, drop-drop, take-append-drop, drop-append_seam, take-append_seam, take-add, IsBytes}
+use Rattle.pcap_reader.proofs.Common.{arith, ◌≡◌, ℕ, ◌+◌, ◌<◌, List, ◌++◌, length, take, drop, refl, sym, ◌∙◌, append_assoc, drop-drop, take-append-drop, drop-append_seam, take-append_seam, take-add, IsBytes}
 use Rattle.std.proofs.lemmas.List.Elements.{All-drop}
 
 -- bytes stay bytes
@@ -39,5 +39,4 @@ taken_16 xs n =
 pub taken_24 : {A : Type 0} (xs : List A) →
     take 24 xs ≡ ((((take 4 xs ++ take 2 (drop 4 xs)) ++ take 2 (drop 6 xs)) ++ take 8 (drop 8 xs)) ++ take 4
     (drop 16 xs)) ++ take 4 (drop 20 xs)
-taken_24 xs =
-    rw (← take-add 4 2 xs, ← take-add 6 2 xs, ← take-add 8 8 xs, ← take-add 16 4 xs, ← take-add 20 4 xs) refl
+taken_24 xs = grind (arith, take-add)

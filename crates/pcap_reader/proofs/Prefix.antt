@@ -6,16 +6,12 @@ use Rattle.pcap_reader.proofs.RecordFault.{fault_at_none, fault_at_torn}
 big_front : (i n : ℕ) (xs ys : List ℕ) → i + n ≤ length xs → big_from i n (xs ++ ys) ≡ big_from i n xs
 big_front i zero xs ys long = refl
 big_front i (suc n) xs ys long =
-    let here : i < length xs = omega arith in
-    let rest : suc i + n ≤ length xs = omega arith in
-    ap₂ (λ a b. a * 256 ^ n + b) (get_or_append_left xs ys 0 i here) (big_front (suc i) n xs ys rest)
+    ap₂ (λ a b. a * 256 ^ n + b) (get_or_append_left xs ys 0 i (omega arith)) (big_front (suc i) n xs ys (omega arith))
 
 little_front : (i n : ℕ) (xs ys : List ℕ) → i + n ≤ length xs → little_from i n (xs ++ ys) ≡ little_from i n xs
 little_front i zero xs ys long = refl
 little_front i (suc n) xs ys long =
-    let here : i < length xs = omega arith in
-    let rest : suc i + n ≤ length xs = omega arith in
-    ap₂ (λ a b. a + 256 * b) (get_or_append_left xs ys 0 i here) (little_front (suc i) n xs ys rest)
+    ap₂ (λ a b. a + 256 * b) (get_or_append_left xs ys 0 i (omega arith)) (little_front (suc i) n xs ys (omega arith))
 
 number_front : (order : Endian) (width : ℕ) (xs ys : List ℕ) → width ≤ length xs → number_in order width (xs ++ ys)
     ≡ number_in order width xs
@@ -25,10 +21,7 @@ number_front Little width xs ys long = little_front 0 width xs ys (omega arith)
 -- the number at a place within the front
 pub number_within : (order : Endian) (width k : ℕ) (xs ys : List ℕ) → k + width ≤ length xs →
     number_in order width (drop k (xs ++ ys)) ≡ number_in order width (drop k xs)
-number_within order width k xs ys long =
-    let starts : k ≤ length xs = omega arith in
-    let fits : width ≤ length (drop k xs) = simp length-drop (omega arith) in
-    ap (number_in order width) (drop-append-le k xs ys starts) ∙ number_front order width (drop k xs) ys fits
+number_within order width k xs ys long = grind (arith, length-drop, drop-append-le, number_front)
 
 -- the fault of a record's header, whatever follows it
 pub head_fault_front : (f : Format) (p : ℕ) (xs ys : List ℕ) → 16 ≤ length xs → head_fault f p (xs ++ ys)
@@ -70,13 +63,7 @@ format_front xs ys long =
 -- the fault or the format of a file's header, whatever follows it
 pub header_front : (xs ys : List ℕ) → (length xs < 24 → ys ≡ []) → header_of (xs ++ ys) ≡ header_of xs
 header_front xs ys short =
-    ⊎_elim
-    (λ h. ap header_of (ap (λ l. xs ++ l) (short h) ∙ append-nil xs))
-    (λ h.
-    let more : 24 ≤ length (xs ++ ys) = omega (arith, length-append xs ys) in
-    header_long (xs ++ ys) more ∙ ap (λ o. settled o (xs ++ ys)) (format_front xs ys h)
-    ∙ settled_front (format_of xs) xs ys h ∙ sym (header_long xs h))
-    (cases_lt (length xs) 24)
+    grind (arith, ⊎_elim, append-nil, length-append, header_long, format_front, settled_front, cases_lt)
 
 ok_err : (f : Format) (e : CaptureFault) → Ok f ≡ Err e → ⊥
 ok_err f e h = cc
@@ -90,8 +77,7 @@ version_faults true true false f e h = let same : Link ≡ e = cc in subst IsHea
 version_faults true true true f e h = absurd (ok_err f e h)
 
 version_fault : (f : Format) (bytes : List ℕ) (e : CaptureFault) → version_and_link f bytes ≡ Err e → IsHeaderFault e
-version_fault f bytes e h = version_faults (number_in f.order 2 (drop 4 bytes) == 2)
-    (number_in f.order 2 (drop 6 bytes) == 4) (number_in f.order 4 (drop 20 bytes) == 1) f e h
+version_fault f bytes e h = grind (arith, version_faults)
 
 settled_fault : (o : Option Format) (bytes : List ℕ) (e : CaptureFault) → settled o bytes ≡ Err e → IsHeaderFault e
 settled_fault None bytes e h = let same : Magic ≡ e = cc in subst IsHeaderFault same tt
@@ -103,11 +89,7 @@ header_short bytes short = rw (lt-ltb (length bytes) 24 short) refl
 
 -- a header's fault is one of four
 pub header_fault : (bytes : List ℕ) (e : CaptureFault) → header_of bytes ≡ Err e → IsHeaderFault e
-header_fault bytes e h =
-    ⊎_elim
-    (λ short. let same : TornHeader ≡ e = cc (header_short bytes short) in subst IsHeaderFault same tt)
-    (λ long. settled_fault (format_of bytes) bytes e (sym (header_long bytes long) ∙ h))
-    (cases_lt (length bytes) 24)
+header_fault bytes e h = grind (arith, ⊎_elim, header_short, settled_fault, header_long, cases_lt)
 
 -- what is shown of bytes whatever follows them holds of the bytes themselves
 pub head_shown : (f : Format) (n p : ℕ) (bytes : List ℕ) (head : RecordHead) → ShowsHead f n p bytes head →
@@ -125,15 +107,9 @@ module _ (f : Format) (n p : ℕ) (bytes : List ℕ) (head : RecordHead) where
   pub record_whole : n < most_records → 16 ≤ length bytes → (head_fault f p bytes ≡ None)
       × (head ≡ head_at f n p bytes) →
       16 + head.captured ≤ length bytes → fault_at f n p bytes ≡ None
-  record_whole few long head_is whole =
-      let captured : head.captured ≡ captured_in f.order bytes = ap (λ (h : RecordHead). h.captured) head_is.1 in
-      let whole' : 16 + captured_in f.order bytes ≤ length bytes = omega arith in
-      fault_at_none f n p bytes few long head_is.0 whole'
+  record_whole few long head_is whole = grind (arith, fault_at_none)
 
   pub record_torn : n < most_records → 16 ≤ length bytes → (head_fault f p bytes ≡ None)
       × (head ≡ head_at f n p bytes) →
       length bytes < 16 + head.captured → fault_at f n p bytes ≡ Some (TornRecord p)
-  record_torn few long head_is torn =
-      let captured : head.captured ≡ captured_in f.order bytes = ap (λ (h : RecordHead). h.captured) head_is.1 in
-      let torn' : length bytes < 16 + captured_in f.order bytes = omega arith in
-      fault_at_torn f n p bytes few long head_is.0 torn'
+  record_torn few long head_is torn = grind (arith, fault_at_torn)

@@ -10,12 +10,7 @@ per_second-lt Micro = omega arith
 per_second-lt Nano = omega arith
 
 pub length-record_spelling : (order : Endian) (r : Record) → length (record_spelling order r) ≡ 16 + length r.bytes
-length-record_spelling order r =
-    let a = length-spelled order 4 r.head.sec in
-    let b = length-spelled order 4 r.head.sub in
-    let c = length-spelled order 4 r.head.captured in
-    let d = length-spelled order 4 r.head.original in
-    simp length-append (omega arith)
+length-record_spelling order r = grind (arith, length-spelled, length-append)
 
 -- what the fields of a record's header say, and what follows them
 record IsFront (order : Endian) (r : Record) (rest bytes : List ℕ) : Type 0 where
@@ -37,32 +32,12 @@ spelled_front : (order : Endian) (r : Record) (rest bytes : List ℕ) → Fits r
     bytes ≡ record_spelling order r ++ rest →
     IsFront order r rest bytes
 spelled_front order r rest bytes fits e =
-    let h = r.head in
-    let at_0 = e ∙ five_parts (spelled order 4 h.sec) (spelled order 4 h.sub) (spelled order 4 h.captured)
-    (spelled order 4 h.original) r.bytes rest in
-    let at_4 = after bytes _ _ 4 at_0 (length-spelled order 4 h.sec) in
-    let at_8 = further bytes _ _ 4 4 at_4 (length-spelled order 4 h.sub) in
-    let at_12 = further bytes _ _ 8 4 at_8 (length-spelled order 4 h.captured) in
-    let at_16 = further bytes _ _ 12 4 at_12 (length-spelled order 4 h.original) in
-    record {
-      sec_is = ap (number_in order 4) at_0 ∙ number_in-spelled order 4 h.sec _ fits.sec_fits;
-      sub_is = ap (number_in order 4) at_4 ∙ number_in-spelled order 4 h.sub _ fits.sub_fits;
-      captured_is = ap (number_in order 4) at_8 ∙ number_in-spelled order 4 h.captured _ fits.captured_fits;
-      original_is = ap (number_in order 4) at_12 ∙ number_in-spelled order 4 h.original _ fits.original_fits;
-      after_head = at_16;
-      long = ap length e ∙ length-append (record_spelling order r) rest
-          ∙ ap (λ n. n + length rest) (length-record_spelling order r) ∙ omega arith;
-    }
+    grind (arith, five_parts, after, length-spelled, further, number_in-spelled, length-append, length-record_spelling)
 
 -- a header whose length and fraction are lawful has no fault
 pub head_fault-none : (f : Format) (place : ℕ) (bytes : List ℕ) → captured_in f.order bytes ≤ most_captured →
     sub_in f.order bytes < per_second f.unit → head_fault f place bytes ≡ None
-head_fault-none f place bytes short part =
-    rw (
-      le-ltb most_captured (captured_in f.order bytes) short,
-      lt-leb (per_second f.unit)
-          (sub_in f.order bytes) part,
-    ) refl
+head_fault-none f place bytes short part = grind (arith, le-ltb, lt-leb)
 
 pub head_fault-long : (f : Format) (place : ℕ) (bytes : List ℕ) → most_captured < captured_in f.order bytes →
     head_fault f place bytes ≡ Some (TooLong place)
@@ -70,12 +45,7 @@ head_fault-long f place bytes long = rw (lt-ltb most_captured (captured_in f.ord
 
 pub head_fault-fraction : (f : Format) (place : ℕ) (bytes : List ℕ) → captured_in f.order bytes ≤ most_captured →
     per_second f.unit ≤ sub_in f.order bytes → head_fault f place bytes ≡ Some (BadFraction place)
-head_fault-fraction f place bytes short whole =
-    rw (
-      le-ltb most_captured (captured_in f.order bytes) short,
-      le-leb (per_second f.unit)
-          (sub_in f.order bytes) whole,
-    ) refl
+head_fault-fraction f place bytes short whole = grind (arith, le-ltb, le-leb)
 
 -- what it takes that no fault applies
 pub record IsFaultless (f : Format) (number : ℕ) (bytes : List ℕ) : Type 0 where
@@ -87,8 +57,7 @@ pub record IsFaultless (f : Format) (number : ℕ) (bytes : List ℕ) : Type 0 w
 
 pub fault_at-faultless : (f : Format) (number place : ℕ) (bytes : List ℕ) → IsFaultless f number bytes →
     fault_at f number place bytes ≡ None
-fault_at-faultless f number place bytes h = fault_at_none f number place bytes h.few h.head
-    (head_fault-none f place bytes h.short h.fraction) h.whole
+fault_at-faultless f number place bytes h = grind (arith, fault_at_none, head_fault-none)
 
 -- None is no fault
 pub not_some : (o : Option CaptureFault) (e : CaptureFault) → o ≡ None → o ≡ Some e → ⊥
@@ -138,8 +107,7 @@ heads_agree : (f : Format) (number place : ℕ) (bytes : List ℕ) (h : RecordHe
     sec_in f.order bytes ≡ h.sec → sub_in f.order bytes ≡ h.sub → captured_in f.order bytes ≡ h.captured →
     original_in f.order bytes ≡ h.original →
     h ≡ head_at f number place bytes
-heads_agree f number place bytes h number_is place_is unit_is sec sub captured original =
-    rw (sec, sub, captured, original, ← number_is, ← place_is, ← unit_is) refl
+heads_agree f number place bytes h number_is place_is unit_is sec sub captured original = grind arith
 
 pub spelled_record : (f : Format) (number place : ℕ) (r : Record) (rest bytes : List ℕ) →
     IsRecordAt f.unit number place r →

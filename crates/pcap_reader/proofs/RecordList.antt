@@ -18,8 +18,7 @@ pub coming_from-spelled : (f : Format) (number place : ℕ) (rs : List Record) (
     AreRecordsFrom f.unit number place rs →
     coming_from f number place (spelling f.order rs ++ rest)
     ≡ after_records rs (coming_from f (number + length rs) (place + length (spelling f.order rs)) rest)
-coming_from-spelled f number place [] rest h = same_place f number (number + 0) place (place + 0) rest (omega arith)
-    (omega arith)
+coming_from-spelled f number place [] rest h = grind (arith, same_place)
 coming_from-spelled f number place (r ∷ rs) rest h =
     let tail = spelling f.order rs ++ rest in
     let e : spelling f.order (r ∷ rs) ++ rest ≡ record_spelling f.order r ++ tail =
@@ -54,35 +53,20 @@ read_end f number place = record { rest = []; are_records = tt; joined = refl; e
 
 read_fault : (f : Format) (number place : ℕ) (bytes : List ℕ) (e : CaptureFault) → 0 < length bytes →
     fault_at f number place bytes ≡ Some e → IsReadFrom f number place bytes (broken_end e)
-read_fault f number place bytes e some h =
-    record { rest = bytes; are_records = tt; joined = refl; ends = (some, rw (add-zero number, add-zero place) h) }
+read_fault f number place bytes e some h = grind (arith, add-zero)
 
 read_first : (f : Format) (number place : ℕ) (bytes : List ℕ) (r : Record) (after : List ℕ) (c : Coming) →
     IsRecordAt f.unit number place r → bytes ≡ record_spelling f.order r ++ after →
     IsReadFrom f (number + 1) (place + (16 + length r.bytes)) after c →
     IsReadFrom f number place bytes (then_coming r c)
 read_first f number place bytes r after c first e others =
-    let size : length (spelling f.order (r ∷ c.records)) ≡ 16 + length r.bytes + length (spelling f.order c.records) =
-    length-append (record_spelling f.order r) (spelling f.order c.records)
-    ∙ ap (λ k. k + length (spelling f.order c.records)) (length-record_spelling f.order r) in
-    let n : number + 1 + length c.records ≡ number + length (r ∷ c.records) = omega arith in
-    let p : place + (16 + length r.bytes) + length (spelling f.order c.records) ≡ place + length
-    (spelling f.order (r ∷ c.records)) = omega (arith, size) in
-    record {
-      rest = others.rest;
-      are_records = (first, others.are_records);
-      joined = e ∙ ap (λ xs. record_spelling f.order r ++ xs) others.joined
-          ∙ sym (append_assoc (record_spelling f.order r) (spelling f.order c.records) others.rest);
-      ends = rw (← n, ← p) others.ends;
-    }
+    grind (arith, length-append, length-record_spelling, append_assoc)
 
 read_step : (left : ℕ) (f : Format) (number place : ℕ) (bytes : List ℕ) (o : Option CaptureFault) →
     fault_at f number place bytes ≡ o → suc left ≡ most_records - number → 0 < length bytes → IsBytes bytes →
     ((n p : ℕ) (xs : List ℕ) → left ≡ most_records - n → IsBytes xs → IsReadFrom f n p xs (coming_from f n p xs)) →
     IsReadFrom f number place bytes (coming_from f number place bytes)
-read_step left f number place bytes (Some e) h few some are_bytes others =
-    subst (IsReadFrom f number place bytes) (sym (coming_from_fault f number place bytes e some h))
-    (read_fault f number place bytes e some h)
+read_step left f number place bytes (Some e) h few some are_bytes others = grind (arith, coming_from_fault, read_fault)
 read_step left f number place bytes None h few some are_bytes others =
     let fine = faultless f number place bytes h in
     let r = record_at f number place bytes in
@@ -98,11 +82,9 @@ read_step left f number place bytes None h few some are_bytes others =
 
 pub read_from : (left : ℕ) (f : Format) (number place : ℕ) (bytes : List ℕ) → left ≡ most_records - number →
     IsBytes bytes → IsReadFrom f number place bytes (coming_from f number place bytes)
-read_from left f number place [] few are_bytes = subst (IsReadFrom f number place [])
-    (sym (coming_from-nil f number place [] refl)) (read_end f number place)
+read_from left f number place [] few are_bytes = grind (arith, coming_from-nil, read_end)
 read_from zero f number place (b ∷ bs) few are_bytes =
-    let many : most_records ≤ number = omega arith in
-    let h = fault_at_most f number place (b ∷ bs) many in
+    let h = fault_at_most f number place (b ∷ bs) (omega arith) in
     let some : 0 < length (b ∷ bs) = omega arith in
     subst (IsReadFrom f number place (b ∷ bs)) (sym (coming_from_fault f number place (b ∷ bs) TooMany some h))
     (read_fault f number place (b ∷ bs) TooMany some h)

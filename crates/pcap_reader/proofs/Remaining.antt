@@ -10,10 +10,7 @@ within_nil (suc left) f n p = refl
 within_fault : (left : ℕ) (f : Format) (n p b : ℕ) (bs : List ℕ) (e : CaptureFault) → left ≡ most_records - n →
     fault_at f n p (b ∷ bs) ≡ Some e → coming_within left f n p (b ∷ bs) ≡ broken_end e
 unfolding coming_within
-within_fault zero f n p b bs e few h =
-    let many : most_records ≤ n = omega arith in
-    let same : TooMany ≡ e = cc (fault_at_most f n p (b ∷ bs) many, h) in
-    ap broken_end same
+within_fault zero f n p b bs e few h = grind (arith, fault_at_most)
 within_fault (suc left) f n p b bs e few h = rw (coming_within, h) refl
 
 within_record : (left : ℕ) (f : Format) (n p b : ℕ) (bs : List ℕ) → left ≡ most_records - n →
@@ -22,15 +19,8 @@ within_record : (left : ℕ) (f : Format) (n p b : ℕ) (bs : List ℕ) → left
     (coming_within (most_records - (n + 1)) f (n + 1) (p + (16 + captured_in f.order (b ∷ bs)))
     (drop (16 + captured_in f.order (b ∷ bs)) (b ∷ bs)))
 unfolding coming_within
-within_record zero f n p b bs few h =
-    let many : most_records ≤ n = omega arith in
-    let wrong : Some TooMany ≡ None = sym (fault_at_most f n p (b ∷ bs) many) ∙ h in
-    cc
-within_record (suc left) f n p b bs few h =
-    let one : left ≡ most_records - (n + 1) = omega arith in
-    rw (coming_within, h) (ap (λ k. then_coming (record_at f n p (b ∷ bs))
-    (coming_within k f (n + 1) (p + (16 + captured_in f.order (b ∷ bs))) (drop (16 + captured_in f.order (b ∷ bs))
-    (b ∷ bs)))) one)
+within_record zero f n p b bs few h = grind (arith, fault_at_most)
+within_record (suc left) f n p b bs few h = grind arith
 
 -- nothing is to come of no bytes
 pub coming_from-nil : (f : Format) (n p : ℕ) (bytes : List ℕ) → length bytes ≡ 0 → coming_from f n p bytes ≡ whole_end
@@ -66,8 +56,7 @@ pub coming_from_read : (f : Format) (n p : ℕ) (bytes : List ℕ) (head : Recor
     head ≡ head_at f n p bytes → lent ≡ take head.captured (drop 16 bytes) → rest ≡ drop (16 + head.captured) bytes →
     coming_from f n p bytes ≡ then_coming (record { head = head; bytes = lent })
     (coming_from f (n + 1) (p + (16 + head.captured)) rest)
-coming_from_read f n p bytes head lent rest some stands head_is lent_is rest_is = rw (rest_is, lent_is, head_is)
-    (coming_from_record f n p bytes some stands)
+coming_from_read f n p bytes head lent rest some stands head_is lent_is rest_is = grind (arith, coming_from_record)
 
 -- what a file that begins with a lawful header gives
 pub capture_of_begun : (bytes : List ℕ) (f : Format) → header_of bytes ≡ Ok f →

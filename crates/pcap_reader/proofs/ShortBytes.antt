@@ -7,15 +7,7 @@ use Rattle.pcap_reader.proofs.Remaining.{coming_from-nil, coming_from_fault, com
 
 -- a header's fault is its length or its fraction
 head_not_many : (f : Format) (p : ℕ) (x : List ℕ) → head_fault f p x ≡ Some TooMany → ⊥
-head_not_many f p x h = elim (cases_lt most_captured (captured_in f.order x)) [
-  | inl long ↦ let wrong : Some (TooLong p) ≡ Some TooMany = sym (head_fault-long f p x long) ∙ h in cc
-  | inr short ↦ elim (cases_lt (sub_in f.order x) (per_second f.unit)) [
-    | inl part ↦ not_some (head_fault f p x) TooMany (head_fault-none f p x short part) h
-    | inr whole ↦
-        let wrong : Some (BadFraction p) ≡ Some TooMany = sym (head_fault-fraction f p x short whole) ∙ h in
-        cc
-  ]
-]
+head_not_many f p x h = grind (arith, cases_lt, head_fault-long, not_some, head_fault-none, head_fault-fraction)
 
 not_many_after : (f : Format) (n p : ℕ) (x : List ℕ) (o : Option CaptureFault) → head_fault f p x ≡ o →
     n < most_records →
@@ -23,12 +15,7 @@ not_many_after : (f : Format) (n p : ℕ) (x : List ℕ) (o : Option CaptureFaul
 not_many_after f n p x (Some e) is few long h =
     let same : Some e ≡ Some TooMany = sym (fault_at_head f n p x e few long is) ∙ h in
     head_not_many f p x (is ∙ same)
-not_many_after f n p x None is few long h = elim (cases_lt (length x) (16 + captured_in f.order x)) [
-  | inl torn ↦
-      let wrong : Some (TornRecord p) ≡ Some TooMany = sym (fault_at_torn f n p x few long is torn) ∙ h in
-      cc
-  | inr whole ↦ not_some (fault_at f n p x) TooMany (fault_at_none f n p x few long is whole) h
-]
+not_many_after f n p x None is few long h = grind (arith, cases_lt, fault_at_torn, not_some, fault_at_none)
 
 -- they are too many only after the last record that may be
 many : (f : Format) (n p : ℕ) (x : List ℕ) → fault_at f n p x ≡ Some TooMany → most_records ≤ n
@@ -50,17 +37,12 @@ too_few e held few none = few
 -- fewer bytes than a header has, or none after the last record that may be
 few_held : (f : Format) (n p : ℕ) (x : List ℕ) (held : ℕ) (o : Option CaptureFault) → fault_at f n p x ≡ o →
     0 < length x → held < 16 → (most_records ≤ n → held < 1) → IsUndecided (coming_from f n p x) held
-few_held f n p x held None is some few none =
-    subst (λ c. IsUndecided c held) (sym (coming_from_record f n p x some is)) (omega arith)
-few_held f n p x held (Some e) is some few none =
-    let last = λ (same : e ≡ TooMany). none (many f n p x (is ∙ ap Some same)) in
-    subst (λ c. IsUndecided c held) (sym (coming_from_fault f n p x e some is)) (too_few e held few last)
+few_held f n p x held None is some few none = grind (arith, coming_from_record)
+few_held f n p x held (Some e) is some few none = grind (arith, many, coming_from_fault, too_few)
 
 undecided_head : (f : Format) (n p : ℕ) (x : List ℕ) (held : ℕ) → held ≤ length x → held < 16 →
     (most_records ≤ n → held < 1) → IsUndecided (coming_from f n p x) held
-undecided_head f n p [] held within few none =
-    let zero : held ≡ 0 = omega arith in
-    subst (λ c. IsUndecided c held) (sym (coming_from-nil f n p [] refl)) zero
+undecided_head f n p [] held within few none = grind (arith, coming_from-nil)
 undecided_head f n p (b ∷ bs) held within few none =
     few_held f n p (b ∷ bs) held (fault_at f n p (b ∷ bs)) refl (omega arith) few none
 
@@ -77,8 +59,7 @@ undecided_record f n p x head held few long head_is short =
           subst (λ c. IsUndecided c held) (sym e) more
       | inr whole ↦
           let e = coming_from_record f n p x some (record_whole f n p x head few long head_is whole) in
-          let more : held < 16 + captured_in f.order x = omega arith in
-          subst (λ c. IsUndecided c held) (sym e) more
+          subst (λ c. IsUndecided c held) (sym e) (omega arith)
     ]
 
 module _ (f : Format) (n p : ℕ) where
@@ -88,9 +69,7 @@ module _ (f : Format) (n p : ℕ) where
       IfSome (option_map (coming_from f n p) known) (λ c. IsReadInTime (Err Read) c size)
   in_time_head None a held size size_is keeps few none = tt
   in_time_head (Some x) None held size size_is keeps few none = absurd keeps
-  in_time_head (Some x) (Some y) held size size_is keeps few none =
-      let within : size ≤ length x = omega (arith, ap length keeps, length-append held y) in
-      undecided_head f n p x size within few none
+  in_time_head (Some x) (Some y) held size size_is keeps few none = grind (arith, length-append, undecided_head)
 
   -- the device failed before the record was held whose header had been
   pub in_time_record : (known a : Option (List ℕ)) (held : List ℕ) (head : RecordHead) (size : ℕ) →
@@ -100,9 +79,8 @@ module _ (f : Format) (n p : ℕ) where
   in_time_record None a held head size keeps few long shows short = tt
   in_time_record (Some x) None held head size keeps few long shows short = absurd keeps
   in_time_record (Some x) (Some y) held head size keeps few long shows short =
-      let more : 16 ≤ length x = omega (arith, ap length keeps, length-append held y) in
       let shown : (head_fault f p x ≡ None) × (head ≡ head_at f n p x) = rw (← keeps) (shows y) in
-      undecided_record f n p x head size few more shown short
+      undecided_record f n p x head size few (omega (arith, ap length keeps, length-append held y)) shown short
 
 -- any other answer says nothing of it
 pub in_time_fault : (o : Option Coming) (e : CaptureFault) (held : ℕ) → IsRecordFault e →

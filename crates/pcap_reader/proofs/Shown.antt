@@ -20,6 +20,4 @@ module _ (f : Format) (n p : ℕ) (held : List ℕ) (size : ℕ) (size_is : size
       MatchResult found (λ head. IsTrue test → 16 + head.captured ≤ size) (λ fault. test ≡ false) → IsTrue test →
       IfSome (option_map (coming_from f n p) (prepend_known held after)) (λ coming. ¬ (IsUndecided coming size))
   shown_by_test after (Ok head) test few shows whole passed = record_shown after head few shows (whole passed)
-  shown_by_test after (Err fault) test few shows failed passed =
-      let wrong : true ≡ false = sym passed ∙ failed in
-      cc
+  shown_by_test after (Err fault) test few shows failed passed = grind arith

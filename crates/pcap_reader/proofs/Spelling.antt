@@ -48,23 +48,11 @@ little_2 x a b ha hb h = rw (digit_1_of_2 x b a hb ha h, digit_0_of_2 x b a hb h
 
 big_4 : (x a b c d : ℕ) → a < 256 → b < 256 → c < 256 → d < 256 → x ≡ a * 16777216 + b * 65536 + c * 256 + d →
     spelled Big 4 x ≡ a ∷ b ∷ c ∷ d ∷ []
-big_4 x a b c d ha hb hc hd h =
-    rw (
-      digit_3 x a b c d ha hb hc hd h,
-      digit_2 x a b c d ha hb hc hd h,
-      digit_1 x a b c d ha hb hc hd h,
-      digit_0 x a b c d ha hb hc hd h,
-    ) refl
+big_4 x a b c d ha hb hc hd h = grind (arith, digit_3, digit_2, digit_1, digit_0)
 
 little_4 : (x a b c d : ℕ) → a < 256 → b < 256 → c < 256 → d < 256 → x ≡ d * 16777216 + c * 65536 + b * 256 + a →
     spelled Little 4 x ≡ a ∷ b ∷ c ∷ d ∷ []
-little_4 x a b c d ha hb hc hd h =
-    rw (
-      digit_3 x d c b a hd hc hb ha h,
-      digit_2 x d c b a hd hc hb ha h,
-      digit_1 x d c b a hd hc hb ha h,
-      digit_0 x d c b a hd hc hb ha h,
-    ) refl
+little_4 x a b c d ha hb hc hd h = grind (arith, digit_3, digit_2, digit_1, digit_0)
 
 -- two bytes are those of the number in them
 pub spelled-number_in_2 : (order : Endian) (bytes : List ℕ) → IsBytes bytes → 2 ≤ length bytes →

@@ -1,5 +1,5 @@
 -- Steps of a source.
-use Rattle.pcap_reader.proofs.Common.{◌≡◌, ◌∙◌, ◌↔◌, ℕ, Err, Option, Result, Bool, true, false, sym, IsTrue, IsErrOf, CountsFault, RecordHead, CaptureFault, Read, Failed, IsRecordFault, MayAnswer, read_failed}
+use Rattle.pcap_reader.proofs.Common.{arith, ◌≡◌, ◌∙◌, ◌↔◌, ℕ, Err, Option, Result, Bool, true, false, sym, IsTrue, IsErrOf, CountsFault, RecordHead, CaptureFault, Read, Failed, IsRecordFault, MayAnswer, read_failed}
 
 -- a record's fault is one that may be answered
 pub record_fault_may : (e : CaptureFault) → IsRecordFault e → MayAnswer e
@@ -20,13 +20,8 @@ not_failed e h same = cc
 -- no answer of a source that hasn't failed is the answer after a fault
 pub unfailed_iff : (r : Result (Option RecordHead) CaptureFault) (b : Bool) → b ≡ false → (IsErrOf r Failed → ⊥) →
     IsErrOf r Failed ↔ IsTrue b
-unfailed_iff r b unfailed other = (
-  λ same. absurd (other same),
-  λ yes. let wrong : true ≡ false = sym yes
-      ∙ unfailed in cc,
-)
+unfailed_iff r b unfailed other = grind arith
 
 pub record_fault_iff : (e : CaptureFault) (b : Bool) → IsRecordFault e → b ≡ false →
     IsErrOf {T = Option RecordHead} (Err e) Failed ↔ IsTrue b
-record_fault_iff e b h unfailed = unfailed_iff (Err e) b unfailed (λ same. let e_is : e ≡ Failed =
-    cc in not_failed e h e_is)
+record_fault_iff e b h unfailed = grind (arith, unfailed_iff, not_failed)

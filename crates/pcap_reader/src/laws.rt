@@ -17,6 +17,7 @@ pub fn capture_is_read()
 {}
 
 /// Bytes from which records are read, and then a whole end, are a capture of these records.
+#[tactic(auto, using(crate::proofs::File::what_is_read))]
 pub fn what_is_read_is_a_capture()
     ensures { (bytes : List ℕ) (records : List Record) → IsBytes bytes →
         capture_of bytes ≡ Ok (record { records = records; fault = None }) →

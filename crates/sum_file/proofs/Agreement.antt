@@ -1,5 +1,5 @@
 -- Lines that are all good, and one more line below them.
-use Rattle.sum_file.proofs.Common.{◌≡◌, ℕ, length, map, Bool, true, false, cond, ◌&&◌, List, [], ◌∷◌, ◌++◌, Option, Some, None, option_map, option_and_then, refl, sym, ap, ◌∙◌, list_all, length-map, list_all-append, line_of, all_said, agreed, SumData, agree, all_agree}
+use Rattle.sum_file.proofs.Common.{arith, ◌≡◌, ℕ, length, map, Bool, true, false, cond, ◌&&◌, List, [], ◌∷◌, ◌++◌, Option, Some, None, option_map, option_and_then, refl, sym, ap, ◌∙◌, list_all, length-map, list_all-append, line_of, all_said, agreed, SumData, agree, all_agree}
 use Rattle.sum_file.proofs.Pairs.{each_agrees}
 
 -- sums, if they agree
@@ -15,24 +15,16 @@ abbrev joined : Option (List SumData) → Option (List SumData) → Option (List
 joined None more = None
 joined (Some sums) more = option_map (λ s. sums ++ s) more
 
-option_map-cons : (sum : SumData) (sums : List SumData) (more : Option (List SumData))
-    → option_map (λ s. sum ∷ s) (joined (Some sums) more) ≡ joined (Some (sum ∷ sums)) more
-option_map-cons sum sums None = refl
-option_map-cons sum sums (Some more) = refl
-
 said_more : (first : Option SumData) (xs ys whole : Option (List SumData)) → whole ≡ joined xs ys
     → option_and_then (λ sum. option_map (λ s. sum ∷ s) whole) first
     ≡ joined (option_and_then (λ sum. option_map (λ s. sum ∷ s) xs) first) ys
 said_more None xs ys whole is = refl
 said_more (Some sum) None ys whole is = ap (option_map (λ s. sum ∷ s)) is
-said_more (Some sum) (Some sums) ys whole is =
-    ap (option_map (λ s. sum ∷ s)) is ∙ option_map-cons sum sums ys
+said_more (Some sum) (Some sums) ys whole is = grind (arith, sum)
 
 all_said-append : (xs ys : List (List ℕ)) → all_said (xs ++ ys) ≡ joined (all_said xs) (all_said ys)
-all_said-append [] ys =
-    elim (all_said ys) as (λ s. s ≡ option_map (λ t. [] ++ t) s) [ None ↦ refl | Some s ↦ refl ]
-all_said-append (x ∷ xs) ys =
-    said_more (line_of x) (all_said xs) (all_said ys) (all_said (xs ++ ys)) (all_said-append xs ys)
+all_said-append [] ys = grind arith
+all_said-append (x ∷ xs) ys = grind (arith, said_more, all_said-append xs ys)
 
 -- sums that a list says, if they agree
 if_agree-is : (said : Option (List SumData)) (sums : List SumData)
@@ -49,40 +41,16 @@ pub agreed-said : (lines : List (List ℕ)) (sums : List SumData) → agreed lin
     → (all_said lines ≡ Some sums) × (all_agree sums ≡ true)
 agreed-said lines sums is = if_agree-is (all_said lines) sums is
 
-and_moved : (a b c d : Bool) → ((a && b) && (c && d)) ≡ ((a && c) && (b && d))
-and_moved true true c d = refl
-and_moved true false true d = refl
-and_moved true false false d = refl
-and_moved false b c d = refl
-
-and_true : (a : Bool) → (a && true) ≡ a
-and_true true = refl
-and_true false = refl
-
 -- one sum more
 all_agree-push : (sums : List SumData) (sum : SumData)
     → all_agree (sums ++ sum ∷ []) ≡ (all_agree sums && each_agrees sums sum)
 all_agree-push [] sum = refl
 all_agree-push (s ∷ sums) sum =
-    ap (λ b. b && all_agree (sums ++ sum ∷ []))
-    (list_all-append (agree s) sums (sum ∷ []) ∙ ap (λ b. list_all (agree s) sums && b) (and_true (agree s sum)))
-    ∙ ap (λ b. (list_all (agree s) sums && agree s sum) && b) (all_agree-push sums sum)
-    ∙ and_moved (list_all (agree s) sums) (agree s sum) (all_agree sums) (each_agrees sums sum)
-
--- sums among which two disagree still do with others after them
-front_disagrees : (here below with_more more : Bool) → (here && below) ≡ false → (below ≡ false → with_more ≡ false)
-    → ((here && more) && with_more) ≡ false
-front_disagrees true true with_more more is kept = cc
-front_disagrees true false with_more true is kept = kept refl
-front_disagrees true false with_more false is kept = refl
-front_disagrees false below with_more more is kept = refl
+    grind (arith, sum, list_all-append, each_agrees, all_agree-push sums sum)
 
 all_agree-front : (xs ys : List SumData) → all_agree xs ≡ false → all_agree (xs ++ ys) ≡ false
 all_agree-front [] ys is = cc
-all_agree-front (x ∷ xs) ys is =
-    ap (λ b. b && all_agree (xs ++ ys)) (list_all-append (agree x) xs ys)
-    ∙ front_disagrees (list_all (agree x) xs) (all_agree xs) (all_agree (xs ++ ys)) (list_all (agree x) ys) is
-    (all_agree-front xs ys)
+all_agree-front (x ∷ xs) ys is = grind (arith, list_all-append, all_agree-front xs ys)
 
 -- one line more: it has to say a sum that agrees with those before it
 agreed_with : (sums : List SumData) (said : Option SumData) → all_agree sums ≡ true
@@ -90,9 +58,7 @@ agreed_with : (sums : List SumData) (said : Option SumData) → all_agree sums �
     (joined (Some sums) (option_and_then (λ sum. option_map (λ s. sum ∷ s) (Some [])) said))
     ≡ option_and_then (with_one sums) said
 agreed_with sums None together = refl
-agreed_with sums (Some sum) together =
-    ap (λ b. cond b (Some (sums ++ sum ∷ [])) None)
-    (all_agree-push sums sum ∙ ap (λ b. b && each_agrees sums sum) together)
+agreed_with sums (Some sum) together = grind (arith, sum, all_agree-push, each_agrees)
 
 pub agreed-push : (lines : List (List ℕ)) (line : List ℕ) (sums : List SumData) → agreed lines ≡ Some sums
     → agreed (lines ++ line ∷ [])
@@ -156,8 +122,7 @@ said-map (line ∷ lines) (sum ∷ sums) is =
 -- sums that lines say and that agree
 pub agreed-from : (lines : List (List ℕ)) (sums : List SumData) → map line_of lines ≡ map Some sums
     → all_agree sums ≡ true → agreed lines ≡ Some sums
-agreed-from lines sums said together =
-    ap (option_and_then if_agree) (said-map lines sums said) ∙ ap (λ b. cond b (Some sums) None) together
+agreed-from lines sums said together = grind (arith, option_and_then, said-map)
 
 -- as many lines as sums
 pub length-agreed : (lines : List (List ℕ)) (sums : List SumData) → agreed lines ≡ Some sums

@@ -15,14 +15,11 @@ without_last-end byte last bytes =
     ∙ ap (λ t. cond ((byte == last) && true) t whole) (take-append_seam bytes (last ∷ []))
 
 without_last-same : (byte : ℕ) (bytes : List ℕ) → without_last byte (bytes ++ byte ∷ []) ≡ bytes
-without_last-same byte bytes =
-    without_last-end byte byte bytes ∙ ap (λ b. cond (b && true) bytes (bytes ++ byte ∷ [])) (eq-eqb byte byte refl)
+without_last-same byte bytes = grind (arith, without_last-end, eq-eqb)
 
 pub without_last-other : (byte last : ℕ) (bytes : List ℕ) → last ≢ byte
     → without_last byte (bytes ++ last ∷ []) ≡ bytes ++ last ∷ []
-without_last-other byte last bytes other =
-    without_last-end byte last bytes
-    ∙ ap (λ b. cond (b && true) bytes (bytes ++ last ∷ [])) (ne_eqb byte last (λ is. other (sym is)))
+without_last-other byte last bytes other = grind (arith, without_last-end, ne_eqb)
 
 -- a list is empty, or has a last element
 pub snoc_view : {A : Type 0} (xs : List A)
@@ -43,8 +40,7 @@ lines_of-some (byte ∷ text) is = refl
 -- the parts of lines that are ended, and of what follows the last line feed
 parts_ended : (lines : List (List ℕ)) (rest : List ℕ) → All HasNoFeed lines → HasNoFeed rest
     → slice_split (λ b. b == line_feed) (ended lines ++ rest) ≡ lines ++ rest ∷ []
-parts_ended [] rest no_feeds no_feed =
-    slice_split_none (λ b. b == line_feed) rest (λ k d less. ne_eqb (get_or rest k d) line_feed (no_feed k d less))
+parts_ended [] rest no_feeds no_feed = grind (arith, slice_split_none, ne_eqb, get_or)
 parts_ended (line ∷ lines) rest no_feeds no_feed =
     let first : HasNoFeed line = All-head HasNoFeed line lines no_feeds in
     let parts = λ (l : List ℕ). slice_split (λ b. b == line_feed) l in
@@ -64,14 +60,11 @@ ended-push lines last =
     ∙ sym (append_assoc (ended lines) last (line_feed ∷ []))
 
 has_byte : (front : List ℕ) (last : ℕ) → (length (front ++ last ∷ []) == 0) ≡ false
-has_byte front last =
-    ne_eqb (length (front ++ last ∷ [])) 0 (λ is. absurd (omega (arith, length-append front (last ∷ []), is)))
+has_byte front last = grind (arith, ne_eqb, length-append)
 
 -- what holds of each element holds of the front and of the last one
 All-front : {A : Type 0} (P : A → Type 0) (front : List A) (last : A) → All P (front ++ last ∷ []) → All P front
-All-front P front last all k d less =
-    subst P (get_or_append_left front (last ∷ []) d k less)
-    (all k d (omega (arith, length-append front (last ∷ []))))
+All-front P front last all k d less = grind (arith, get_or_append_left, length-append)
 
 All-last : {A : Type 0} (P : A → Type 0) (front : List A) (last : A) → All P (front ++ last ∷ []) → P last
 All-last P front last all =

@@ -1,5 +1,5 @@
 -- A shown name that is read from its front.
-use Rattle.sum_file.proofs.Common.{◌≡◌, ℕ, ◌==◌, false, List, [], ◌∷◌, ◌++◌, Option, Some, None, option_map, sym, ap, ◌∙◌, append_assoc, backslash, unescape, unescaped}
+use Rattle.sum_file.proofs.Common.{arith, ◌≡◌, ℕ, ◌==◌, false, List, [], ◌∷◌, ◌++◌, Option, Some, None, option_map, sym, ap, ◌∙◌, append_assoc, backslash, unescape, unescaped}
 
 -- a byte that is shown as it is
 pub unescaped-plain : (byte : ℕ) (rest : List ℕ) → (byte == backslash) ≡ false
@@ -17,5 +17,4 @@ pub name_more : (whole : Option (List ℕ)) (rest : Option (List ℕ)) (name mor
     → whole ≡ option_map (λ n. name ++ n) (option_map (λ n. byte ∷ n) rest) → more ≡ name ++ byte ∷ []
     → whole ≡ option_map (λ n. more ++ n) rest
 name_more whole None name more byte is pushed = is
-name_more whole (Some rest) name more byte is pushed =
-    is ∙ ap Some (sym (append_assoc name (byte ∷ []) rest) ∙ ap (λ n. n ++ rest) (sym pushed))
+name_more whole (Some rest) name more byte is pushed = grind (arith, append_assoc)

@@ -7,10 +7,7 @@ find-range : (test : ℕ → Bool) (from count place : ℕ) → place < count �
     → ((k : ℕ) → k < place → test (from + k) ≡ false)
     → find test (range_with_len from count) ≡ Some (from + place)
 find-range test from zero place within passes before = absurd (omega arith)
-find-range test from (suc count) zero within passes before =
-    let here : from + 0 ≡ from = omega arith in
-    ap (λ b. cond b (Some from) (find test (range_with_len (from + 1) count))) (ap test (sym here) ∙ passes)
-    ∙ ap Some (sym here)
+find-range test from (suc count) zero within passes before = grind arith
 find-range test from (suc count) (suc place) within passes before =
     let here : from + 0 ≡ from = omega arith in
     let moved : (k : ℕ) → from + suc k ≡ from + 1 + k = λ k. omega arith in

@@ -38,10 +38,7 @@ found-is name (first ∷ sums) sum is =
 digest_named-listed : (sums : List SumData) (sum : SumData) → all_agree sums ≡ true → Contains sums sum
     → digest_named sum.name sums ≡ Some sum.digest
 digest_named-listed [] sum together listed = absurd (omega (arith, listed.1))
-digest_named-listed (first ∷ sums) sum together (zero, within, is) =
-    ap (option_map (λ (s : SumData). s.digest))
-    (cond-true (bytes_eq first.name sum.name) (Some first) (found sum.name sums)
-    ((bytes_eq-Decides first.name sum.name).1 (ap (λ (s : SumData). s.name) is)) ∙ ap Some is)
+digest_named-listed (first ∷ sums) sum together (zero, within, is) = grind (arith, cond-true, bytes_eq-Decides)
 digest_named-listed (first ∷ sums) sum together (suc k, within, is) =
     let parts = and_parts (list_all (agree first) sums) (all_agree sums) together in
     elim (cases_Bool (bytes_eq first.name sum.name)) [

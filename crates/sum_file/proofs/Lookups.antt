@@ -1,22 +1,14 @@
 -- Finding a name among sums.
-use Rattle.sum_file.proofs.Common.{◌≡◌, ℕ, Bool, true, false, cond, List, [], ◌∷◌, map, Option, Some, option_map, refl, sym, ap, ◌∙◌, Bor, find, bytes_eq, Sum, SumData, data_of, digest_named}
+use Rattle.sum_file.proofs.Common.{arith, ◌≡◌, ℕ, Bool, true, false, cond, List, [], ◌∷◌, map, Option, Some, option_map, refl, sym, ap, ◌∙◌, Bor, find, bytes_eq, Sum, SumData, data_of, digest_named}
 
 find-map : {A B : Type 0} (shown : A → B) (test : B → Bool) (xs : List A)
     → find test (map shown xs) ≡ option_map shown (find (λ x. test (shown x)) xs)
 find-map shown test [] = refl
-find-map shown test (x ∷ xs) =
-    elim (test (shown x))
-    as (λ b. cond b (Some (shown x)) (find test (map shown xs))
-    ≡ option_map shown (cond b (Some x) (find (λ y. test (shown y)) xs))) [
-      | true ↦ refl
-      | false ↦ find-map shown test xs
-    ]
+find-map shown test (x ∷ xs) = grind (arith, map, find-map shown test xs)
 
 -- the digest of the sum that is found
 pub digest_found : (sums : List Sum) (name : List ℕ) (found : Option (Bor Sum))
     → option_map (λ sum. sum.now) found ≡ find (λ sum. bytes_eq sum.name.items name) sums
     → option_map (λ sum. sum.digest) (option_map data_of (option_map (λ sum. sum.now) found))
     ≡ digest_named name (map data_of sums)
-digest_found sums name found is =
-    ap (option_map (λ (sum : SumData). sum.digest))
-    (ap (option_map data_of) is ∙ sym (find-map data_of (λ sum. bytes_eq sum.name name) sums))
+digest_found sums name found is = grind (arith, find-map)

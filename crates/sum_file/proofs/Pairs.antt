@@ -3,38 +3,16 @@ use Rattle.sum_file.proofs.Common.{Bool, ◌≡◌, zero, suc, inl, inr, true, f
 
 -- the test of two sums
 agree-from : (a b : SumData) → Agree a b → agree a b ≡ true
-agree-from a b agrees =
-    elim (cases_Bool (bytes_eq a.name b.name)) [
-      | inl same ↦
-          or_right (not (bytes_eq a.name b.name)) (bytes_eq a.digest b.digest)
-          ((bytes_eq-Decides a.digest b.digest).1 (agrees ((bytes_eq-Decides a.name b.name).0 same)))
-      | inr other ↦
-          or_left (not (bytes_eq a.name b.name)) (bytes_eq a.digest b.digest)
-          (not_from_false (bytes_eq a.name b.name) other)
-    ]
+agree-from a b agrees = grind (arith, cases_Bool, or_right, not, bytes_eq-Decides, or_left, not_from_false)
 
 pub Agree-from : (a b : SumData) → agree a b ≡ true → Agree a b
-Agree-from a b passes name =
-    elim (or_cases (not (bytes_eq a.name b.name)) (bytes_eq a.digest b.digest) passes) [
-      | inl other ↦
-          let same = (bytes_eq-Decides a.name b.name).1 name in
-          absurd (true≢false (sym same ∙ not-true (bytes_eq a.name b.name) other))
-      | inr same ↦ (bytes_eq-Decides a.digest b.digest).0 same
-    ]
+Agree-from a b passes name = grind (arith, or_cases, not, bytes_eq-Decides, true≢false, not-true)
 
 Disagree-from : (a b : SumData) → agree a b ≡ false → Disagree a b
-Disagree-from a b fails =
-    let parts = or_parts (not (bytes_eq a.name b.name)) (bytes_eq a.digest b.digest) fails in (
-      (bytes_eq-Decides a.name b.name).0 (not-false (bytes_eq a.name b.name) parts.0),
-      λ same. true≢false (sym ((bytes_eq-Decides a.digest b.digest).1 same) ∙ parts.1),
-    )
+Disagree-from a b fails = grind (arith, or_parts, not, bytes_eq-Decides, not-false, true≢false)
 
 agree-Disagree : (a b : SumData) → Disagree a b → agree a b ≡ false
-agree-Disagree a b disagree =
-    elim (cases_Bool (agree a b)) [
-      | inl passes ↦ absurd (disagree.1 (Agree-from a b passes disagree.0))
-      | inr fails ↦ fails
-    ]
+agree-Disagree a b disagree = grind (arith, cases_Bool, Agree-from)
 
 -- the test of all pairs
 pub all_agree-from : (sums : List SumData) → AllPairs Agree sums → all_agree sums ≡ true
@@ -49,8 +27,7 @@ pub AllPairs-from : (sums : List SumData) → all_agree sums ≡ true → AllPai
 AllPairs-from [] passes i j d before within = absurd (omega arith)
 AllPairs-from (sum ∷ later) passes zero zero d before within = absurd (omega arith)
 AllPairs-from (sum ∷ later) passes zero (suc j) d before within =
-    let parts = and_parts (list_all (agree sum) later) (all_agree later) passes in
-    Agree-from sum (get_or later j d) (AllPass-from_list_all (agree sum) later parts.0 j d (omega arith))
+    grind (arith, and_parts, Agree-from, get_or, AllPass-from_list_all)
 AllPairs-from (sum ∷ later) passes (suc i) zero d before within = absurd (omega arith)
 AllPairs-from (sum ∷ later) passes (suc i) (suc j) d before within =
     let parts = and_parts (list_all (agree sum) later) (all_agree later) passes in
@@ -73,11 +50,4 @@ Any-disagrees (first ∷ sums) sum fails =
 
 pub fails-from_Any : (sums : List SumData) (sum : SumData) → Any (λ s. Disagree s sum) sums
     → each_agrees sums sum ≡ false
-fails-from_Any sums sum any =
-    elim (cases_Bool (each_agrees sums sum)) [
-      | inl passes ↦
-          let at = AllPass-from_list_all (λ (s : SumData). agree s sum) sums passes any.0 any.1 any.2 in
-          let is : agree any.1 sum ≡ true = ap (λ (s : SumData). agree s sum) (sym any.3) ∙ at in
-          absurd (true≢false (sym is ∙ agree-Disagree any.1 sum any.4))
-      | inr fails ↦ fails
-    ]
+fails-from_Any sums sum any = grind (arith, cases_Bool, AllPass-from_list_all, true≢false, agree-Disagree)

@@ -1,5 +1,5 @@
 -- What the sums of a text and its first bad line are, in relations.
-use Rattle.sum_file.proofs.Common.{◌≡◌, ◌≢◌, ℕ, ◌+◌, ◌⊎◌, ◌↔◌, inl, inr, cond, List, [], ◌∷◌, ◌++◌, length, map, Option, Some, None, option_and_then, Ok, Err, ok_or, refl, sym, ap, ◌∙◌, subst, AllPairs, Any, cases_Bool, cond-true, append-nil, append_snoc, SumFault, Form, Memory, line_of, IsFirstBad, agreed, first_bad, lines_of, sums_of, Agree, Disagree, SumData}
+use Rattle.sum_file.proofs.Common.{arith, ◌≡◌, ◌≢◌, ℕ, ◌+◌, ◌⊎◌, ◌↔◌, inl, inr, cond, List, [], ◌∷◌, ◌++◌, length, map, Option, Some, None, option_and_then, Ok, Err, ok_or, refl, sym, ap, ◌∙◌, subst, AllPairs, Any, cases_Bool, cond-true, append-nil, append_snoc, SumFault, Form, Memory, line_of, IsFirstBad, agreed, first_bad, lines_of, sums_of, Agree, Disagree, SumData}
 use Rattle.sum_file.proofs.Agreement.{agreed-from, agreed-push, agreed-said, length-agreed, map-said, with_one}
 use Rattle.sum_file.proofs.FirstBad.{first_bad_line}
 use Rattle.sum_file.proofs.Pairs.{AllPairs-from, Any-disagrees, all_agree-from, each_agrees, fails-from_Any}
@@ -33,20 +33,13 @@ bad_by : (said : Option SumData) (sums : List SumData)
     → option_and_then (with_one sums) said ≡ None
     → (said ≡ None) ⊎ ((sum : SumData) × (said ≡ Some sum) × Any (λ earlier. Disagree earlier sum) sums)
 bad_by None sums is = inl refl
-bad_by (Some sum) sums is =
-    elim (cases_Bool (each_agrees sums sum)) [
-      | inl passes ↦ cc (sym (cond-true (each_agrees sums sum) (Some (sums ++ sum ∷ [])) None passes) ∙ is)
-      | inr fails ↦ inr (sum, refl, Any-disagrees sums sum fails)
-    ]
+bad_by (Some sum) sums is = grind (arith, cases_Bool, each_agrees, cond-true, Any-disagrees)
 
 none_by : (said : Option SumData) (sums : List SumData)
     → (said ≡ None) ⊎ ((sum : SumData) × (said ≡ Some sum) × Any (λ earlier. Disagree earlier sum) sums)
     → option_and_then (with_one sums) said ≡ None
-none_by said sums (inl none) =
-    ap (option_and_then (with_one sums)) none
-none_by said sums (inr some) =
-    ap (option_and_then (with_one sums)) some.1
-    ∙ ap (λ b. cond b (Some (sums ++ some.0 ∷ [])) None) (fails-from_Any sums some.0 some.2)
+none_by said sums (inl none) = grind (arith, option_and_then, with_one)
+none_by said sums (inr some) = grind (arith, option_and_then, with_one, fails-from_Any)
 
 -- lines that aren't all good have a first bad one
 cases_Option : {A : Type 0} (o : Option A) → (o ≡ None) ⊎ ((x : A) × (o ≡ Some x))
@@ -106,5 +99,4 @@ sums_of-refused text number = (
 
 -- and for nothing else
 pub sums_of-never_Memory : (text : List ℕ) → sums_of text ≢ Err Memory
-sums_of-never_Memory text is =
-    let from = none_from (agreed (lines_of text)) (Form (first_bad (lines_of text))) Memory is in cc
+sums_of-never_Memory text is = grind (arith, none_from)

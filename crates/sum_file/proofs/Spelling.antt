@@ -14,11 +14,7 @@ is_marked mark (inl is) = or_left (mark == space) (mark == asterisk) (eq-eqb mar
 is_marked mark (inr is) = or_right (mark == space) (mark == asterisk) (eq-eqb mark asterisk is)
 
 marked_by : (mark : ℕ) → (mark == space || mark == asterisk) ≡ true → IsMark mark
-marked_by mark is =
-    elim (or_cases (mark == space) (mark == asterisk) is) [
-      | inl text ↦ inl (eqb-true mark space text)
-      | inr binary ↦ inr (eqb-true mark asterisk binary)
-    ]
+marked_by mark is = grind (arith, or_cases, eqb-true)
 
 -- the parts of a line that is spelled of them
 pub parts_of-spelled : (digits : List ℕ) (mark : ℕ) (shown : List ℕ) → length digits ≡ 64 → IsMark mark
@@ -51,14 +47,7 @@ record HasParts (line : List ℕ) (parts : List ℕ × List ℕ) : Type 0 where
 -- a line and what stands at and behind two places
 cut_at : (line : List ℕ) (n : ℕ) → n + 1 < length line
     → line ≡ take n line ++ get_or line n 0 ∷ get_or line (n + 1) 0 ∷ drop (n + 2) line
-cut_at line n within =
-    let two : drop n line ≡ get_or line n 0 ∷ get_or line (n + 1) 0 ∷ drop (n + 2) line =
-    drop-cons line n 0 (omega arith)
-    ∙ ap (λ k. get_or line n 0 ∷ drop k line) (let e : suc n ≡ n + 1 = omega arith in e)
-    ∙ ap (λ l. get_or line n 0 ∷ l) (drop-cons line (n + 1) 0 within)
-    ∙ ap (λ k. get_or line n 0 ∷ get_or line (n + 1) 0 ∷ drop k line)
-    (let e : suc (n + 1) ≡ n + 2 = omega arith in e) in
-    sym (take-append-drop n line) ∙ ap (λ l. take n line ++ l) two
+cut_at line n within = grind (arith, get_or, drop-cons, take-append-drop)
 
 parted : (line : List ℕ) (parts : List ℕ × List ℕ) → parts_of line ≡ Some parts → HasParts line parts
 parted line parts is =
@@ -86,20 +75,14 @@ parted line parts is =
 pub sum_with-is : (escaped : Bool) (digits shown digest name : List ℕ) → decode_sized digits 32 ≡ Ok digest
     → name_of escaped shown ≡ Some name
     → sum_with escaped (digits, shown) ≡ Some (record { digest = digest; name = name })
-sum_with-is escaped digits shown digest name decoded named =
-    ap (λ r. option_and_then (λ d. option_map (λ n. record { digest = d; name = n }) (name_of escaped shown))
-    (result_ok r))
-    decoded
-    ∙ ap (option_map (λ n. record { digest = digest; name = n })) named
+sum_with-is escaped digits shown digest name decoded named = grind (arith, option_and_then, named)
 
 sum_from : (r : Result (List ℕ) FromHexError) (o : Option (List ℕ)) (sum : SumData)
     → option_and_then (λ d. option_map (λ n. record { digest = d; name = n }) o) (result_ok r) ≡ Some sum
     → (r ≡ Ok sum.digest) × (o ≡ Some sum.name)
 sum_from (Err e) o sum is = cc
 sum_from (Ok d) None sum is = cc
-sum_from (Ok d) (Some n) sum is =
-    let s : SumData = record { digest = d; name = n } in
-    let e : s ≡ sum = cc in (ap (λ x. Ok x.digest) e, ap (λ x. Some x.name) e)
+sum_from (Ok d) (Some n) sum is = grind arith
 
 -- digits that decode don't begin with a backslash
 first_digit : (digits rest bytes : List ℕ) → decode_sized digits 32 ≡ Ok bytes
@@ -144,13 +127,11 @@ followed-some : (byte : Option ℕ) (rest : Option (List ℕ)) (name : List ℕ)
     → followed byte rest ≡ Some name → 0 < length name
 followed-some None rest name is = cc
 followed-some (Some byte) None name is = cc
-followed-some (Some byte) (Some rest) name is =
-    let e : byte ∷ rest ≡ name = cc in subst (λ n. 0 < length n) e (omega arith)
+followed-some (Some byte) (Some rest) name is = grind arith
 
 one_byte : (b : Bool) (byte : ℕ) (name : List ℕ) → cond b None (Some (byte ∷ [])) ≡ Some name → 0 < length name
 one_byte true byte name is = cc
-one_byte false byte name is =
-    let e : byte ∷ [] ≡ name = cc in subst (λ n. 0 < length n) e (omega arith)
+one_byte false byte name is = grind arith
 
 one_followed : (b : Bool) (first second : Option ℕ) (rest next : Option (List ℕ)) (name : List ℕ)
     → cond b (followed first rest) (followed second next) ≡ Some name → 0 < length name

@@ -9,10 +9,7 @@ use Rattle.sum_file.proofs.Written.{Says-written, clean_written, is_clean, is_en
 -- clean bytes have no line feed, and no carriage return at their end
 no_feed : (bytes : List ℕ) → is_clean bytes ≡ true → HasNoFeed bytes
 no_feed bytes clean k d less is =
-    let byte = get_or bytes k d in
-    let passes = AllPass-from_list_all (λ b. not (is_ending b)) bytes clean k d less in
-    let ends = or_parts (byte == line_feed) (byte == carriage_return) (not-true (is_ending byte) passes) in
-    true≢false (sym (eq-eqb byte line_feed is) ∙ ends.0)
+    grind (arith, get_or, AllPass-from_list_all, not, is_ending, or_parts, not-true, true≢false, eq-eqb)
 
 no_return : (bytes : List ℕ) → is_clean bytes ≡ true → without_last carriage_return bytes ≡ bytes
 no_return bytes clean =
@@ -34,8 +31,7 @@ no_return bytes clean =
 module _ (mark : ℕ) (marked : IsMark mark) where
   no_feeds : (sums : List SumData) → All IsWritable sums → All HasNoFeed (map (written mark) sums)
   no_feeds [] writable k d less = absurd (omega arith)
-  no_feeds (sum ∷ sums) writable zero d less =
-      no_feed (written mark sum) (clean_written mark sum marked (All-head IsWritable sum sums writable))
+  no_feeds (sum ∷ sums) writable zero d less = grind (arith, no_feed, clean_written, All-head)
   no_feeds (sum ∷ sums) writable (suc k) d less =
       no_feeds sums (All-tail IsWritable sum sums writable) k d (omega arith)
 
@@ -58,10 +54,4 @@ module _ (mark : ℕ) (marked : IsMark mark) where
   pub sums_of-text_of : (sums : List SumData) → All IsWritable sums → AllPairs Agree sums
       → sums_of (text_of mark sums) ≡ Ok sums
   sums_of-text_of sums writable agreeing =
-      let lines : lines_of (text_of mark sums) ≡ map (written mark) sums =
-      lines_of-ended (map (written mark) sums) (no_feeds sums writable) ∙ stripped sums writable in
-      ap (λ l. ok_or (agreed l) (Form (first_bad (lines_of (text_of mark sums))))) lines
-      ∙ ap (λ s. ok_or (option_and_then if_agree s) (Form (first_bad (lines_of (text_of mark sums)))))
-      (said sums writable)
-      ∙ ap (λ b. ok_or (cond b (Some sums) None) (Form (first_bad (lines_of (text_of mark sums)))))
-      (all_agree-from sums agreeing)
+      grind (arith, map, lines_of-ended, no_feeds, stripped, ok_or, option_and_then, if_agree, said, all_agree-from)

@@ -1,5 +1,5 @@
 -- One turn of the reading of lines, and its end.
-use Rattle.sum_file.proofs.Common.{◌≡◌, ℕ, ◌+◌, ◌<◌, ◌==◌, Ok, Err, ok_or, Bool, true, false, cond, List, [], ◌∷◌, ◌++◌, length, take, drop, map, get_or, Some, None, option_and_then, sym, ap, ◌∙◌, Bor, length-map, map-append, take_more, take-append-drop, list_all-map, list_all, slice_split, Form, Sum, line_of, carriage_return, line_feed, agreed, first_bad, lines_of, sums_of, without_last, SumData, agree, data_of}
+use Rattle.sum_file.proofs.Common.{arith, ◌≡◌, ℕ, ◌+◌, ◌<◌, ◌==◌, Ok, Err, ok_or, Bool, true, false, cond, List, [], ◌∷◌, ◌++◌, length, take, drop, map, get_or, Some, None, option_and_then, sym, ap, ◌∙◌, Bor, length-map, map-append, take_more, take-append-drop, list_all-map, list_all, slice_split, Form, Sum, line_of, carriage_return, line_feed, agreed, first_bad, lines_of, sums_of, without_last, SumData, agree, data_of}
 use Rattle.std.proofs.lemmas.Simd.{map-map}
 use Rattle.sum_file.proofs.Agreement.{agreed-push, with_one}
 use Rattle.sum_file.proofs.Cuts.{lines_of-some}
@@ -14,28 +14,19 @@ pub line_added : (done : List (List ℕ)) (line : List ℕ) (sums : List Sum) (s
     → agreed done ≡ Some (map data_of sums) → Some (data_of sum) ≡ line_of line → agrees_with sums sum ≡ true
     → agreed (done ++ line ∷ []) ≡ Some (map data_of (sums ++ sum ∷ []))
 line_added done line sums sum said is passes =
-    agreed-push done line (map data_of sums) said
-    ∙ ap (option_and_then (with_one (map data_of sums))) (sym is)
-    ∙ ap (λ b. cond b (Some (map data_of sums ++ data_of sum ∷ [])) None)
-    (list_all-map (λ o. agree o (data_of sum)) data_of sums ∙ passes)
-    ∙ ap Some (sym (map-append data_of sums (sum ∷ [])))
+    grind (arith, agreed-push, map, option_and_then, with_one, list_all-map, map-append)
 
 -- a line that says nothing is bad
 pub line_without_sum : (done : List (List ℕ)) (line : List ℕ) (sums : List Sum)
     → agreed done ≡ Some (map data_of sums) → None ≡ line_of line → agreed (done ++ line ∷ []) ≡ None
-line_without_sum done line sums said is =
-    agreed-push done line (map data_of sums) said
-    ∙ ap (option_and_then (with_one (map data_of sums))) (sym is)
+line_without_sum done line sums said is = grind (arith, agreed-push, map, option_and_then, with_one)
 
 -- a line that disagrees with an earlier one is bad
 pub line_that_disagrees : (done : List (List ℕ)) (line : List ℕ) (sums : List Sum) (sum : Sum)
     → agreed done ≡ Some (map data_of sums) → Some (data_of sum) ≡ line_of line → agrees_with sums sum ≡ false
     → agreed (done ++ line ∷ []) ≡ None
 line_that_disagrees done line sums sum said is fails =
-    agreed-push done line (map data_of sums) said
-    ∙ ap (option_and_then (with_one (map data_of sums))) (sym is)
-    ∙ ap (λ b. cond b (Some (map data_of sums ++ data_of sum ∷ [])) None)
-    (list_all-map (λ o. agree o (data_of sum)) data_of sums ∙ fails)
+    grind (arith, agreed-push, map, option_and_then, with_one, list_all-map)
 
 -- the lines so far, the next one, and those below it are the lines of the parts
 lines_parted : (f : List ℕ → List ℕ) (parts : List (List ℕ))

@@ -1,5 +1,5 @@
 -- The line that `sha256sum` writes.
-use Rattle.sum_file.proofs.Common.{◌≡◌, ℕ, ◌==◌, inl, inr, Bool, true, false, not, ◌&&◌, ◌||◌, List, [], ◌∷◌, ◌++◌, get_or, Some, Ok, option_map, subst, refl, sym, ap, ◌∙◌, is_ok, true≢false, list_all, and_from, cases_Bool, cond_both, cond-true, cond-false, eqb-true, or_cases, or_from, or_parts, false_from_ne_true, not_from_false, list_all-append, list_all-from_AllPass, decode_sized, encode_lower, is_hex_digit, IsOk-decode_sized, decode_sized-encode_lower, IsMark, Says, space, written, backslash, carriage_return, escape, escaped, has_special, is_special, line_feed, unescape, unescaped, IsWritable, SumData}
+use Rattle.sum_file.proofs.Common.{arith, ◌≡◌, ℕ, ◌==◌, inl, inr, Bool, true, false, not, ◌&&◌, ◌||◌, List, [], ◌∷◌, ◌++◌, get_or, Some, Ok, option_map, subst, refl, sym, ap, ◌∙◌, is_ok, true≢false, list_all, and_from, cases_Bool, cond_both, cond-true, cond-false, eqb-true, or_cases, or_from, or_parts, false_from_ne_true, not_from_false, list_all-append, list_all-from_AllPass, decode_sized, encode_lower, is_hex_digit, IsOk-decode_sized, decode_sized-encode_lower, IsMark, Says, space, written, backslash, carriage_return, escape, escaped, has_special, is_special, line_feed, unescape, unescaped, IsWritable, SumData}
 use Rattle.sum_file.proofs.Escapes.{unescaped-pair, unescaped-plain}
 
 -- a byte that no line has within it or at its end
@@ -32,10 +32,7 @@ pair_of byte special =
     ]
 
 plain : (byte : ℕ) → is_special byte ≡ false → escape byte ≡ byte ∷ []
-plain byte is =
-    let parts = or_parts (byte == backslash || byte == line_feed) (byte == carriage_return) is in
-    let first = or_parts (byte == backslash) (byte == line_feed) parts.0 in
-    rw (first.0, first.1, parts.1)
+plain byte is = grind (arith, or_parts)
 
 -- an escaped name is read back
 pub unescaped-escaped : (name : List ℕ) → unescaped (escaped name) ≡ Some name
@@ -65,21 +62,7 @@ escaped-plain (byte ∷ name) is =
 -- the written line says the sum
 pub Says-written : (mark : ℕ) (sum : SumData) → IsMark mark → IsWritable sum → Says (written mark sum) sum
 Says-written mark sum marked writable =
-    let spelled = encode_lower sum.digest ++ space ∷ mark ∷ escaped sum.name in
-    record {
-      digits = encode_lower sum.digest;
-      mark = mark;
-      shown = escaped sum.name;
-      digest_of_digits = decode_sized-encode_lower sum.digest 32 writable.digest_long writable.digest_bytes;
-      marked = marked;
-      named = writable.named;
-      spelled = elim (cases_Bool (has_special sum.name)) [
-        | inl special ↦
-            inr (cond-true (has_special sum.name) (backslash ∷ spelled) spelled special, unescaped-escaped sum.name)
-        | inr is ↦
-            inl (cond-false (has_special sum.name) (backslash ∷ spelled) spelled is, escaped-plain sum.name is)
-      ];
-    }
+    grind (arith, decode_sized-encode_lower, cases_Bool, cond-true, unescaped-escaped, cond-false, escaped-plain)
 
 -- an escaped name is clean
 clean_escape : (byte : ℕ) → is_clean (escape byte) ≡ true
@@ -97,18 +80,11 @@ clean_escape byte =
 
 clean_escaped : (name : List ℕ) → is_clean (escaped name) ≡ true
 clean_escaped [] = refl
-clean_escaped (byte ∷ name) =
-    list_all-append (λ b. not (is_ending b)) (escape byte) (escaped name)
-    ∙ and_from (is_clean (escape byte)) (is_clean (escaped name)) (clean_escape byte) (clean_escaped name)
+clean_escaped (byte ∷ name) = grind (arith, list_all-append, not, and_from, clean_escape, clean_escaped name)
 
 -- a digit ends no line
 digit_is_clean : (byte : ℕ) → is_hex_digit byte ≡ true → not (is_ending byte) ≡ true
-digit_is_clean byte digit =
-    not_from_false (is_ending byte) (false_from_ne_true (is_ending byte) λ ends.
-    elim (or_cases (byte == line_feed) (byte == carriage_return) ends) [
-      | inl is ↦ true≢false (sym digit ∙ ap is_hex_digit (eqb-true byte line_feed is))
-      | inr is ↦ true≢false (sym digit ∙ ap is_hex_digit (eqb-true byte carriage_return is))
-    ])
+digit_is_clean byte digit = grind (arith, not_from_false, false_from_ne_true, or_cases, true≢false, eqb-true)
 
 clean_digits : (digits bytes : List ℕ) → decode_sized digits 32 ≡ Ok bytes → is_clean digits ≡ true
 clean_digits digits bytes decoded =

@@ -5,11 +5,7 @@ use Rattle.pcap_reader.proofs.Prefix.{header_fault}
 use Rattle.pcap_reader.proofs.capture.read_header.Goals as goal
 
 pub returns-in_err-format-clause-counts_fault : goal.returns-in_err-format-clause-counts_fault
-returns-in_err-format-clause-counts_fault g c =
-    let p = err_from_is_err_and c.from_residual.result c.from_residual.ensures.1 in
-    let e = c.in_err-format.field-0.0 in
-    let fault = header_fault c.held.result.now e (sym c.in_err-format.ensures.value) in
-    rw (p.1, p.2) (header_fault_counts e _ _ fault c.in-Ok.ensures.counts_fault)
+returns-in_err-format-clause-counts_fault g c = grind (arith, err_from_is_err_and, header_fault, header_fault_counts)
 
 pub returns-in_err-format-clause-refusal : goal.returns-in_err-format-clause-refusal
 returns-in_err-format-clause-refusal g c =
@@ -45,11 +41,10 @@ returns-in_err-format-clause-at_most g c =
     let fault = header_fault c.held.result.now e (sym c.in_err-format.ensures.value) in
     let size = ap length pulls.joined ∙ length-append (held_bytes s) pulls.pulled in
     let room : i.end ≤ buffer_size = omega (arith, i.in_bounds, i.roomy) in
-    let most : length pulls.pulled ≤ buffer_size = omega (arith, length-held i) in
     rw (p.1, p.2) (header_fault_most e _ _ fault (record {
       taken = pulls.pulled;
       consumed = pulls.consumed;
-      at_most = most;
+      at_most = omega (arith, length-held i);
       counted = pulls.counted;
     }))
 
@@ -68,32 +63,3 @@ returns-clause-known g c =
     let value = ap header_of (sym c.held.ensures.value) ∙ sym c.in_ok-format.ensures.value in
     header_begun (state s.feed).remaining (state k.feed).remaining (held_bytes i) (held_bytes k)
     c.in_ok-format.format keeps' long value c.consume.ensures.rest
-
-pub hold-requires-clause-limit : goal.hold-requires-clause-limit
-hold-requires-clause-limit g c = rw c.requires.none_consumed (omega arith)
-
-pub hold-requires-clause-faults : goal.hold-requires-clause-faults
-hold-requires-clause-faults g c = c.requires.faults
-
-pub returns-in_default-clause-takes : goal.returns-in_default-clause-takes
-returns-in_default-clause-takes g c = Refills-takes g.F.Feed.state _ _ _ _ c.hold.ensures
-
-pub returns-in_err-format-clause-known : goal.returns-in_err-format-clause-known
-returns-in_err-format-clause-known g c =
-    let p = err_from_is_err_and c.from_residual.result c.from_residual.ensures.1 in rw p.1 tt
-
-pub returns-in_err-format-clause-place : goal.returns-in_err-format-clause-place
-returns-in_err-format-clause-place g c =
-    let p = err_from_is_err_and c.from_residual.result c.from_residual.ensures.1 in rw p.1 tt
-
-pub returns-in_err-format-clause-takes : goal.returns-in_err-format-clause-takes
-returns-in_err-format-clause-takes g c = Refills-takes g.F.Feed.state _ _ _ _ c.hold.ensures
-
-pub returns-clause-place : goal.returns-clause-place
-returns-clause-place g c =
-    c.consume.ensures.place ∙ ap (λ n. n + 24) (c.hold.ensures.place ∙ c.requires.none_consumed)
-
-pub returns-clause-takes : goal.returns-clause-takes
-returns-clause-takes g c =
-    subst (λ s. TakesFrom (supply_of g.F.Feed.state c.args.input.now) s) (sym c.consume.ensures.supply)
-    (Refills-takes g.F.Feed.state _ _ _ _ c.hold.ensures)

@@ -7,12 +7,7 @@ pub returns-then-number-ge-MOST_RECORDS-clause-fault : goal.returns-then-number-
 returns-then-number-ge-MOST_RECORDS-clause-fault c rest end = fault_at_most _ _ _ _ (omega arith)
 
 pub returns-then-bytes-lt-RECORD_HEADER-clause-fault : goal.returns-then-bytes-lt-RECORD_HEADER-clause-fault
-returns-then-bytes-lt-RECORD_HEADER-clause-fault c rest end =
-    let few : c.args.number < most_records = omega arith in
-    let short : length c.args.bytes.now < 16 = omega arith in
-    let all : length (c.args.bytes.now ++ rest) < 16 =
-    omega (arith, length-append c.args.bytes.now rest, ap length (end few short)) in
-    fault_at_short _ _ _ _ few all
+returns-then-bytes-lt-RECORD_HEADER-clause-fault c rest end = grind (arith, length-append, fault_at_short)
 
 pub returns-clause-fault : goal.returns-clause-fault
 returns-clause-fault c =

@@ -3,10 +3,7 @@ use Rattle.line_writer.proofs.Threes.{decimal_nine_more, nine_more, written}
 use Rattle.line_writer.proofs.line.Line.put_digits.Goals as goal
 
 pub put_nine_digits-requires-clause-room : goal.put_nine_digits-requires-clause-room
-put_nine_digits-requires-clause-room c =
-    let l = c.loop-left in
-    let more = nine_more l.left (omega arith) l.auto.left-fits.fits in
-    omega arith
+put_nine_digits-requires-clause-room c = grind (arith, nine_more)
 
 pub loop-left-preserved : goal.loop-left-preserved
 loop-left-preserved c =

@@ -3,11 +3,7 @@ use Rattle.line_writer.proofs.Pairs.{pair_at, encode_at, encode_none}
 use Rattle.line_writer.proofs.line.Line.put_hexadecimal.Goals as goal
 
 pub loop-left-init : goal.loop-left-init
-loop-left-init c = record {
-  within = omega arith;
-  text = rw (drop_all (length c.args.bytes.now) c.args.bytes.now (omega arith), encode_none) refl;
-  grown = omega arith;
-}
+loop-left-init c = grind (arith, drop_all, encode_none)
 
 pub loop-left-preserved : goal.loop-left-preserved
 loop-left-preserved c =

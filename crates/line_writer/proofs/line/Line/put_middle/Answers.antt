@@ -3,10 +3,7 @@ use Rattle.line_writer.proofs.Threes.{decimal_more, padded_three, three_more, wr
 use Rattle.line_writer.proofs.line.Line.put_middle.Goals as goal
 
 pub put_three_digits-requires-clause-room : goal.put_three_digits-requires-clause-room
-put_three_digits-requires-clause-room c =
-    let l = c.loop-left in
-    let more = three_more l.left c.loop-left-test.true (omega arith) in
-    omega arith
+put_three_digits-requires-clause-room c = grind (arith, three_more)
 
 pub loop-left-preserved : goal.loop-left-preserved
 loop-left-preserved c =

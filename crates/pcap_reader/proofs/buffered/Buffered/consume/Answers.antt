@@ -12,6 +12,4 @@ returns-clause-rest g c =
 pub returns-clause-last : goal.returns-clause-last
 returns-clause-last g c n k whole =
     let s = c.args.self.now in
-    let start : s.start + c.args.count ≡ s.start + (n + k) = omega arith in
-    let fits : s.start + (n + k) ≤ s.end = omega arith in
-    range_lent s.buffer.items s.buffer.items s.start (s.start + c.args.count) s.end n k refl start fits
+    range_lent s.buffer.items s.buffer.items s.start (s.start + c.args.count) s.end n k refl (omega arith) (omega arith)

@@ -70,11 +70,9 @@ returns-in_err-head g c =
     let fault = c.in_err-head.ensures in
     let full = eqb-false (length c.held-held.result.now) 0 (sym c.is_empty.ensures ∙ c.if-is_empty.false) in
     let size = ap length c.held-held.ensures.value in
-    let some : 0 < length (held_bytes i) = omega arith in
     let end =
     λ (few : s.given < most_records) (short : length (held_bytes i) < 16).
-    let less : i.end - i.start < c.head_size.result = omega (arith, c.head_size.ensures.header, length-held i) in
-    h.enough less
+    h.enough (omega (arith, c.head_size.ensures.header, length-held i))
     in
     let shows = subst (λ l. ShowsFault s.format s.given s.input.place l e) c.held-held.ensures.value fault.fault in
     let kept = refilled state s.input i h.pulls in
@@ -85,7 +83,7 @@ returns-in_err-head g c =
       next_is = next_fault s.format s.given s.input.place (still_has state s.input)
           (state i.feed).remaining _ (held_bytes i)
           (last_bytes i 0) e
-          kept some end shows;
+          kept (omega arith) end shows;
       may_answer = record_fault_may e fault.record_fault;
       in_time = in_time_fault _ e _ fault.record_fault;
       counts_fault = record_fault_counts e _ _ fault.record_fault h.counts_fault;
@@ -147,7 +145,6 @@ returns-in_err-check_whole g c =
     let size = length-held j in
     let short : length (held_bytes j) < 16 + head.captured =
     omega (arith, c.held.ensures.len, c.in_err-check_whole.ensures.cut_off) in
-    let less : j.end - j.start < c.record_size-size.result = omega (arith, c.record_size-size.ensures) in
     let after = option_map (coming_from s.format s.given j.place) (still_has state j) in
     rw (p.1, p.2, torn) (record {
       lawful = tt;
@@ -156,7 +153,7 @@ returns-in_err-check_whole g c =
       next_is = next_torn s.format s.given s.input.place (still_has state s.input)
           (state j.feed).remaining after (held_bytes j)
           (last_bytes j 0) head
-          kept found.few front.0 front.1 short (k.enough less);
+          kept found.few front.0 front.1 short (k.enough (omega (arith, c.record_size-size.ensures)));
       may_answer = tt;
       in_time = says_nothing _;
       counts_fault = k.counts_fault ∙ h.counts_fault;

@@ -27,7 +27,6 @@ returns-in-Ok c =
     let s = c.args.self.now in
     let head = c.in-Ok.head in
     let found = c.in-Ok.ensures in
-    let long : 0 < length s.rest.now = omega (arith, found.whole) in
     let size : length c.in-Ok.lent.now ≡ head.captured = ap length found.lent
     ∙ simp (length-take, length-drop) (omega (arith, found.whole)) in
     let after = λ (place : ℕ). coming_from s.format (s.given + 1) place c.in-Ok.rest.now in
@@ -38,7 +37,7 @@ returns-in-Ok c =
       next_is = (
         after (s.place + (16 + head.captured)),
         coming_from_read s.format s.given s.place s.rest.now head c.in-Ok.lent.now c.in-Ok.rest.now
-            long found.stands found.head found.lent found.rest,
+            (omega (arith, found.whole)) found.stands found.head found.lent found.rest,
         ap (λ n. Some (after (s.place + (16 + n)))) c.from.ensures,
       );
       may_answer = tt;
@@ -54,13 +53,12 @@ returns-in-Err c =
     let s = c.args.self.now in
     let e = c.in-Err.fault in
     let ne : length s.rest.now ≡ 0 → ⊥ = eqb-false _ _ (sym c.is_empty.ensures ∙ c.if-is_empty.false) in
-    let some : 0 < length s.rest.now = omega arith in
     record {
       lawful = tt;
       numbers = refl;
       lends = refl;
       next_is = next_is_fault _ e _ _
-          (coming_from_fault s.format s.given s.place s.rest.now e some c.in-Err.ensures.fault);
+          (coming_from_fault s.format s.given s.place s.rest.now e (omega arith) c.in-Err.ensures.fault);
       may_answer = record_fault_may e c.in-Err.ensures.record_fault;
       in_time = in_time_fault (Some _) e 0 c.in-Err.ensures.record_fault;
       counts_fault = record_fault_counts e _ _ c.in-Err.ensures.record_fault refl;
