@@ -6,6 +6,10 @@ use Rattle.pairing.specs.declared.exchange.Exchange.{Exchange}
 use Rattle.sample_interval.specs.Exchange.{IsOfSomeClaim}
 use Rattle.error_marks.proofs.MarkPair.{le_from_test, lt_from_test, tests, not_both}
 
+-- a number as 128 bits keep it
+abbrev pub kept : ℤ → ℤ
+kept z = to_z w128 (of_z w128 z)
+
 -- marks whose numbers are equal
 pub same_mark : {place place' error error' : ℤ} → place ≡ place' → error ≡ error' →
     ◌≡◌ {A = Mark} record { place = place; error = error } record { place = place'; error = error' }
@@ -31,49 +35,32 @@ module _ (t a : ℤ) (tick : IsInRange t) (from : pos 0 ≤ℤ a) (to : a ≤ℤ
 
 -- the lesser and the greater of two timestamps
 pub lesser : (a b m : ℤ) → IsInRange a → IsInRange b → m ≡ int_min (to_z w128 (of_z w128 a)) (to_z w128 (of_z w128 b)) →
-    m ≡ int_min a b
-lesser a b m p q is = is ∙ rw (stamp_is a p, stamp_is b q) refl
+    (m ≡ int_min a b) × IsInRange m
+lesser a b m p q is =
+    let kept : m ≡ int_min a b = is ∙ rw (stamp_is a p, stamp_is b q) refl in
+    (kept, record { least = omega (arith, ints, clamps); greatest = omega (arith, ints, clamps) })
 
 pub greater : (a b m : ℤ) → IsInRange a → IsInRange b →
-    m ≡ int_max (to_z w128 (of_z w128 a)) (to_z w128 (of_z w128 b)) →
-    m ≡ int_max a b
-greater a b m p q is = is ∙ rw (stamp_is a p, stamp_is b q) refl
-
-pub lesser_in_range : (a b m : ℤ) → IsInRange a → IsInRange b → m ≡ int_min a b → IsInRange m
-lesser_in_range a b m p q is = record {
-  least = omega (arith, ints, clamps);
-  greatest = omega (arith, ints, clamps);
-}
-
-pub greater_in_range : (a b m : ℤ) → IsInRange a → IsInRange b → m ≡ int_max a b → IsInRange m
-greater_in_range a b m p q is = record {
-  least = omega (arith, ints, clamps);
-  greatest = omega (arith, ints, clamps);
-}
-
-small_mark : (place m d : ℤ) → unsigned_abs place ≤ 2 ^ 71 → IsInRange m → IsInRange d →
-    (unsigned_abs ((place -ℤ m) -ℤ d) ≤ 2 ^ 73) × (unsigned_abs ((place -ℤ m) +ℤ d) ≤ 2 ^ 73)
-small_mark place m d p q r = (omega (arith, ints), omega (arith, ints))
+    m ≡ int_max (to_z w128 (of_z w128 a)) (to_z w128 (of_z w128 b)) → (m ≡ int_max a b) × IsInRange m
+greater a b m p q is =
+    let kept : m ≡ int_max a b = is ∙ rw (stamp_is a p, stamp_is b q) refl in
+    (kept, record { least = omega (arith, ints, clamps); greatest = omega (arith, ints, clamps) })
 
 module _ (x : Exchange) (a : ℤ) (h : IsOfSomeClaim x) (from : pos 0 ≤ℤ a) (to : a ≤ℤ pos (2 ^ 32)) where
   pub low_range : IsWithinRange (low_mark a x)
   low_range =
-      let place : unsigned_abs (x.t1_low -ℤ a) ≤ 2 ^ 71 =
-      rw (← start_is x.t1_low a h.lawful.t1_low from to) (start_small x.t1_low a h.lawful.t1_low from to) in
+      let lawful = h.lawful in
       record {
-        place = omega arith;
-        error = (small_mark (x.t1_low -ℤ a) (int_min x.t2 x.t3) x.distance place
-            (lesser_in_range x.t2 x.t3 (int_min x.t2 x.t3) h.lawful.t2 h.lawful.t3 refl) h.lawful.distance).0;
+        place = omega (arith, ints, lawful.t1_low);
+        error = omega (arith, ints, clamps, lawful.t1_low, lawful.t2, lawful.t3, lawful.distance);
       }
 
   pub high_range : IsWithinRange (high_mark a x)
   high_range =
-      let place : unsigned_abs (x.t4_high +ℤ a) ≤ 2 ^ 71 =
-      rw (← end_is x.t4_high a h.lawful.t4_high from to) (end_small x.t4_high a h.lawful.t4_high from to) in
+      let lawful = h.lawful in
       record {
-        place = omega arith;
-        error = (small_mark (x.t4_high +ℤ a) (int_max x.t2 x.t3) x.distance place
-            (greater_in_range x.t2 x.t3 (int_max x.t2 x.t3) h.lawful.t2 h.lawful.t3 refl) h.lawful.distance).1;
+        place = omega (arith, ints, lawful.t4_high);
+        error = omega (arith, ints, clamps, lawful.t4_high, lawful.t2, lawful.t3, lawful.distance);
       }
 
 pub kept_place : (a : ℤ) → unsigned_abs a ≤ 2 ^ 71 → to_z w128 (of_z w128 a) ≡ a

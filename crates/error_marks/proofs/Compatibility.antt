@@ -1,10 +1,8 @@
 -- Marks are compatible exactly if both ways through them keep the lines below.
-use Rattle.error_marks.proofs.Common.{◌≡◌, ℕ, zero, suc, ◌+◌, ◌-◌, ◌*◌, ◌<◌, ◌≤◌, ℤ, pos, negsuc, ◌-ℤ◌, ◌*ℤ◌, ◌≤ℤ◌, neg_ℤ, ◌↔◌, Bool, true, false, IsTrue, List, IsPermutation, get_or, sym, ◌∙◌, arith, All, ints, by_lt_z, All-permutation, IsPermutation-sym, mul-le-mul_left, billion, IsRate, AllCompatible, KeepsBelow, AllKeepBelow, rising_line, AreCompatible, Mark, ≤ℤ_trans, ≤ℤ_antisymm, ≤ℤ-from_equal, ≤ℤ-from_lt}
+use Rattle.error_marks.proofs.Common.{◌≡◌, ℕ, zero, suc, ◌+◌, ◌-◌, ◌*◌, ◌<◌, ◌≤◌, ℤ, pos, negsuc, ◌-ℤ◌, ◌*ℤ◌, ◌≤ℤ◌, ◌↔◌, Bool, true, false, IsTrue, List, IsPermutation, get_or, sym, ◌∙◌, arith, All, ints, by_lt_z, All-permutation, IsPermutation-sym, mul-le-mul_left, billion, IsRate, AllCompatible, KeepsBelow, AllKeepBelow, rising_line, AreCompatible, Mark, ≤ℤ_trans, ≤ℤ_antisymm, ≤ℤ-from_equal, ≤ℤ-from_lt}
+use Rattle.std.proofs.lemmas.Bool.{false≢true}
 use Rattle.error_marks.specs.declared.direction.Direction.TheVariants.{Falling, Rising}
 use Rattle.error_marks.proofs.MarkPair.{falls_line, rises_line, rising_lines}
-
-pub no_truth : IsTrue false → ⊥
-no_truth t = cc
 
 -- n times a difference is above zero where the difference is
 pub none_above : (n : ℕ) (z : ℤ) → z ≤ℤ pos 0 → (pos n *ℤ z) ≤ℤ pos 0
@@ -23,33 +21,18 @@ some_above n (negsuc x) some h = omega (arith, ints)
 pub no_advance : (n : ℕ) (z : ℤ) → z ≡ pos 0 → (pos n *ℤ z) ≡ pos 0
 no_advance n z e = rw e (omega (arith, ints))
 
-no_more : (a b : ℤ) → (a -ℤ b) ≤ℤ pos 0 → a ≤ℤ b
-no_more a b h = omega (arith, ints)
-
-pub no_less : (a b : ℤ) → a ≤ℤ b → (a -ℤ b) ≤ℤ pos 0
-no_less a b h = omega (arith, ints)
-
-pub none_between : (a b : ℤ) → a ≡ b → (b -ℤ a) ≡ pos 0
-none_between a b h = omega (arith, ints)
-
-upright : (a b : ℤ) → neg_ℤ b ≤ℤ neg_ℤ a → a ≤ℤ b
-upright a b h = omega (arith, ints)
-
 some_ahead : (n : ℕ) (z : ℤ) → pos 0 ≤ℤ z → pos 0 ≤ℤ (pos n *ℤ z)
 some_ahead n (pos x) h = omega (arith, ints)
 some_ahead n (negsuc x) h = absurd (omega (arith, ints))
-
-ahead : (a b : ℤ) → a ≤ℤ b → pos 0 ≤ℤ (b -ℤ a)
-ahead a b h = omega (arith, ints)
 
 -- a low mark that is no higher is compatible wherever it stands
 pub compatible_in_order : (ppb : ℕ) (low high : Mark) → low.error ≤ℤ high.error → AreCompatible ppb low high
 compatible_in_order ppb low high le = record {
   falls = λ before. ≤ℤ_trans _ (pos 0) _
-      (none_above (billion - ppb) (low.error -ℤ high.error) (no_less low.error high.error le))
-      (some_ahead ppb (high.place -ℤ low.place) (ahead low.place high.place before));
+      (none_above (billion - ppb) (low.error -ℤ high.error) (omega (arith, ints)))
+      (some_ahead ppb (high.place -ℤ low.place) (omega (arith, ints)));
   rises = λ after. ≤ℤ_trans _ (pos 0) _
-      (none_above (billion + ppb) (low.error -ℤ high.error) (no_less low.error high.error le))
+      (none_above (billion + ppb) (low.error -ℤ high.error) (omega (arith, ints)))
       (some_ahead ppb (low.place -ℤ high.place) (omega (arith, ints)));
 }
 
@@ -57,10 +40,11 @@ compatible_in_order ppb low high le = record {
 pub at_one_place : (ppb : ℕ) (low high : Mark) → IsRate ppb → low.place ≡ high.place →
     AreCompatible ppb low high ↔ (low.error ≤ℤ high.error)
 at_one_place ppb low high rate same = (
-  λ fits. no_more low.error high.error
-      (some_above (billion - ppb) (low.error -ℤ high.error) (omega arith)
-      (rw (no_advance ppb (high.place -ℤ low.place) (none_between low.place high.place same)) at
-      (fits.falls (≤ℤ-from_equal low.place high.place same)))),
+  λ fits.
+      let none = some_above (billion - ppb) (low.error -ℤ high.error) (omega arith)
+      (rw (no_advance ppb (high.place -ℤ low.place) (omega (arith, ints))) at
+      (fits.falls (≤ℤ-from_equal low.place high.place same))) in
+      omega (arith, ints),
   compatible_in_order ppb low high,
 )
 
@@ -69,28 +53,28 @@ equal_rises : (ppb : ℕ) (low high : Mark) → low.place ≡ high.place → low
     rising_line ppb low ≤ℤ rising_line ppb high
 equal_rises ppb low high same le =
     (rising_lines ppb low high).0
-    (rw (no_advance ppb (low.place -ℤ high.place) (none_between high.place low.place (sym same)))
-    (none_above (billion + ppb) (low.error -ℤ high.error) (no_less low.error high.error le)))
-
-upside_down : (a b : ℤ) → a ≤ℤ b → neg_ℤ b ≤ℤ neg_ℤ a
-upside_down a b h = omega (arith, ints)
+    (rw (no_advance ppb (low.place -ℤ high.place) (omega (arith, ints)))
+    (none_above (billion + ppb) (low.error -ℤ high.error) (omega (arith, ints))))
 
 pub both : (ppb : ℕ) (low high : Mark) → IsRate ppb →
     AreCompatible ppb low high → KeepsBelow Falling ppb low high × KeepsBelow Rising ppb high low
 both ppb low high rate fits = (
   λ before. (falls_line ppb low high before).1 fits,
-  λ behind. upside_down (rising_line ppb low) (rising_line ppb high) (by_lt_z high.place low.place
+  λ behind.
+      let rises : rising_line ppb low ≤ℤ rising_line ppb high = by_lt_z high.place low.place
       (λ after. (rises_line ppb low high after).1 fits)
-      (λ before. equal_rises ppb low high (≤ℤ_antisymm low.place high.place before behind)
-      ((at_one_place ppb low high rate (≤ℤ_antisymm low.place high.place before behind)).0 fits))),
+      (λ before.
+      let same = ≤ℤ_antisymm low.place high.place before behind in
+      equal_rises ppb low high same ((at_one_place ppb low high rate same).0 fits)) in
+      omega (arith, ints),
 )
 
 pub from_both : (ppb : ℕ) (low high : Mark) → KeepsBelow Falling ppb low high → KeepsBelow Rising ppb high low →
     AreCompatible ppb low high
-from_both ppb low high falling rising =
-    by_lt_z high.place low.place
-    (λ after. (rises_line ppb low high after).0
-    (upright (rising_line ppb low) (rising_line ppb high) (rising (≤ℤ-from_lt high.place low.place after))))
+from_both ppb low high falling rising = by_lt_z high.place low.place
+    (λ after.
+    let turned = rising (≤ℤ-from_lt high.place low.place after) in
+    (rises_line ppb low high after).0 (omega (arith, ints)))
     (λ before. (falls_line ppb low high before).0 (falling before))
 
 module _ (ppb : ℕ) (rate : IsRate ppb) (lows highs : List Mark) (falling : Bool)
@@ -113,7 +97,7 @@ module _ (ppb : ℕ) (rate : IsRate ppb) (lows highs : List Mark) (falling : Boo
   where_falling rising (from, to) is = (λ t. all_from (f.0 is) (from t), λ all. to (all_rising all))
 
   pub where_not : falling ≡ false → IsTrue falling ↔ AllCompatible ppb lows highs
-  where_not is = (λ t. absurd (no_truth (sym is ∙ t)), λ all. f.1 (all_falling all))
+  where_not is = (λ t. absurd (false≢true (sym is ∙ t)), λ all. f.1 (all_falling all))
 
 -- lists in another order
 pub of_permutation : (ppb : ℕ) (lows lows' highs highs' : List Mark) → IsPermutation lows lows' →

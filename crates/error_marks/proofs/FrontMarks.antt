@@ -1,11 +1,10 @@
 -- The low marks in front that are compatible with each high mark.
-use Rattle.error_marks.proofs.Common.{◌≡◌, ℕ, ◌+◌, ◌-◌, ◌<◌, ◌≤◌, ⊎_elim, List, length, take, drop, get_or, IsPermutation, ap, ◌∙◌, sym, subst, arith, AllWithin, cases_lt, get_or-drop, get_or-take, length-drop, length-take-le, AllWithin-more, All-permutation, IsPermutation-sym, AllCompatible, FitsAll, AreInFront, AreCompatible, Mark}
+use Rattle.error_marks.proofs.Common.{◌≡◌, ℕ, ◌+◌, ◌-◌, ◌<◌, ◌≤◌, List, length, take, drop, get_or, IsPermutation, ap, ◌∙◌, sym, subst, arith, AllWithin, get_or-drop, get_or-take, length-drop, length-take-le, AllWithin-more, All-permutation, IsPermutation-sym, AllCompatible, FitsAll, AreInFront, AreCompatible, Mark}
 use Rattle.error_marks.proofs.Passage.{at_any}
 
 within_both : (X : Type 0) (P : X → Type 0) (xs : List X) (low middle high : ℕ) → AllWithin P xs low middle
     → AllWithin P xs middle high → AllWithin P xs low high
-within_both X P xs low middle high front rest k d from lt =
-    ⊎_elim (λ below. front k d from below) (λ behind. rest k d behind lt) (cases_lt k middle)
+within_both X P xs low middle high front rest k d from lt = grind (arith, front k d, rest k d)
 
 -- what the sweeps say of a copy of a part of the low marks, in another order
 module _ (ppb : ℕ) (lows highs part sorted : List Mark) (least middle : ℕ) (forward : least ≤ middle)

@@ -1,5 +1,5 @@
 -- The lines through a mark, as the code computes them.
-use Rattle.error_marks.proofs.Common.{◌≡◌, ℕ, ◌+◌, ◌-◌, ◌*◌, ◌^◌, ◌≤◌, ℤ, pos, ◌+ℤ◌, ◌-ℤ◌, ◌*ℤ◌, unsigned_abs, to_z, of_z, FitsSigned, arith, w128, ints, unsigned_abs-mul, fits_signed_from_abs, mul-le-mul_left, billion, IsRate, falling_line, rising_line, IsWithinRange, Mark, w128_keeps}
+use Rattle.error_marks.proofs.Common.{◌≡◌, ℕ, ◌+◌, ◌-◌, ◌*◌, ◌^◌, ◌≤◌, ℤ, pos, ◌+ℤ◌, ◌-ℤ◌, ◌*ℤ◌, unsigned_abs, to_z, of_z, FitsSigned, arith, w128, ints, unsigned_abs-mul, fits_signed_from_abs, mul-le-mul_left, billion, IsRate, w128_keeps}
 
 -- what is left of 10^9, and what is more
 parts_left : (r : ℤ) (ppb : ℕ) → IsRate ppb → r ≡ pos ppb →
@@ -16,63 +16,43 @@ small_product n a p q =
     let first : n * unsigned_abs a ≤ n * 2 ^ 73 = mul-le-mul_left n q in
     omega arith
 
+-- n times a number, as the code computes it
 kept_product : (n : ℕ) (a : ℤ) → n ≤ 2 ^ 31 → unsigned_abs a ≤ 2 ^ 73 →
-    to_z w128 (of_z w128 (pos n *ℤ to_z w128 (of_z w128 a))) ≡ pos n *ℤ a
+    (to_z w128 (of_z w128 (pos n *ℤ to_z w128 (of_z w128 a))) ≡ pos n *ℤ a) × (unsigned_abs (pos n *ℤ a) ≤ 2 ^ 104)
 kept_product n a p q =
     let small = small_product n a p q in
-    rw (w128_keeps a (omega arith)) (w128_keeps (pos n *ℤ a) (omega arith))
-
-small_sum : (a b : ℤ) → unsigned_abs a ≤ 2 ^ 104 → unsigned_abs b ≤ 2 ^ 104 → unsigned_abs (a +ℤ b) ≤ 2 ^ 105
-small_sum a b p q = omega (arith, ints)
-
-small_difference : (a b : ℤ) → unsigned_abs a ≤ 2 ^ 104 → unsigned_abs b ≤ 2 ^ 104 →
-    unsigned_abs (a -ℤ b) ≤ 2 ^ 105
-small_difference a b p q = omega (arith, ints)
+    (rw (w128_keeps a (omega arith)) (w128_keeps (pos n *ℤ a) (omega arith)), small)
 
 -- the products of a mark's two numbers
-module _ (r : ℤ) (ppb : ℕ) (rate : IsRate ppb) (is : r ≡ pos ppb) (a : ℤ) (le : unsigned_abs a ≤ 2 ^ 73) where
-  pub times_left : to_z w128 (of_z w128
+module _ {r : ℤ} {ppb : ℕ} (rate : IsRate ppb) (is : r ≡ pos ppb) (a : ℤ) (le : unsigned_abs a ≤ 2 ^ 73) where
+  pub times_left : (to_z w128 (of_z w128
       (to_z w128 (of_z w128 (pos 1000000000 -ℤ to_z w128 (of_z w128 r))) *ℤ to_z w128 (of_z w128 a)))
-      ≡ pos (billion - ppb) *ℤ a
+      ≡ pos (billion - ppb) *ℤ a) × (unsigned_abs (pos (billion - ppb) *ℤ a) ≤ 2 ^ 104)
   times_left = rw (parts_left r ppb rate is) (kept_product (billion - ppb) a (omega arith) le)
 
-  pub times_more : to_z w128 (of_z w128
+  pub times_more : (to_z w128 (of_z w128
       (to_z w128 (of_z w128 (pos 1000000000 +ℤ to_z w128 (of_z w128 r))) *ℤ to_z w128 (of_z w128 a)))
-      ≡ pos (billion + ppb) *ℤ a
+      ≡ pos (billion + ppb) *ℤ a) × (unsigned_abs (pos (billion + ppb) *ℤ a) ≤ 2 ^ 104)
   times_more = rw (parts_more r ppb rate is) (kept_product (billion + ppb) a (omega arith) le)
 
-  pub times_rate : to_z w128 (of_z w128 (to_z w128 (of_z w128 r) *ℤ to_z w128 (of_z w128 a))) ≡ pos ppb *ℤ a
+  pub times_rate : (to_z w128 (of_z w128 (to_z w128 (of_z w128 r) *ℤ to_z w128 (of_z w128 a))) ≡ pos ppb *ℤ a)
+      × (unsigned_abs (pos ppb *ℤ a) ≤ 2 ^ 104)
   times_rate = rw (is, w128_keeps (pos ppb) (omega arith)) (kept_product ppb a (omega arith) le)
 
-  pub left_small : unsigned_abs (pos (billion - ppb) *ℤ a) ≤ 2 ^ 104
-  left_small = small_product (billion - ppb) a (omega arith) le
-
-  pub more_small : unsigned_abs (pos (billion + ppb) *ℤ a) ≤ 2 ^ 104
-  more_small = small_product (billion + ppb) a (omega arith) le
-
-  pub rate_small : unsigned_abs (pos ppb *ℤ a) ≤ 2 ^ 104
-  rate_small = small_product ppb a (omega arith) le
-
 -- the code's sum and difference
-module _ (a b x y : ℤ) (first : a ≡ x) (second : b ≡ y)
-    (p : unsigned_abs x ≤ 2 ^ 104) (q : unsigned_abs y ≤ 2 ^ 104) where
-  pub sum_fits : FitsSigned w128 (a +ℤ b)
-  sum_fits = let le = small_sum x y p q in rw (first, second) (fits_signed_from_abs w128 (x +ℤ y) (omega arith))
+module _ {a b x y : ℤ} (first : (a ≡ x) × (unsigned_abs x ≤ 2 ^ 104)) (second : (b ≡ y) × (unsigned_abs y ≤ 2 ^ 104))
+  where
+    pub small_sum : unsigned_abs (x +ℤ y) ≤ 2 ^ 105
+    small_sum = let p = first.1 in let q = second.1 in omega (arith, ints)
 
-  pub sum_is : to_z w128 (of_z w128 (a +ℤ b)) ≡ x +ℤ y
-  sum_is = let le = small_sum x y p q in rw (first, second) (w128_keeps (x +ℤ y) (omega arith))
+    pub small_difference : unsigned_abs (x -ℤ y) ≤ 2 ^ 105
+    small_difference = let p = first.1 in let q = second.1 in omega (arith, ints)
 
-  pub difference_is : to_z w128 (of_z w128 (a -ℤ b)) ≡ x -ℤ y
-  difference_is = let le = small_difference x y p q in rw (first, second) (w128_keeps (x -ℤ y) (omega arith))
+    pub sum_fits : FitsSigned w128 (a +ℤ b)
+    sum_fits = let le = small_sum in rw (first.0, second.0) (fits_signed_from_abs w128 (x +ℤ y) (omega arith))
 
--- how high the lines can lie
-module _ (ppb : ℕ) (m : Mark) (rate : IsRate ppb) (h : IsWithinRange m) where
-  pub falling_small : unsigned_abs (falling_line ppb m) ≤ 2 ^ 105
-  falling_small =
-      small_sum (pos (billion - ppb) *ℤ m.error) (pos ppb *ℤ m.place)
-      (small_product (billion - ppb) m.error (omega arith) h.error) (small_product ppb m.place (omega arith) h.place)
+    pub sum_is : to_z w128 (of_z w128 (a +ℤ b)) ≡ x +ℤ y
+    sum_is = let le = small_sum in rw (first.0, second.0) (w128_keeps (x +ℤ y) (omega arith))
 
-  pub rising_small : unsigned_abs (rising_line ppb m) ≤ 2 ^ 105
-  rising_small =
-      small_difference (pos (billion + ppb) *ℤ m.error) (pos ppb *ℤ m.place)
-      (small_product (billion + ppb) m.error (omega arith) h.error) (small_product ppb m.place (omega arith) h.place)
+    pub difference_is : to_z w128 (of_z w128 (a -ℤ b)) ≡ x -ℤ y
+    difference_is = let le = small_difference in rw (first.0, second.0) (w128_keeps (x -ℤ y) (omega arith))

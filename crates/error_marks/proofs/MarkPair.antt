@@ -93,6 +93,6 @@ compared a b p q = rw (line_is a p, line_is b q) (tests a b)
 pub joined : {A B C : Type 0} → A ↔ B → B ↔ C → A ↔ C
 joined p q = (λ a. q.0 (p.0 a), λ c. p.1 (q.1 c))
 
-pub lines_compared : (a b x y : ℤ) → a ≡ x → b ≡ y → unsigned_abs a ≤ 2 ^ 105 → unsigned_abs b ≤ 2 ^ 105 →
+pub lines_compared : {a b x y : ℤ} → a ≡ x → b ≡ y → unsigned_abs a ≤ 2 ^ 105 → unsigned_abs b ≤ 2 ^ 105 →
     IsTrue (le_z (to_z w128 (of_z w128 a)) (to_z w128 (of_z w128 b))) ↔ (x ≤ℤ y)
-lines_compared a b x y e f p q = rw (← e, ← f) (compared a b p q)
+lines_compared {a} {b} e f p q = rw (← e, ← f) (compared a b p q)

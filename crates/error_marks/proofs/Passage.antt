@@ -1,5 +1,5 @@
 -- Passing low marks, and what that says of a high mark.
-use Rattle.error_marks.proofs.Common.{ℕ, ◌+◌, ◌<◌, ◌≤◌, ◌≡◌, ℤ, ◌≤ℤ◌, ⊎_elim, List, length, get_or, sym, subst, arith, All, AllWithin, HoldsAt, ints, by_lt_z, get_or_default, cases_lt, Precedes, IsBelow, KeepsBelow, IsInOrder, line_along, IsHighest, HasPassed, Mark, ≤ℤ_trans, ≤ℤ_refl, lt_next_cases}
+use Rattle.error_marks.proofs.Common.{ℕ, ◌+◌, ◌<◌, ◌≤◌, ◌≡◌, ℤ, ◌≤ℤ◌, ⊎_elim, List, length, get_or, subst, arith, All, AllWithin, HoldsAt, ints, by_lt_z, get_or_default, cases_lt, Precedes, IsBelow, KeepsBelow, IsInOrder, line_along, IsHighest, HasPassed, Mark, ≤ℤ_trans, ≤ℤ_refl, lt_next_cases}
 use Rattle.error_marks.specs.declared.direction.Direction.{Direction}
 use Rattle.error_marks.specs.declared.sweep.Passage.{Passage}
 
@@ -29,31 +29,24 @@ module _ (direction : Direction) (ppb : ℕ) (lows : List Mark) (passed highest 
     at_first = omega arith;
     passed = λ some. omega arith;
     others = λ k d h. ⊎_elim
-        (λ (before : k < passed). ≤ℤ_trans (line_along direction ppb (get_or lows k d))
-        (line_along direction ppb (get_or lows highest d)) (line_along direction ppb (get_or lows passed d))
+        (λ (before : k < passed). ≤ℤ_trans _ (line_along direction ppb (get_or lows highest d)) _
         (is.others k d before)
         (both_at_any (IsBelow direction ppb) lows highest passed e d within_too within below))
-        (λ (same : k ≡ passed). subst (λ (i : ℕ). IsBelow direction ppb (get_or lows i d) (get_or lows passed d))
-        (sym same) (≤ℤ_refl (line_along direction ppb (get_or lows passed d))))
-        (lt_next_cases k passed h);
+        (λ (same : k ≡ passed). rw same (≤ℤ_refl _)) (lt_next_cases k passed h);
   }
 
   -- it lies lower
   pub highest_stays : (IsBelow direction ppb (get_or lows highest e) (get_or lows passed e) → ⊥) →
       IsHighest direction ppb lows record { passed = passed + 1; highest = highest }
   highest_stays not_below =
-      let lower = above (line_along direction ppb (get_or lows highest e))
-      (line_along direction ppb (get_or lows passed e))
-      not_below in
       let first = is.at_first in
       record {
         at_first = omega arith;
         passed = λ some. omega arith;
-        others = λ k d h. ⊎_elim
-            (λ (before : k < passed). is.others k d before)
-            (λ (same : k ≡ passed). subst (λ (i : ℕ). IsBelow direction ppb (get_or lows i d) (get_or lows highest d))
-            (sym same) (both_at_any (IsBelow direction ppb) lows passed highest e d within within_too lower))
-            (lt_next_cases k passed h);
+        others = λ k d h.
+            let lower = both_at_any (IsBelow direction ppb) lows passed highest e d within within_too
+            (above _ _ not_below) in
+            grind (arith, ints, is.others k d);
       }
 
 -- no low mark's line lies above a high mark's if the highest of those passed doesn't
@@ -61,14 +54,11 @@ module _ (direction : Direction) (ppb : ℕ) (lows : List Mark) (high : Mark) (p
     (has : HasPassed direction ppb lows high p) (order : IsInOrder lows) where
   pub all_kept : (0 < p.passed → HoldsAt (λ low. IsBelow direction ppb low high) lows p.highest) →
       All (λ low. KeepsBelow direction ppb low high) lows
-  all_kept below k d within precedes =
-      ⊎_elim
-      (λ (before : k < p.passed). ≤ℤ_trans (line_along direction ppb (get_or lows k d))
-      (line_along direction ppb (get_or lows p.highest d)) (line_along direction ppb high)
+  all_kept below k d within precedes = ⊎_elim
+      (λ (before : k < p.passed). ≤ℤ_trans _ (line_along direction ppb (get_or lows p.highest d)) _
       (has.highest.others k d before) (below (omega arith) d))
       (λ (after : p.passed ≤ k). absurd (has.next (omega arith) d
-      (≤ℤ_trans (get_or lows p.passed d).place (get_or lows k d).place
-      high.place (order p.passed k d after within) precedes)))
+      (≤ℤ_trans _ (get_or lows k d).place _ (order p.passed k d after within) precedes)))
       (cases_lt k p.passed)
 
 -- what precedes a high mark precedes the later ones

@@ -1,17 +1,14 @@
 -- What a greater rate and weaker marks keep.
-use Rattle.error_marks.proofs.Common.{◌≡◌, ℕ, ◌+◌, ◌-◌, ◌*◌, ◌<◌, ◌≤◌, ℤ, pos, negsuc, ◌-ℤ◌, ◌*ℤ◌, ◌≤ℤ◌, ◌<ℤ◌, ◌↔◌, ⊎_elim, sym, subst, arith, cases_lt, ints, by_lt_z, mul-le-mul_left, mul-le-mul_right, billion, IsRate, AreCompatible, Mark, ≤ℤ_trans, ≤ℤ-sub}
+use Rattle.error_marks.proofs.Common.{◌≡◌, ℕ, ◌+◌, ◌-◌, ◌*◌, ◌<◌, ◌≤◌, ℤ, pos, negsuc, ◌-ℤ◌, ◌*ℤ◌, ◌≤ℤ◌, ◌↔◌, ⊎_elim, arith, cases_lt, ints, by_lt_z, mul-le-mul_left, mul-le-mul_right, billion, IsRate, AreCompatible, Mark, ≤ℤ_trans}
 use Rattle.error_marks.proofs.MarkPair.{times-sub}
-use Rattle.error_marks.proofs.Compatibility.{none_above, some_above, no_less, compatible_in_order}
+use Rattle.error_marks.proofs.Compatibility.{none_above, some_above, compatible_in_order}
 
 -- n times an order
 times_le : (n : ℕ) (a b : ℤ) → a ≤ℤ b → (pos n *ℤ a) ≤ℤ (pos n *ℤ b)
 times_le n a b h =
-    let none = none_above n (a -ℤ b) (no_less a b h) in
+    let none = none_above n (a -ℤ b) (omega (arith, ints)) in
     let parts = times-sub n a b in
-    below (pos n *ℤ (a -ℤ b)) (pos n *ℤ a) (pos n *ℤ b) parts none
-  where
-    below : (z x y : ℤ) → z ≡ x -ℤ y → z ≤ℤ pos 0 → x ≤ℤ y
-    below z x y e k = omega (arith, ints)
+    omega (arith, ints)
 
 -- ---- a greater rate
 pub falls_faster : (b p q x y : ℕ) → p ≤ q → q ≤ b → (b - p) * x ≤ p * y → (b - q) * x ≤ q * y
@@ -32,13 +29,11 @@ nothing_to_rise b p x y some lt h =
     omega arith
 
 rises_faster : (b p q x y : ℕ) → 0 < b → p ≤ q → (b + p) * x ≤ p * y → (b + q) * x ≤ q * y
-rises_faster b p q x y some le h =
-    ⊎_elim
+rises_faster b p q x y some le h = ⊎_elim
     (λ (lt : y < x). absurd (nothing_to_rise b p x y some lt h))
     (λ (room : x ≤ y).
     let whole : y ≡ x + (y - x) = omega arith in
-    subst (λ (z : ℕ). (b + q) * x ≤ q * z) (sym whole)
-    (more_room b p q x (y - x) le (subst (λ (z : ℕ). (b + p) * x ≤ p * z) whole h)))
+    rw whole (more_room b p q x (y - x) le (rw (← whole) h)))
     (cases_lt y x)
 
 -- the same of whole numbers, where the clock advances
@@ -58,19 +53,13 @@ rises_faster_signed b p q (pos x) (pos y) some le on h =
 rises_faster_signed b p q (negsuc x) (pos y) some le on h = omega (arith, ints)
 rises_faster_signed b p q x (negsuc y) some le on h = absurd (omega (arith, ints))
 
-advance : (a b : ℤ) → a ≤ℤ b → pos 0 ≤ℤ (b -ℤ a)
-advance a b h = omega (arith, ints)
-
-advance_past : (a b : ℤ) → a <ℤ b → pos 0 ≤ℤ (b -ℤ a)
-advance_past a b h = omega (arith, ints)
-
 pub faster : (slow fast : ℕ) (low high : Mark) → slow ≤ fast → IsRate fast → AreCompatible slow low high →
     AreCompatible fast low high
 faster slow fast low high le rate fits = record {
   falls = λ before. falls_faster_signed billion slow fast (low.error -ℤ high.error) (high.place -ℤ low.place) le
-      (omega arith) (advance low.place high.place before) (fits.falls before);
+      (omega arith) (omega (arith, ints)) (fits.falls before);
   rises = λ behind. rises_faster_signed billion slow fast (low.error -ℤ high.error) (low.place -ℤ high.place)
-      (omega arith) le (advance_past high.place low.place behind) (fits.rises behind);
+      (omega arith) le (omega (arith, ints)) (fits.rises behind);
 }
 
 -- ---- no rate at all
@@ -95,26 +84,20 @@ without_drift low high = (
 
 -- ---- weaker marks
 
-less_left : (a b c : ℤ) → b ≤ℤ c → (a -ℤ c) ≤ℤ (a -ℤ b)
-less_left a b c h = omega (arith, ints)
-
 weaker_falls : (n : ℕ) (x y z : ℤ) → x ≤ℤ y → (pos n *ℤ y) ≤ℤ z → (pos n *ℤ x) ≤ℤ z
 weaker_falls n x y z h k = ≤ℤ_trans (pos n *ℤ x) (pos n *ℤ y) z (times_le n x y h) k
 
+weaker : (ppb : ℕ) (low high : Mark) (x y : ℤ) → (x -ℤ y) ≤ℤ (low.error -ℤ high.error) → AreCompatible ppb low high →
+    AreCompatible ppb (record low { error = x }) (record high { error = y })
+weaker ppb low high x y le fits = record {
+  falls = λ before. weaker_falls (billion - ppb) (x -ℤ y) (low.error -ℤ high.error) _ le (fits.falls before);
+  rises = λ behind. weaker_falls (billion + ppb) (x -ℤ y) (low.error -ℤ high.error) _ le (fits.rises behind);
+}
+
 pub lower : (ppb : ℕ) (low high : Mark) (error : ℤ) → error ≤ℤ low.error → AreCompatible ppb low high →
     AreCompatible ppb (record low { error = error }) high
-lower ppb low high error le fits = record {
-  falls = λ before. weaker_falls (billion - ppb) (error -ℤ high.error) (low.error -ℤ high.error)
-      (pos ppb *ℤ (high.place -ℤ low.place)) (≤ℤ-sub error low.error high.error le) (fits.falls before);
-  rises = λ behind. weaker_falls (billion + ppb) (error -ℤ high.error) (low.error -ℤ high.error)
-      (pos ppb *ℤ (low.place -ℤ high.place)) (≤ℤ-sub error low.error high.error le) (fits.rises behind);
-}
+lower ppb low high error le = weaker ppb low high error high.error (omega (arith, ints))
 
 pub higher : (ppb : ℕ) (low high : Mark) (error : ℤ) → high.error ≤ℤ error → AreCompatible ppb low high →
     AreCompatible ppb low (record high { error = error })
-higher ppb low high error le fits = record {
-  falls = λ before. weaker_falls (billion - ppb) (low.error -ℤ error) (low.error -ℤ high.error)
-      (pos ppb *ℤ (high.place -ℤ low.place)) (less_left low.error high.error error le) (fits.falls before);
-  rises = λ behind. weaker_falls (billion + ppb) (low.error -ℤ error) (low.error -ℤ high.error)
-      (pos ppb *ℤ (low.place -ℤ high.place)) (less_left low.error high.error error le) (fits.rises behind);
-}
+higher ppb low high error le = weaker ppb low high low.error error (omega (arith, ints))

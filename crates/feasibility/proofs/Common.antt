@@ -6,14 +6,13 @@ pub use Rattle.std.proofs.Common.{min, negsuc, not, of_z, pos, pow-suc, refl, ru
 pub use Rattle.std.proofs.Common.{to_z, true, true≢false, unsigned_abs, w32, zero, ℕ, ℤ, ⊎_elim, ◌%◌, ◌&&◌, ◌*ℤ◌, ◌*◌}
 pub use Rattle.std.proofs.Common.{◌++◌, ◌+ℤ◌, ◌+◌, ◌-ℤ◌, ◌-◌, ◌/◌, ◌<ℤ◌, ◌<◌, ◌^◌, ◌||◌, ◌∙◌, ◌∷◌, ◌≡◌, ◌≢◌, ◌≤ℤ◌, ◌≤◌}
 pub use Rattle.std.proofs.Common.{◌⊎◌}
-pub use Rattle.std.proofs.Math.Bool.{and-true, or-false, or_comm}
+pub use Rattle.std.proofs.Math.Bool.{or-false, or_comm}
 pub use Rattle.std.proofs.Math.ListN.{drop_of_length-le, get_or-append, length-append}
-pub use Rattle.std.proofs.Math.Nat.{le_of_mul-le-mul_left, le_of_mul-le-mul_right, lt_of_mul-lt-mul_right}
-pub use Rattle.std.proofs.Math.Nat.{mul-le-mul_left, mul-le-mul_right, mul-pos}
+pub use Rattle.std.proofs.Math.Nat.{le_of_mul-le-mul_right, lt_of_mul-lt-mul_right, mul-le-mul_left, mul-le-mul_right}
+pub use Rattle.std.proofs.Math.Nat.{mul-pos}
 pub use Rattle.std.proofs.Math.Seq.{append_snoc, drop-cons, get_or-append_seam}
-pub use Rattle.std.proofs.lemmas.Bool.{and_parts, and_right, cases_lt, cond-false, cond-true, lt-ltb, ltb-true}
-pub use Rattle.std.proofs.lemmas.Bool.{and_from, ne_eqb, not-true, or_cases, or_from, or_left, or_parts, or_right}
-pub use Rattle.std.proofs.lemmas.Bool.{false_from_ne_true}
+pub use Rattle.std.proofs.lemmas.Bool.{and_parts, cases_lt, cond-false, cond-true, and_from, ne_eqb, not-true, or_cases}
+pub use Rattle.std.proofs.lemmas.Bool.{or_from, or_left, or_parts, eqb-true, false_from_ne_true}
 pub use Rattle.std.proofs.lemmas.Bool.Decides.{nat_tests}
 pub use Rattle.std.proofs.lemmas.Grind.{get_or_default_zero}
 pub use Rattle.std.proofs.lemmas.Int.{by_lt_z, clamps, ints, unsigned_abs-mul}
@@ -30,8 +29,8 @@ pub use Rattle.std.proofs.lemmas.Result.{IfOk-weaker}
 pub use Rattle.std.specs.Int.{bit_at, bit_not, int_max, int_min}
 pub use Rattle.std.specs.Int.Signed.{≤ℤ_refl}
 pub use Rattle.std.specs.List.{list_all, list_any, slice_index_or}
-pub use Rattle.std.specs.Prelude.{All, AllPairs, Any, IsTrue, MatchOption, filter, fold, if◌then◌else◌, int_le, nat_lt}
-pub use Rattle.std.specs.Prelude.{slice_index, ◌==◌, ◌↔◌}
+pub use Rattle.std.specs.Prelude.{All, AllPairs, Any, IsTrue, MatchOption, filter, fold, int_le, nat_lt, slice_index}
+pub use Rattle.std.specs.Prelude.{◌==◌, ◌↔◌}
 pub use Rattle.certificate.specs.Refutation.{RefutationData}
 pub use Rattle.checker.proofs.Counting.{counted, fails_below, second_fails}
 pub use Rattle.checker.proofs.Exchange.{are_samples}
@@ -67,21 +66,23 @@ pub use Rattle.feasibility.specs.DriftRefutation.{IsRefutedWithDrift, Shows, mar
 pub use Rattle.feasibility.specs.DriftTest.{all_compatible, are_compatible, do_agree, do_all_agree, is_possible}
 pub use Rattle.feasibility.specs.DriftTest.{is_refuted_with_drift}
 pub use Rattle.feasibility.specs.Evidence.{IsNoEvidence, IsPossibleError, count_with_exchange, has_exchange}
-pub use Rattle.feasibility.specs.GroupMarks.{DoGroupsAgree, IsSound, group_exchanges, group_highs, group_lows, is_outside}
+pub use Rattle.feasibility.specs.GroupMarks.{DoGroupsAgree, IsSound, group_exchanges, group_highs, group_lows}
+pub use Rattle.feasibility.specs.GroupMarks.{is_outside}
 pub use Rattle.feasibility.specs.Groups.{Adds, AreApart, HoldsOne, HoldsOneOr64, IsFound, holds}
 pub use Rattle.feasibility.specs.Keeping.{KeepsHigh, KeepsLow, time_of}
 pub use Rattle.feasibility.specs.LowestCourse.{error_left, fineness_of, lowest_course, lowest_error, lowest_moment}
 pub use Rattle.feasibility.specs.LowestCourse.{most_fall, most_rise, of_exchange}
 pub use Rattle.feasibility.specs.Members.{LieWithin, has}
 unfoldable pub use Rattle.feasibility.specs.Members.{passing}
-pub use Rattle.feasibility.specs.NumberedMarks.{AreGrounds, AreNumberedInOrder, AreNumberedOf, IsFirstApart, IsFirstIfAny}
-pub use Rattle.feasibility.specs.NumberedMarks.{IsNumbered, group_numbers, numbers_from}
-pub use Rattle.feasibility.specs.PairMarks.{IsFirstImpossible, IsImpossibleAt, conflict_data, earlier, is_no_later, pair_of}
-pub use Rattle.feasibility.specs.PairMarks.{twice}
+pub use Rattle.feasibility.specs.NumberedMarks.{AreGrounds, AreNumberedInOrder, AreNumberedOf, IsFirstApart}
+pub use Rattle.feasibility.specs.NumberedMarks.{IsFirstIfAny, IsNumbered, group_numbers, numbers_from}
+pub use Rattle.feasibility.specs.PairMarks.{IsFirstImpossible, IsImpossibleAt, conflict_data, earlier, is_no_later}
+pub use Rattle.feasibility.specs.PairMarks.{pair_of, twice}
 pub use Rattle.feasibility.specs.PartialTable.{AreTried, IsTableTo}
 pub use Rattle.feasibility.specs.ShownConflicts.{AreListedUpto, IsAhead, IsListingOf, is_listed}
 pub use Rattle.feasibility.specs.SortedMarks.{AreAllSorted, AreMarksOf, AreOfGroupsInOrder, AreSorted}
-pub use Rattle.feasibility.specs.TrueMarks.{AreAllCompatible, DoAgree, FitsWithFalse, high_marks, low_marks, true_exchanges}
+pub use Rattle.feasibility.specs.TrueMarks.{AreAllCompatible, DoAgree, FitsWithFalse, high_marks, low_marks}
+pub use Rattle.feasibility.specs.TrueMarks.{true_exchanges}
 pub use Rattle.feasibility.specs.declared.groups.Groups.{Groups}
 pub use Rattle.feasibility.specs.declared.kept_marks.KeptMarks.{KeptMarks}
 pub use Rattle.feasibility.specs.declared.shown_conflicts.Conflict.{Conflict}
@@ -93,4 +94,3 @@ pub use Rattle.lemma_base.proofs.List.{All-map_back, All-slice_get, slice_get-be
 pub use Rattle.lemma_base.proofs.Nat.{lt_next_cases, not_lt_zero}
 pub use Rattle.error_marks.proofs.Compatibility.{compatible_in_order}
 pub use Rattle.error_marks.proofs.MarkPair.{not_both}
-pub use Rattle.error_marks.proofs.Rate.{falls_faster}

@@ -1,5 +1,5 @@
 -- Pairs of exchanges that contradict each other, and the groups that they are of.
-use Rattle.feasibility.proofs.Common.{◌≡◌, ◌≢◌, ℕ, ◌<◌, ◌≤◌, ◌⊎◌, inl, inr, ⊎_elim, List, Some, slice_get, refl, sym, ap, ◌∙◌, arith, ClaimData, Exchange, group_of, HasImpossible, Contradicts, IsBroken, DoConflict, Pair, AreOfGroups, IsContradiction, IsFirstContradiction, HasContradiction}
+use Rattle.feasibility.proofs.Common.{◌≡◌, ◌≢◌, ℕ, ◌<◌, ◌≤◌, ◌⊎◌, inl, inr, ⊎_elim, List, Some, slice_get, refl, sym, ap, ◌∙◌, arith, ClaimData, Exchange, group_of, HasImpossible, Contradicts, IsBroken, DoConflict, Pair, IsContradiction, IsFirstContradiction, HasContradiction}
 
 -- ---- the first is one
 
@@ -97,13 +97,9 @@ module _ (claim : ClaimData) (xs : List Exchange) where
       (λ crossed. inr (not_compatible_pair a b pair h b a crossed.0 crossed.1
       (λ same. differ (sym crossed.1 ∙ sym (one_group a b pair h same) ∙ crossed.0)))) h.of_groups
 
-  of_one_group : (group : ℕ) (x y : Exchange) → AreOfGroups claim group group x y
-      → (group_of claim x ≡ group) × (group_of claim y ≡ group)
-  of_one_group group x y = ⊎_elim (λ straight. straight) (λ crossed. crossed)
-
   pub pair_is_broken : (group : ℕ) → HasContradiction claim xs group group → IsBroken claim xs group
   pair_is_broken group (pair, h) =
-      let groups = of_one_group group h.low h.high h.of_groups in
+      let groups = ⊎_elim (λ g. g) (λ g. g) h.of_groups in
       ⊎_elim
       (λ apart. inr (record {
         low_number = pair.low;

@@ -1,9 +1,5 @@
 -- The first exchange of a group that is impossible by itself, as it is looked for.
-use Rattle.feasibility.proofs.Common.{◌≡◌, ℕ, ◌+◌, ◌<◌, ◌≤◌, ⊎_elim, Bool, true, false, true≢false, List, Some, length, slice_get, sym, ap, ◌∙◌, subst, arith, ◌==◌, cases_lt, slice_get_within, ClaimData, IsPossible, Exchange, group_of, IsImpossibleAt, lt_next_cases, eq-eqb}
-use Rattle.feasibility.proofs.GroupMarks.{equal_from}
-
-is_twice : (b : Bool) → b ≡ true → b ≡ false → ⊥
-is_twice b t f = true≢false (sym t ∙ f)
+use Rattle.feasibility.proofs.Common.{eqb-true, nat_tests, ◌≡◌, ℕ, ◌+◌, ◌<◌, ◌≤◌, ⊎_elim, true, false, List, Some, length, slice_get, sym, ◌∙◌, subst, arith, ◌==◌, slice_get_within, ClaimData, IsPossible, Exchange, group_of, IsImpossibleAt, lt_next_cases}
 
 module _ (claim : ClaimData) (xs : List Exchange) (group : ℕ) where
   one_exchange : (k : ℕ) (x y : Exchange) → slice_get xs k ≡ Some x → slice_get xs k ≡ Some y → x ≡ y
@@ -14,15 +10,14 @@ module _ (claim : ClaimData) (xs : List Exchange) (group : ℕ) where
   impossible_here k x at is cannot = record {
     exchange = x;
     stands = at;
-    in_group = equal_from (group_of claim x) group is;
+    in_group = eqb-true (group_of claim x) group is;
     impossible = cannot;
   }
 
   pub not_of_group : (k : ℕ) (x : Exchange) → slice_get xs k ≡ Some x → (group_of claim x == group) ≡ false
       → IsImpossibleAt claim xs group k → ⊥
   not_of_group k x at isnt h =
-      is_twice (group_of claim x == group) (eq-eqb (group_of claim x) group
-      (ap (group_of claim) (one_exchange k x h.exchange at h.stands) ∙ h.in_group)) isnt
+      let same = one_exchange k x h.exchange at h.stands in grind (arith, nat_tests, h.in_group)
 
   pub possible_here : (k : ℕ) (x : Exchange) → slice_get xs k ≡ Some x → IsPossible claim.reading x
       → IsImpossibleAt claim xs group k → ⊥
@@ -32,10 +27,9 @@ module _ (claim : ClaimData) (xs : List Exchange) (group : ℕ) where
   pub none_so_far : (n : ℕ) → ((k : ℕ) → k < n → IsImpossibleAt claim xs group k → ⊥)
       → (IsImpossibleAt claim xs group n → ⊥) → (k : ℕ) → k < n + 1 → IsImpossibleAt claim xs group k → ⊥
   none_so_far n before not_this k below h = ⊎_elim (λ (lt : k < n). before k lt h)
-      (λ (same : k ≡ n). not_this (subst (IsImpossibleAt claim xs group) same h)) (lt_next_cases k n below)
+      (λ (same : k ≡ n). not_this (rw (← same) h)) (lt_next_cases k n below)
 
   pub none_at_all : (n m : ℕ) → ((k : ℕ) → k < n → IsImpossibleAt claim xs group k → ⊥) → length xs ≡ m → m ≤ n
       → (k : ℕ) → IsImpossibleAt claim xs group k → ⊥
-  none_at_all n m before same past k h = ⊎_elim (λ (lt : k < n). before k lt h)
-      (λ (le : n ≤ k). let below = slice_get_within xs k h.exchange h.stands in absurd (omega (arith, below, same)))
-      (cases_lt k n)
+  none_at_all n m before same past k h =
+      let below = slice_get_within xs k h.exchange h.stands in before k (omega arith) h

@@ -1,20 +1,16 @@
 -- The first marks of two groups that aren't compatible are of the first two exchanges that contradict each other.
-use Rattle.feasibility.proofs.Common.{◌≡◌, ◌≢◌, ℕ, ◌+◌, ◌<◌, ◌≤◌, ◌⊎◌, inl, inr, ⊎_elim, Bool, true, false, List, Option, None, Some, length, map, get_or, slice_get, pos, refl, sym, ap, ◌∙◌, subst, arith, ◌==◌, slice_index, MatchOption, cond-true, cond-false, cases_lt, nat_tests, get_or-map, length-map, get_or_from_slice_get, slice_get_within, ClaimData, low_mark, high_mark, AreCompatible, Mark, Exchange, Pair, IsContradiction, IsNoLater, group_of, group_exchanges, group_lows, group_highs, group_numbers, IsFirstApart, AreNumberedOf, IsFirstIfAny, IsImpossibleAt, IsFirstImpossible, pair_of, is_no_later, earlier, twice, by_test, eq-eqb, slice_get-below}
+use Rattle.feasibility.proofs.Common.{AreOfGroups, eqb-true, ◌≡◌, ◌≢◌, ℕ, ◌+◌, ◌<◌, ◌≤◌, ◌⊎◌, inl, inr, ⊎_elim, Bool, true, false, List, Option, None, Some, length, map, get_or, slice_get, pos, refl, sym, ap, ◌∙◌, subst, arith, ◌==◌, slice_index, MatchOption, cond-true, cond-false, cases_lt, nat_tests, get_or-map, length-map, get_or_from_slice_get, slice_get_within, ClaimData, low_mark, high_mark, AreCompatible, Mark, Exchange, Pair, IsContradiction, IsNoLater, group_of, group_exchanges, group_lows, group_highs, group_numbers, IsFirstApart, AreNumberedOf, IsFirstIfAny, IsImpossibleAt, IsFirstImpossible, pair_of, is_no_later, earlier, twice, by_test, eq-eqb, slice_get-below}
 use Rattle.error_marks.specs.Compatible.{AllCompatible}
 use Rattle.error_marks.specs.Conflict.{IsFirstConflict}
 use Rattle.feasibility.specs.declared.contradiction.Contradiction.{Contradiction}
 use Rattle.feasibility.specs.declared.numbered_marks.NumberedMarks.{NumberedMarks}
-use Rattle.feasibility.proofs.GroupMarks.{equal_from, never_both}
+use Rattle.feasibility.proofs.GroupMarks.{never_both}
 use Rattle.feasibility.proofs.PassingNumbers.{Found, found, no_less, one_there, placed, rising}
 
 -- ---- pairs, in their order
 
 pub no_later_through : (p q r : Pair) → IsNoLater p q → IsNoLater q r → IsNoLater p r
-no_later_through p q r h k = ⊎_elim
-    (λ (lt : p.low < q.low). ⊎_elim (λ (lt' : q.low < r.low). inl (omega arith))
-    (λ same. let eq = same.0 in inl (omega (arith, eq))) k)
-    (λ same. let eq = same.0 in let le = same.1 in ⊎_elim (λ (lt' : q.low < r.low). inl (omega (arith, eq)))
-    (λ same'. let eq' = same'.0 in let le' = same'.1 in inr (eq ∙ eq', omega (arith, le, le'))) k) h
+no_later_through p q r h k = grind (arith, h, k)
 
 no_later_by_test : (a b : Contradiction) → is_no_later a b ≡ true → IsNoLater (pair_of a) (pair_of b)
 no_later_by_test a b t = grind (arith, nat_tests)
@@ -44,11 +40,9 @@ module _ (P Q R : Pair → Type 0) (one_is : (pair : Pair) → P pair → R pair
   first_of_both None (Some b) none first = first_of_other (pair_of b) first (λ pair p. absurd (none pair p))
   first_of_both (Some a) None first none = first_of_one (pair_of a) first (λ pair q. absurd (none pair q))
   first_of_both (Some a) (Some b) first first' = by_test (is_no_later a b)
-      (λ t. subst (Answers R) (sym (cond-true (is_no_later a b) (Some a) (Some b) t))
-      (first_of_one (pair_of a) first
+      (λ t. rw (cond-true (is_no_later a b) (Some a) (Some b) t) (first_of_one (pair_of a) first
       (λ pair q. no_later_through (pair_of a) (pair_of b) pair (no_later_by_test a b t) (first'.1 pair q))))
-      (λ t. subst (Answers R) (sym (cond-false (is_no_later a b) (Some a) (Some b) t))
-      (first_of_other (pair_of b) first'
+      (λ t. rw (cond-false (is_no_later a b) (Some a) (Some b) t) (first_of_other (pair_of b) first'
       (λ pair p. no_later_through (pair_of b) (pair_of a) pair (later_by_test a b t) (first.1 pair p))))
 
 -- ---- marks that aren't compatible
@@ -115,8 +109,7 @@ module _ (claim : ClaimData) (xs : List Exchange) (a b : ℕ) where
         → slice_get (group_numbers claim xs group) k ≡ Some (0 + m) → n ≡ m
     number_is group k n m is at =
         let read = get_or_from_slice_get (group_numbers claim xs group) k (0 + m) 0 at in
-        let same : 0 + m ≡ m = omega arith in
-        is ∙ read ∙ same
+        omega (arith, is, read)
 
     stands_there : (n m : ℕ) (x : Exchange) → n ≡ m → slice_get xs m ≡ Some x → slice_get xs n ≡ Some x
     stands_there n m x same at = subst (λ (k : ℕ). slice_get xs k ≡ Some x) (sym same) at
@@ -139,8 +132,8 @@ module _ (claim : ClaimData) (xs : List Exchange) (a b : ℕ) where
         high_stands =
             stands_there pair.high high_found.number y (number_is b j pair.high high_found.number high_is high_found.is)
             high_found.stands;
-        in_low = equal_from (group_of claim x) a low_found.passes;
-        in_high = equal_from (group_of claim y) b high_found.passes;
+        in_low = eqb-true (group_of claim x) a low_found.passes;
+        in_high = eqb-true (group_of claim y) b high_found.passes;
         apart = λ fits. not_fit
             (subst (λ (m : Mark). Compatible m (get_or highs j d))
             (sym (at_map (low_mark claim.reading) (group_exchanges claim xs a) i x d at_x))
@@ -196,9 +189,7 @@ module _ (claim : ClaimData) (xs : List Exchange) (a b : ℕ) where
         these_no_later = ⊎_elim (λ (lt : i' < i). absurd (not_before lt))
             (λ (le : i ≤ i'). ⊎_elim (λ (gt : i < i'). inl (low_less gt))
             (λ (ge : i' ≤ i). let same : i ≡ i' = omega arith in
-            ⊎_elim (λ (lt : j' < j). absurd (not_before_high same lt))
-            (λ (no_less' : j ≤ j'). inr (low_same same, high_no_more no_less'))
-            (cases_lt j' j)) (cases_lt i i')) (cases_lt i' i)
+            inr (low_same same, high_no_more (grind (arith, not_before_high same)))) (cases_lt i i')) (cases_lt i' i)
 
       no_later_than_others : (other : Pair) → IsApart claim xs a b other → IsNoLater pair other
       no_later_than_others other h =
@@ -223,15 +214,11 @@ module _ (claim : ClaimData) (xs : List Exchange) (a b : ℕ) where
       (of_b : AreNumberedOf claim xs b other) where
     all_there : AllCompatible claim.drift_ppb one.lows.items other.highs.items
         → AllCompatible claim.drift_ppb (group_lows claim xs a) (group_highs claim xs b)
-    all_there all = subst (λ (ms : List Mark). AllCompatible claim.drift_ppb (group_lows claim xs a) ms) of_b.highs
-        (subst (λ (ms : List Mark). AllCompatible claim.drift_ppb ms other.highs.items) of_a.lows all)
+    all_there all = rw (← of_a.lows, ← of_b.highs) all
 
     first_there : (pair : Pair) → IsFirstApart claim.drift_ppb one other pair → IsFirstOf (IsApart claim xs a b) pair
-    first_there pair h = first_apart h.i h.j
-        (subst (λ (ms : List Mark). IsFirstConflict claim.drift_ppb (group_lows claim xs a) ms h.i h.j) of_b.highs
-        (subst (λ (ms : List Mark). IsFirstConflict claim.drift_ppb ms other.highs.items h.i h.j) of_a.lows h.first))
-        pair (h.low ∙ ap (λ (ns : List ℕ). slice_index ns h.i) of_a.numbers)
-        (h.high ∙ ap (λ (ns : List ℕ). slice_index ns h.j) of_b.numbers) some_mark
+    first_there pair h = first_apart h.i h.j (rw (← of_a.lows, ← of_b.highs) h.first) pair
+        (rw (← of_a.numbers) h.low) (rw (← of_b.numbers) h.high) some_mark
 
     answers : (found : Option Contradiction) → MatchOption found
         (AllCompatible claim.drift_ppb one.lows.items other.highs.items)
@@ -244,25 +231,37 @@ module _ (claim : ClaimData) (xs : List Exchange) (a b : ℕ) where
   if_any None none = λ (pair, h). none pair h
   if_any (Some c) first = record { is = first.0; first = first.1 }
 
-  by_low : (pair : Pair) → IsApart claim xs a b pair → IsContradiction claim xs a b pair
-  by_low pair h = record {
-    low = h.low;
-    high = h.high;
-    low_stands = h.low_stands;
-    high_stands = h.high_stands;
-    of_groups = inl (h.in_low, h.in_high);
-    impossible = inl h.apart;
-  }
+  module _ (pair : Pair) where
+    contradiction_of : (c d : ℕ) (h : IsApart claim xs c d pair) → AreOfGroups claim a b h.low h.high
+        → IsContradiction claim xs a b pair
+    contradiction_of c d h groups = record {
+      low = h.low;
+      high = h.high;
+      low_stands = h.low_stands;
+      high_stands = h.high_stands;
+      of_groups = groups;
+      impossible = inl h.apart;
+    }
 
-  by_high : (pair : Pair) → IsApart claim xs b a pair → IsContradiction claim xs a b pair
-  by_high pair h = record {
-    low = h.low;
-    high = h.high;
-    low_stands = h.low_stands;
-    high_stands = h.high_stands;
-    of_groups = inr (h.in_low, h.in_high);
-    impossible = inl h.apart;
-  }
+    by_low : IsApart claim xs a b pair → IsContradiction claim xs a b pair
+    by_low h = contradiction_of a b h (inl (h.in_low, h.in_high))
+
+    by_high : IsApart claim xs b a pair → IsContradiction claim xs a b pair
+    by_high h = contradiction_of b a h (inr (h.in_low, h.in_high))
+
+    apart_of : (h : IsContradiction claim xs a b pair) (c d : ℕ)
+        → (group_of claim h.low ≡ c) × (group_of claim h.high ≡ d)
+        → ¬ (AreCompatible claim.drift_ppb (low_mark claim.reading h.low) (high_mark claim.reading h.high))
+        → IsApart claim xs c d pair
+    apart_of h c d groups apart = record {
+      low = h.low;
+      high = h.high;
+      low_stands = h.low_stands;
+      high_stands = h.high_stands;
+      in_low = groups.0;
+      in_high = groups.1;
+      apart = apart;
+    }
 
   one_exchange_of : (pair : Pair) (h : IsContradiction claim xs a b pair) → pair.low ≡ pair.high
       → group_of claim h.low ≡ group_of claim h.high
@@ -270,30 +269,13 @@ module _ (claim : ClaimData) (xs : List Exchange) (a b : ℕ) where
       ap (group_of claim) (one_there xs pair.low pair.high h.low h.high h.low_stands h.high_stands same)
 
   in_two_groups : a ≢ b → (x y : ℕ) → x ≡ y → ((x ≡ a) × (y ≡ b)) ⊎ ((x ≡ b) × (y ≡ a)) → ⊥
-  in_two_groups differ x y same = ⊎_elim (λ h. differ (sym h.0 ∙ same ∙ h.1)) (λ h. differ (sym h.1 ∙ sym same ∙ h.0))
+  in_two_groups differ x y same h = grind (arith, h)
 
   either_way : a ≢ b → (pair : Pair) → IsContradiction claim xs a b pair
       → IsApart claim xs a b pair ⊎ IsApart claim xs b a pair
   either_way differ pair h = ⊎_elim
-      (λ apart. ⊎_elim
-      (λ straight. inl (record {
-        low = h.low;
-        high = h.high;
-        low_stands = h.low_stands;
-        high_stands = h.high_stands;
-        in_low = straight.0;
-        in_high = straight.1;
-        apart = apart;
-      }))
-      (λ crossed. inr (record {
-        low = h.low;
-        high = h.high;
-        low_stands = h.low_stands;
-        high_stands = h.high_stands;
-        in_low = crossed.0;
-        in_high = crossed.1;
-        apart = apart;
-      })) h.of_groups)
+      (λ apart. ⊎_elim (λ straight. inl (apart_of pair h a b straight apart))
+      (λ crossed. inr (apart_of pair h b a crossed apart)) h.of_groups)
       (λ one. absurd (in_two_groups differ _ _ (one_exchange_of pair h one.0) h.of_groups)) h.impossible
 
 -- ---- of two groups
@@ -305,7 +287,7 @@ IsSearched ppb one other found = MatchOption found (AllCompatible ppb one.lows.i
 module _ (claim : ClaimData) (xs : List Exchange) (ppb : ℕ) (rate : claim.drift_ppb ≡ ppb) where
   at_rate : (one other : NumberedMarks) (found' : Option Contradiction) → IsSearched ppb one other found'
       → IsSearched claim.drift_ppb one other found'
-  at_rate one other found' h = subst (λ (p : ℕ). IsSearched p one other found') (sym rate) h
+  at_rate one other found' h = rw rate h
 
   pub first_of_two : (a b : ℕ) (one other : NumberedMarks) (forth back : Option Contradiction) → a ≢ b
       → AreNumberedOf claim xs a one → AreNumberedOf claim xs b other → IsSearched ppb one other forth
@@ -327,11 +309,7 @@ record IsAlone (claim : ClaimData) (xs : List Exchange) (group : ℕ) (pair : Pa
 module _ (claim : ClaimData) (xs : List Exchange) (a : ℕ) where
   alone_first : (k : ℕ) (pair : Pair) → IsFirstImpossible claim xs a k → IsAlone claim xs a pair
       → IsNoLater record { low = k; high = k } pair
-  alone_first k pair first h = let same = h.same in ⊎_elim
-      (λ (lt : pair.low < k). absurd (first.first pair.low lt h.at))
-      (λ (le : k ≤ pair.low). ⊎_elim (λ (gt : k < pair.low). inl gt)
-      (λ (ge : pair.low ≤ k). inr (omega arith, omega (arith, same))) (cases_lt k pair.low))
-      (cases_lt pair.low k)
+  alone_first k pair first h = grind (arith, h.same, first.first pair.low, h.at)
 
   alone_answers : (alone : Option ℕ) → MatchOption alone ((k : ℕ) → IsImpossibleAt claim xs a k → ⊥)
       (λ k. IsFirstImpossible claim xs a k) → Answers (IsAlone claim xs a) (twice alone)
@@ -348,23 +326,11 @@ module _ (claim : ClaimData) (xs : List Exchange) (a : ℕ) where
     impossible = inr (h.same, h.at.impossible);
   }
 
-  in_one_group : (x y : ℕ) → ((x ≡ a) × (y ≡ a)) ⊎ ((x ≡ a) × (y ≡ a)) → (x ≡ a) × (y ≡ a)
-  in_one_group x y = ⊎_elim (λ h. h) (λ h. h)
-
   apart_or_alone : (pair : Pair) → IsContradiction claim xs a a pair
       → IsApart claim xs a a pair ⊎ IsAlone claim xs a pair
   apart_or_alone pair h =
-      let groups = in_one_group (group_of claim h.low) (group_of claim h.high) h.of_groups in
-      ⊎_elim
-      (λ apart. inl (record {
-        low = h.low;
-        high = h.high;
-        low_stands = h.low_stands;
-        high_stands = h.high_stands;
-        in_low = groups.0;
-        in_high = groups.1;
-        apart = apart;
-      }))
+      let groups = ⊎_elim (λ g. g) (λ g. g) h.of_groups in
+      ⊎_elim (λ apart. inl (apart_of claim xs a a pair h a a groups apart))
       (λ one. inr (record {
         same = one.0;
         at = record { exchange = h.low; stands = h.low_stands; in_group = groups.0; impossible = one.1 };
@@ -384,6 +350,4 @@ module _ (claim : ClaimData) (xs : List Exchange) (a : ℕ) where
 
 pub first_same : (ppb : ℕ) (ls ls' hs hs' : List Mark) → ls ≡ ls' → hs ≡ hs' → (i j : ℕ)
     → IsFirstConflict ppb ls hs i j → IsFirstConflict ppb ls' hs' i j
-first_same ppb ls ls' hs hs' same_lows same_highs i j h =
-    subst (λ (ms : List Mark). IsFirstConflict ppb ls' ms i j) same_highs
-    (subst (λ (ms : List Mark). IsFirstConflict ppb ms hs i j) same_lows h)
+first_same ppb ls ls' hs hs' same_lows same_highs i j h = rw (← same_lows, ← same_highs) h

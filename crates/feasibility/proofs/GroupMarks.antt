@@ -1,5 +1,5 @@
 -- The marks of groups tell which groups are broken and which two conflict.
-use Rattle.feasibility.proofs.Common.{◌≡◌, ◌≢◌, ℕ, zero, suc, ◌<◌, Bool, true, false, true≢false, ◌⊎◌, inl, inr, ⊎_elim, List, [], ◌∷◌, Some, length, slice_get, refl, sym, ◌∙◌, subst, arith, All, filter, ◌==◌, cond-true, cond-false, nat_tests, All-nil, All-cons, All-map, ClaimData, Exchange, low_mark, high_mark, IsPossible, AreCompatible, AreAllCompatible, group_of, HasImpossible, Contradicts, IsBroken, DoConflict, group_exchanges, group_lows, group_highs, IsSound, DoGroupsAgree, IsConflictTable, by_test, eq-eqb, All-map_back}
+use Rattle.feasibility.proofs.Common.{eqb-true, ◌≡◌, ◌≢◌, ℕ, zero, suc, ◌<◌, Bool, true, false, ◌⊎◌, inl, inr, ⊎_elim, List, [], ◌∷◌, Some, length, slice_get, refl, All, filter, ◌==◌, cond-true, cond-false, All-nil, All-cons, All-map, ClaimData, Exchange, low_mark, high_mark, IsPossible, AreCompatible, AreAllCompatible, group_of, HasImpossible, Contradicts, IsBroken, DoConflict, group_exchanges, group_lows, group_highs, IsSound, DoGroupsAgree, IsConflictTable, by_test, eq-eqb, All-map_back}
 use Rattle.feasibility.proofs.TrueExchanges.{at_passing}
 use Rattle.feasibility.proofs.Covers.{is_possible_or_not, are_compatible_or_not}
 
@@ -20,10 +20,10 @@ module _ {X : Type 0} (p : X → Bool) (P F : X → Type 0) (decide : (x : X) �
   search_passing (y ∷ ys) = ⊎_elim
       (λ (rest : All P (filter p ys)). by_test (p y)
       (λ first. ⊎_elim
-      (λ right. inl (subst (All P) (sym (cond-true (p y) (y ∷ filter p ys) (filter p ys) first))
+      (λ right. inl (rw (cond-true (p y) (y ∷ filter p ys) (filter p ys) first)
       (All-cons P y (filter p ys) right rest)))
       (λ wrong. inr (record { number = zero; item = y; stands = refl; passes = first; wrong = wrong })) (decide y))
-      (λ first. inl (subst (All P) (sym (cond-false (p y) (y ∷ filter p ys) (filter p ys) first)) rest)))
+      (λ first. inl (rw (cond-false (p y) (y ∷ filter p ys) (filter p ys) first) rest)))
       (λ (later : Found p F ys). inr (record {
         number = suc later.number;
         item = later.item;
@@ -32,9 +32,6 @@ module _ {X : Type 0} (p : X → Bool) (P F : X → Type 0) (decide : (x : X) �
         wrong = later.wrong;
       }))
       (search_passing ys)
-
-pub equal_from : (a b : ℕ) → (a == b) ≡ true → a ≡ b
-equal_from a b test = grind (arith, nat_tests)
 
 -- ---- groups
 
@@ -58,8 +55,8 @@ module _ (claim : ClaimData) (xs : List Exchange) where
         high = found.wrong.item;
         low_stands = found.stands;
         high_stands = found.wrong.stands;
-        in_low_group = equal_from (group_of claim found.item) a found.passes;
-        in_high_group = equal_from (group_of claim found.wrong.item) b found.wrong.passes;
+        in_low_group = eqb-true (group_of claim found.item) a found.passes;
+        in_high_group = eqb-true (group_of claim found.wrong.item) b found.wrong.passes;
         not_compatible = found.wrong.wrong;
       }))
       (search_passing (is_of a)
@@ -80,7 +77,7 @@ module _ (claim : ClaimData) (xs : List Exchange) where
         number = found.number;
         exchange = found.item;
         stands = found.stands;
-        in_group = equal_from (group_of claim found.item) group found.passes;
+        in_group = eqb-true (group_of claim found.item) group found.passes;
         impossible = found.wrong;
       }))
       (search_passing (is_of group) (IsPossible claim.reading) (λ x. ¬ (IsPossible claim.reading x))
@@ -134,13 +131,12 @@ module _ (claim : ClaimData) (xs : List Exchange) where
       → (IsSound claim xs group → t ≡ false)
       → (t ≡ true → IsBroken claim xs group) × (IsBroken claim xs group → t ≡ true)
   broken_by_test group t sound test = (
-    λ is. ⊎_elim (λ s. absurd (true≢false (sym is ∙ test s))) (λ h. h) (sound_or_broken group),
+    λ is. ⊎_elim (λ s. let no = test s in absurd cc) (λ h. h) (sound_or_broken group),
     λ h. by_test t (λ is. is) (λ isnt. absurd (sound_isnt_broken group (sound isnt) h)),
   )
 
   edge_by_test : (a b : ℕ) (t : Bool) → (DoGroupsAgree claim xs a b → t ≡ false) → t ≡ true → DoConflict claim xs a b
-  edge_by_test a b t test is =
-      ⊎_elim (λ agree. absurd (true≢false (sym is ∙ test agree))) (λ h. h) (agree_or_conflict a b)
+  edge_by_test a b t test is = ⊎_elim (λ agree. let no = test agree in absurd cc) (λ h. h) (agree_or_conflict a b)
 
   all_by_test : (a b : ℕ) (t : Bool) → (t ≡ false → DoGroupsAgree claim xs a b) → DoConflict claim xs a b → t ≡ true
   all_by_test a b t agree h = by_test t (λ is. is) (λ isnt. absurd (agreeing_dont_conflict a b (agree isnt) h))

@@ -1,7 +1,8 @@
 -- A refutation whose liars are the servers of some groups: it stands exactly if these are a cover, and its own
 -- mark is compatible with those of the other groups.
-use Rattle.feasibility.proofs.Common.{◌≡◌, ℕ, ◌+◌, ◌<◌, ◌≤◌, Bool, true, false, true≢false, cond, not, ◌&&◌, List, [], ◌∷◌, length, map, slice_get, Some, refl, sym, ap, ap₂, ◌∙◌, subst, arith, All, ◌==◌, ◌↔◌, IsTrue, list_any, nat_tests, All-head, All-tail, All-map, slice_get_within, RefutationData, is_liar, IsAgainst, ClaimData, IsConflictTable, ConflictData, IsCover, is_of, servers_of, IsCompatibleWith, IsRefutedWithDrift, mark_of, true_exchanges, AreAllCompatible, DoAgree, low_mark, high_mark, IsPossible, AreCompatible, Mark, IsLawful as IsLawfulExchange, Exchange, numbers_below, by_test, fails_below, All-map_back}
+use Rattle.feasibility.proofs.Common.{eq-eqb, eqb-true, ◌≡◌, ℕ, ◌+◌, ◌<◌, ◌≤◌, Bool, false, cond, not, List, [], ◌∷◌, length, map, slice_get, Some, refl, sym, ap, ap₂, ◌∙◌, subst, arith, All, ◌==◌, ◌↔◌, IsTrue, nat_tests, All-head, All-tail, All-map, slice_get_within, RefutationData, is_liar, IsAgainst, ClaimData, IsConflictTable, ConflictData, IsCover, is_of, servers_of, IsCompatibleWith, IsRefutedWithDrift, mark_of, true_exchanges, AreAllCompatible, DoAgree, low_mark, high_mark, IsPossible, AreCompatible, Mark, IsLawful as IsLawfulExchange, Exchange, numbers_below, by_test, All-map_back}
 use Rattle.std.proofs.lemmas.Map.Views.{any-filter_same}
+use Rattle.checker.proofs.Counting.{found_below}
 use Rattle.claim_file.specs.Claim.{IsLawful}
 use Rattle.feasibility.proofs.ConflictTables.{by_table, from_table}
 use Rattle.feasibility.proofs.Covers.{agree_outside, cover_by_agreement}
@@ -10,25 +11,15 @@ use Rattle.feasibility.proofs.TrueExchanges.{all_true}
 
 -- ---- the servers of groups
 
-number_below : (n server : ℕ) → server < n → list_any (λ k. k == server) (numbers_below n) ≡ true
-number_below n server below = by_test (list_any (λ k. k == server) (numbers_below n)) (λ is. is)
-    (λ none.
-    let itself : (server == server) ≡ true = grind (arith, nat_tests) in
-    absurd (true≢false (sym itself ∙ fails_below (λ k. k == server) n server below none)))
-
-both_with : (a b : Bool) → b ≡ true → (a && b) ≡ a
-both_with true b is = is
-both_with false b is = refl
-
 module _ (claim : ClaimData) (is_in : ℕ → Bool) where
   -- just these are liars
   liars_are : (server : ℕ) → server < length claim.servers
       → is_liar (servers_of claim is_in) server ≡ is_of claim is_in server
   liars_are server below =
+      let listed = found_below (λ k. k == server) (length claim.servers) server below (eq-eqb server server refl) in
       any-filter_same (λ k. k == server) (is_of claim is_in) (is_of claim is_in server)
-      (λ k e. let same : k ≡ server = grind (arith, nat_tests) in ap (is_of claim is_in) same)
-      (numbers_below (length claim.servers))
-      ∙ both_with (is_of claim is_in server) _ (number_below (length claim.servers) server below)
+      (λ k e. ap (is_of claim is_in) (eqb-true k server e)) (numbers_below (length claim.servers))
+      ∙ grind (arith, nat_tests)
 
 -- the same exchanges are true by two tests that are the same of their servers
 same_true : (f g : ℕ → Bool) (xs : List Exchange) → All (λ x. f x.server ≡ g x.server) xs
@@ -87,21 +78,15 @@ module _ (claim : ClaimData) (xs : List Exchange) (lawful : IsLawful claim)
         (true_exchanges (is_liar r.liars) xs) refuted.reading_low in
         let high = All-map_back (λ low. AreCompatible claim.drift_ppb low (mark_of r)) (low_mark claim.reading)
         (true_exchanges (is_liar r.liars) xs) refuted.reading_high in
-        subst (All (IsCompatibleWith claim (mark_of r))) same
-        (λ k x below. record { as_low = low k x below; as_high = high k x below })
+        rw (← same) (λ k x below. record { as_low = low k x below; as_high = high k x below })
 
   -- so it is refuted exactly if the groups are a cover and leave the mark
   pub settled : (mark : Mark) → mark ≡ mark_of r → IsAgainst claim r → (left : Bool)
       → (IsTrue left ↔ (IsCover d is_in × All (IsCompatibleWith claim mark) outside))
       → (IsTrue left ↔ IsRefutedWithDrift claim xs r)
   settled mark is against left tells = (
-    λ holds.
-        let both = tells.0 holds in
-        stands_from against both.0 (subst (λ (m : Mark). All (IsCompatibleWith claim m) outside) is both.1),
-    λ refuted. tells.1 (
-      covered refuted,
-      subst (λ (m : Mark). All (IsCompatibleWith claim m) outside) (sym is) (own_fits refuted),
-    ),
+    λ holds. let both = tells.0 holds in stands_from against both.0 (rw (← is) both.1),
+    λ refuted. tells.1 (covered refuted, rw is (own_fits refuted)),
   )
 
 -- ---- the pass over the exchanges

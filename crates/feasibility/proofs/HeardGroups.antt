@@ -2,7 +2,7 @@
 -- mark is left, and the lowest course of one mark of its own fits.
 use Rattle.std.proofs.Common.{◌==◌}
 use Rattle.std.specs.Prelude.{slice_get}
-use Rattle.feasibility.proofs.Common.{◌≡◌, ℕ, zero, suc, ◌≤◌, ℤ, pos, ◌+ℤ◌, ◌*ℤ◌, ◌≤ℤ◌, ◌<ℤ◌, unsigned_abs, Bool, true, false, ◌||◌, List, [], ◌∷◌, length, Some, refl, sym, ap, ◌∙◌, true≢false, eq-eqb, arith, All, slice_index, list_any, ints, ClaimData, times_le, IsLawful as IsLawfulExchange, Exchange, Mark, low_mark, high_mark, IsPossible, AreCompatible, Course, IsObservedIn, IsTraceable, samples_of, error_of, group_of, has_exchange, count_with_exchange, IsPossibleError, IsNoEvidence, lowest_course, low_marks, ≤ℤ_refl, or-false, or_left, or_right}
+use Rattle.feasibility.proofs.Common.{nat_tests, ◌≡◌, ℕ, zero, suc, ◌≤◌, ℤ, pos, ◌+ℤ◌, ◌*ℤ◌, Bool, true, false, ◌||◌, List, [], ◌∷◌, length, Some, refl, sym, ◌∙◌, eq-eqb, arith, All, slice_index, list_any, ints, ClaimData, times_le, IsLawful as IsLawfulExchange, Exchange, Mark, low_mark, high_mark, IsPossible, AreCompatible, Course, IsObservedIn, IsTraceable, samples_of, error_of, group_of, has_exchange, count_with_exchange, IsPossibleError, IsNoEvidence, lowest_course, low_marks, ≤ℤ_refl, or-false}
 use Rattle.claim_file.specs.Claim.{IsLawful}
 use Rattle.feasibility.proofs.Covers.{few_by_cover}
 use Rattle.feasibility.proofs.DriftCourse.{beyond}
@@ -13,11 +13,8 @@ use Rattle.feasibility.proofs.TrueExchanges.{all_true, all_marks, all_pairs}
 module _ {X : Type 0} (p : X → Bool) where
   any_at : (xs : List X) (k : ℕ) (x : X) → slice_get xs k ≡ Some x → p x ≡ true → list_any p xs ≡ true
   any_at [] k x at passes = absurd cc
-  any_at (y ∷ ys) zero x at passes =
-      let same : y ≡ x = cc in
-      let first : p y ≡ true = rw same passes in
-      or_left (p y) (list_any p ys) first
-  any_at (y ∷ ys) (suc k) x at passes = or_right (p y) (list_any p ys) (any_at ys k x at passes)
+  any_at (y ∷ ys) zero x at passes = let same : y ≡ x = cc in grind (arith, nat_tests)
+  any_at (y ∷ ys) (suc k) x at passes = grind (arith, nat_tests, any_at ys k x at passes)
 
 pub has_own : (claim : ClaimData) (xs : List Exchange) (k : ℕ) (x : Exchange) → slice_get xs k ≡ Some x
     → has_exchange claim xs (group_of claim x) ≡ true
@@ -30,7 +27,7 @@ module _ (claim : ClaimData) (xs : List Exchange) where
   heard server = has_exchange claim xs (slice_index claim.groups server)
 
   none_true : (k : ℕ) (x : Exchange) → slice_get xs k ≡ Some x → heard x.server ≡ false → ⊥
-  none_true k x at true' = true≢false (sym (has_own claim xs k x at) ∙ true')
+  none_true k x at true' = let own = has_own claim xs k x at in absurd cc
 
   no_low : (P : Mark → Type 0) → All P (low_marks claim.reading heard xs)
   no_low P = all_marks heard xs P (low_mark claim.reading) (λ k x at true'. absurd (none_true k x at true'))
@@ -69,9 +66,6 @@ module _ (claim : ClaimData) (xs : List Exchange) where
 
 -- ---- so nothing is traceable
 
-above : (bound : ℤ) → pos 0 ≤ℤ bound → bound <ℤ pos (unsigned_abs (bound +ℤ pos 1))
-above bound from_zero = omega (arith, ints)
-
 module _ (claim : ClaimData) (xs : List Exchange) (lawful : IsLawful claim) where
   seen_in_span : (course : Course) → course.observation.reading ≡ claim.first *ℤ pos course.fineness
       → IsObservedIn course claim.first claim.last
@@ -85,7 +79,7 @@ module _ (claim : ClaimData) (xs : List Exchange) (lawful : IsLawful claim) wher
       let error = claim.bound +ℤ pos 1 in
       let shown : IsPossibleError claim xs claim.first error = none.any_error claim.first error in
       beyond claim.bound error (error_of shown.course.observation) shown.course.fineness shown.fits.fits.some_fineness
-      (above claim.bound lawful.bound_not_negative) shown.off
+      (let from_zero = lawful.bound_not_negative in omega (arith, ints)) shown.off
       (traceable xs shown.course refl shown.fits.fits (seen_in_span shown.course shown.observed))
 
 -- ---- the groups that were heard so far, and what is left
@@ -93,22 +87,12 @@ module _ (claim : ClaimData) (xs : List Exchange) (lawful : IsLawful claim) wher
 pub record AreHeardTo (claim : ClaimData) (xs rest : List Exchange) (is_in : ℕ → Bool) : Type 0 where
   pub all : (group : ℕ) → has_exchange claim xs group ≡ (is_in group || has_exchange claim rest group)
 
-moved : (all here before rest : Bool) → all ≡ (before || (here || rest)) → all ≡ ((here || before) || rest)
-moved all true true rest is = is
-moved all true false rest is = is
-moved all false true rest is = is
-moved all false false rest is = is
-
 module _ (claim : ClaimData) (xs : List Exchange) where
   pub one_more_heard : (x : Exchange) (left rest : List Exchange) (is_in is_now : ℕ → Bool) (own : ℕ)
       → left ≡ x ∷ rest → own ≡ group_of claim x → ((group : ℕ) → is_now group ≡ ((group == own) || is_in group))
       → AreHeardTo claim xs left is_in → AreHeardTo claim xs rest is_now
   one_more_heard x left rest is_in is_now own split is now before = record {
-    all = λ group.
-        moved (has_exchange claim xs group) (group == group_of claim x) (is_in group) (has_exchange claim rest group)
-        (before.all group ∙ ap (λ (ys : List Exchange). is_in group || has_exchange claim ys group) split)
-        ∙ ap (λ (b : Bool). b || has_exchange claim rest group)
-        (sym (now group ∙ ap (λ (n : ℕ). (group == n) || is_in group) is));
+    all = λ group. let so_far = rw split at (before.all group) in grind (arith, nat_tests, now group);
   }
 
   pub all_heard : (is_in : ℕ → Bool) → AreHeardTo claim xs [] is_in

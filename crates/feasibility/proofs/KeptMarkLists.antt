@@ -1,36 +1,29 @@
 -- Lists of kept marks, as they are gathered.
-use Rattle.feasibility.proofs.Common.{◌≡◌, ℕ, ◌+◌, ◌<◌, suc, drop, length, Some, subst, ℤ, Bool, true, false, not, List, [], ◌∷◌, ◌++◌, map, refl, sym, ap, ap₂, ◌∙◌, arith, All, slice_index, ◌==◌, get_or_default_zero, is_outside, list_all, slice_index_or, cond-true, cond-false, All-append, All-cons, All-nil, append_snoc, drop-cons, get_or_from_slice_get, slice_get-get_or, slice_get_within, get_or-map, length-map, Mark, IsWithinRange, low_mark, high_mark, IsLawful as IsLawfulExchange, Exchange, is_possible, true_exchanges, low_marks, high_marks, ne_eqb, eq-eqb}
+use Rattle.feasibility.proofs.Common.{get_or, ◌≡◌, ℕ, ◌+◌, ◌<◌, suc, drop, length, Some, subst, ℤ, Bool, true, false, not, List, [], ◌∷◌, ◌++◌, map, refl, sym, ap, ap₂, ◌∙◌, arith, All, slice_index, ◌==◌, get_or_default_zero, is_outside, list_all, slice_index_or, cond-true, cond-false, All-append, All-cons, All-nil, append_snoc, drop-cons, slice_get-get_or, get_or-map, length-map, Mark, IsWithinRange, low_mark, high_mark, IsLawful as IsLawfulExchange, Exchange, is_possible, true_exchanges, low_marks, high_marks, ne_eqb, eq-eqb}
 use Rattle.std.specs.Prelude.{slice_get}
 
 -- ---- what the element at a place shows
 
-next : (k : ℕ) → suc k ≡ k + 1
-next k = omega arith
-
-module _ {X : Type 0} (shown : X → Exchange) (xs : List X) (k : ℕ) (item : X) (at : slice_get xs k ≡ Some item) where
-  within : k < length (map shown xs)
-  within = rw (length-map xs shown) (slice_get_within xs k item at)
-
-  is_shown : slice_index_or (map shown xs) k (shown item) ≡ shown item
-  is_shown = get_or-map shown xs k item (shown item) (slice_get_within xs k item at)
-      ∙ ap shown (get_or_from_slice_get xs k item item at)
+module _ {X : Type 0} (shown : X → Exchange) (xs : List X) {k : ℕ} {item : X} (within : k < length xs)
+    (is : item ≡ get_or xs k item) {x : Exchange} (shows : x ≡ shown item) where
+  is_shown : slice_index_or (map shown xs) k (shown item) ≡ x
+  is_shown = get_or-map shown xs k item (shown item) within ∙ ap shown (sym is) ∙ sym shows
 
   -- it is the first of those that are left
-  pub first_left : (x : Exchange) → x ≡ shown item →
-      drop k (map shown xs) ≡ x ∷ drop (k + 1) (map shown xs)
-  first_left x is =
-      drop-cons (map shown xs) k (shown item) within
-      ∙ ap₂ (λ y n. y ∷ drop n (map shown xs)) (is_shown ∙ sym is) (next k)
+  pub first_left : drop k (map shown xs) ≡ x ∷ drop (k + 1) (map shown xs)
+  first_left =
+      let next : suc k ≡ k + 1 = omega arith in
+      drop-cons (map shown xs) k (shown item) (rw length-map within)
+      ∙ ap₂ (λ y n. y ∷ drop n (map shown xs)) is_shown next
 
   -- it stands there
-  pub shown_at : (x : Exchange) → x ≡ shown item → slice_get (map shown xs) k ≡ Some x
-  shown_at x is = slice_get-get_or (map shown xs) k (shown item) within ∙ ap Some (is_shown ∙ sym is)
+  pub shown_at : slice_get (map shown xs) k ≡ Some x
+  shown_at = slice_get-get_or (map shown xs) k (shown item) (rw length-map within) ∙ ap Some is_shown
 
   -- it is lawful, if all that is shown is
-  pub lawful_shown : (servers : ℕ) (x : Exchange) → x ≡ shown item →
-      All (IsLawfulExchange servers) (map shown xs) → IsLawfulExchange servers x
-  lawful_shown servers x is each =
-      subst (IsLawfulExchange servers) (is_shown ∙ sym is) (each k (shown item) within)
+  pub lawful_shown : {servers : ℕ} → All (IsLawfulExchange servers) (map shown xs) → IsLawfulExchange servers x
+  lawful_shown {servers} each =
+      subst (IsLawfulExchange servers) is_shown (each k (shown item) (rw length-map within))
 
 -- what a list keeps with one more at its end
 pub with_last : (ms : List Mark) (m : Mark) (items : List Mark) → items ≡ ms ++ m ∷ [] → All IsWithinRange ms
@@ -48,18 +41,29 @@ pub record IsGathering (allowance : ℤ) (is_false : ℕ → Bool) (xs rest : Li
   pub low_range : All IsWithinRange lows
   pub high_range : All IsWithinRange highs
 
-module _ (allowance : ℤ) (is_false : ℕ → Bool) (x : Exchange) (rest : List Exchange) where
-  skipped : is_false x.server ≡ true → true_exchanges is_false (x ∷ rest) ≡ true_exchanges is_false rest
-  skipped named = cond-false (not (is_false x.server)) (x ∷ true_exchanges is_false rest) (true_exchanges is_false rest)
-      (ap not named)
+-- one exchange further
+module _ {X : Type 0} (shown : X → Exchange) (items : List X) {k : ℕ} {item : X} (within : k < length items)
+    (is : item ≡ get_or items k item) {x : Exchange} (shows : x ≡ shown item) {allowance : ℤ} {is_false : ℕ → Bool}
+    {old_lows old_highs lows highs : List Mark}
+    (before : IsGathering allowance is_false (map shown items) (drop k (map shown items)) old_lows old_highs lows highs)
+  where
+    abbrev rest : List Exchange
+    rest = drop (k + 1) (map shown items)
 
-  kept : is_false x.server ≡ false → true_exchanges is_false (x ∷ rest) ≡ x ∷ true_exchanges is_false rest
-  kept true' = cond-true (not (is_false x.server)) (x ∷ true_exchanges is_false rest) (true_exchanges is_false rest)
-      (ap not true')
+    skipped : is_false x.server ≡ true
+        → true_exchanges is_false (drop k (map shown items)) ≡ true_exchanges is_false rest
+    skipped named = ap (true_exchanges is_false) (first_left shown items within is shows)
+        ∙ cond-false (not (is_false x.server)) (x ∷ true_exchanges is_false rest) (true_exchanges is_false rest)
+        (ap not named)
 
-  module _ (xs : List Exchange) (old_lows old_highs lows highs : List Mark)
-      (before : IsGathering allowance is_false xs (x ∷ rest) old_lows old_highs lows highs) where
-    pub past_liar : is_false x.server ≡ true → IsGathering allowance is_false xs rest old_lows old_highs lows highs
+    kept : is_false x.server ≡ false
+        → true_exchanges is_false (drop k (map shown items)) ≡ x ∷ true_exchanges is_false rest
+    kept true' = ap (true_exchanges is_false) (first_left shown items within is shows)
+        ∙ cond-true (not (is_false x.server)) (x ∷ true_exchanges is_false rest) (true_exchanges is_false rest)
+        (ap not true')
+
+    pub past_liar : is_false x.server ≡ true
+        → IsGathering allowance is_false (map shown items) rest old_lows old_highs lows highs
     past_liar named =
         let same = skipped named in
         record {
@@ -70,18 +74,16 @@ module _ (allowance : ℤ) (is_false : ℕ → Bool) (x : Exchange) (rest : List
           high_range = before.high_range;
         }
 
-    pub past_kept : (lows' highs' : List Mark) → is_false x.server ≡ false → is_possible allowance x ≡ true →
+    pub past_kept : {lows' highs' : List Mark} → is_false x.server ≡ false → is_possible allowance x ≡ true →
         lows' ≡ lows ++ low_mark allowance x ∷ [] → highs' ≡ highs ++ high_mark allowance x ∷ [] →
         All IsWithinRange lows' → All IsWithinRange highs' →
-        IsGathering allowance is_false xs rest old_lows old_highs lows' highs'
-    past_kept lows' highs' true' can lows_grow highs_grow low_range high_range =
+        IsGathering allowance is_false (map shown items) rest old_lows old_highs lows' highs'
+    past_kept true' can lows_grow highs_grow low_range high_range =
         let same = kept true' in
         record {
-          possible = before.possible ∙ ap (list_all (is_possible allowance)) same
-              ∙ rw can refl;
+          possible = before.possible ∙ ap (list_all (is_possible allowance)) same ∙ rw can refl;
           lows_are = before.lows_are ∙ ap (λ ys. lows ++ map (low_mark allowance) ys) same
-              ∙ sym (append_snoc lows (low_mark allowance x) (low_marks allowance is_false rest))
-              ∙ rw lows_grow refl;
+              ∙ sym (append_snoc lows (low_mark allowance x) (low_marks allowance is_false rest)) ∙ rw lows_grow refl;
           highs_are = before.highs_are ∙ ap (λ ys. highs ++ map (high_mark allowance) ys) same
               ∙ sym (append_snoc highs (high_mark allowance x) (high_marks allowance is_false rest))
               ∙ rw highs_grow refl;
@@ -90,10 +92,9 @@ module _ (allowance : ℤ) (is_false : ℕ → Bool) (x : Exchange) (rest : List
         }
 
     pub stopped : is_false x.server ≡ false → is_possible allowance x ≡ false →
-        false ≡ list_all (is_possible allowance) (true_exchanges is_false xs)
+        false ≡ list_all (is_possible allowance) (true_exchanges is_false (map shown items))
     stopped true' cannot =
-        let same = kept true' in
-        sym (before.possible ∙ ap (list_all (is_possible allowance)) same ∙ rw cannot refl)
+        sym (before.possible ∙ ap (list_all (is_possible allowance)) (kept true') ∙ rw cannot refl)
 
 -- ---- the group of a server
 

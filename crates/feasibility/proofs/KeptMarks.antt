@@ -1,5 +1,5 @@
 -- Two marks that moments of one clock keep are compatible, and each holds at its place.
-use Rattle.feasibility.proofs.Common.{◌≡◌, ℕ, ◌+◌, ◌-◌, ◌*◌, ◌<◌, ◌≤◌, ℤ, pos, ◌+ℤ◌, ◌-ℤ◌, ◌*ℤ◌, ◌≤ℤ◌, ◌<ℤ◌, unsigned_abs, refl, subst, arith, ints, le_of_mul-le-mul_right, mul-le-mul_right, Mark, AreCompatible, Moment, error_of, error_change, DriftsWithin, billion, time_of, KeepsLow, KeepsHigh, ≤ℤ_trans}
+use Rattle.feasibility.proofs.Common.{◌≡◌, ℕ, ◌+◌, ◌-◌, ◌*◌, ◌<◌, ◌≤◌, ℤ, pos, ◌-ℤ◌, ◌*ℤ◌, ◌≤ℤ◌, ◌<ℤ◌, unsigned_abs, refl, subst, arith, ints, le_of_mul-le-mul_right, mul-le-mul_right, Mark, AreCompatible, Moment, error_of, error_change, DriftsWithin, billion, time_of, KeepsLow, KeepsHigh, ≤ℤ_trans}
 use Rattle.feasibility.proofs.Scaling.{times-sub, scaled_beyond, bounded}
 use Rattle.feasibility.proofs.Steps.{Drifts, Drifts-turned, rises_by, falls_by, readings_go_on, times_go_on}
 use Rattle.feasibility.proofs.Agreement.{TwoKept, ahead, behind}
@@ -18,13 +18,6 @@ parts_of ppb a b slow h =
 fast_part : (ppb : ℕ) → ppb < billion → (billion - ppb) + ppb + ppb ≡ billion + ppb
 fast_part ppb slow = omega arith
 
--- how far one number is beyond the other, as a natural number
-distance_is : (a b : ℤ) → a ≤ℤ b → b -ℤ a ≡ pos (unsigned_abs (b -ℤ a))
-distance_is a b h = omega (arith, ints)
-
-beyond_by : (a b : ℤ) → a ≤ℤ b → b ≡ a +ℤ pos (unsigned_abs (b -ℤ a))
-beyond_by a b h = omega (arith, ints)
-
 -- the error rises by at most P/(B+P) and falls by at most P/(B-P) of what the clock advances
 module _ (ppb : ℕ) (a b : Moment) (slow : ppb < billion) (h : DriftsWithin ppb a b)
     (forth : a.reading ≤ℤ b.reading) where
@@ -32,17 +25,17 @@ module _ (ppb : ℕ) (a b : Moment) (slow : ppb < billion) (h : DriftsWithin ppb
   error_rises =
       let r : ℕ = unsigned_abs (b.reading -ℤ a.reading) in
       bounded (billion + ppb) ppb r (error_of b -ℤ error_of a) (b.reading -ℤ a.reading)
-      (distance_is a.reading b.reading forth)
+      (omega (arith, ints))
       (λ y change.
-      let step = rises_by (parts_of ppb a b slow h) r y (beyond_by a.reading b.reading forth) change in
+      let step = rises_by (parts_of ppb a b slow h) r y (omega (arith, ints)) change in
       subst (λ (n : ℕ). n * y ≤ ppb * r) (fast_part ppb slow) step)
 
   pub error_falls : (pos (billion - ppb) *ℤ (error_of a -ℤ error_of b)) ≤ℤ (pos ppb *ℤ (b.reading -ℤ a.reading))
   error_falls =
       let r : ℕ = unsigned_abs (b.reading -ℤ a.reading) in
       bounded (billion - ppb) ppb r (error_of a -ℤ error_of b) (b.reading -ℤ a.reading)
-      (distance_is a.reading b.reading forth)
-      (λ y change. falls_by (parts_of ppb a b slow h) r y (beyond_by a.reading b.reading forth) change)
+      (omega (arith, ints))
+      (λ y change. falls_by (parts_of ppb a b slow h) r y (omega (arith, ints)) change)
 
 pub moments_in_order : (ppb : ℕ) (a b : Moment) → ppb < billion → DriftsWithin ppb a b → a.time ≤ℤ b.time
     → a.reading ≤ℤ b.reading
@@ -111,9 +104,9 @@ module _ (ppb n : ℕ) (low high : Mark) (some : 0 < n) (slow : ppb < billion)
   unfolding moment_of
   no_fall forth =
       let d : ℕ = unsigned_abs (high.place -ℤ low.place) in
-      let further = scaled_beyond low.place high.place d n (beyond_by low.place high.place forth) in
+      let further = scaled_beyond low.place high.place d n (omega (arith, ints)) in
       bounded (billion - ppb) ppb d (low.error -ℤ high.error) (high.place -ℤ low.place)
-      (distance_is low.place high.place forth)
+      (omega (arith, ints))
       (λ x asks. grouped (billion - ppb) x ppb d n
       (ahead kept.2 (x * n) (d * n) (asks_scaled n x low high asks) further) some)
 
@@ -123,10 +116,10 @@ module _ (ppb n : ℕ) (low high : Mark) (some : 0 < n) (slow : ppb < billion)
   no_rise back =
       let d : ℕ = unsigned_abs (low.place -ℤ high.place) in
       let past : high.place ≤ℤ low.place = omega (arith, ints) in
-      let further = scaled_beyond high.place low.place d n (beyond_by high.place low.place past) in
+      let further = scaled_beyond high.place low.place d n (omega (arith, ints)) in
       let apart : 1 * n ≤ d * n = mul-le-mul_right n (omega (arith, ints)) in
       bounded (billion + ppb) ppb d (low.error -ℤ high.error) (low.place -ℤ high.place)
-      (distance_is high.place low.place past)
+      (omega (arith, ints))
       (λ x asks.
       let step = behind kept.2 (x * n) (d * n) (asks_scaled n x low high asks) further (omega arith) in
       subst (λ (s : ℕ). s * x ≤ ppb * d) (fast_part ppb slow)

@@ -1,5 +1,5 @@
 -- The numbers and marks of a group, as they are gathered.
-use Rattle.feasibility.proofs.Common.{◌≡◌, ℕ, ◌+◌, ◌<◌, ◌⊎◌, ⊎_elim, List, [], ◌∷◌, ◌++◌, drop, length, map, Bool, true, false, refl, sym, ap, ◌∙◌, subst, get_or, arith, All, ◌==◌, filter, get_or-append, length-append, append_snoc, get_or-append_seam, ClaimData, low_mark, high_mark, IsWithinRange, Mark, Exchange, group_of, group_lows, group_highs, numbers_from, group_numbers, not_lt_zero}
+use Rattle.feasibility.proofs.Common.{◌≡◌, ℕ, ◌+◌, ◌<◌, ⊎_elim, List, [], ◌∷◌, ◌++◌, drop, length, map, Bool, true, false, refl, sym, ap, ◌∙◌, subst, get_or, arith, All, ◌==◌, filter, get_or-append, length-append, append_snoc, get_or-append_seam, ClaimData, low_mark, high_mark, IsWithinRange, Mark, Exchange, group_of, group_lows, group_highs, numbers_from, group_numbers, not_lt_zero}
 use Rattle.feasibility.proofs.KeptMarkLists.{with_last}
 use Rattle.feasibility.proofs.PassingNumbers.{kept, left_out, counted, not_counted}
 
@@ -73,9 +73,6 @@ module _ (claim : ClaimData) (group : ℕ) (xs : List Exchange) where
 
 -- ---- a list for each group, one group after another
 
-before_or_last : (k n m : ℕ) → k < m → m ≡ n + 1 → (k < n) ⊎ (k ≡ n)
-before_or_last k n m lt eq = grind arith
-
 module _ {X : Type 0} (P : ℕ → X → Type 0) where
   abbrev EachInOrder : List X → Type 0
   EachInOrder items = (k : ℕ) (d : X) → k < length items → P k (get_or items k d)
@@ -95,4 +92,4 @@ module _ {X : Type 0} (P : ℕ → X → Type 0) where
         (subst (P (length before))
         (sym (ap (λ (ms : List X). get_or ms (length before) d) is ∙ get_or-append_seam before last [] d))
         (subst (λ (j : ℕ). P j last) (sym same) of_last)))
-        (before_or_last k (length before) (length items) below (one_longer (length before) refl))
+        (let long = one_longer (length before) refl in grind arith)

@@ -1,6 +1,7 @@
 -- A refutation's own mark among the others, and what it refutes besides.
-use Rattle.feasibility.proofs.Common.{◌≡◌, ℕ, ◌+◌, ◌-◌, ◌*◌, ◌<◌, ◌≤◌, ℤ, pos, ◌-ℤ◌, ◌≤ℤ◌, unsigned_abs, List, ◌∷◌, arith, All, slice_index_or, ints, All-cons, All-head, All-tail, le_of_mul-le-mul_left, mul-le-mul_left, RefutationData, ClaimData, Exchange, billion, Mark, AreCompatible, is_liar, low_marks, high_marks, mark_of, IsRefutedWithDrift, IsRefutedByMarks, falls_faster, ≤ℤ-<ℤ_trans}
-use Rattle.feasibility.proofs.Scaling.{bounded, product_from}
+use Rattle.feasibility.proofs.Common.{ℕ, ◌≤◌, ℤ, pos, ◌≤ℤ◌, unsigned_abs, List, ◌∷◌, All, slice_index_or, All-cons, All-head, All-tail, RefutationData, ClaimData, Exchange, Mark, AreCompatible, is_liar, low_marks, high_marks, mark_of, IsRefutedWithDrift, IsRefutedByMarks, ≤ℤ-<ℤ_trans}
+use Rattle.error_marks.proofs.Rate.{faster}
+use Rattle.sample_interval.specs.Widening.{IsRate}
 use Rattle.feasibility.proofs.LowestMarks.{with_itself}
 
 module _ (claim : ClaimData) (xs : List Exchange) (r : RefutationData) where
@@ -41,41 +42,13 @@ module _ (claim : ClaimData) (xs : List Exchange) (r : RefutationData) where
 
 -- ---- a faster drift, and a narrower bound
 
-rises_faster : (b s m x d : ℕ) → 0 < b → (b + s) * x ≤ s * d → (b + (s + m)) * x ≤ (s + m) * d
-rises_faster b s m x d some h =
-    let most : (b + s) * x ≤ (b + s) * d = omega arith in
-    let near : x ≤ d = le_of_mul-le-mul_left most (omega arith) in
-    let more : m * x ≤ m * d = mul-le-mul_left m near in
-    omega arith
-
-module _ (slow fast : ℕ) (le : slow ≤ fast) (below : fast ≤ billion) (low high : Mark)
-    (agree : AreCompatible slow low high) where
-  pub faster_compatible : AreCompatible fast low high
-  faster_compatible = record {
-    falls = λ forth.
-        let d : ℕ = unsigned_abs (high.place -ℤ low.place) in
-        let at_d : high.place -ℤ low.place ≡ pos d = omega (arith, ints) in
-        bounded (billion - fast) fast d (low.error -ℤ high.error) (high.place -ℤ low.place) at_d
-        (λ x at. falls_faster billion slow fast x d le below
-        (product_from (billion - slow) slow x d (low.error -ℤ high.error) (high.place -ℤ low.place) at at_d
-        (agree.falls forth)));
-    rises = λ back.
-        let d : ℕ = unsigned_abs (low.place -ℤ high.place) in
-        let at_d : low.place -ℤ high.place ≡ pos d = omega (arith, ints) in
-        let sum : fast ≡ slow + (fast - slow) = omega arith in
-        bounded (billion + fast) fast d (low.error -ℤ high.error) (low.place -ℤ high.place) at_d
-        (λ x at.
-        let h = rises_faster billion slow (fast - slow) x d (omega arith)
-        (product_from (billion + slow) slow x d (low.error -ℤ high.error) (low.place -ℤ high.place) at at_d
-        (agree.rises back)) in
-        rw (← sum) at h);
-  }
-
-pub refuted_with_more : (claim : ClaimData) (narrower : ℤ) (faster : ℕ) (xs : List Exchange) (r : RefutationData)
-    → narrower ≤ℤ claim.bound → claim.drift_ppb ≤ faster → faster ≤ billion → IsRefutedWithDrift claim xs r
-    → IsRefutedWithDrift (record claim { bound = narrower; drift_ppb = faster }) xs r
-refuted_with_more claim narrower faster xs r less le below refuted =
+pub refuted_with_more : (claim : ClaimData) (narrower : ℤ) (fast : ℕ) (xs : List Exchange) (r : RefutationData)
+    → narrower ≤ℤ claim.bound → claim.drift_ppb ≤ fast → IsRate fast → IsRefutedWithDrift claim xs r
+    → IsRefutedWithDrift (record claim { bound = narrower; drift_ppb = fast }) xs r
+refuted_with_more claim narrower fast xs r less le rate refuted =
     let against = refuted.against in
+    let more : (low high : Mark) → AreCompatible claim.drift_ppb low high → AreCompatible fast low high =
+    λ low high. faster claim.drift_ppb fast low high le rate in
     record {
       against = record {
         beyond_bound = ≤ℤ-<ℤ_trans narrower claim.bound (pos (unsigned_abs r.error)) less against.beyond_bound;
@@ -86,12 +59,8 @@ refuted_with_more claim narrower faster xs r less le below refuted =
       };
       agree = record {
         possible = refuted.agree.possible;
-        compatible = λ i d below_i j e below_j. faster_compatible claim.drift_ppb faster le below
-            (slice_index_or (lows claim xs r) i d) (slice_index_or (highs claim xs r) j e)
-            (refuted.agree.compatible i d below_i j e below_j);
+        compatible = λ i d below_i j e below_j. more _ _ (refuted.agree.compatible i d below_i j e below_j);
       };
-      reading_low = λ j e below_j. faster_compatible claim.drift_ppb faster le below (mark_of r)
-          (slice_index_or (highs claim xs r) j e) (refuted.reading_low j e below_j);
-      reading_high = λ i d below_i. faster_compatible claim.drift_ppb faster le below
-          (slice_index_or (lows claim xs r) i d) (mark_of r) (refuted.reading_high i d below_i);
+      reading_low = λ j e below_j. more _ _ (refuted.reading_low j e below_j);
+      reading_high = λ i d below_i. more _ _ (refuted.reading_high i d below_i);
     }

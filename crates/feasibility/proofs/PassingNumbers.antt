@@ -1,10 +1,6 @@
 -- The numbers of the elements that pass a test, and the elements that stand under them.
 use Rattle.feasibility.proofs.Common.{◌≡◌, ℕ, zero, suc, ◌+◌, ◌<◌, ◌≤◌, ⊎_elim, Bool, true, false, List, [], ◌∷◌, Some, slice_get, sym, ap, ◌∙◌, subst, arith, filter, cond-true, cond-false, cases_lt, numbers_from, by_test}
 
-pub at_same : {X : Type 0} (xs ys : List X) (k : ℕ) (x : X) → xs ≡ ys → slice_get ys k ≡ Some x
-    → slice_get xs k ≡ Some x
-at_same xs ys k x same at = subst (λ (zs : List _). slice_get zs k ≡ Some x) (sym same) at
-
 pub one_there : {X : Type 0} (xs : List X) (i j : ℕ) (x y : X) → slice_get xs i ≡ Some x → slice_get xs j ≡ Some y
     → i ≡ j → x ≡ y
 one_there xs i j x y at_x at_y same =
@@ -37,25 +33,12 @@ module _ {X : Type 0} (p : X → Bool) where
   placed k [] i x at passes = absurd cc
   placed k (y ∷ ys) zero x at passes =
       let same : y ≡ x = cc in
-      let first : p y ≡ true = rw same passes in (
-        zero,
-        at_same _ (y ∷ filter p ys) zero x (kept y ys first) at,
-        at_same _ (k ∷ numbers_from p (k + 1) ys) zero (k + 0) (counted k y ys first) (ap Some (here k)),
-      )
+      let first : p y ≡ true = rw same passes in
+      (zero, rw first at, rw first (ap Some (here k)))
   placed k (y ∷ ys) (suc i) x at passes =
       let (j, stands, number) = placed (k + 1) ys i x at passes in
       let is = number ∙ ap Some (further k i) in
-      by_test (p y)
-      (λ first. (
-        suc j,
-        at_same _ (y ∷ filter p ys) (suc j) x (kept y ys first) stands,
-        at_same _ (k ∷ numbers_from p (k + 1) ys) (suc j) (k + suc i) (counted k y ys first) is,
-      ))
-      (λ first. (
-        j,
-        at_same _ (filter p ys) j x (left_out y ys first) stands,
-        at_same _ (numbers_from p (k + 1) ys) j (k + suc i) (not_counted k y ys first) is,
-      ))
+      by_test (p y) (λ first. (suc j, rw first stands, rw first is)) (λ first. (j, rw first stands, rw first is))
 
   -- what stands at a place passes, and its number stands there
   pub record Found (k : ℕ) (xs : List X) (j : ℕ) (x : X) : Type 0 where
@@ -69,8 +52,7 @@ module _ {X : Type 0} (p : X → Bool) where
   found_further k y ys j x first later = record {
     number = suc later.number;
     stands = later.stands;
-    is = at_same _ (k ∷ numbers_from p (k + 1) ys) (suc j) (k + suc later.number) (counted k y ys first)
-        (later.is ∙ ap Some (further k later.number));
+    is = rw first (later.is ∙ ap Some (further k later.number));
     passes = later.passes;
   }
 
@@ -79,8 +61,7 @@ module _ {X : Type 0} (p : X → Bool) where
   found_behind k y ys j x first later = record {
     number = suc later.number;
     stands = later.stands;
-    is = at_same _ (numbers_from p (k + 1) ys) j (k + suc later.number) (not_counted k y ys first)
-        (later.is ∙ ap Some (further k later.number));
+    is = rw first (later.is ∙ ap Some (further k later.number));
     passes = later.passes;
   }
 
@@ -88,61 +69,33 @@ module _ {X : Type 0} (p : X → Bool) where
   found_here k y ys x first same = record {
     number = zero;
     stands = ap Some same;
-    is = at_same _ (k ∷ numbers_from p (k + 1) ys) zero (k + 0) (counted k y ys first) (ap Some (here k));
+    is = rw first (ap Some (here k));
     passes = subst (λ (z : X). p z ≡ true) same first;
   }
 
   pub found : (k : ℕ) (xs : List X) (j : ℕ) (x : X) → slice_get (filter p xs) j ≡ Some x → Found k xs j x
   found k [] j x is = absurd cc
   found k (y ∷ ys) zero x is = by_test (p y)
-      (λ first. let at : Some y ≡ Some x = at_same (y ∷ filter p ys) _ zero x (sym (kept y ys first)) is in
-      found_here k y ys x first cc)
-      (λ first. found_behind k y ys zero x first
-      (found (k + 1) ys zero x (at_same (filter p ys) _ zero x (sym (left_out y ys first)) is)))
+      (λ first. let at : Some y ≡ Some x = rw first at is in found_here k y ys x first cc)
+      (λ first. found_behind k y ys zero x first (found (k + 1) ys zero x (rw first at is)))
   found k (y ∷ ys) (suc j) x is = by_test (p y)
-      (λ first. found_further k y ys j x first
-      (found (k + 1) ys j x (at_same (y ∷ filter p ys) _ (suc j) x (sym (kept y ys first)) is)))
-      (λ first. found_behind k y ys (suc j) x first
-      (found (k + 1) ys (suc j) x (at_same (filter p ys) _ (suc j) x (sym (left_out y ys first)) is)))
-
-  -- the numbers rise
-  one_number : (k n : ℕ) → Some k ≡ Some n → k ≡ n
-  one_number k n is = cc
+      (λ first. found_further k y ys j x first (found (k + 1) ys j x (rw first at is)))
+      (λ first. found_behind k y ys (suc j) x first (found (k + 1) ys (suc j) x (rw first at is)))
 
   at_least : (k : ℕ) (xs : List X) (i n : ℕ) → slice_get (numbers_from p k xs) i ≡ Some n → k ≤ n
   at_least k [] i n is = absurd cc
-  at_least k (y ∷ ys) zero n is = by_test (p y)
-      (λ first.
-      let same = one_number k n (at_same (k ∷ numbers_from p (k + 1) ys) _ zero n (sym (counted k y ys first)) is) in
-      omega (arith, same))
-      (λ first. let more = at_least (k + 1) ys zero n
-      (at_same (numbers_from p (k + 1) ys) _ zero n (sym (not_counted k y ys first)) is) in omega (arith, more))
-  at_least k (y ∷ ys) (suc i) n is = by_test (p y)
-      (λ first. let more = at_least (k + 1) ys i n
-      (at_same (k ∷ numbers_from p (k + 1) ys) _ (suc i) n (sym (counted k y ys first)) is) in omega (arith, more))
-      (λ first. let more = at_least (k + 1) ys (suc i) n
-      (at_same (numbers_from p (k + 1) ys) _ (suc i) n (sym (not_counted k y ys first)) is) in omega (arith, more))
+  at_least k (y ∷ ys) zero n is = by_test (p y) (λ first. grind (arith, rw first at is))
+      (λ first. grind (arith, at_least (k + 1) ys zero n))
+  at_least k (y ∷ ys) (suc i) n is = grind (arith, at_least (k + 1) ys i n, at_least (k + 1) ys (suc i) n)
 
   pub rising : (k : ℕ) (xs : List X) (i j n m : ℕ) → slice_get (numbers_from p k xs) i ≡ Some n
       → slice_get (numbers_from p k xs) j ≡ Some m → i < j → n < m
   rising k [] i j n m is_n is_m lt = absurd cc
   rising k (y ∷ ys) i zero n m is_n is_m lt = absurd (omega arith)
-  rising k (y ∷ ys) zero (suc j) n m is_n is_m lt = by_test (p y)
-      (λ first.
-      let same = one_number k n (at_same (k ∷ numbers_from p (k + 1) ys) _ zero n (sym (counted k y ys first)) is_n) in
-      let more = at_least (k + 1) ys j m
-      (at_same (k ∷ numbers_from p (k + 1) ys) _ (suc j) m (sym (counted k y ys first)) is_m) in
-      omega (arith, same, more))
-      (λ first. rising (k + 1) ys zero (suc j) n m
-      (at_same (numbers_from p (k + 1) ys) _ zero n (sym (not_counted k y ys first)) is_n)
-      (at_same (numbers_from p (k + 1) ys) _ (suc j) m (sym (not_counted k y ys first)) is_m) lt)
-  rising k (y ∷ ys) (suc i) (suc j) n m is_n is_m lt = by_test (p y)
-      (λ first. rising (k + 1) ys i j n m
-      (at_same (k ∷ numbers_from p (k + 1) ys) _ (suc i) n (sym (counted k y ys first)) is_n)
-      (at_same (k ∷ numbers_from p (k + 1) ys) _ (suc j) m (sym (counted k y ys first)) is_m) (omega arith))
-      (λ first. rising (k + 1) ys (suc i) (suc j) n m
-      (at_same (numbers_from p (k + 1) ys) _ (suc i) n (sym (not_counted k y ys first)) is_n)
-      (at_same (numbers_from p (k + 1) ys) _ (suc j) m (sym (not_counted k y ys first)) is_m) lt)
+  rising k (y ∷ ys) zero (suc j) n m is_n is_m lt =
+      grind (arith, at_least (k + 1) ys j m, rising (k + 1) ys zero (suc j) n m)
+  rising k (y ∷ ys) (suc i) (suc j) n m is_n is_m lt =
+      grind (arith, rising (k + 1) ys i j n m, rising (k + 1) ys (suc i) (suc j) n m)
 
   pub no_less : (xs : List X) (i j n m : ℕ) → slice_get (numbers_from p 0 xs) i ≡ Some n
       → slice_get (numbers_from p 0 xs) j ≡ Some m → i ≤ j → n ≤ m

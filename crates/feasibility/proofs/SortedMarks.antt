@@ -1,16 +1,12 @@
 -- Marks of groups, gathered and sorted.
 use Rattle.std.proofs.Common.{IsTrue, ◌↔◌}
-use Rattle.feasibility.proofs.Common.{◌≡◌, ℕ, ◌+◌, ◌<◌, ◌⊎◌, ⊎_elim, get_or, Vec, Global, Bool, true, false, true≢false, not, List, [], ◌∷◌, ◌++◌, map, length, IsPermutation, refl, sym, ap, ◌∙◌, subst, arith, All, filter, slice_index, ◌==◌, list_all, AllPass-from_list_all, list_all-from_AllPass, with_items_is, IsWithinRange, get_or-append, length-append, get_or-append_seam, ClaimData, Mark, Exchange, is_possible, is_outside, group_exchanges, group_lows, group_highs, IsSound, DoGroupsAgree, AreMarksOf, AreSorted, AreAllSorted, AreOfGroupsInOrder, true_exchanges, low_marks, high_marks, AreAllCompatible, low_mark, high_mark, get_or_default, KeptMarks, not_lt_zero}
+use Rattle.feasibility.proofs.Common.{◌≡◌, ℕ, ◌<◌, get_or, Vec, Global, Bool, true, false, true≢false, not, List, [], ◌∷◌, map, length, IsPermutation, refl, sym, ap, ◌∙◌, subst, arith, All, filter, slice_index, ◌==◌, list_all, AllPass-from_list_all, list_all-from_AllPass, with_items_is, IsWithinRange, ClaimData, Mark, Exchange, is_possible, is_outside, group_exchanges, group_lows, group_highs, IsSound, DoGroupsAgree, AreMarksOf, AreSorted, AreAllSorted, AreOfGroupsInOrder, true_exchanges, low_marks, high_marks, AreAllCompatible, low_mark, high_mark, get_or_default, KeptMarks}
 use Rattle.std.specs.Vec.{with_items}
 use Rattle.std.proofs.lemmas.List.Sorted.{All-permutation, IsPermutation-sym, length_permutation}
 use Rattle.error_marks.specs.Direction.{IsInOrder}
 use Rattle.error_marks.proofs.Compatibility.{of_permutation, of_sorted}
 use Rattle.feasibility.specs.declared.sorted_marks.SortedMarks.{SortedMarks}
 use Rattle.feasibility.proofs.DriftTest.{possible_from, possible_to}
-
-not_twice : (b : Bool) → not (not b) ≡ b
-not_twice true = refl
-not_twice false = refl
 
 same_filter : {X : Type 0} (p q : X → Bool) → ((x : X) → p x ≡ q x) → (xs : List X) → filter p xs ≡ filter q xs
 same_filter p q same [] = refl
@@ -20,8 +16,7 @@ module _ (claim : ClaimData) (xs : List Exchange) (group : ℕ) where
   -- the exchanges that aren't with servers outside a group are those of the group
   pub of_group : true_exchanges (is_outside claim.groups group) xs ≡ group_exchanges claim xs group
   of_group = same_filter (λ x. not (is_outside claim.groups group x.server))
-      (λ x. slice_index claim.groups x.server == group)
-      (λ x. not_twice (slice_index claim.groups x.server == group)) xs
+      (λ x. slice_index claim.groups x.server == group) (λ x. grind arith) xs
 
   tests_possible : list_all (is_possible claim.reading) (group_exchanges claim xs group) ≡ true
       → All (λ x. is_possible claim.reading x ≡ true) (group_exchanges claim xs group)
@@ -74,36 +69,6 @@ module _ (claim : ClaimData) (xs : List Exchange) (a b : ℕ) (ms ns : SortedMar
     of_permutation claim.drift_ppb (group_lows claim xs b) ns.kept.lows.items (group_highs claim xs a)
         ms.kept.highs.items (of_b.lows right_b) (of_a.highs right_a) h.other_way,
   )
-
--- ---- the marks of the groups, one after another
-
-long : (a b n : ℕ) → n ≡ a + b → b ≡ 1 → n ≡ a + 1
-long a b n is one = omega arith
-
-pub none_yet : (claim : ClaimData) (xs : List Exchange) (items : List SortedMarks) → items ≡ [] →
-    AreOfGroupsInOrder claim xs items
-none_yet claim xs items is group d below =
-    absurd (not_lt_zero group (subst (λ (ms : List SortedMarks). group < length ms) is below))
-
-before_or_last : (k n m : ℕ) → k < m → m ≡ n + 1 → (k < n) ⊎ (k ≡ n)
-before_or_last k n m lt eq = grind (arith)
-
-module _ (claim : ClaimData) (xs : List Exchange) (before : List SortedMarks) (last : SortedMarks)
-    (items : List SortedMarks) (is : items ≡ before ++ last ∷ []) where
-  pub one_longer : (n : ℕ) → length before ≡ n → length items ≡ n + 1
-  one_longer n same = long n 1 (length items)
-      (ap length is ∙ length-append before (last ∷ []) ∙ ap (λ (k : ℕ). k + 1) same) refl
-
-  pub one_more : (n : ℕ) → length before ≡ n → AreOfGroupsInOrder claim xs before → AreMarksOf claim xs n last
-      → AreOfGroupsInOrder claim xs items
-  one_more n same each of_last group d below = ⊎_elim
-      (λ (lt : group < length before). subst (AreMarksOf claim xs group)
-      (sym (ap (λ ms. get_or ms group d) is ∙ get_or-append before (last ∷ []) d group lt)) (each group d lt))
-      (λ (eq : group ≡ length before). subst (λ (k : ℕ). AreMarksOf claim xs k (get_or items k d)) (sym eq)
-      (subst (AreMarksOf claim xs (length before))
-      (sym (ap (λ ms. get_or ms (length before) d) is ∙ get_or-append_seam before last [] d))
-      (subst (λ (k : ℕ). AreMarksOf claim xs k last) (sym same) of_last)))
-      (before_or_last group (length before) (length items) below (one_longer (length before) refl))
 
 -- ---- one group
 

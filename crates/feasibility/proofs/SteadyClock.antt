@@ -1,53 +1,17 @@
 -- Refutations of which the error never changes, among those of which it may drift.
-use Rattle.feasibility.proofs.Common.{◌≡◌, ℕ, ◌+◌, ◌-◌, ◌*◌, ◌≤◌, ℤ, pos, ◌+ℤ◌, ◌-ℤ◌, ◌≤ℤ◌, unsigned_abs, false, List, Some, subst, arith, slice_index_or, int_min, int_max, ints, clamps, by_lt_z, slice_get-get_or, ClaimData, RefutationData, Exchange, Mark, low_mark, high_mark, IsPossible, AreCompatible, billion, request_start, reply_end, is_liar, AdmitsError, Admits, IsRefuted, mark_of, IsRefutedWithDrift, ≤ℤ_trans, All-slice_get, compatible_in_order}
+use Rattle.feasibility.proofs.Common.{◌≡◌, ℕ, ℤ, ◌+ℤ◌, ◌-ℤ◌, ◌≤ℤ◌, false, List, Some, arith, slice_index_or, int_min, int_max, ints, clamps, slice_get-get_or, ClaimData, RefutationData, Exchange, low_mark, high_mark, IsPossible, AreCompatible, request_start, reply_end, is_liar, AdmitsError, Admits, IsRefuted, mark_of, IsRefutedWithDrift, ≤ℤ_trans, All-slice_get, compatible_in_order}
 use Rattle.std.specs.Prelude.{slice_get}
-use Rattle.feasibility.proofs.Scaling.{product_from}
+use Rattle.error_marks.proofs.Rate.{without_drift}
 use Rattle.feasibility.proofs.TrueExchanges.{true_at, all_true, marks_at, all_marks, all_pairs}
-
--- ---- marks in order
-
-none_above : (low high : ℤ) (x : ℕ) → low ≤ℤ high → low -ℤ high ≡ pos x → x ≡ 0
-none_above low high x h at = omega (arith, ints)
-
-nothing : (k p d x : ℕ) → x ≡ 0 → k * x ≤ p * d
-nothing k p d x none = rw none (omega arith)
-
-ordered_by : (low high : ℤ) (x : ℕ) → low -ℤ high ≡ pos x → billion * x ≤ 0 → low ≤ℤ high
-ordered_by low high x at h = omega (arith, ints)
-
--- without a drift, compatible marks are in order
-pub in_order_without_drift : (low high : Mark) → AreCompatible 0 low high → low.error ≤ℤ high.error
-in_order_without_drift low high agree = by_lt_z high.error low.error
-    (λ above.
-    let x : ℕ = unsigned_abs (low.error -ℤ high.error) in
-    let at : low.error -ℤ high.error ≡ pos x = omega (arith, ints) in
-    by_lt_z high.place low.place
-    (λ back.
-    let d : ℕ = unsigned_abs (low.place -ℤ high.place) in
-    let h = product_from (billion + 0) 0 x d (low.error -ℤ high.error) (low.place -ℤ high.place) at
-    (omega (arith, ints)) (agree.rises back) in
-    ordered_by low.error high.error x at (omega (arith, h)))
-    (λ forth.
-    let d : ℕ = unsigned_abs (high.place -ℤ low.place) in
-    let h = product_from (billion - 0) 0 x d (low.error -ℤ high.error) (high.place -ℤ low.place) at
-    (omega (arith, ints)) (agree.falls forth) in
-    ordered_by low.error high.error x at (omega (arith, h))))
-    (λ no_more. no_more)
 
 -- ---- one exchange, and one error
 
 module _ (start end t2 t3 distance error : ℤ) where
   low_below : AdmitsError start end t2 t3 distance error → ((start -ℤ int_min t2 t3) -ℤ distance) ≤ℤ error
-  low_below room =
-      let first = room.leaves_before_receipt in
-      let second = room.leaves_before_answer in
-      omega (arith, ints, clamps)
+  low_below room = omega (arith, ints, clamps, room)
 
   high_above : AdmitsError start end t2 t3 distance error → error ≤ℤ ((end -ℤ int_max t2 t3) +ℤ distance)
-  high_above room =
-      let first = room.receives_before_arrival in
-      let second = room.answers_before_arrival in
-      omega (arith, ints, clamps)
+  high_above room = omega (arith, ints, clamps, room)
 
   room_from : ((start -ℤ int_min t2 t3) -ℤ distance) ≤ℤ error → error ≤ℤ ((end -ℤ int_max t2 t3) +ℤ distance)
       → start ≤ℤ end → (t2 -ℤ distance) ≤ℤ (t3 +ℤ distance) → AdmitsError start end t2 t3 distance error
@@ -118,9 +82,7 @@ module _ (claim : ClaimData) (xs : List Exchange) (r : RefutationData) where
         let high = marks_at (is_liar r.liars) xs (AreCompatible claim.drift_ppb (mark_of r))
         (high_mark claim.reading) k x refuted.reading_low at true' in
         room_from (request_start x claim.reading) (reply_end x claim.reading) x.t2 x.t3 x.distance r.error
-        (in_order_without_drift (low_mark claim.reading x) (mark_of r)
-        (subst (λ (p : ℕ). AreCompatible p (low_mark claim.reading x) (mark_of r)) none low))
-        (in_order_without_drift (mark_of r) (high_mark claim.reading x)
-        (subst (λ (p : ℕ). AreCompatible p (mark_of r) (high_mark claim.reading x)) none high))
+        ((without_drift (low_mark claim.reading x) (mark_of r)).0 (rw none at low))
+        ((without_drift (mark_of r) (high_mark claim.reading x)).0 (rw none at high))
         possible.leaves_before_arrival possible.receives_before_answer;
   }

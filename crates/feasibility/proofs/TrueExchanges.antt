@@ -1,5 +1,5 @@
 -- What holds of the exchanges with servers that aren't false, one by one and as a list.
-use Rattle.feasibility.proofs.Common.{◌≡◌, ℕ, zero, suc, ℤ, Bool, true, false, not, List, [], ◌∷◌, map, Some, refl, sym, subst, All, filter, cond-true, cond-false, All-nil, All-cons, All-head, All-tail, All-map, Exchange, Mark, low_mark, high_mark, AreCompatible, true_exchanges, low_marks, high_marks, AreAllCompatible, by_test, not-true, All-map_back}
+use Rattle.feasibility.proofs.Common.{◌≡◌, ℕ, zero, suc, ℤ, Bool, true, false, not, List, [], ◌∷◌, map, Some, refl, ap, subst, All, filter, cond-true, cond-false, All-nil, All-cons, All-head, All-tail, All-map, Exchange, Mark, low_mark, high_mark, AreCompatible, true_exchanges, low_marks, high_marks, AreAllCompatible, by_test, not-true, All-map_back}
 use Rattle.std.specs.Prelude.{slice_get}
 
 module _ {X : Type 0} (p : X → Bool) (P : X → Type 0) where
@@ -9,32 +9,27 @@ module _ {X : Type 0} (p : X → Bool) (P : X → Type 0) where
   at_passing (y ∷ ys) zero x all at passes =
       let same : y ≡ x = cc in
       let first : p y ≡ true = rw same passes in
-      subst P same (All-head P y (filter p ys)
-      (subst (All P) (cond-true (p y) (y ∷ filter p ys) (filter p ys) first) all))
+      subst P same (All-head P y (filter p ys) (rw (cond-true (p y) (y ∷ filter p ys) (filter p ys) first) at all))
   at_passing (y ∷ ys) (suc k) x all at passes = by_test (p y)
       (λ first. at_passing ys k x (All-tail P y (filter p ys)
-      (subst (All P) (cond-true (p y) (y ∷ filter p ys) (filter p ys) first) all)) at passes)
-      (λ first. at_passing ys k x
-      (subst (All P) (cond-false (p y) (y ∷ filter p ys) (filter p ys) first) all) at passes)
+      (rw (cond-true (p y) (y ∷ filter p ys) (filter p ys) first) at all)) at passes)
+      (λ first. at_passing ys k x (rw (cond-false (p y) (y ∷ filter p ys) (filter p ys) first) at all) at passes)
 
   pub all_passing : (xs : List X) → ((k : ℕ) (x : X) → slice_get xs k ≡ Some x → p x ≡ true → P x)
       → All P (filter p xs)
   all_passing [] each = All-nil P
-  all_passing (y ∷ ys) each = by_test (p y)
-      (λ first. subst (All P) (sym (cond-true (p y) (y ∷ filter p ys) (filter p ys) first))
-      (All-cons P y (filter p ys) (each zero y refl first) (all_passing ys (λ k x at. each (suc k) x at))))
-      (λ first. subst (All P) (sym (cond-false (p y) (y ∷ filter p ys) (filter p ys) first))
-      (all_passing ys (λ k x at. each (suc k) x at)))
-
-passes : (b : Bool) → b ≡ false → not b ≡ true
-passes true e = absurd cc
-passes false e = refl
+  all_passing (y ∷ ys) each =
+      let rest = all_passing ys (λ k x at. each (suc k) x at) in
+      by_test (p y)
+      (λ first. rw (cond-true (p y) (y ∷ filter p ys) (filter p ys) first)
+      (All-cons P y (filter p ys) (each zero y refl first) rest))
+      (λ first. rw (cond-false (p y) (y ∷ filter p ys) (filter p ys) first) rest)
 
 module _ (is_false : ℕ → Bool) (xs : List Exchange) where
   pub true_at : (P : Exchange → Type 0) (k : ℕ) (x : Exchange) → All P (true_exchanges is_false xs)
       → slice_get xs k ≡ Some x → is_false x.server ≡ false → P x
   true_at P k x all at true' =
-      at_passing (λ x. not (is_false x.server)) P xs k x all at (passes (is_false x.server) true')
+      at_passing (λ x. not (is_false x.server)) P xs k x all at (ap not true')
 
   pub all_true : (P : Exchange → Type 0)
       → ((k : ℕ) (x : Exchange) → slice_get xs k ≡ Some x → is_false x.server ≡ false → P x)

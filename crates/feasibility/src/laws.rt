@@ -43,6 +43,7 @@ pub use crate::refutation_laws::{
 
 /// Of what the clock itself advances, the error rises by at most P/(B+P) and falls by at most
 /// P/(B-P), with P for the rate of the drift in parts of B.
+#[tactic(auto, using(crate::proofs::KeptMarks::error_rises, crate::proofs::KeptMarks::error_falls))]
 pub fn error_changes_by_what_the_clock_advances()
     ensures rises { (ppb : ℕ) (a b : Moment) → ppb < billion → DriftsWithin ppb a b →
         a.reading ≤ℤ b.reading → (pos (billion + ppb) *ℤ (error_of b -ℤ error_of a))
@@ -80,6 +81,7 @@ pub fn true_exchanges_keep_their_marks()
 /// A mark that some moment keeps holds at its place: when the clock reads a low mark's place, the
 /// error is no less than the mark's, and when it reads a high mark's place, no more. So the far
 /// ends of the windows lose nothing.
+#[tactic(auto, using(crate::proofs::KeptMarks::low_holds, crate::proofs::KeptMarks::high_holds))]
 pub fn marks_hold_at_their_places()
     ensures low { (ppb n : ℕ) (mark : Mark) (kept at_place : Moment) → ppb < billion →
         DriftsWithin ppb kept at_place → at_place.reading ≡ mark.place *ℤ pos n →
@@ -170,6 +172,7 @@ pub fn pairs_are_enough()
 /// the same servers false, a clock is off by an error at a reading in some course that fits exactly
 /// if it is in some course that fits and has each reading in its record's window. So what is shown
 /// of all courses of the wider sense is no weaker than what is shown of those of the narrower.
+#[tactic(auto, using(crate::proofs::Stamps::to_windows, crate::proofs::Stamps::from_windows))]
 pub fn early_and_late_stamps_change_nothing()
     ensures { (claim : ClaimData) (xs : List Exchange) (is_false : ℕ → Bool)
         (reading error : ℤ) → IsLawful claim → All (IsLawfulExchange (length claim.servers)) xs →

@@ -127,6 +127,7 @@ impl NumberedMarks {
     }
 
     /// The first contradiction of this group and another one.
+    #[tactic(auto, using(crate::proofs::FirstPairs::first_of_two))]
     pub(crate) fn contradiction_with(
         &self,
         alloc: Global,
@@ -146,6 +147,7 @@ impl NumberedMarks {
     }
 
     /// The first contradiction of this group with itself, or exchange that is impossible by itself.
+    #[tactic(auto, using(crate::proofs::FirstPairs::first_of_own))]
     pub(crate) fn own_contradiction(
         &self,
         alloc: Global,

@@ -25,6 +25,7 @@ use checker::laws::{verdicts_are_traceable, worked_refutations_stand};
 /// An accepted refutation has a course that fits the exchanges and the claim: just the servers that
 /// it names are false, the exchanges of one request share its moment, the observed reading is the
 /// refutation's, and the error there is its error.
+#[tactic(auto, using(crate::proofs::DriftCourse::has_course))]
 pub fn accepted_refutations_have_a_course()
     ensures { (claim : ClaimData) (xs : List Exchange) (refutation : RefutationData) →
         IsLawful claim → All (IsLawfulExchange (length claim.servers)) xs →

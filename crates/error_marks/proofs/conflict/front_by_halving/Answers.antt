@@ -1,5 +1,5 @@
-use Rattle.error_marks.proofs.Common.{ℕ, ◌+◌, ◌-◌, ◌/◌, ◌<◌, ◌≤◌, ◌≡◌, length, take, drop, refl, sym, subst, IsPermutation, arith, AllWithin, FitsAll}
-use Rattle.error_marks.proofs.Compatibility.{no_truth}
+use Rattle.error_marks.proofs.Common.{◌+◌, ◌-◌, ◌/◌, ◌<◌, ◌≤◌, ◌≡◌, length, take, drop, refl, sym, subst, IsPermutation, arith}
+use Rattle.std.proofs.lemmas.Bool.{false≢true}
 use Rattle.error_marks.proofs.FrontMarks.{in_front, more_fit, part_compatible}
 use Rattle.error_marks.proofs.conflict.front_by_halving.Goals as goal
 use Rattle.error_marks.proofs.conflict.front_by_halving.Goals.{then-all_compatible_in_order, else-all_compatible_in_order}
@@ -21,20 +21,19 @@ loop-least-preserved c =
       | then-all_compatible_in_order w ↦ let fits = w.if-all_compatible_in_order.ensures in record {
         in_order = omega (arith, w.least-is, w.most-is);
         within = omega (arith, w.most-is, before.within);
-        fit = subst (λ (n : ℕ). AllWithin (FitsAll ppb highs) lows 0 n) (sym w.least-is)
-            (more_fit ppb lows highs part c.deref.result.now least middle forward le refl moved before.fit
+        fit = rw w.least-is (more_fit ppb lows highs part c.deref.result.now least middle forward le refl moved
+            before.fit
             (fits.0 refl));
-        no_more = subst (λ (n : ℕ). n < length lows → ¬ (AllWithin (FitsAll ppb highs) lows 0 (n + 1)))
-            (sym w.most-is) before.no_more;
+        no_more = rw w.most-is before.no_more;
       }
       | else-all_compatible_in_order w ↦ let fits = w.if-all_compatible_in_order.ensures in record {
         in_order = omega (arith, w.least-is, w.most-is);
         within = omega (arith, w.most-is, before.within);
-        fit = subst (λ (n : ℕ). AllWithin (FitsAll ppb highs) lows 0 n) (sym w.least-is) before.fit;
+        fit = rw w.least-is before.fit;
         no_more = λ lt fit. let same : c.if-all_compatible_in_order.most + 1 ≡ middle = omega (arith, w.most-is) in
-            no_truth (fits.1
+            false≢true (fits.1
             (part_compatible ppb lows highs part c.deref.result.now least middle forward le refl moved
-            (subst (λ (n : ℕ). AllWithin (FitsAll ppb highs) lows 0 n) same fit)));
+            (rw same at fit)));
       }
     ]
 

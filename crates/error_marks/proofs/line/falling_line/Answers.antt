@@ -1,28 +1,25 @@
 use Rattle.std.proofs.Common.{ℤ, ◌≤◌, ◌^◌, unsigned_abs, sym, subst}
-use Rattle.error_marks.proofs.MarkLine.{times_left, times_rate, left_small, rate_small, sum_fits, sum_is, falling_small}
+use Rattle.error_marks.proofs.MarkLine.{times_left, times_rate, small_sum, sum_fits, sum_is}
 use Rattle.error_marks.proofs.line.falling_line.Goals as goal
 
 pub overflow_add-result : goal.overflow_add-result
 overflow_add-result c =
-    let r = c.from-rate.result in
-    let m = c.args.mark in
-    let h = c.requires.rate in
-    sum_fits _ _ _ _ (times_left r c.args.drift_ppb h c.from-rate.ensures m.error c.requires.range.error)
-    (times_rate r c.args.drift_ppb h c.from-rate.ensures m.place c.requires.range.place)
-    (left_small r c.args.drift_ppb h c.from-rate.ensures m.error c.requires.range.error)
-    (rate_small r c.args.drift_ppb h c.from-rate.ensures m.place c.requires.range.place)
+    let rate = c.requires.rate in
+    let range = c.requires.range in
+    sum_fits (times_left rate c.from-rate.ensures c.args.mark.error range.error)
+    (times_rate rate c.from-rate.ensures c.args.mark.place range.place)
 
 pub returns-clause-exact : goal.returns-clause-exact
 returns-clause-exact c =
-    let r = c.from-rate.result in
-    let m = c.args.mark in
-    let h = c.requires.rate in
-    sum_is _ _ _ _ (times_left r c.args.drift_ppb h c.from-rate.ensures m.error c.requires.range.error)
-    (times_rate r c.args.drift_ppb h c.from-rate.ensures m.place c.requires.range.place)
-    (left_small r c.args.drift_ppb h c.from-rate.ensures m.error c.requires.range.error)
-    (rate_small r c.args.drift_ppb h c.from-rate.ensures m.place c.requires.range.place)
+    let rate = c.requires.rate in
+    let range = c.requires.range in
+    sum_is (times_left rate c.from-rate.ensures c.args.mark.error range.error)
+    (times_rate rate c.from-rate.ensures c.args.mark.place range.place)
 
 pub returns-clause-range : goal.returns-clause-range
 returns-clause-range c =
+    let rate = c.requires.rate in
+    let range = c.requires.range in
     subst (λ (z : ℤ). unsigned_abs z ≤ 2 ^ 105) (sym (returns-clause-exact c))
-    (falling_small c.args.drift_ppb c.args.mark c.requires.rate c.requires.range)
+    (small_sum (times_left rate c.from-rate.ensures c.args.mark.error range.error)
+    (times_rate rate c.from-rate.ensures c.args.mark.place range.place))

@@ -1,4 +1,4 @@
-use Rattle.error_marks.proofs.Common.{ℕ, ◌+◌, refl, arith, sym, subst, AllWithin-more, Precedes, IsHighest}
+use Rattle.error_marks.proofs.Common.{refl, arith, AllWithin-more, Precedes}
 use Rattle.error_marks.proofs.Passage.{at_any, next_is_highest, highest_stays}
 use Rattle.error_marks.proofs.sweep.advance.Goals as goal
 use Rattle.error_marks.proofs.sweep.advance.Goals.{then-is_below, else-is_below}
@@ -15,14 +15,10 @@ loop-passed-preserved c =
           (at_any (λ low. Precedes low c.args.high) lows i _ (omega arith) (precedes.0 refl));
       highest = elim c.if-is_below.branch [
         | then-is_below w ↦ let below = w.if-is_below.ensures in
-            subst (λ (h : ℕ). IsHighest c.args.direction c.args.drift_ppb lows record { passed = i + 1; highest = h })
-            (sym w.highest-is)
-            (next_is_highest c.args.direction c.args.drift_ppb lows i c.loop-passed.highest
+            rw w.highest-is (next_is_highest c.args.direction c.args.drift_ppb lows i c.loop-passed.highest
             c.loop-passed.invariant.highest _ (omega arith) (below.0 refl))
         | else-is_below w ↦ let below = w.if-is_below.ensures in
-            subst (λ (h : ℕ). IsHighest c.args.direction c.args.drift_ppb lows record { passed = i + 1; highest = h })
-            (sym w.highest-is)
-            (highest_stays c.args.direction c.args.drift_ppb lows i c.loop-passed.highest
+            rw w.highest-is (highest_stays c.args.direction c.args.drift_ppb lows i c.loop-passed.highest
             c.loop-passed.invariant.highest _ (omega arith) (λ h. let not = below.1 h in cc))
       ];
     }

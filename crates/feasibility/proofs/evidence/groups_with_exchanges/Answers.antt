@@ -1,4 +1,4 @@
-use Rattle.feasibility.proofs.Common.{◌≡◌, ℕ, ◌+◌, ◌<◌, ◌≤◌, ◌∷◌, List, drop, length, map, sym, ap, ◌∙◌, subst, Some, arith, length-map, slice_get-get_or, drop_of_length-le, data_of as claim_data, has_exchange, holds, Exchange, numbers_below}
+use Rattle.feasibility.proofs.Common.{◌≡◌, ℕ, ◌+◌, ◌<◌, ◌≤◌, ◌∷◌, List, drop, length, map, sym, subst, arith, length-map, drop_of_length-le, data_of as claim_data, has_exchange, holds, Exchange, numbers_below}
 use Rattle.feasibility.proofs.CoverMembers.{count_same}
 use Rattle.feasibility.proofs.HeardGroups.{AreHeardTo, one_more_heard, all_heard}
 use Rattle.feasibility.proofs.KeptMarkLists.{first_left, lawful_shown, read_is, within_groups}
@@ -6,12 +6,8 @@ use Rattle.feasibility.proofs.evidence.groups_with_exchanges.Goals as goal
 
 pub index-requires : goal.index-requires
 index-requires g c =
-    let lawful = lawful_shown g.X.ToExchange.shown c.args.exchanges.now c.loop-exchange.exchange-index
-    c.exchange-item.result
-    (slice_get-get_or c.args.exchanges.now _ c.exchange-item.result c.loop-exchange-test.true
-    ∙ ap Some (sym c.exchange-item.is))
-    (length c.args.claim.now.servers.items) c.to_exchange-exchange.result c.to_exchange-exchange.ensures
-    c.requires.exchanges in
+    let lawful = lawful_shown g.X.ToExchange.shown _ c.loop-exchange-test.true c.exchange-item.is
+    c.to_exchange-exchange.ensures c.requires.exchanges in
     within_groups _ _ _ _ lawful.listed c.args.claim.now.lawful.group_for_each c.args.claim.now.groups.ok.0
 
 few_groups : (g read servers : ℕ) → read ≡ g → g < servers → servers ≤ 32 → read < 32
@@ -20,12 +16,8 @@ few_groups g read servers is below few = omega arith
 pub with-found-requires : goal.with-found-requires
 with-found-requires g c =
     let groups = c.args.claim.now.groups.items in
-    let lawful = lawful_shown g.X.ToExchange.shown c.args.exchanges.now c.loop-exchange.exchange-index
-    c.exchange-item.result
-    (slice_get-get_or c.args.exchanges.now _ c.exchange-item.result c.loop-exchange-test.true
-    ∙ ap Some (sym c.exchange-item.is))
-    (length c.args.claim.now.servers.items) c.to_exchange-exchange.result c.to_exchange-exchange.ensures
-    c.requires.exchanges in
+    let lawful = lawful_shown g.X.ToExchange.shown _ c.loop-exchange-test.true c.exchange-item.is
+    c.to_exchange-exchange.ensures c.requires.exchanges in
     let server = c.to_exchange-exchange.result.server in
     let below : server < length groups =
     subst (λ (n : ℕ). server < n) (sym c.args.claim.now.lawful.group_for_each) lawful.listed in
@@ -39,12 +31,10 @@ loop-exchange-preserved g c =
     let xs = map g.X.ToExchange.shown c.args.exchanges.now in
     let k = c.loop-exchange.exchange-index in
     let x = c.to_exchange-exchange.result in
-    let at = slice_get-get_or c.args.exchanges.now _ c.exchange-item.result c.loop-exchange-test.true
-    ∙ ap Some (sym c.exchange-item.is) in
     let split : drop k xs ≡ x ∷ drop (k + 1) xs =
-    first_left g.X.ToExchange.shown c.args.exchanges.now k c.exchange-item.result at x c.to_exchange-exchange.ensures in
-    let lawful = lawful_shown g.X.ToExchange.shown c.args.exchanges.now k c.exchange-item.result at
-    (length c.args.claim.now.servers.items) x c.to_exchange-exchange.ensures c.requires.exchanges in
+    first_left g.X.ToExchange.shown _ c.loop-exchange-test.true c.exchange-item.is c.to_exchange-exchange.ensures in
+    let lawful = lawful_shown g.X.ToExchange.shown _ c.loop-exchange-test.true c.exchange-item.is
+    c.to_exchange-exchange.ensures c.requires.exchanges in
     let below : x.server < length groups =
     subst (λ (n : ℕ). x.server < n) (sym c.args.claim.now.lawful.group_for_each) lawful.listed in
     one_more_heard claim xs x (drop k xs) (drop (k + 1) xs) (holds c.loop-exchange.found) (holds c.with-found.result)

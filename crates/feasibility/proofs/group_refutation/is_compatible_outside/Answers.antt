@@ -1,4 +1,4 @@
-use Rattle.feasibility.proofs.Common.{◌≡◌, ℕ, ◌≤◌, true≢false, length, map, refl, sym, ap, ◌∙◌, Some, slice_get, arith, length-map, slice_get-get_or, data_of as claim_data, is_of, IsCompatibleWith, holds}
+use Rattle.feasibility.proofs.Common.{◌≡◌, ℕ, ◌≤◌, true≢false, length, map, refl, sym, ◌∙◌, Some, slice_get, arith, length-map, data_of as claim_data, is_of, IsCompatibleWith, holds}
 use Rattle.feasibility.proofs.KeptMarkLists.{lawful_shown, shown_at}
 use Rattle.feasibility.proofs.GroupRefutation.{all_held, one_more}
 use Rattle.feasibility.proofs.TrueExchanges.{true_at}
@@ -6,10 +6,8 @@ use Rattle.feasibility.proofs.group_refutation.is_compatible_outside.Goals as go
 
 pub is_inside_or_compatible-requires-clause-exchange : goal.is_inside_or_compatible-requires-clause-exchange
 is_inside_or_compatible-requires-clause-exchange g c =
-    lawful_shown g.X.ToExchange.shown c.args.exchanges.now c.loop-exchange.exchange-index c.exchange-item.result
-    (slice_get-get_or c.args.exchanges.now _ c.exchange-item.result c.loop-exchange-test.true
-    ∙ ap Some (sym c.exchange-item.is))
-    (length c.args.claim.now.servers.items) c.to_exchange.result c.to_exchange.ensures c.requires.exchanges
+    lawful_shown g.X.ToExchange.shown _ c.loop-exchange-test.true c.exchange-item.is c.to_exchange.ensures
+    c.requires.exchanges
 
 pub returns-then-not-is_inside_or_compatible : goal.returns-then-not-is_inside_or_compatible
 returns-then-not-is_inside_or_compatible g c =
@@ -17,9 +15,7 @@ returns-then-not-is_inside_or_compatible g c =
     let xs = map g.X.ToExchange.shown c.args.exchanges.now in
     let x = c.to_exchange.result in
     let at : slice_get xs c.loop-exchange.exchange-index ≡ Some x =
-    shown_at g.X.ToExchange.shown c.args.exchanges.now c.loop-exchange.exchange-index c.exchange-item.result
-    (slice_get-get_or c.args.exchanges.now _ c.exchange-item.result c.loop-exchange-test.true
-    ∙ ap Some (sym c.exchange-item.is)) x c.to_exchange.ensures in (
+    shown_at g.X.ToExchange.shown _ c.loop-exchange-test.true c.exchange-item.is c.to_exchange.ensures in (
       λ holds'. absurd (true≢false (sym holds')),
       λ all. absurd (true≢false (sym (c.is_inside_or_compatible.ensures.1
           (λ outside. true_at (is_of claim (holds c.args.groups)) xs (IsCompatibleWith claim c.args.mark)
@@ -31,9 +27,7 @@ loop-exchange-preserved g c =
     let x = c.to_exchange.result in
     one_more (claim_data c.args.claim.now) c.args.mark (holds c.args.groups)
     (map g.X.ToExchange.shown c.args.exchanges.now) c.loop-exchange.exchange-index x
-    (shown_at g.X.ToExchange.shown c.args.exchanges.now c.loop-exchange.exchange-index c.exchange-item.result
-    (slice_get-get_or c.args.exchanges.now _ c.exchange-item.result c.loop-exchange-test.true
-    ∙ ap Some (sym c.exchange-item.is)) x c.to_exchange.ensures)
+    (shown_at g.X.ToExchange.shown _ c.loop-exchange-test.true c.exchange-item.is c.to_exchange.ensures)
     (c.is_inside_or_compatible.ensures.0 c.if-not-is_inside_or_compatible.false) c.loop-exchange.invariant
 
 at_end : (a b k : ℕ) → a ≡ b → b ≤ k → a ≤ k

@@ -1,4 +1,4 @@
-use Rattle.feasibility.proofs.Common.{◌≡◌, Some, length, map, true≢false, sym, ap, ◌∙◌, subst, rules, of_z, to_z, w128, slice_get-get_or, length-map, data_of as claim_data, IsPossible}
+use Rattle.feasibility.proofs.Common.{◌≡◌, length, map, true≢false, sym, ◌∙◌, subst, rules, of_z, to_z, w128, length-map, data_of as claim_data, IsPossible}
 use Rattle.feasibility.proofs.FirstImpossible.{impossible_here, none_at_all, none_so_far, not_of_group, possible_here}
 use Rattle.feasibility.proofs.KeptMarkLists.{lawful_shown, shown_at}
 use Rattle.feasibility.proofs.numbered_marks.first_impossible.Goals as goal
@@ -6,21 +6,15 @@ use Rattle.feasibility.proofs.numbered_marks.first_impossible.Goals.{else-is_of-
 
 pub is_of-requires : goal.is_of-requires
 is_of-requires g c = record {
-  exchange = lawful_shown g.X.ToExchange.shown c.args.exchanges.now c.loop-number.number c.index-exchanges-number.result
-      (slice_get-get_or c.args.exchanges.now _ c.index-exchanges-number.result c.loop-number-test.true
-      ∙ ap Some (sym c.index-exchanges-number.is))
-      (length c.args.claim.now.servers.items) c.to_exchange-exchange.result c.to_exchange-exchange.ensures
-      c.requires.exchanges;
+  exchange = lawful_shown g.X.ToExchange.shown _ c.loop-number-test.true c.index-exchanges-number.is
+      c.to_exchange-exchange.ensures c.requires.exchanges;
 }
 
 pub is_possible-requires-clause-exchange : goal.is_possible-requires-clause-exchange
 is_possible-requires-clause-exchange g c = record {
   servers = length c.args.claim.now.servers.items;
-  lawful = lawful_shown g.X.ToExchange.shown c.args.exchanges.now c.loop-number.number c.index-exchanges-number.result
-      (slice_get-get_or c.args.exchanges.now _ c.index-exchanges-number.result c.loop-number-test.true
-      ∙ ap Some (sym c.index-exchanges-number.is))
-      (length c.args.claim.now.servers.items) c.to_exchange-exchange.result c.to_exchange-exchange.ensures
-      c.requires.exchanges;
+  lawful = lawful_shown g.X.ToExchange.shown _ c.loop-number-test.true c.index-exchanges-number.is
+      c.to_exchange-exchange.ensures c.requires.exchanges;
 }
 
 pub returns-then-not-is_possible : goal.returns-then-not-is_possible
@@ -31,9 +25,8 @@ returns-then-not-is_possible g c =
     let reading : to_z w128 (of_z w128 c.args.claim.now.reading) ≡ c.args.claim.now.reading = search rules in
     record {
       is = impossible_here claim xs c.args.group c.loop-number.number x
-          (shown_at g.X.ToExchange.shown c.args.exchanges.now c.loop-number.number c.index-exchanges-number.result
-          (slice_get-get_or c.args.exchanges.now _ c.index-exchanges-number.result c.loop-number-test.true
-          ∙ ap Some (sym c.index-exchanges-number.is)) x c.to_exchange-exchange.ensures)
+          (shown_at g.X.ToExchange.shown _ c.loop-number-test.true c.index-exchanges-number.is
+          c.to_exchange-exchange.ensures)
           (sym c.is_of.ensures ∙ c.if-is_of.true)
           (λ can. true≢false (sym (c.is_possible.ensures.1
           (subst (λ allowance. IsPossible allowance x) (sym reading) can)) ∙ c.if-not-is_possible.true));
@@ -46,9 +39,8 @@ loop-number-preserved g c =
     let xs = map g.X.ToExchange.shown c.args.exchanges.now in
     let x = c.to_exchange-exchange.result in
     let k = c.loop-number.number in
-    let at = shown_at g.X.ToExchange.shown c.args.exchanges.now k c.index-exchanges-number.result
-    (slice_get-get_or c.args.exchanges.now _ c.index-exchanges-number.result c.loop-number-test.true
-    ∙ ap Some (sym c.index-exchanges-number.is)) x c.to_exchange-exchange.ensures in
+    let at = shown_at g.X.ToExchange.shown _ c.loop-number-test.true c.index-exchanges-number.is
+    c.to_exchange-exchange.ensures in
     none_so_far claim xs c.args.group k c.loop-number.invariant
     (elim c.else-is_of.branch [
       | else-is_of-via-then-is_of+else-not-is_possible w ↦

@@ -1,4 +1,4 @@
-use Rattle.feasibility.proofs.Common.{ℕ, ◌+◌, ◌<◌, length, map, refl, sym, ◌∙◌, subst, Vec, Global, data_of as claim_data, IsFirstIfAny, conflict_data, AreListedUpto, Conflict}
+use Rattle.feasibility.proofs.Common.{arith, ◌<◌, length, map, refl, sym, ◌∙◌, subst, data_of as claim_data, IsFirstIfAny, conflict_data}
 use Rattle.feasibility.specs.ConflictsView.{data_of}
 use Rattle.feasibility.proofs.PartialTables.{within_end}
 use Rattle.feasibility.proofs.ConflictList.{has_pair, not_listed, pushed, row_listed, lists, lists_not, listed_in_range}
@@ -14,16 +14,13 @@ loop-b-preserved c =
     let table = data_of c.args.conflicts.now in
     let a = c.args.a in
     let b = c.loop-b.b in
-    let a_in : a < length claim.groups = subst (λ (n : ℕ). a < n) c.requires.groups c.requires.within in
-    let b_in : b < length claim.groups =
-    subst (λ (n : ℕ). b < n) (c.groups-b-end.ensures.groups ∙ c.requires.groups) c.loop-b-test.true in
+    let a_in : a < length claim.groups = omega arith in
+    let b_in : b < length claim.groups = omega arith in
     λ xs grounds listed.
     let before = c.loop-b.invariant xs grounds listed in
     elim c.if-is_listed.branch [
       | then-is_listed+in_ok-found+in-Some+in_ok-push w ↦
-          subst (λ (list : Vec Conflict Global). AreListedUpto claim xs a (b + 1) (map conflict_data list.items))
-          (sym w.listed-is)
-          (pushed claim xs a b c.loop-b.listed.items w.push.new.self.items
+          rw w.listed-is (pushed claim xs a b c.loop-b.listed.items w.push.new.self.items
           record { a = a; b = b; pair = w.in-Some.pair } w.in_ok-push.ensures.items before
           (lists claim xs c.args.claim.now.lawful grounds.each table grounds.table_decides a b a_in b_in
           (sym c.is_listed.ensures ∙ w.if-is_listed.true))
@@ -40,9 +37,7 @@ loop-b-preserved c =
           (lists claim xs c.args.claim.now.lawful grounds.each table grounds.table_decides a b a_in b_in
           (sym c.is_listed.ensures ∙ w.if-is_listed.true))))
       | else-is_listed w ↦
-          subst (λ (list : Vec Conflict Global). AreListedUpto claim xs a (b + 1) (map conflict_data list.items))
-          (sym w.listed-is)
-          (not_listed claim xs a b (map conflict_data c.loop-b.listed.items) before
+          rw w.listed-is (not_listed claim xs a b (map conflict_data c.loop-b.listed.items) before
           (lists_not claim xs c.args.claim.now.lawful grounds.each table grounds.table_decides a b a_in b_in
           (sym c.is_listed.ensures ∙ w.if-is_listed.false)))
     ]

@@ -1,25 +1,23 @@
-use Rattle.feasibility.proofs.Common.{◌∙◌, length, map, ap, data_of as claim_data}
+use Rattle.feasibility.proofs.Common.{◌∙◌, length, map, ap, data_of as claim_data, AreMarksOf}
+use Rattle.feasibility.proofs.Numbering.{none_in_order, one_longer, one_more_in_order}
 use Rattle.feasibility.proofs.PartialTables.{up_to_end}
-use Rattle.feasibility.proofs.SortedMarks.{none_yet, one_longer, one_more}
 use Rattle.feasibility.proofs.sorted_marks.marks_by_group.Goals as goal
 
 pub loop-group-init : goal.loop-group-init
 loop-group-init g c = record {
   count = ap length c.new-marks.ensures.items;
-  each = none_yet (claim_data c.args.claim.now) (map g.X.ToExchange.shown c.args.exchanges.now)
+  each = none_in_order (AreMarksOf (claim_data c.args.claim.now) (map g.X.ToExchange.shown c.args.exchanges.now))
       c.new-marks.result.items c.new-marks.ensures.items;
 }
 
 pub loop-group-preserved : goal.loop-group-preserved
 loop-group-preserved g c =
-    let claim = claim_data c.args.claim.now in
-    let xs = map g.X.ToExchange.shown c.args.exchanges.now in
+    let of = AreMarksOf (claim_data c.args.claim.now) (map g.X.ToExchange.shown c.args.exchanges.now) in
     let before = c.loop-group.invariant in
+    let grows = c.in_ok-push.ensures.items in
     record {
-      count = one_longer claim xs c.loop-group.marks.items c.in_ok-of_group.of_group c.push.new.self.items
-          c.in_ok-push.ensures.items c.loop-group.group before.count;
-      each = one_more claim xs c.loop-group.marks.items c.in_ok-of_group.of_group c.push.new.self.items
-          c.in_ok-push.ensures.items c.loop-group.group before.count before.each c.in_ok-of_group.ensures;
+      count = one_longer of _ _ _ grows c.loop-group.group before.count;
+      each = one_more_in_order of _ _ _ grows c.loop-group.group before.count before.each c.in_ok-of_group.ensures;
     }
 
 pub returns-clause-count : goal.returns-clause-count

@@ -1,36 +1,27 @@
-use Rattle.feasibility.proofs.Common.{rules, ℤ, to_z, of_z, ◌≡◌, ℕ, ◌+◌, [], ◌∷◌, ◌++◌, Some, drop, length, map, sym, ap, ◌∙◌, subst, Vec, Global, w128, slice_get-get_or, data_of as claim_data, low_mark, high_mark, IsWithinRange, Mark}
+use Rattle.feasibility.proofs.Common.{rules, ℤ, to_z, of_z, ◌≡◌, ◌+◌, [], ◌∷◌, ◌++◌, drop, length, map, sym, ap, ◌∙◌, subst, w128, data_of as claim_data, low_mark, high_mark, IsWithinRange, Mark}
 use Rattle.feasibility.proofs.KeptMarkLists.{first_left, lawful_shown}
-use Rattle.feasibility.proofs.Numbering.{IsNumbering, past_other, past_own}
+use Rattle.feasibility.proofs.Numbering.{past_other, past_own}
 use Rattle.feasibility.proofs.numbered_marks.NumberedMarks.of_group.Goals as goal
 use Rattle.feasibility.proofs.numbered_marks.NumberedMarks.of_group.Goals.{then-is_of+in_ok-push+in_ok-push-2+in_ok-push-3, else-is_of}
 
 pub is_of-requires : goal.is_of-requires
 is_of-requires g c = record {
-  exchange = lawful_shown g.X.ToExchange.shown c.args.exchanges.now c.loop-number.number c.index-exchanges-number.result
-      (slice_get-get_or c.args.exchanges.now _ c.index-exchanges-number.result c.loop-number-test.true
-      ∙ ap Some (sym c.index-exchanges-number.is))
-      (length c.args.claim.now.servers.items) c.to_exchange-exchange.result c.to_exchange-exchange.ensures
-      c.requires.exchanges;
+  exchange = lawful_shown g.X.ToExchange.shown _ c.loop-number-test.true c.index-exchanges-number.is
+      c.to_exchange-exchange.ensures c.requires.exchanges;
 }
 
 pub low_mark-requires-clause-exchange : goal.low_mark-requires-clause-exchange
 low_mark-requires-clause-exchange g c = record {
   servers = length c.args.claim.now.servers.items;
-  lawful = lawful_shown g.X.ToExchange.shown c.args.exchanges.now c.loop-number.number c.index-exchanges-number.result
-      (slice_get-get_or c.args.exchanges.now _ c.index-exchanges-number.result c.loop-number-test.true
-      ∙ ap Some (sym c.index-exchanges-number.is))
-      (length c.args.claim.now.servers.items) c.to_exchange-exchange.result c.to_exchange-exchange.ensures
-      c.requires.exchanges;
+  lawful = lawful_shown g.X.ToExchange.shown _ c.loop-number-test.true c.index-exchanges-number.is
+      c.to_exchange-exchange.ensures c.requires.exchanges;
 }
 
 pub high_mark-requires-clause-exchange : goal.high_mark-requires-clause-exchange
 high_mark-requires-clause-exchange g c = record {
   servers = length c.args.claim.now.servers.items;
-  lawful = lawful_shown g.X.ToExchange.shown c.args.exchanges.now c.loop-number.number c.index-exchanges-number.result
-      (slice_get-get_or c.args.exchanges.now _ c.index-exchanges-number.result c.loop-number-test.true
-      ∙ ap Some (sym c.index-exchanges-number.is))
-      (length c.args.claim.now.servers.items) c.to_exchange-exchange.result c.to_exchange-exchange.ensures
-      c.requires.exchanges;
+  lawful = lawful_shown g.X.ToExchange.shown _ c.loop-number-test.true c.index-exchanges-number.is
+      c.to_exchange-exchange.ensures c.requires.exchanges;
 }
 
 pub loop-number-preserved : goal.loop-number-preserved
@@ -43,26 +34,14 @@ loop-number-preserved g c =
     let lows = c.loop-number.lows.items in
     let highs = c.loop-number.highs.items in
     let split : drop k xs ≡ x ∷ drop (k + 1) xs =
-    first_left g.X.ToExchange.shown c.args.exchanges.now k c.index-exchanges-number.result
-    (slice_get-get_or c.args.exchanges.now _ c.index-exchanges-number.result c.loop-number-test.true
-    ∙ ap Some (sym c.index-exchanges-number.is)) x c.to_exchange-exchange.ensures in
-    let lists : (ns : Vec ℕ Global) (ls hs : Vec Mark Global) → c.if-is_of.numbers ≡ ns → c.if-is_of.lows ≡ ls
-    → c.if-is_of.highs ≡ hs → IsNumbering claim c.args.group xs (k + 1) ns.items ls.items hs.items
-    → IsNumbering claim c.args.group xs (k + 1) c.if-is_of.numbers.items c.if-is_of.lows.items c.if-is_of.highs.items =
-    (λ ns ls hs ns_are ls_are hs_are h.
-    subst (λ (v : Vec ℕ Global).
-    IsNumbering claim c.args.group xs (k + 1) v.items c.if-is_of.lows.items c.if-is_of.highs.items) (sym ns_are)
-    (subst (λ (v : Vec Mark Global).
-    IsNumbering claim c.args.group xs (k + 1) ns.items v.items c.if-is_of.highs.items) (sym ls_are)
-    (subst (λ (v : Vec Mark Global). IsNumbering claim c.args.group xs (k + 1) ns.items ls.items v.items)
-    (sym hs_are) h))) in
+    first_left g.X.ToExchange.shown _ c.loop-number-test.true c.index-exchanges-number.is
+    c.to_exchange-exchange.ensures in
     let reading : to_z w128 (of_z w128 c.args.claim.now.reading) ≡ c.args.claim.now.reading = search rules in
     elim c.if-is_of.branch [
       | then-is_of+in_ok-push+in_ok-push-2+in_ok-push-3 w ↦
           let low_is = w.low_mark.ensures.exact ∙ ap (λ (allowance : ℤ). low_mark allowance x) reading in
           let high_is = w.high_mark.ensures.exact ∙ ap (λ (allowance : ℤ). high_mark allowance x) reading in
-          lists w.push.new.self w.push-then-is_of.new.self w.push-then-is_of-2.new.self w.numbers-is w.lows-is
-          w.highs-is
+          rw (w.numbers-is, w.lows-is, w.highs-is)
           (past_own claim c.args.group xs k x numbers lows highs split c.loop-number.invariant w.push.new.self.items
           w.push-then-is_of.new.self.items w.push-then-is_of-2.new.self.items w.in_ok-push.ensures.items
           (w.in_ok-push-2.ensures.items ∙ ap (λ (m : Mark). lows ++ m ∷ []) low_is)
@@ -71,7 +50,7 @@ loop-number-preserved g c =
           (subst IsWithinRange low_is w.low_mark.ensures.range)
           (subst IsWithinRange high_is w.high_mark.ensures.range))
       | else-is_of w ↦
-          lists c.loop-number.numbers c.loop-number.lows c.loop-number.highs w.numbers-is w.lows-is w.highs-is
+          rw (w.numbers-is, w.lows-is, w.highs-is)
           (past_other claim c.args.group xs k x numbers lows highs split c.loop-number.invariant
           (sym c.is_of.ensures ∙ w.if-is_of.false))
     ]

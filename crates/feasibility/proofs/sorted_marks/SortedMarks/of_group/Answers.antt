@@ -1,4 +1,4 @@
-use Rattle.feasibility.proofs.Common.{◌≡◌, Bool, false, List, ◌++◌, map, sym, ap, ◌∙◌, subst, data_of as claim_data, is_outside, AreMarksOf, low_marks, high_marks, KeptMarks, Mark}
+use Rattle.feasibility.proofs.Common.{List, ◌++◌, map, sym, ap, ◌∙◌, data_of as claim_data, is_outside, low_marks, high_marks, Mark}
 use Rattle.feasibility.proofs.SortedMarks.{gathered_marks, unsound_marks}
 use Rattle.feasibility.proofs.sorted_marks.SortedMarks.of_group.Goals as goal
 use Rattle.feasibility.proofs.sorted_marks.SortedMarks.of_group.Goals.{then-is_possible, else-is_possible}
@@ -10,15 +10,9 @@ returns g c =
     let group = c.args.group in
     let outside = is_outside claim.groups group in
     let added = c.in_ok-is_possible.ensures in
-    let end : (sound : Bool) (kept : KeptMarks) → c.if-is_possible.is_sound ≡ sound → c.if-is_possible.kept ≡ kept →
-    AreMarksOf claim xs group record { is_sound = sound; kept = kept } →
-    AreMarksOf claim xs group record { is_sound = c.if-is_possible.is_sound; kept = c.if-is_possible.kept } =
-    (λ sound kept is_sound is_kept h.
-    subst (λ (s : Bool). AreMarksOf claim xs group record { is_sound = s; kept = c.if-is_possible.kept }) (sym is_sound)
-    (subst (λ (k : KeptMarks). AreMarksOf claim xs group record { is_sound = sound; kept = k }) (sym is_kept) h)) in
     elim c.if-is_possible.branch [
       | then-is_possible w ↦
-          end w.sort_and_compare-is_sound.result w.sort_and_compare-is_sound.new.self w.is_sound-is w.kept-is
+          rw (w.is_sound-is, w.kept-is)
           (gathered_marks claim xs group c.add_group.new.self w.sort_and_compare-is_sound.new.self
           w.sort_and_compare-is_sound.result (sym w.if-is_possible.true ∙ added.possible)
           (added.lows w.if-is_possible.true
@@ -28,7 +22,7 @@ returns g c =
           w.sort_and_compare-is_sound.ensures.exact w.sort_and_compare-is_sound.ensures.lows
           w.sort_and_compare-is_sound.ensures.highs w.sort_and_compare-is_sound.ensures.sorted)
       | else-is_possible w ↦
-          end false c.add_group.new.self (w.is_sound-is ∙ w.if-is_possible.false) w.kept-is
+          rw (w.is_sound-is, w.if-is_possible.false, w.kept-is)
           (unsound_marks claim xs group c.add_group.new.self c.add_group.new.self
           (sym w.if-is_possible.false ∙ added.possible))
     ]
