@@ -1,16 +1,15 @@
 -- One more entry in a piece leaves no more points admissible.
-use Rattle.checker.proofs.Common.{◌≡◌, ℕ, ◌≤◌, ℤ, pos, ◌≤ℤ◌, Bool, true, false, cond, ◌⊎◌, inl, inr, ⊎_elim, List, [], ◌∷◌, ◌++◌, length, Option, Some, None, Result, Ok, Err, refl, sym, ap, ◌∙◌, subst, arith, ⊤, slice_get, slice_index, ◌==◌, fold, filter, filter_map, AllZip, cons_option, ints, clamps, cond-true, cond-false, sum_by-cons, fold-append, filter-append, PieceData, CertificateData, ClaimData, leaves_out, count_leaving_out, Interval, Sample, IsYesOr, IsContradiction, IsRefusedEntry, HasOneMoreEntry, numbers_below, meet_of, narrowed, group_interval, part_from, parts_after, unless_refused, parts_fault, verdict_from, verdict_of, Part, Stretch, Yes, Why, BadSample, MixedServers, RepeatedServer, by_test}
-use Rattle.checker.proofs.Comparison.{FaultIs, Follows, verdict_follows, all_follow, piece_follows, EveryHull, hull_follows}
+use Rattle.checker.proofs.Common.{◌≡◌, ℕ, ◌≤◌, ℤ, pos, ◌≤ℤ◌, Bool, true, false, cond, ◌⊎◌, inl, inr, ⊎_elim, List, [], ◌∷◌, ◌++◌, length, Option, Some, None, Result, Ok, Err, refl, sym, ap, ◌∙◌, subst, arith, ⊤, slice_get, filter_map, cons_option, ints, clamps, sum_by-cons, PieceData, CertificateData, ClaimData, leaves_out, count_leaving_out, Interval, Sample, IsYesOr, IsContradiction, IsRefusedEntry, HasOneMoreEntry, numbers_below, meet_of, group_interval, part_from, parts_after, unless_refused, parts_fault, verdict_from, verdict_of, Part, Stretch, Yes, Why, by_test}
+use Rattle.checker.proofs.Comparison.{FaultIs, one_changed, EveryHull, hull_follows}
+use Rattle.checker.proofs.Counting.{implies_le}
+use Rattle.checker.proofs.Order.{with_part, pushed}
+use Rattle.checker.proofs.Part.{refused, begins, begin_with}
 
 -- if there is a first, there is a second too, and it leaves out whatever the first leaves out
 abbrev pub Narrows : Option Interval → Option Interval → Type 0
 Narrows None next = ⊤
 Narrows (Some i) None = ⊥
 Narrows (Some i) (Some j) = (point : ℤ) → leaves_out i point ≡ true → leaves_out j point ≡ true
-
-narrows_itself : (o : Option Interval) → Narrows o o
-narrows_itself None = tt
-narrows_itself (Some i) = λ point out. out
 
 pub held_ends : (i : Interval) (point : ℤ) → leaves_out i point ≡ false → (i.lo ≤ℤ point) × (point ≤ℤ i.hi)
 held_ends i point h = (grind (arith, ints), grind (arith, ints))
@@ -27,24 +26,19 @@ meet_leaves_out a b point out = by_test (leaves_out (meet_of a b) point) (λ is.
     let in_a = held_test a point (omega (arith, ints, clamps)) (omega (arith, ints, clamps)) in
     cc))
 
-narrowed_narrows : (o : Option Interval) (part : Part) → Narrows o (narrowed o part)
-narrowed_narrows None part = tt
-narrowed_narrows (Some i) part = λ point out. meet_leaves_out i part.interval point out
+narrows_with : (t : Bool) (o : Option Interval) (part : Part) → Narrows o (with_part t o part)
+unfolding with_part
+narrows_with true None part = tt
+narrows_with true (Some i) part = λ point out. meet_leaves_out i part.interval point out
+narrows_with false None part = tt
+narrows_with false (Some i) part = λ point out. out
 
 -- one more part narrows the interval of each group, or gives it one
 more_narrows : (groups : List ℕ) (parts : List Part) (part : Part) (g : ℕ)
     → Narrows (group_interval groups parts g) (group_interval groups (parts ++ part ∷ []) g)
 more_narrows groups parts part g =
-    let test : Part → Bool = λ p. slice_index groups p.server == g in
-    let so_far = group_interval groups parts g in
-    let split : group_interval groups (parts ++ part ∷ []) g ≡ fold narrowed so_far (filter test (part ∷ [])) =
-    ap (λ (ps : List Part). fold narrowed None ps) (filter-append test parts (part ∷ []))
-    ∙ fold-append narrowed None (filter test parts) (filter test (part ∷ [])) in
-    subst (λ (o : Option Interval). Narrows so_far o) (sym split)
-    (elim (test part) as (λ t. Narrows so_far (fold narrowed so_far (cond t (part ∷ []) []))) [
-      | true ↦ narrowed_narrows so_far part
-      | false ↦ narrows_itself so_far
-    ])
+    subst (Narrows (group_interval groups parts g)) (sym (pushed groups parts part g))
+    (narrows_with _ (group_interval groups parts g) part)
 
 -- ---- counts
 
@@ -61,13 +55,7 @@ module _ (h next : ℕ → Option Interval) (narrows : (g : ℕ) → Narrows (h 
   more_counted (Some i) (Some j) list other n counts lengths =
       let first = sum_by-cons (λ (k : Interval). cond (leaves_out k point) 1 0) i list in
       let second = sum_by-cons (λ (k : Interval). cond (leaves_out k point) 1 0) j other in (
-        by_test (leaves_out i point)
-            (λ out. omega (
-              arith,
-              cond-true {A = ℕ} (leaves_out i point) 1 0 out,
-              cond-true {A = ℕ} (leaves_out j point) 1 0 (n point out),
-            ))
-            (λ held. omega (arith, cond-false {A = ℕ} (leaves_out i point) 1 0 held)),
+        omega (arith, implies_le (leaves_out i point) (leaves_out j point) (n point)),
         omega arith,
       )
 
@@ -89,12 +77,6 @@ module _ (hulls : EveryHull) (samples : List Sample) (claim : ClaimData) (stretc
   abbrev after : List Part → List (ℕ × ℕ) → Result (List Part) Why
   after earlier entries = parts_after samples stretch claim.drift_ppb earlier entries
 
-  split_step : (first : Result Part Why) (next more : Part → Result (List Part) Why) (parts : List Part)
-      (entry : ℕ × ℕ) → ((part : Part) → next part ≡ Ok parts → more part ≡ after parts (entry ∷ []))
-      → unless_refused first next ≡ Ok parts → unless_refused first more ≡ after parts (entry ∷ [])
-  split_step (Err why) next more parts entry step e = absurd cc
-  split_step (Ok part) next more parts entry step e = step part e
-
   -- what entries say, with one more
   entries_split : (earlier : List Part) (entries : List (ℕ × ℕ)) (entry : ℕ × ℕ) (parts : List Part)
       → after earlier entries ≡ Ok parts → after earlier (entries ++ entry ∷ []) ≡ after parts (entry ∷ [])
@@ -102,21 +84,9 @@ module _ (hulls : EveryHull) (samples : List Sample) (claim : ClaimData) (stretc
       let same : earlier ≡ parts = cc in
       ap (λ (ps : List Part). after ps (entry ∷ [])) same
   entries_split earlier (first ∷ entries) entry parts e =
-      split_step (part_from stretch claim.drift_ppb earlier (slice_get samples first.0) (slice_get samples first.1))
-      (λ part. after (earlier ++ part ∷ []) entries) (λ part. after (earlier ++ part ∷ []) (entries ++ entry ∷ []))
-      parts entry (λ part e'. entries_split (earlier ++ part ∷ []) entries entry parts e') e
-
-  refused_test : (mixed repeated : Bool) (part : Part) (why : Why)
-      → cond mixed (Err MixedServers) (cond repeated (Err RepeatedServer) (Ok part)) ≡ Err why → IsRefusedEntry why
-  refused_test true repeated part why e = inr (inl (let same : why ≡ MixedServers = cc in same))
-  refused_test false true part why e = inr (inr (let same : why ≡ RepeatedServer = cc in same))
-  refused_test false false part why e = absurd cc
-
-  refused_by_itself : (earlier : List Part) (low high : Option Sample) (why : Why)
-      → part_from stretch claim.drift_ppb earlier low high ≡ Err why → IsRefusedEntry why
-  refused_by_itself earlier None high why e = inl (let same : why ≡ BadSample = cc in same)
-  refused_by_itself earlier (Some low) None why e = inl (let same : why ≡ BadSample = cc in same)
-  refused_by_itself earlier (Some low) (Some high) why e = refused_test _ _ _ why e
+      let begin = begins samples stretch claim.drift_ppb earlier first entries parts e in
+      begin_with samples stretch claim.drift_ppb earlier first (entries ++ entry ∷ []) begin.part begin.said
+      ∙ entries_split (earlier ++ begin.part ∷ []) entries entry parts begin.rest
 
   weaker : (fault : Option Why) → FaultIs IsContradiction fault → FaultIs ContradictsOrRefuses fault
   weaker fault = ⊎_elim (λ none. inl none) (λ found. inr (found.0, found.1, inl found.2))
@@ -151,28 +121,15 @@ module _ (hulls : EveryHull) (samples : List Sample) (claim : ClaimData) (stretc
       (sym (entries_split [] entries entry parts is))
       (one_more parts entry
       (part_from stretch claim.drift_ppb parts (slice_get samples entry.0) (slice_get samples entry.1))
-      (refused_by_itself parts (slice_get samples entry.0) (slice_get samples entry.1)) e)
+      (refused stretch claim.drift_ppb parts (slice_get samples entry.0) (slice_get samples entry.1)) e)
 
-module _ (hulls : EveryHull) (samples : List Sample) (claim : ClaimData) where
-  itself : (piece : PieceData) → Follows samples claim claim ContradictsOrRefuses piece piece
-  itself piece = record { upto = refl; fault = λ begin e. inl e }
-
-  zip_at : (before : List PieceData) (piece next : PieceData) (after : List PieceData)
-      → Follows samples claim claim ContradictsOrRefuses piece next
-      → AllZip (Follows samples claim claim ContradictsOrRefuses) (before ++ piece ∷ after) (before ++ next ∷ after)
-  zip_at [] piece next after follows =
-      (follows, all_follow samples claim claim ContradictsOrRefuses itself after)
-  zip_at (first ∷ before) piece next after follows = (itself first, zip_at before piece next after follows)
-
-  pub one_more_entry : (certificate more : CertificateData) → HasOneMoreEntry certificate more
-      → verdict_of samples claim certificate ≡ Yes → IsYesOr ContradictsOrRefuses (verdict_of samples claim more)
-  one_more_entry certificate more has e =
-      let next : PieceData = record has.piece { entries = has.piece.entries ++ has.entry ∷ [] } in
-      let follows = piece_follows samples claim claim ContradictsOrRefuses refl has.piece next refl
-      (λ stretch passes. says_more hulls samples claim stretch has.piece.entries has.entry _ refl passes) in
-      subst (λ (ps : List PieceData). IsYesOr ContradictsOrRefuses (verdict_from samples claim 0 claim.first ps))
-      (sym has.with_it)
-      (verdict_follows samples claim claim ContradictsOrRefuses refl 0 claim.first
-      (has.before ++ has.piece ∷ has.after) (has.before ++ next ∷ has.after)
-      (zip_at has.before has.piece next has.after follows)
-      (ap (λ (ps : List PieceData). verdict_from samples claim 0 claim.first ps) (sym has.without) ∙ e))
+pub one_more_entry : (hulls : EveryHull) (samples : List Sample) (claim : ClaimData) (certificate more : CertificateData)
+    → HasOneMoreEntry certificate more → verdict_of samples claim certificate ≡ Yes
+    → IsYesOr ContradictsOrRefuses (verdict_of samples claim more)
+one_more_entry hulls samples claim certificate more has e =
+    let next : PieceData = record has.piece { entries = has.piece.entries ++ has.entry ∷ [] } in
+    subst (λ (ps : List PieceData). IsYesOr ContradictsOrRefuses (verdict_from samples claim 0 claim.first ps))
+    (sym has.with_it)
+    (one_changed samples claim ContradictsOrRefuses has.before has.piece next has.after refl
+    (λ stretch passes. says_more hulls samples claim stretch has.piece.entries has.entry _ refl passes)
+    (ap (λ (ps : List PieceData). verdict_from samples claim 0 claim.first ps) (sym has.without) ∙ e))
