@@ -231,6 +231,8 @@ stepped_fits_no_capture fits =
     (inr (0, omega arith, inl refl)) (inl refl) in
     omega (arith, ints, drift)
 
+pub ruleset stepped_clock = (stepped_fits, stepped_fits_no_capture)
+
 -- ---- no exchange at all
 
 lone_moment : (n : ℕ) (observation m : Moment) → IsClientMoment (lone_course n observation) 0 m → m ≡ observation

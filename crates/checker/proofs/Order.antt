@@ -26,7 +26,7 @@ narrowed_swapped None x y = ap Some (meet_turned x.interval y.interval)
 narrowed_swapped (Some i) x y = ap Some (meet_swapped i x.interval y.interval)
 
 -- what one more part does to what is common
-unfoldable pub with_part : Bool → Option Interval → Part → Option Interval
+with_part : Bool → Option Interval → Part → Option Interval
 with_part test o part = fold narrowed o (cond test (part ∷ []) [])
 
 with_parts_swapped : (s t : Bool) (o : Option Interval) (x y : Part)
@@ -38,7 +38,7 @@ with_parts_swapped false true o x y = refl
 with_parts_swapped false false o x y = refl
 
 module _ (groups : List ℕ) where
-  pub pushed : (parts : List Part) (part : Part) (g : ℕ) → group_interval groups (parts ++ part ∷ []) g
+  pushed : (parts : List Part) (part : Part) (g : ℕ) → group_interval groups (parts ++ part ∷ []) g
       ≡ with_part (slice_index groups part.server == g) (group_interval groups parts g) part
   unfolding with_part
   pushed parts part g =
@@ -173,12 +173,14 @@ module _ (samples : List Sample) (claim : ClaimData) (stretch : Stretch) where
       let p_new : names p.server (earlier ++ q ∷ []) ≡ false =
       list_any-append (λ r. r.server == p.server) earlier (q ∷ [])
       ∙ rw (again_p.new, other_server p.server q.server new_q.1) refl in
-      let p_second : says samples stretch claim.drift_ppb (earlier ++ q ∷ []) x ≡ Ok p = again_p.again (earlier ++ q ∷ []) p_new in
+      let p_second : says samples stretch claim.drift_ppb (earlier ++ q ∷ []) x ≡ Ok p =
+      again_p.again (earlier ++ q ∷ []) p_new in
       let rest = says_similar ((earlier ++ p ∷ []) ++ q ∷ []) ((earlier ++ q ∷ []) ++ p ∷ []) back parts
       (similar_swapped claim.groups earlier p q) second.rest in
       record {
         parts' = rest.parts';
-        said = begin_with samples stretch claim.drift_ppb earlier y (x ∷ back) q q_first ∙ begin_with samples stretch claim.drift_ppb (earlier ++ q ∷ []) x back p p_second ∙ rest.said;
+        said = begin_with samples stretch claim.drift_ppb earlier y (x ∷ back) q q_first
+            ∙ begin_with samples stretch claim.drift_ppb (earlier ++ q ∷ []) x back p p_second ∙ rest.said;
         similar = rest.similar;
       }
 
@@ -190,7 +192,8 @@ module _ (samples : List Sample) (claim : ClaimData) (stretch : Stretch) where
       let rest = turned_after (earlier ++ first.part ∷ []) front x y back parts first.rest in
       record {
         parts' = rest.parts';
-        said = begin_with samples stretch claim.drift_ppb earlier entry (front ++ y ∷ x ∷ back) first.part first.said ∙ rest.said;
+        said = begin_with samples stretch claim.drift_ppb earlier entry (front ++ y ∷ x ∷ back) first.part first.said
+            ∙ rest.said;
         similar = rest.similar;
       }
 

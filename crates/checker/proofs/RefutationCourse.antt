@@ -28,8 +28,11 @@ module _ (start end t2 t3 distance error : ℤ) where
   in_order room =
       let leaves = ≤ℤ-sub start end error room.leaves_before_arrival in
       let receives = room.receives_before_arrival in
-      let answers = room.answers_before_arrival in
-      (omega (arith, ints, clamps), omega (arith, ints, clamps), int_max-least _ _ _ (int_max-least _ _ _ leaves receives) answers)
+      let answers = room.answers_before_arrival in (
+        omega (arith, ints, clamps),
+        omega (arith, ints, clamps),
+        int_max-least _ _ _ (int_max-least _ _ _ leaves receives) answers,
+      )
 
   near_stamps : AdmitsError start end t2 t3 distance error → pos 0 ≤ℤ distance
       → IsWithinDistance 1 t2 distance receipt_time × IsWithinDistance 1 t3 distance answer_time

@@ -107,3 +107,5 @@ module _ (claim : ClaimData) (xs : List Exchange) (r : RefutationData) (course :
       let scaled : (pos (unsigned_abs r.error) *ℤ pos n) ≡ pos (unsigned_abs r.error * n) = omega (arith, ints) in
       let near = le_from_times (pos (unsigned_abs r.error)) claim.bound n of.fits.fits.some_fineness (rw scaled abs) in
       not_both claim.bound (pos (unsigned_abs r.error)) against.beyond_bound near
+
+pub ruleset course_breaks_claim = (course_in_span, course_beyond_bound)

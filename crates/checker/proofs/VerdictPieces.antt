@@ -53,8 +53,8 @@ module _ (samples : List Sample) (claim : ClaimData) where
   not_from_hull why (inr (inl is)) from = rw is at from
   not_from_hull why (inr (inr is)) from = rw is at from
 
-  refused_step : (stretch : Stretch) (earlier : List Part) (entries : List (ℕ × ℕ)) (why : Why) (first : Result Part Why)
-      → (first ≡ Err why → IsRefusedEntry why)
+  refused_step : (stretch : Stretch) (earlier : List Part) (entries : List (ℕ × ℕ)) (why : Why)
+      (first : Result Part Why) → (first ≡ Err why → IsRefusedEntry why)
       → ((part : Part) → parts_after samples stretch claim.drift_ppb (earlier ++ part ∷ []) entries ≡ Err why
       → IsRefusedEntry why)
       → unless_refused first (λ part. parts_after samples stretch claim.drift_ppb (earlier ++ part ∷ []) entries)

@@ -216,7 +216,7 @@ pub fn stamps_err_on_one_side()
 /// A step of the clock before the exchanges that a piece names doesn't affect the piece: the
 /// course of a clock that was stepped fits what an entry names of the exchange after the step, and
 /// doesn't fit the two exchanges.
-#[tactic(auto, using(crate::proofs::Course::stepped_fits, crate::proofs::Course::stepped_fits_no_capture,))]
+#[tactic(auto, using(crate::proofs::Course::stepped_clock))]
 pub fn step_before_a_piece_is_no_matter()
     ensures piece { FitsPiece worked_claim (earlier_exchange ∷ worked_exchange ∷ [])
         ((1, 1) ∷ []) stepped_course }
@@ -226,7 +226,7 @@ pub fn step_before_a_piece_is_no_matter()
 
 /// The exchange of the worked courses is what a capture of two packets gives under their claim: the
 /// bytes are a capture of two records, and these have that one exchange.
-#[tactic(auto, using(crate::proofs::WorkedExchange::is_capture, crate::proofs::WorkedExchange::is_exchange,))]
+#[tactic(auto, using(crate::proofs::WorkedExchange::is_captured))]
 pub fn worked_exchange_is_captured()
     ensures capture { IsCapture worked_capture worked_format worked_records }
     ensures exchange { exchanges_of worked_claim worked_records ≡ worked_exchange ∷ [] }
