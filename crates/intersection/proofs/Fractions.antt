@@ -72,7 +72,8 @@ floor_admissible list f e floor n positive few is =
 pub ceiling_admissible : (list : List Interval) (f : ℕ) (e ceiling : ℤ) (n : ℕ) → 0 < n
     → IsAdmissibleFraction list f e n → IsSignedCeiling ceiling e n → IsAdmissible list f ceiling
 ceiling_admissible list f e ceiling n positive few is =
-    neighbor_admissible list f e ceiling n few (λ interval inside. ceiling_inside interval e ceiling n positive inside is)
+    neighbor_admissible list f e ceiling n few
+    (λ interval inside. ceiling_inside interval e ceiling n positive inside is)
 
 pub hull_is_fine : (list : List Interval) (f : ℕ) (hull : Hull) (e : ℤ) (n : ℕ) → 0 < n
     → IsAdmissibleFraction list f e n → IsHull list f hull → HullHoldsFraction hull e n

@@ -8,8 +8,8 @@ returns-in_default-clause-described g c =
     let list = c.args.list.now in
     let sorted = c.sorted_ends-ends.ensures in
     let found = rw c.as_slice.ensures.value at c.walk-least.ensures.found in
-    let up = walk_stops Low list c.args.f _ c.sorted_ends-ends.result.items c.walk-least.result.0 sorted.ends sorted.order
-    (omega arith) (omega arith) found in
+    let up = walk_stops Low list c.args.f _ c.sorted_ends-ends.result.items c.walk-least.result.0 sorted.ends
+    sorted.order (omega arith) (omega arith) found in
     described list c.args.f Empty (found_none list c.args.f c.walk-least.result.0 (omega arith) up (search rules))
 
 pub unreachable-requires : goal.unreachable-requires
@@ -17,8 +17,8 @@ unreachable-requires g c =
     let list = c.args.list.now in
     let sorted = c.sorted_ends-ends.ensures in
     let found = rw c.as_slice.ensures.value at c.walk-least.ensures.found in
-    let up = walk_stops Low list c.args.f _ c.sorted_ends-ends.result.items c.walk-least.result.0 sorted.ends sorted.order
-    (omega arith) (omega arith) found in
+    let up = walk_stops Low list c.args.f _ c.sorted_ends-ends.result.items c.walk-least.result.0 sorted.ends
+    sorted.order (omega arith) (omega arith) found in
     let down = walk_down list c.args.f _ c.sorted_ends-ends.result.items c.as_slice-2.result.now
     c.walk-greatest.result.0 sorted.ends sorted.order (c.as_slice-2.ensures.value
     ∙ items-with_items c.sorted_ends-ends.result c.reverse.new.self (search rules) ∙ c.reverse.ensures.after
@@ -31,8 +31,8 @@ returns-clause-described g c =
     let list = c.args.list.now in
     let sorted = c.sorted_ends-ends.ensures in
     let found = rw c.as_slice.ensures.value at c.walk-least.ensures.found in
-    let up = walk_stops Low list c.args.f _ c.sorted_ends-ends.result.items c.walk-least.result.0 sorted.ends sorted.order
-    (omega arith) (omega arith) found in
+    let up = walk_stops Low list c.args.f _ c.sorted_ends-ends.result.items c.walk-least.result.0 sorted.ends
+    sorted.order (omega arith) (omega arith) found in
     let turned =
     c.as_slice-2.ensures.value ∙ items-with_items c.sorted_ends-ends.result c.reverse.new.self (search rules)
     ∙ c.reverse.ensures.after ∙ ap reverse c.deref_mut.ensures.value in
