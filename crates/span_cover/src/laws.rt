@@ -17,7 +17,7 @@ use sample_interval::laws::{widening_grows, widening_is_one_number};
 /// drifts within the rate and the two samples bound the error at their own moments. It may have
 /// read any time after the start of the low end's window, and any before the end of the high end's:
 /// what it read beyond, the error is further inside, and it can't have changed by more since.
-#[tactic(auto, using(crate::proofs::PieceDistance::error_no_less, crate::proofs::PieceDistance::error_no_more,))]
+#[tactic(auto, using(crate::proofs::PieceDistance::error_in_interval))]
 pub fn error_lies_in_the_interval_of_the_piece()
     ensures { (n ppb : ℕ) (low high : Sample) (p q : ℤ) (request reply observed : Moment) →
         IsRate ppb → low.low_from ≤ℤ low.low_to → high.high_from ≤ℤ high.high_to →
