@@ -1,16 +1,9 @@
 -- Courses that fit.
-use Rattle.checker.proofs.Common.{◌≡◌, ℕ, zero, suc, ◌+◌, ◌-◌, ◌<◌, ℤ, pos, ◌-ℤ◌, ◌+ℤ◌, ◌*ℤ◌, ◌≤ℤ◌, unsigned_abs, Bool, true, false, ◌&&◌, ◌⊎◌, inl, inr, ⊎_elim, List, [], ◌∷◌, length, Some, count_by, refl, sym, ap, ◌∙◌, subst, arith, slice_get, slice_index, ◌==◌, list_any, ints, sum_by-cons, ClaimData, IsLawful, Exchange, Moment, error_of, error_change, DriftsWithin, IsInWindow, IsWithinDistance, Fits, FitsInWindows, IsClientMoment, OfEach, ReadsInWindows, KeepsRootDistance, LeavesAfterStamp, ArrivesBeforeStamp, holds_false, false_group_count, numbers_below, OfEachEntry, FitsPiece, IsTraceable, worked_second, worked_claim, worked_exchange, moment_with, served_course, slow_reply, slow_course, slow_claim, stamped_course, earlier_exchange, stepped_course, lone_course, ◌<ℤ◌}
+use Rattle.checker.proofs.Common.{◌≡◌, ℕ, zero, suc, ◌+◌, ◌-◌, ◌<◌, ℤ, pos, ◌-ℤ◌, ◌+ℤ◌, ◌*ℤ◌, ◌≤ℤ◌, unsigned_abs, Bool, false, ◌&&◌, ◌⊎◌, inl, inr, ⊎_elim, List, [], ◌∷◌, length, Some, count_by, refl, sym, ap, ◌∙◌, subst, arith, slice_get, slice_index, ◌==◌, ints, sum_by-cons, ClaimData, IsLawful, Exchange, Moment, error_of, error_change, DriftsWithin, IsInWindow, IsWithinDistance, Fits, FitsInWindows, IsClientMoment, OfEach, ReadsInWindows, KeepsRootDistance, LeavesAfterStamp, ArrivesBeforeStamp, holds_false, false_group_count, numbers_below, OfEachEntry, FitsPiece, IsTraceable, worked_second, worked_claim, worked_exchange, moment_with, served_course, slow_reply, slow_course, slow_claim, stamped_course, earlier_exchange, stepped_course, lone_course, ◌<ℤ◌, get_or, and_right, list_any_none}
+use Rattle.std.proofs.lemmas.Option.{some_pair_parts}
 use Rattle.checker.proofs.PieceFit.{few_from_count}
 
 -- ---- no false server
-
-neither : (b : Bool) → (b && false) ≡ false
-neither true = refl
-neither false = refl
-
-any_none : (p : ℕ → Bool) (xs : List ℕ) → ((k : ℕ) → p k ≡ false) → list_any p xs ≡ false
-any_none p [] none = refl
-any_none p (x ∷ xs) none = rw (none x, any_none p xs none) refl
 
 count_none : (p : ℕ → Bool) (xs : List ℕ) → ((k : ℕ) → p k ≡ false) → count_by p xs ≡ 0
 count_none p [] none = refl
@@ -19,8 +12,8 @@ count_none p (x ∷ xs) none = sum_by-cons _ x xs ∙ rw (none x, count_none p x
 pub no_false_group : (groups : List ℕ) → false_group_count groups (λ server. false) ≡ 0
 no_false_group groups =
     count_none (holds_false groups (λ server. false)) (numbers_below (length groups))
-    (λ g. any_none (λ server. (slice_index groups server == g) && false) (numbers_below (length groups))
-    (λ server. neither (slice_index groups server == g)))
+    (λ g. list_any_none (λ (server : ℕ). (slice_index groups server == g) && false) (numbers_below (length groups))
+    (λ k d below. and_right (slice_index groups (get_or (numbers_below (length groups)) k d) == g) false refl))
 
 -- ---- one error throughout
 
@@ -154,13 +147,6 @@ slow_fits =
 
 -- ---- the clock that is stepped
 
--- what the one entry names
-record NamesWorked (a b : ℕ) (x y : Exchange) : Type 0 where
-  first : 1 ≡ a
-  second : 1 ≡ b
-  low : worked_exchange ≡ x
-  high : worked_exchange ≡ y
-
 second_of_two : (a : ℕ) (x : Exchange) → 1 ≡ a
     → slice_get (earlier_exchange ∷ worked_exchange ∷ []) a ≡ Some x → worked_exchange ≡ x
 second_of_two a x is at =
@@ -168,27 +154,15 @@ second_of_two a x is at =
     ap (slice_get (earlier_exchange ∷ worked_exchange ∷ [])) is ∙ at in
     cc
 
-names_worked : (j a b : ℕ) (x y : Exchange) → slice_get {X = ℕ × ℕ} ((1, 1) ∷ []) j ≡ Some (a, b)
-    → slice_get (earlier_exchange ∷ worked_exchange ∷ []) a ≡ Some x
-    → slice_get (earlier_exchange ∷ worked_exchange ∷ []) b ≡ Some y → NamesWorked a b x y
-names_worked zero a b x y named at_a at_b =
-    let same : (1, 1) ≡ (a, b) = cc in
-    let first : 1 ≡ a = ap (λ (e : ℕ × ℕ). e.0) same in
-    let second : 1 ≡ b = ap (λ (e : ℕ × ℕ). e.1) same in
-    record {
-      first = first;
-      second = second;
-      low = second_of_two a x first at_a;
-      high = second_of_two b y second at_b;
-    }
-names_worked (suc j) a b x y named at_a at_b = absurd cc
-
 -- what holds of the worked exchange holds of what is named
 of_worked : (P : ℕ → Exchange → ℕ → Exchange → Type 0) → P 1 worked_exchange 1 worked_exchange
     → OfEachEntry (earlier_exchange ∷ worked_exchange ∷ []) ((1, 1) ∷ []) P
-of_worked P holds j a b x y named at_a at_b =
-    let is = names_worked j a b x y named at_a at_b in
-    rw (sym is.first, sym is.second, sym is.low, sym is.high) holds
+of_worked P holds zero a b x y named at_a at_b =
+    let (first, second) = some_pair_parts 1 a 1 b named in
+    let low : worked_exchange ≡ x = second_of_two a x first at_a in
+    let high : worked_exchange ≡ y = second_of_two b y second at_b in
+    rw (sym first, sym second, sym low, sym high) holds
+of_worked P holds (suc j) a b x y named at_a at_b = absurd cc
 
 pub stepped_fits : FitsPiece worked_claim (earlier_exchange ∷ worked_exchange ∷ []) ((1, 1) ∷ []) stepped_course
 stepped_fits =
