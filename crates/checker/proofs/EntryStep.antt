@@ -4,7 +4,6 @@ use Rattle.std.proofs.lemmas.Grind.{common_steps}
 use Rattle.checker.proofs.Comparison.{FaultIs, one_changed, EveryHull}
 use Rattle.checker.proofs.Narrow.{narrower_hull}
 use Rattle.checker.proofs.Part.{refused, begins, begin_with}
-pub use Rattle.checker.proofs.Separation.{held_ends, held_test}
 
 -- each part stands among the same ones with one more
 still_there : (parts : List Part) (part : Part) → AreNarrower parts (parts ++ part ∷ [])
