@@ -1,4 +1,4 @@
-use Rattle.checker.proofs.Common.{◌≡◌, pos, rules, refl, ap, ◌∙◌, to_z, of_z, unsigned_abs, to_z-of_z, w64, w128, data_of}
+use Rattle.checker.proofs.Common.{◌≡◌, pos, rules, ap, ◌∙◌, to_z, of_z, unsigned_abs, to_z-of_z, w64, w128, data_of}
 use Rattle.checker.proofs.refutation.is_outside.Goals as goal
 
 pub returns : goal.returns
