@@ -14,8 +14,7 @@ use Rattle.span_cover.specs.Part.{part_of}
 use Rattle.span_cover.specs.Piece.{farthest, moved_low, moved_high}
 use Rattle.span_cover.specs.declared.part.Part.{Part}
 use Rattle.checker.specs.Acceptance.{IsSaidBy, ShowBound}
-use Rattle.checker.proofs.Separation.{passes, group_passes, counted, meet_leaves_it_out}
-use Rattle.checker.proofs.EntryStep.{held_ends, held_test}
+use Rattle.checker.proofs.Separation.{passes, group_passes, counted, held_ends, held_test, meet_leaves_it_out}
 use Rattle.checker.proofs.PieceFit.{all_numbers}
 use Rattle.audit.proofs.RecordFrames.{mapped}
 

@@ -80,7 +80,7 @@ pub use Rattle.checker.specs.declared.verdict.Verdict.TheVariants.{No, Yes}
 pub use Rattle.checker.specs.declared.verdict.Why.{Why}
 pub use Rattle.checker.specs.declared.verdict.Why.TheVariants.{BadSample, Contradiction, Cut, Exceeds, MixedServers}
 pub use Rattle.checker.specs.declared.verdict.Why.TheVariants.{RepeatedServer, Uncovered}
-pub use Rattle.intersection.proofs.Fractions.{le_from_times, neg_times}
+pub use Rattle.intersection.proofs.Fractions.{le_from_times}
 pub use Rattle.lemma_base.proofs.Bool.{by_test, cond-le_one, or_rest}
 pub use Rattle.lemma_base.proofs.Int.{int_le-true, int_max-least, le-int_le, ≤ℤ-sub, ≤ℤ_trans, ≤ℤ_trans_twice}
 pub use Rattle.lemma_base.proofs.Int.{int_lt-false, int_lt-true, w128_keeps, ≤ℤ-<ℤ_trans, ≤ℤ-from_lt}

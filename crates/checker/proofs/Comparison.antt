@@ -1,6 +1,6 @@
 -- How verdicts compare if fewer points are admissible.
-use Rattle.checker.proofs.Common.{◌≡◌, ℕ, ◌+◌, ◌<◌, ◌≤◌, ℤ, pos, neg_ℤ, ◌≤ℤ◌, Bool, true, false, cond, ◌&&◌, ◌||◌, int_lt, int_le, nat_lt, ◌⊎◌, inl, inr, ⊎_elim, List, [], ◌∷◌, length, Option, Some, None, Result, Ok, Err, refl, sym, ap, ◌∙◌, subst, arith, AllZip, int_eq, ints, cond-true, cond-false, PieceData, CertificateData, ClaimData, IsAdmissible, IsHull, hull_of, Interval, Hull, Unbounded, Empty, Bounded, Sample, IsYesOr, IsContradiction, group_intervals, piece_hull, parts_after, hull_fault, parts_fault, piece_fault, verdict_after, verdict_from, verdict_of, Part, Stretch, Verdict, Yes, No, Why, Cut, Contradiction, Exceeds, Uncovered, by_test}
-use Rattle.checker.proofs.VerdictPieces.{yes_step}
+use Rattle.checker.proofs.Common.{◌≡◌, ℕ, ◌+◌, ◌<◌, ◌≤◌, ℤ, pos, ◌≤ℤ◌, Bool, true, false, cond, ◌&&◌, ◌||◌, int_lt, nat_lt, ◌⊎◌, inl, inr, ⊎_elim, List, [], ◌∷◌, length, Option, Some, None, Result, Ok, Err, refl, sym, ap, ◌∙◌, subst, arith, AllZip, int_eq, ints, PieceData, CertificateData, ClaimData, IsAdmissible, IsHull, hull_of, Interval, Hull, Unbounded, Empty, Bounded, Sample, IsYesOr, IsContradiction, group_intervals, piece_hull, parts_after, hull_fault, parts_fault, piece_fault, verdict_after, verdict_from, verdict_of, Part, Stretch, Verdict, Yes, No, Why, Cut, Contradiction, Uncovered, ◌++◌}
+use Rattle.checker.proofs.VerdictPieces.{yes_step, inside_from, none_from_inside}
 
 -- no fault, or such a one
 abbrev pub FaultIs : (Why → Type 0) → Option Why → Type 0
@@ -63,30 +63,33 @@ module _ (samples : List Sample) (claim other : ClaimData) (P : Why → Type 0) 
         subst (λ (n : ℕ). FaultIs P (piece_fault samples other begin (record next { upto = n }))) upto moved;
   }
 
+-- ---- one piece in another's place
+
+module _ (samples : List Sample) (claim : ClaimData) (P : Why → Type 0) where
+  zip_changed : (before : List PieceData) (piece next : PieceData) (after : List PieceData)
+      → Follows samples claim claim P piece next
+      → AllZip (Follows samples claim claim P) (before ++ piece ∷ after) (before ++ next ∷ after)
+  zip_changed [] piece next after follows =
+      (follows, all_follow samples claim claim P (λ p. record { upto = refl; fault = λ begin e. inl e }) after)
+  zip_changed (first ∷ before) piece next after follows =
+      (record { upto = refl; fault = λ begin e. inl e }, zip_changed before piece next after follows)
+
+  pub one_changed : (before : List PieceData) (piece next : PieceData) (after : List PieceData)
+      → piece.upto ≡ next.upto
+      → ((stretch : Stretch)
+      → parts_fault claim (parts_after samples stretch claim.drift_ppb [] piece.entries) ≡ None
+      → FaultIs P (parts_fault claim (parts_after samples stretch claim.drift_ppb [] next.entries)))
+      → verdict_from samples claim 0 claim.first (before ++ piece ∷ after) ≡ Yes
+      → IsYesOr P (verdict_from samples claim 0 claim.first (before ++ next ∷ after))
+  one_changed before piece next after upto says =
+      verdict_follows samples claim claim P refl 0 claim.first (before ++ piece ∷ after) (before ++ next ∷ after)
+      (zip_changed before piece next after (piece_follows samples claim claim P refl piece next upto says))
+
 -- ---- hulls
 
 -- the law of the layer below: every list has its hull
 abbrev pub EveryHull : Type 0
 EveryHull = (list : List Interval) (f : ℕ) → IsHull list f (hull_of list f)
-
-within_test : (bound lo hi : ℤ) → neg_ℤ bound ≤ℤ lo → hi ≤ℤ bound → (int_le (neg_ℤ bound) lo && int_le hi bound) ≡ true
-within_test bound lo hi above below = grind (arith, ints)
-
-within_ends : (bound lo hi : ℤ) → (int_le (neg_ℤ bound) lo && int_le hi bound) ≡ true
-    → (neg_ℤ bound ≤ℤ lo) × (hi ≤ℤ bound)
-within_ends bound lo hi h = (grind (arith, ints), grind (arith, ints))
-
-ends_within : (bound lo hi : ℤ) → hull_fault bound (Bounded lo hi) ≡ None → (neg_ℤ bound ≤ℤ lo) × (hi ≤ℤ bound)
-ends_within bound lo hi e = by_test (int_le (neg_ℤ bound) lo && int_le hi bound)
-    (λ passes. within_ends bound lo hi passes)
-    (λ fails. absurd (
-    let no : Some Exceeds ≡ None =
-    sym (cond-false (int_le (neg_ℤ bound) lo && int_le hi bound) None (Some Exceeds) fails) ∙ e in
-    cc))
-
-passes_hull : (bound lo hi : ℤ) → neg_ℤ bound ≤ℤ lo → hi ≤ℤ bound → hull_fault bound (Bounded lo hi) ≡ None
-passes_hull bound lo hi above below =
-    cond-true (int_le (neg_ℤ bound) lo && int_le hi bound) None (Some Exceeds) (within_test bound lo hi above below)
 
 module _ (hulls : EveryHull) (bound wider : ℤ) (list other : List Interval) (f g : ℕ) (no_less : bound ≤ℤ wider)
     (fewer : (point : ℤ) → IsAdmissible other g point → IsAdmissible list f point)
@@ -98,12 +101,12 @@ module _ (hulls : EveryHull) (bound wider : ℤ) (list other : List Interval) (f
   nested_hull (Bounded lo hi) Unbounded is is' e = absurd (let more = longer is.0 in omega arith)
   nested_hull (Bounded lo hi) Empty is is' e = inr (Contradiction, refl, refl)
   nested_hull (Bounded lo hi) (Bounded lo' hi') is is' e =
-      let ends = ends_within bound lo hi e in
+      let ends = inside_from bound lo hi e in
       let least = is.1.1 lo' (fewer lo' is'.1.0) in
       let greatest = is.2.1 hi' (fewer hi' is'.2.0) in
       let above = ends.0 in
       let below = ends.1 in
-      inl (passes_hull wider lo' hi' (omega (arith, ints)) (omega (arith, ints)))
+      inl (none_from_inside wider lo' hi' (omega (arith, ints)) (omega (arith, ints)))
 
   pub hull_follows : hull_fault bound (hull_of list f) ≡ None
       → FaultIs IsContradiction (hull_fault wider (hull_of other g))
@@ -141,10 +144,10 @@ wider_hull : (bound wider : ℤ) (hull : Hull) → bound ≤ℤ wider → hull_f
 wider_hull bound wider Unbounded le e = absurd cc
 wider_hull bound wider Empty le e = absurd cc
 wider_hull bound wider (Bounded lo hi) le e =
-    let ends = ends_within bound lo hi e in
+    let ends = inside_from bound lo hi e in
     let above = ends.0 in
     let below = ends.1 in
-    passes_hull wider lo hi (omega (arith, ints)) (omega (arith, ints))
+    none_from_inside wider lo hi (omega (arith, ints)) (omega (arith, ints))
 
 wider_parts : (claim : ClaimData) (wider : ℤ) (said : Result (List Part) Why) → claim.bound ≤ℤ wider
     → parts_fault claim said ≡ None → parts_fault (record claim { bound = wider }) said ≡ None

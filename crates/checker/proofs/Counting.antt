@@ -1,5 +1,5 @@
 -- Of the groups that have an entry, only those that hold a false server can leave the error out.
-use Rattle.checker.proofs.Common.{◌≡◌, ℕ, zero, suc, ◌+◌, ◌<◌, ◌≤◌, ℤ, pos, ◌*ℤ◌, ◌≤ℤ◌, Bool, true, false, cond, ◌&&◌, int_lt, List, [], ◌∷◌, ◌++◌, length, Option, Some, None, IfSome, count_by, refl, subst, arith, All, slice_index, ◌==◌, fold, filter, filter_map, list_any, cons_option, AllByRecursion, ints, cond-true, cond-false, nat_tests, sum_by-cons, recursion_from_All, HoldsFraction, leaves_fraction_out, IsAdmissibleFraction, Interval, holds_false, false_group_count, numbers_below, meet_of, narrowed, group_interval, group_intervals, Part, by_test, or_parts, true_from_ne_false}
+use Rattle.checker.proofs.Common.{◌≡◌, ℕ, zero, suc, ◌+◌, ◌<◌, ◌≤◌, ℤ, pos, ◌*ℤ◌, ◌≤ℤ◌, Bool, true, false, cond, ◌&&◌, int_lt, List, [], ◌∷◌, ◌++◌, length, Option, Some, None, IfSome, count_by, refl, subst, arith, All, slice_index, ◌==◌, fold, filter, filter_map, list_any, cons_option, AllByRecursion, ints, cond-true, cond-false, nat_tests, sum_by-cons, recursion_from_All, HoldsFraction, leaves_fraction_out, IsAdmissibleFraction, Interval, holds_false, false_group_count, numbers_below, meet_of, narrowed, group_interval, group_intervals, Part, by_test, or_parts, true_from_ne_false, ◌∙◌}
 
 -- ---- tests that fail
 
@@ -62,6 +62,12 @@ module _ (e : ℤ) (n : ℕ) where
 
 -- ---- counts
 
+-- where one test implies another, the other counts no less
+pub implies_le : (p q : Bool) → (p ≡ true → q ≡ true) → cond p 1 0 ≤ cond q 1 0
+implies_le true q h = rw (h refl) (omega arith)
+implies_le false true h = omega arith
+implies_le false false h = omega arith
+
 pub counted : (r : ℕ → Bool) (g : ℕ) (gs : List ℕ) → count_by r (g ∷ gs) ≡ cond (r g) 1 0 + count_by r gs
 counted r g gs = sum_by-cons _ g gs
 
@@ -72,13 +78,12 @@ module _ (h : ℕ → Option Interval) (q : Interval → Bool) (r : ℕ → Bool
       → count_by q (filter_map h gs) ≤ count_by r gs
       → count_by q (cons_option o (filter_map h gs)) ≤ cond b 1 0 + count_by r gs
   one_counted g gs None b is t rest = omega arith
-  one_counted g gs (Some i) true is t rest = by_test (q i)
-      (λ passes. omega
-      (arith, sum_by-cons (λ j. cond (q j) 1 0) i (filter_map h gs), cond-true {A = ℕ} (q i) 1 0 passes))
-      (λ fails. omega
-      (arith, sum_by-cons (λ j. cond (q j) 1 0) i (filter_map h gs), cond-false {A = ℕ} (q i) 1 0 fails))
-  one_counted g gs (Some i) false is t rest =
-      omega (arith, sum_by-cons (λ j. cond (q j) 1 0) i (filter_map h gs), cond-false {A = ℕ} (q i) 1 0 (only g i is t))
+  one_counted g gs (Some i) b is t rest = omega (
+    arith,
+    sum_by-cons (λ j. cond (q j) 1 0) i (filter_map h gs),
+    implies_le (q i) b
+        (λ passes. by_test b (λ holds. holds) (λ fails. absurd (let no = only g i is (t ∙ fails) in cc))),
+  )
 
   counts_le : (gs : List ℕ) → count_by q (filter_map h gs) ≤ count_by r gs
   counts_le [] = omega arith

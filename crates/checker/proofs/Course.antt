@@ -1,16 +1,9 @@
 -- Courses that fit.
-use Rattle.checker.proofs.Common.{◌≡◌, ℕ, zero, suc, ◌+◌, ◌-◌, ◌<◌, ℤ, pos, ◌-ℤ◌, ◌+ℤ◌, ◌*ℤ◌, ◌≤ℤ◌, unsigned_abs, Bool, true, false, ◌&&◌, ◌⊎◌, inl, inr, ⊎_elim, List, [], ◌∷◌, length, Some, count_by, refl, sym, ap, ◌∙◌, subst, arith, slice_get, slice_index, ◌==◌, list_any, ints, sum_by-cons, ClaimData, IsLawful, Exchange, Moment, error_of, error_change, DriftsWithin, IsInWindow, IsWithinDistance, Fits, FitsInWindows, IsClientMoment, OfEach, ReadsInWindows, KeepsRootDistance, LeavesAfterStamp, ArrivesBeforeStamp, holds_false, false_group_count, numbers_below, OfEachEntry, FitsPiece, IsTraceable, worked_second, worked_claim, worked_exchange, moment_with, served_course, slow_reply, slow_course, slow_claim, stamped_course, earlier_exchange, stepped_course, lone_course}
+use Rattle.checker.proofs.Common.{◌≡◌, ℕ, zero, suc, ◌+◌, ◌-◌, ◌<◌, ℤ, pos, ◌-ℤ◌, ◌+ℤ◌, ◌*ℤ◌, ◌≤ℤ◌, unsigned_abs, Bool, false, ◌&&◌, ◌⊎◌, inl, inr, ⊎_elim, List, [], ◌∷◌, length, Some, count_by, refl, sym, ap, ◌∙◌, subst, arith, slice_get, slice_index, ◌==◌, ints, sum_by-cons, ClaimData, IsLawful, Exchange, Moment, error_of, error_change, DriftsWithin, IsInWindow, IsWithinDistance, Fits, FitsInWindows, IsClientMoment, OfEach, ReadsInWindows, KeepsRootDistance, LeavesAfterStamp, ArrivesBeforeStamp, holds_false, false_group_count, numbers_below, OfEachEntry, FitsPiece, IsTraceable, worked_second, worked_claim, worked_exchange, moment_with, served_course, slow_reply, slow_course, slow_claim, stamped_course, earlier_exchange, stepped_course, lone_course, ◌<ℤ◌, get_or, and_right, list_any_none}
+use Rattle.std.proofs.lemmas.Option.{some_pair_parts}
 use Rattle.checker.proofs.PieceFit.{few_from_count}
 
 -- ---- no false server
-
-neither : (b : Bool) → (b && false) ≡ false
-neither true = refl
-neither false = refl
-
-any_none : (p : ℕ → Bool) (xs : List ℕ) → ((k : ℕ) → p k ≡ false) → list_any p xs ≡ false
-any_none p [] none = refl
-any_none p (x ∷ xs) none = rw (none x, any_none p xs none) refl
 
 count_none : (p : ℕ → Bool) (xs : List ℕ) → ((k : ℕ) → p k ≡ false) → count_by p xs ≡ 0
 count_none p [] none = refl
@@ -19,77 +12,35 @@ count_none p (x ∷ xs) none = sum_by-cons _ x xs ∙ rw (none x, count_none p x
 pub no_false_group : (groups : List ℕ) → false_group_count groups (λ server. false) ≡ 0
 no_false_group groups =
     count_none (holds_false groups (λ server. false)) (numbers_below (length groups))
-    (λ g. any_none (λ server. (slice_index groups server == g) && false) (numbers_below (length groups))
-    (λ server. neither (slice_index groups server == g)))
+    (λ g. list_any_none (λ (server : ℕ). (slice_index groups server == g) && false) (numbers_below (length groups))
+    (λ k d below. and_right (slice_index groups (get_or (numbers_below (length groups)) k d) == g) false refl))
 
 -- ---- one error throughout
 
-no_change : (e : ℤ) → unsigned_abs (e -ℤ e) ≡ 0
-no_change e = omega (arith, ints)
-
 -- between moments with one error there is no drift
-one_error : (ppb : ℕ) (a b : Moment) (e : ℤ) → error_of a ≡ e → error_of b ≡ e → DriftsWithin ppb a b
+pub one_error : (ppb : ℕ) (a b : Moment) (e : ℤ) → error_of a ≡ e → error_of b ≡ e → DriftsWithin ppb a b
 one_error ppb a b e at_a at_b =
-    let none : error_change a b ≡ 0 = rw (at_a, at_b) (no_change e) in
+    let none : error_change a b ≡ 0 = rw (at_a, at_b) (omega (arith, ints)) in
     rw none (omega arith)
 
-reads_back : (error reading : ℤ) → reading -ℤ (reading -ℤ error) ≡ error
+pub reads_back : (error reading : ℤ) → reading -ℤ (reading -ℤ error) ≡ error
 reads_back error reading = omega (arith, ints)
 
--- ---- the worked course
+-- ---- the worked exchange
 
-module _ (error reply_reading served : ℤ) where
-  client_error : (count : ℕ) (m : Moment) → IsClientMoment (served_course error reply_reading served) count m
-      → error_of m ≡ error
-  client_error count m = ⊎_elim
-      (λ e. ap error_of e ∙ reads_back error (pos worked_second))
-      (λ found. ⊎_elim
-      (λ e. ap error_of e ∙ reads_back error (pos worked_second))
-      (λ e. ap error_of e ∙ reads_back error reply_reading) found.2)
+only_one : (k : ℕ) (x : Exchange) → slice_get (worked_exchange ∷ []) k ≡ Some x → worked_exchange ≡ x
+only_one zero x at = cc
+only_one (suc k) x at = absurd cc
 
-  only_one : (k : ℕ) (x : Exchange) → slice_get (worked_exchange ∷ []) k ≡ Some x → worked_exchange ≡ x
-  only_one zero x at = cc
-  only_one (suc k) x at = absurd cc
+-- what holds of the worked exchange holds of each exchange, if there is no other
+of_one : (P : Exchange → Type 0) → P worked_exchange → (k : ℕ) (x : Exchange)
+    → slice_get (worked_exchange ∷ []) k ≡ Some x → P x
+of_one P holds k x at = subst P (only_one k x at) holds
 
-  -- the readings lie in the windows of the worked exchange
-  in_its_windows : pos (worked_second + 85899345) ≤ℤ reply_reading
-      → reply_reading ≤ℤ pos (worked_second + 85903641)
-      → ReadsInWindows (pos 0) (served_course error reply_reading served) 0 worked_exchange
-  in_its_windows from to = (
-    (omega (arith, ints), omega (arith, ints)),
-    (omega (arith, ints), omega (arith, ints)),
-  )
-
-  keeps_its_distance : pos (worked_second + 42949672) ≤ℤ served → served ≤ℤ pos (worked_second + 42949674)
-      → KeepsRootDistance (served_course error reply_reading served) 0 worked_exchange
-  keeps_its_distance no_sooner no_later = (omega (arith, ints), omega (arith, ints))
-
-  pub worked_fits : pos (worked_second + 85899345) ≤ℤ reply_reading
-      → reply_reading ≤ℤ pos (worked_second + 85903641)
-      → pos (worked_second + 42949672) ≤ℤ served → served ≤ℤ pos (worked_second + 42949674)
-      → (pos worked_second -ℤ error) ≤ℤ served → served ≤ℤ (reply_reading -ℤ error)
-      → FitsInWindows worked_claim (worked_exchange ∷ []) (served_course error reply_reading served)
-  worked_fits from to no_sooner no_later sent_before arrived_after =
-      let windows : OfEach (worked_exchange ∷ [])
-      (ReadsInWindows (pos 0) (served_course error reply_reading served)) =
-      λ k x at. subst (λ (y : Exchange). ReadsInWindows (pos 0) (served_course error reply_reading served) k y)
-      (only_one k x at) (in_its_windows from to) in
-      record {
-        fits = record {
-          some_fineness = omega arith;
-          few_false = rw (no_false_group (0 ∷ [])) (omega arith);
-          leaves_after_stamp = λ k x at. (windows k x at).0.0;
-          arrives_before_stamp = λ k x at. (windows k x at).1.1;
-          drift = λ a b at_a at_b. one_error 0 a b error (client_error 1 a at_a) (client_error 1 b at_b);
-          ordered = λ k x at true'. (sent_before, omega (arith, ints), arrived_after);
-          within_root_distance = λ k x at true'.
-              subst (λ (y : Exchange). KeepsRootDistance (served_course error reply_reading served) k y)
-              (only_one k x at) (keeps_its_distance no_sooner no_later);
-        };
-        in_windows = windows;
-      }
-
--- ---- stamps that are early or late
+keeps_its_distance : (error left arrived served : ℤ) → pos (worked_second + 42949672) ≤ℤ served
+    → served ≤ℤ pos (worked_second + 42949674)
+    → KeepsRootDistance (stamped_course error left arrived served) 0 worked_exchange
+keeps_its_distance error left arrived served no_sooner no_later = (omega (arith, ints), omega (arith, ints))
 
 module _ (allowance error left arrived served : ℤ) where
   stamped_error : (count : ℕ) (m : Moment) → IsClientMoment (stamped_course error left arrived served) count m
@@ -106,20 +57,38 @@ module _ (allowance error left arrived served : ℤ) where
       → (left -ℤ error) ≤ℤ served → served ≤ℤ (arrived -ℤ error)
       → Fits (record worked_claim { reading = allowance }) (worked_exchange ∷ [])
       (stamped_course error left arrived served)
-  stamped_fits after before no_sooner no_later sent_before arrived_after = record {
-    some_fineness = omega arith;
-    few_false = rw (no_false_group (0 ∷ [])) (omega arith);
-    leaves_after_stamp = λ k x at.
-        subst (λ (y : Exchange). LeavesAfterStamp allowance (stamped_course error left arrived served) k y)
-        (only_one error arrived served k x at) (omega (arith, ints, after));
-    arrives_before_stamp = λ k x at.
-        subst (λ (y : Exchange). ArrivesBeforeStamp allowance (stamped_course error left arrived served) k y)
-        (only_one error arrived served k x at) (omega (arith, ints, before));
-    drift = λ a b at_a at_b. one_error 0 a b error (stamped_error 1 a at_a) (stamped_error 1 b at_b);
-    ordered = λ k x at true'. (sent_before, omega (arith, ints), arrived_after);
-    within_root_distance = λ k x at true'.
-        subst (λ (y : Exchange). KeepsRootDistance (stamped_course error left arrived served) k y)
-        (only_one error arrived served k x at) (keeps_its_distance error arrived served no_sooner no_later);
+  stamped_fits after before no_sooner no_later sent_before arrived_after =
+      let course = stamped_course error left arrived served in
+      record {
+        some_fineness = omega arith;
+        few_false = rw (no_false_group (0 ∷ [])) (omega arith);
+        leaves_after_stamp = of_one (LeavesAfterStamp allowance course 0) (omega (arith, ints, after));
+        arrives_before_stamp = of_one (ArrivesBeforeStamp allowance course 0) (omega (arith, ints, before));
+        drift = λ a b at_a at_b. one_error 0 a b error (stamped_error 1 a at_a) (stamped_error 1 b at_b);
+        ordered = λ k x at true'. (sent_before, omega (arith, ints), arrived_after);
+        within_root_distance = λ k x at true'. of_one (KeepsRootDistance course 0)
+            (keeps_its_distance error left arrived served no_sooner no_later) k x at;
+      }
+
+module _ (error reply_reading served : ℤ) where
+  -- the readings lie in the windows of the worked exchange
+  in_its_windows : pos (worked_second + 85899345) ≤ℤ reply_reading
+      → reply_reading ≤ℤ pos (worked_second + 85903641)
+      → ReadsInWindows (pos 0) (served_course error reply_reading served) 0 worked_exchange
+  in_its_windows from to = (
+    (omega (arith, ints), omega (arith, ints)),
+    (omega (arith, ints), omega (arith, ints)),
+  )
+
+  pub worked_fits : pos (worked_second + 85899345) ≤ℤ reply_reading
+      → reply_reading ≤ℤ pos (worked_second + 85903641)
+      → pos (worked_second + 42949672) ≤ℤ served → served ≤ℤ pos (worked_second + 42949674)
+      → (pos worked_second -ℤ error) ≤ℤ served → served ≤ℤ (reply_reading -ℤ error)
+      → FitsInWindows worked_claim (worked_exchange ∷ []) (served_course error reply_reading served)
+  worked_fits from to no_sooner no_later sent_before arrived_after = record {
+    fits = stamped_fits (pos 0) error (pos worked_second) reply_reading served (omega (arith, ints))
+        (omega (arith, ints)) no_sooner no_later sent_before arrived_after;
+    in_windows = of_one (ReadsInWindows (pos 0) (served_course error reply_reading served) 0) (in_its_windows from to);
   }
 
 pub stamped_out_of_windows : FitsInWindows worked_claim (worked_exchange ∷ [])
@@ -160,7 +129,7 @@ slow_fits =
     let reading = pos (worked_second + 85899345) in
     let served = pos (worked_second + 42949673) in
     let windows : OfEach (worked_exchange ∷ []) (ReadsInWindows (pos 0) slow_course) =
-    λ k x at. subst (λ (y : Exchange). ReadsInWindows (pos 0) slow_course k y) (only_one error reading served k x at)
+    of_one (ReadsInWindows (pos 0) slow_course 0)
     (in_its_windows error reading served (omega (arith, ints)) (omega (arith, ints))) in
     record {
       fits = record {
@@ -170,21 +139,13 @@ slow_fits =
         arrives_before_stamp = λ k x at. (windows k x at).1.1;
         drift = λ a b at_a at_b. slow_drift a b (slow_moment 1 a at_a) (slow_moment 1 b at_b);
         ordered = λ k x at true'. (omega (arith, ints), omega (arith, ints), omega (arith, ints));
-        within_root_distance = λ k x at true'.
-            subst (λ (y : Exchange). KeepsRootDistance slow_course k y) (only_one error reading served k x at)
-            (keeps_its_distance error reading served (omega (arith, ints)) (omega (arith, ints)));
+        within_root_distance = λ k x at true'. of_one (KeepsRootDistance slow_course 0)
+            (keeps_its_distance error reading reading served (omega (arith, ints)) (omega (arith, ints))) k x at;
       };
       in_windows = windows;
     }
 
 -- ---- the clock that is stepped
-
--- what the one entry names
-record NamesWorked (a b : ℕ) (x y : Exchange) : Type 0 where
-  first : 1 ≡ a
-  second : 1 ≡ b
-  low : worked_exchange ≡ x
-  high : worked_exchange ≡ y
 
 second_of_two : (a : ℕ) (x : Exchange) → 1 ≡ a
     → slice_get (earlier_exchange ∷ worked_exchange ∷ []) a ≡ Some x → worked_exchange ≡ x
@@ -193,34 +154,22 @@ second_of_two a x is at =
     ap (slice_get (earlier_exchange ∷ worked_exchange ∷ [])) is ∙ at in
     cc
 
-names_worked : (j a b : ℕ) (x y : Exchange) → slice_get {X = ℕ × ℕ} ((1, 1) ∷ []) j ≡ Some (a, b)
-    → slice_get (earlier_exchange ∷ worked_exchange ∷ []) a ≡ Some x
-    → slice_get (earlier_exchange ∷ worked_exchange ∷ []) b ≡ Some y → NamesWorked a b x y
-names_worked zero a b x y named at_a at_b =
-    let same : (1, 1) ≡ (a, b) = cc in
-    let first : 1 ≡ a = ap (λ (e : ℕ × ℕ). e.0) same in
-    let second : 1 ≡ b = ap (λ (e : ℕ × ℕ). e.1) same in
-    record {
-      first = first;
-      second = second;
-      low = second_of_two a x first at_a;
-      high = second_of_two b y second at_b;
-    }
-names_worked (suc j) a b x y named at_a at_b = absurd cc
-
 -- what holds of the worked exchange holds of what is named
 of_worked : (P : ℕ → Exchange → ℕ → Exchange → Type 0) → P 1 worked_exchange 1 worked_exchange
     → OfEachEntry (earlier_exchange ∷ worked_exchange ∷ []) ((1, 1) ∷ []) P
-of_worked P holds j a b x y named at_a at_b =
-    let is = names_worked j a b x y named at_a at_b in
-    rw (sym is.first, sym is.second, sym is.low, sym is.high) holds
+of_worked P holds zero a b x y named at_a at_b =
+    let (first, second) = some_pair_parts 1 a 1 b named in
+    let low : worked_exchange ≡ x = second_of_two a x first at_a in
+    let high : worked_exchange ≡ y = second_of_two b y second at_b in
+    rw (sym first, sym second, sym low, sym high) holds
+of_worked P holds (suc j) a b x y named at_a at_b = absurd cc
 
 pub stepped_fits : FitsPiece worked_claim (earlier_exchange ∷ worked_exchange ∷ []) ((1, 1) ∷ []) stepped_course
 stepped_fits =
     let error = pos 0 in
     let reading = pos (worked_second + 85899345) in
     let served = pos (worked_second + 42949673) in
-    let near = keeps_its_distance error reading served (omega (arith, ints)) (omega (arith, ints)) in
+    let near = keeps_its_distance error reading reading served (omega (arith, ints)) (omega (arith, ints)) in
     record {
       some_fineness = omega arith;
       few_false = few_from_count worked_claim (earlier_exchange ∷ worked_exchange ∷ []) ((1, 1) ∷ []) stepped_course
@@ -256,6 +205,8 @@ stepped_fits_no_capture fits =
     (inr (0, omega arith, inl refl)) (inl refl) in
     omega (arith, ints, drift)
 
+pub ruleset stepped_clock = (stepped_fits, stepped_fits_no_capture)
+
 -- ---- no exchange at all
 
 lone_moment : (n : ℕ) (observation m : Moment) → IsClientMoment (lone_course n observation) 0 m → m ≡ observation
@@ -278,18 +229,19 @@ lone_fits claim n observation some = record {
 }
 
 -- a span holds its first reading
-at_first : (first last : ℤ) → first ≤ℤ last → IsInWindow 1 first last first
-at_first first last forward = (omega (arith, ints), omega (arith, ints))
+pub at_start : (first last : ℤ) → first ≤ℤ last → IsInWindow 1 first last first
+at_start first last forward = (omega (arith, ints), omega (arith, ints))
 
--- beyond any bound
-too_far : (bound reading : ℤ) → pos 0 ≤ℤ bound
-    → pos (unsigned_abs (reading -ℤ (reading -ℤ (bound +ℤ pos 1)))) ≤ℤ (bound *ℤ pos 1) → ⊥
-too_far bound reading some h = omega (arith, ints)
+-- such an error is beyond the bound
+pub beyond : (bound error reading : ℤ) → bound <ℤ pos (unsigned_abs error)
+    → pos (unsigned_abs (reading -ℤ (reading -ℤ error))) ≤ℤ (bound *ℤ pos 1) → ⊥
+beyond bound error reading far near = omega (arith, ints)
 
 -- so nothing is traceable to no sample
 pub untraceable : (claim : ClaimData) → IsLawful claim → IsTraceable claim [] → ⊥
 untraceable claim lawful traceable =
     let observation = moment_with (claim.bound +ℤ pos 1) claim.first in
-    too_far claim.bound claim.first lawful.bound_not_negative
+    beyond claim.bound (claim.bound +ℤ pos 1) claim.first
+    (let some = lawful.bound_not_negative in omega (arith, ints))
     (traceable [] (lone_course 1 observation) refl (lone_fits claim 1 observation (omega arith)).fits
-    (at_first claim.first claim.last lawful.span_forward))
+    (at_start claim.first claim.last lawful.span_forward))

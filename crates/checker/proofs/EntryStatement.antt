@@ -1,8 +1,8 @@
 -- What the entries of a piece say, all in their order, and that no server says it twice.
-use Rattle.checker.proofs.Common.{◌≡◌, ◌≢◌, ℕ, suc, ◌<◌, Bool, true, false, cond, not, List, [], ◌∷◌, ◌++◌, Option, Some, None, Result, Ok, Err, length, get_or, refl, sym, ap, ◌∙◌, subst, arith, All, AllPairs, slice_get, ◌==◌, AllZip, list_any, nat_tests, append-nil, append_assoc, All-cons, All-nil, list_any_at, list_any_none, Sample, IsSaidBy, AreSaidBy, part_of, part_from, parts_after, unless_refused, Part, Stretch, Why, MixedServers, RepeatedServer, by_test, ne_eqb}
+use Rattle.checker.proofs.Common.{◌≡◌, ◌≢◌, ℕ, suc, ◌<◌, Bool, false, List, [], ◌∷◌, ◌++◌, Some, Result, Ok, length, get_or, refl, sym, ap, ◌∙◌, subst, arith, All, AllPairs, slice_get, ◌==◌, AllZip, list_any, nat_tests, append-nil, append_assoc, All-cons, All-nil, list_any_at, list_any_none, Sample, IsSaidBy, AreSaidBy, part_from, parts_after, unless_refused, Part, Stretch, Why, by_test, ne_eqb, All-slice_get}
 use Rattle.std.proofs.lemmas.Grind.{common_steps}
 use Rattle.std.proofs.lemmas.List.Quantifiers.{all_pairs_push}
-use Rattle.checker.proofs.Part.{same_server, accepted}
+use Rattle.checker.proofs.Part.{takes, accepted, begins}
 
 -- what follows of each pair of two lists holds of all of the second
 pub zip_all : {X Y : Type 0} (R : X → Y → Type 0) (P : Y → Type 0) (xs : List X) (ys : List Y) → AllZip R xs ys
@@ -48,40 +48,22 @@ module _ (samples : List Sample) (stretch : Stretch) (ppb : ℕ) where
   -- ---- from the tests to the fact
 
   -- an entry that isn't refused, after others
-  pub record SaidOnce (earlier : List Part) (entry : ℕ × ℕ) (part : Part) : Type 0 where
-    pub said : IsSaidBy samples stretch ppb entry part
-    pub new : All (λ other. other.server ≢ part.server) earlier
-
-  once_tested : (earlier : List Part) (entry : ℕ × ℕ) (low high : Sample) (mixed repeated : Bool) (part : Part)
-      → slice_get samples entry.0 ≡ Some low → slice_get samples entry.1 ≡ Some high
-      → not (low.server == high.server) ≡ mixed
-      → list_any (λ other. other.server == low.server) earlier ≡ repeated
-      → cond mixed (Err MixedServers) (cond repeated (Err RepeatedServer) (Ok (part_of low high stretch ppb))) ≡ Ok part
-      → SaidOnce earlier entry part
-  once_tested earlier entry low high true repeated part at_low at_high one new e = absurd cc
-  once_tested earlier entry low high false true part at_low at_high one new e = absurd cc
-  once_tested earlier entry low high false false part at_low at_high one new e =
-      let same : part_of low high stretch ppb ≡ part = cc in
-      record {
-        said = record {
-          low = low;
-          high = high;
-          low_is = at_low;
-          high_is = at_high;
-          one_server = same_server low.server high.server one;
-          is = sym same;
-        };
-        new = subst (λ (p : Part). All (λ other. other.server ≢ p.server) earlier) same
-            (apart_from low.server earlier new);
-      }
-
-  said_once : (earlier : List Part) (entry : ℕ × ℕ) (low high : Option Sample) (part : Part)
-      → slice_get samples entry.0 ≡ low → slice_get samples entry.1 ≡ high
-      → part_from stretch ppb earlier low high ≡ Ok part → SaidOnce earlier entry part
-  said_once earlier entry None high part at_low at_high e = absurd cc
-  said_once earlier entry (Some low) None part at_low at_high e = absurd cc
-  said_once earlier entry (Some low) (Some high) part at_low at_high e =
-      once_tested earlier entry low high _ _ part at_low at_high refl refl e
+  said_once : (earlier : List Part) (entry : ℕ × ℕ) (part : Part)
+      → part_from stretch ppb earlier (slice_get samples entry.0) (slice_get samples entry.1) ≡ Ok part
+      → IsSaidBy samples stretch ppb entry part × All (λ other. other.server ≢ part.server) earlier
+  said_once earlier entry part e =
+      let taken = takes stretch ppb earlier _ _ part e in (
+        record {
+          low = taken.low;
+          high = taken.high;
+          low_is = taken.low_is;
+          high_is = taken.high_is;
+          one_server = taken.one_server;
+          is = sym taken.is;
+        },
+        subst (λ (p : Part). All (λ other. other.server ≢ p.server) earlier) taken.is
+            (apart_from taken.low.server earlier taken.new),
+      )
 
   -- what entries say after others, of which all are apart
   pub record SaidAfter (earlier : List Part) (entries : List (ℕ × ℕ)) (parts : List Part) : Type 0 where
@@ -89,23 +71,6 @@ module _ (samples : List Sample) (stretch : Stretch) (ppb : ℕ) where
     pub joined : parts ≡ earlier ++ more
     pub said : AreSaidBy samples stretch ppb entries more
     pub apart : AllPairs AreApart parts
-
-  step_said : (earlier : List Part) (entry : ℕ × ℕ) (entries : List (ℕ × ℕ)) (first : Result Part Why)
-      (next : Part → Result (List Part) Why) (parts : List Part) → AllPairs AreApart earlier
-      → ((part : Part) → first ≡ Ok part → SaidOnce earlier entry part)
-      → ((part : Part) → AllPairs AreApart (earlier ++ part ∷ []) → next part ≡ Ok parts
-      → SaidAfter (earlier ++ part ∷ []) entries parts)
-      → unless_refused first next ≡ Ok parts → SaidAfter earlier (entry ∷ entries) parts
-  step_said earlier entry entries (Err why) next parts apart once rest e = absurd cc
-  step_said earlier entry entries (Ok part) next parts apart once rest e =
-      let here = once part refl in
-      let later = rest part (all_pairs_push AreApart earlier part apart here.new) e in
-      record {
-        more = part ∷ later.more;
-        joined = later.joined ∙ append_assoc earlier (part ∷ []) later.more;
-        said = (here.said, later.said);
-        apart = later.apart;
-      }
 
   said_after : (earlier : List Part) (entries : List (ℕ × ℕ)) (parts : List Part) → AllPairs AreApart earlier
       → parts_after samples stretch ppb earlier entries ≡ Ok parts → SaidAfter earlier entries parts
@@ -118,12 +83,16 @@ module _ (samples : List Sample) (stretch : Stretch) (ppb : ℕ) where
         apart = subst (AllPairs AreApart) same apart;
       }
   said_after earlier (entry ∷ entries) parts apart e =
-      step_said earlier entry entries
-      (part_from stretch ppb earlier (slice_get samples entry.0) (slice_get samples entry.1))
-      (λ part. parts_after samples stretch ppb (earlier ++ part ∷ []) entries) parts apart
-      (λ part is. said_once earlier entry _ _ part refl refl is)
-      (λ part apart' e'. said_after (earlier ++ part ∷ []) entries parts apart' e')
-      e
+      let first = begins samples stretch ppb earlier entry entries parts e in
+      let here = said_once earlier entry first.part first.said in
+      let later = said_after (earlier ++ first.part ∷ []) entries parts
+      (all_pairs_push AreApart earlier first.part apart here.1) first.rest in
+      record {
+        more = first.part ∷ later.more;
+        joined = later.joined ∙ append_assoc earlier (first.part ∷ []) later.more;
+        said = (here.0, later.said);
+        apart = later.apart;
+      }
 
   no_pairs : AllPairs AreApart []
   no_pairs i j d less below = absurd (omega (arith, below))
@@ -135,6 +104,26 @@ module _ (samples : List Sample) (stretch : Stretch) (ppb : ℕ) where
   said_from entries parts e =
       let found = said_after [] entries parts no_pairs e in
       (subst (AreSaidBy samples stretch ppb entries) (sym found.joined) found.said, found.apart)
+
+  -- what holds of whatever an entry can say holds of all that the entries say
+  pub all_said : (P : Part → Type 0) (entries : List (ℕ × ℕ)) (parts : List Part)
+      → ((entry : ℕ × ℕ) (part : Part) → IsSaidBy samples stretch ppb entry part → P part)
+      → parts_after samples stretch ppb [] entries ≡ Ok parts → All P parts
+  all_said P entries parts each e =
+      zip_all (IsSaidBy samples stretch ppb) P entries parts (said_from entries parts e).0
+      (λ j entry part at said. each entry part said)
+
+  -- the servers of what the entries say are listed, if those of the samples are
+  pub listed_parts : (servers : ℕ) (entries : List (ℕ × ℕ)) (parts : List Part)
+      → All (λ sample. sample.server < servers) samples → parts_after samples stretch ppb [] entries ≡ Ok parts
+      → All (λ part. part.server < servers) parts
+  listed_parts servers entries parts listed e =
+      all_said (λ part. part.server < servers) entries parts
+      (λ entry part said.
+      let same = ap (λ (p : Part). p.server) said.is in
+      let low = All-slice_get (λ sample. sample.server < servers) samples entry.0 said.low listed said.low_is in
+      omega arith)
+      e
 
   -- ---- and back
 

@@ -4,7 +4,6 @@ pub mod EntryStatement
 pub mod Exchange
 pub mod Counting
 pub mod Cover
-pub mod Test
 pub mod NoOverflow
 pub mod FirstFault
 pub mod VerdictPieces

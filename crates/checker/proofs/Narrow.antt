@@ -1,6 +1,7 @@
 -- Narrower intervals of the same servers, and more of them, leave no more points admissible.
-use Rattle.checker.proofs.Common.{◌≡◌, ℕ, ◌≤◌, ℤ, Bool, true, cond, ◌&&◌, ◌⊎◌, inl, inr, ⊎_elim, List, [], length, Some, None, Ok, count_by, refl, sym, ap, ◌∙◌, subst, arith, All, slice_index, ◌==◌, Any, ints, cond-true, cond-false, and_parts, and_from, Any-from_list_any, sum_by-le-sum_by, All-get_or, any_passes_from_place, slice_get_read, leaves_out, Interval, Empty, Sample, IsContradiction, IsNarrower, AreNarrower, IsOfSamples, numbers_below, group_interval, group_intervals, piece_hull, parts_after, hull_fault, Part, Stretch, by_test}
-use Rattle.checker.proofs.Part.{all_parts}
+use Rattle.checker.proofs.Common.{◌≡◌, ℕ, ◌≤◌, ℤ, Bool, true, cond, ◌&&◌, ◌⊎◌, inl, inr, ⊎_elim, List, [], length, Some, None, Ok, count_by, refl, sym, ap, ◌∙◌, subst, arith, All, slice_index, ◌==◌, Any, ints, and_parts, and_from, Any-from_list_any, sum_by-le-sum_by, All-get_or, any_passes_from_place, slice_get_read, leaves_out, Interval, Empty, Sample, IsContradiction, IsNarrower, AreNarrower, IsOfSamples, numbers_below, group_interval, group_intervals, piece_hull, parts_after, hull_fault, Part, Stretch}
+use Rattle.checker.proofs.Counting.{implies_le}
+use Rattle.checker.proofs.EntryStatement.{all_said}
 use Rattle.checker.proofs.Comparison.{FaultIs, EveryHull, hull_follows}
 use Rattle.checker.proofs.VerdictPieces.{empty_hull}
 use Rattle.checker.proofs.Separation.{IsOfEither, passes, group_passes, counted, meet_leaves_it_out, all_counted}
@@ -27,16 +28,6 @@ module _ (p : Interval → Bool) (either : IsOfEither p)
       ∙ any_passes_from_place in_group next other.0 y at
       (and_from (slice_index groups y.server == g) (p y.interval) same (narrower part y other.4 tests.1))
 
-  no_more_at : (g : ℕ) → cond (passes p (group_interval groups parts g)) 1 0
-      ≤ cond (passes p (group_interval groups next g)) 1 0
-  no_more_at g = by_test (passes p (group_interval groups parts g))
-      (λ holds. omega (
-        arith,
-        cond-true {A = ℕ} (passes p (group_interval groups parts g)) 1 0 holds,
-        cond-true {A = ℕ} (passes p (group_interval groups next g)) 1 0 (group_still_passes g holds),
-      ))
-      (λ fails. omega (arith, cond-false {A = ℕ} (passes p (group_interval groups parts g)) 1 0 fails))
-
   -- so no fewer groups pass
   pub no_fewer_groups : count_by p (group_intervals groups parts) ≤ count_by p (group_intervals groups next)
   no_fewer_groups =
@@ -44,7 +35,8 @@ module _ (p : Interval → Bool) (either : IsOfEither p)
       let before = counted p either (group_interval groups parts) numbers in
       let after = counted p either (group_interval groups next) numbers in
       let step = sum_by-le-sum_by (λ g. cond (passes p (group_interval groups parts g)) 1 0)
-      (λ g. cond (passes p (group_interval groups next g)) 1 0) numbers no_more_at in
+      (λ g. cond (passes p (group_interval groups next g)) 1 0) numbers
+      (λ g. implies_le _ _ (group_still_passes g)) in
       omega (arith, before, after, step)
 
 pub still_left_out : (point : ℤ) (part next : Part) → IsNarrower part next → leaves_out part.interval point ≡ true
@@ -78,15 +70,15 @@ empty_or_inside hulls groups f bound parts next each e = ⊎_elim
 pub of_samples : (samples : List Sample) (stretch : Stretch) (ppb : ℕ) (entries : List (ℕ × ℕ)) (parts : List Part)
     → parts_after samples stretch ppb [] entries ≡ Ok parts → All (IsOfSamples samples stretch ppb) parts
 of_samples samples stretch ppb entries parts e =
-    all_parts samples stretch ppb (IsOfSamples samples stretch ppb) entries parts
-    (λ a b low high at_low at_high one. record {
-      low_number = a;
-      high_number = b;
-      low = low;
-      high = high;
-      low_is = at_low;
-      high_is = at_high;
-      one_server = one;
-      is = refl;
+    all_said samples stretch ppb (IsOfSamples samples stretch ppb) entries parts
+    (λ entry part said. record {
+      low_number = entry.0;
+      high_number = entry.1;
+      low = said.low;
+      high = said.high;
+      low_is = said.low_is;
+      high_is = said.high_is;
+      one_server = said.one_server;
+      is = said.is;
     })
     e

@@ -1,6 +1,7 @@
 -- The order in which the entries of a piece stand changes nothing of what they say together.
-use Rattle.checker.proofs.Common.{◌≡◌, ℕ, ℤ, Bool, true, false, cond, not, ◌||◌, inl, ⊎_elim, List, [], ◌∷◌, ◌++◌, length, Option, Some, None, Result, Ok, Err, refl, sym, ap, ◌∙◌, subst, arith, slice_get, slice_index, ◌==◌, fold, filter, filter_map, AllZip, cons_option, list_any, int_max, int_min, ints, clamps, cond-false, nat_tests, list_any-append, fold-append, filter-append, PieceData, CertificateData, ClaimData, hull_of, Interval, Sample, HasEntriesSwapped, numbers_below, meet_of, narrowed, group_interval, part_of, part_from, parts_after, unless_refused, hull_fault, parts_fault, verdict_from, verdict_of, Part, Stretch, Yes, Why, MixedServers, RepeatedServer}
-use Rattle.checker.proofs.Comparison.{Follows, verdict_follows, all_follow, piece_follows}
+use Rattle.checker.proofs.Common.{◌≡◌, ℕ, Bool, true, false, cond, ◌||◌, inl, ⊎_elim, List, [], ◌∷◌, ◌++◌, length, Option, Some, None, Result, Ok, Err, refl, sym, ap, ◌∙◌, subst, arith, slice_get, slice_index, ◌==◌, fold, filter, filter_map, cons_option, list_any, int_max, int_min, ints, clamps, nat_tests, list_any-append, fold-append, filter-append, PieceData, CertificateData, ClaimData, hull_of, Interval, Sample, HasEntriesSwapped, numbers_below, meet_of, narrowed, group_interval, part_from, parts_after, hull_fault, parts_fault, verdict_from, verdict_of, Part, Stretch, Yes, Why}
+use Rattle.checker.proofs.Part.{takes, accepted, says, begins, begin_with}
+use Rattle.checker.proofs.Comparison.{one_changed}
 
 -- one of the parts is of this server
 abbrev pub names : ℕ → List Part → Bool
@@ -12,37 +13,34 @@ meet_swapped : (i x y : Interval) → meet_of (meet_of i x) y ≡ meet_of (meet_
 meet_swapped i x y =
     let low : int_max (int_max i.lo x.lo) y.lo ≡ int_max (int_max i.lo y.lo) x.lo = omega (arith, ints, clamps) in
     let high : int_min (int_min i.hi x.hi) y.hi ≡ int_min (int_min i.hi y.hi) x.hi = omega (arith, ints, clamps) in
-    let make : ℤ → ℤ → Interval = λ a b. record { lo = a; hi = b } in
-    ap (λ (a : ℤ). make a (int_min (int_min i.hi x.hi) y.hi)) low
-    ∙ ap (λ (b : ℤ). make (int_max (int_max i.lo y.lo) x.lo) b) high
+    cc
 
 pub meet_turned : (x y : Interval) → meet_of x y ≡ meet_of y x
 meet_turned x y =
     let low : int_max x.lo y.lo ≡ int_max y.lo x.lo = omega (arith, ints, clamps) in
     let high : int_min x.hi y.hi ≡ int_min y.hi x.hi = omega (arith, ints, clamps) in
-    let make : ℤ → ℤ → Interval = λ a b. record { lo = a; hi = b } in
-    ap (λ (a : ℤ). make a (int_min x.hi y.hi)) low ∙ ap (λ (b : ℤ). make (int_max y.lo x.lo) b) high
+    cc
 
 narrowed_swapped : (o : Option Interval) (x y : Part) → narrowed (narrowed o x) y ≡ narrowed (narrowed o y) x
 narrowed_swapped None x y = ap Some (meet_turned x.interval y.interval)
 narrowed_swapped (Some i) x y = ap Some (meet_swapped i x.interval y.interval)
 
 -- what one more part does to what is common
-one_more : Bool → Option Interval → Part → Option Interval
-one_more test o part = fold narrowed o (cond test (part ∷ []) [])
+with_part : Bool → Option Interval → Part → Option Interval
+with_part test o part = fold narrowed o (cond test (part ∷ []) [])
 
-one_more_swapped : (s t : Bool) (o : Option Interval) (x y : Part)
-    → one_more t (one_more s o x) y ≡ one_more s (one_more t o y) x
-unfolding one_more
-one_more_swapped true true o x y = narrowed_swapped o x y
-one_more_swapped true false o x y = refl
-one_more_swapped false true o x y = refl
-one_more_swapped false false o x y = refl
+with_parts_swapped : (s t : Bool) (o : Option Interval) (x y : Part)
+    → with_part t (with_part s o x) y ≡ with_part s (with_part t o y) x
+unfolding with_part
+with_parts_swapped true true o x y = narrowed_swapped o x y
+with_parts_swapped true false o x y = refl
+with_parts_swapped false true o x y = refl
+with_parts_swapped false false o x y = refl
 
 module _ (groups : List ℕ) where
   pushed : (parts : List Part) (part : Part) (g : ℕ) → group_interval groups (parts ++ part ∷ []) g
-      ≡ one_more (slice_index groups part.server == g) (group_interval groups parts g) part
-  unfolding one_more
+      ≡ with_part (slice_index groups part.server == g) (group_interval groups parts g) part
+  unfolding with_part
   pushed parts part g =
       let test : Part → Bool = λ p. slice_index groups p.server == g in
       ap (λ (ps : List Part). fold narrowed None ps) (filter-append test parts (part ∷ []))
@@ -62,7 +60,7 @@ module _ (groups : List ℕ) where
         ∙ sym (list_any-append (λ p. p.server == server) other (part ∷ []));
     common = λ g.
         pushed parts part g
-        ∙ ap (λ (o : Option Interval). one_more (slice_index groups part.server == g) o part) (is.common g)
+        ∙ ap (λ (o : Option Interval). with_part (slice_index groups part.server == g) o part) (is.common g)
         ∙ sym (pushed other part g);
   }
 
@@ -87,9 +85,9 @@ module _ (groups : List ℕ) where
         let s : Bool = slice_index groups x.server == g in
         let t : Bool = slice_index groups y.server == g in
         pushed (parts ++ x ∷ []) y g
-        ∙ ap (λ (o : Option Interval). one_more t o y) (pushed parts x g)
-        ∙ one_more_swapped s t (group_interval groups parts g) x y
-        ∙ sym (pushed (parts ++ y ∷ []) x g ∙ ap (λ (o : Option Interval). one_more s o x) (pushed parts y g));
+        ∙ ap (λ (o : Option Interval). with_part t o y) (pushed parts x g)
+        ∙ with_parts_swapped s t (group_interval groups parts g) x y
+        ∙ sym (pushed (parts ++ y ∷ []) x g ∙ ap (λ (o : Option Interval). with_part s o x) (pushed parts y g));
   }
 
   same_intervals : (parts other : List Part) (gs : List ℕ) → Similar parts other
@@ -106,60 +104,21 @@ module _ (samples : List Sample) (claim : ClaimData) (stretch : Stretch) where
   abbrev after : List Part → List (ℕ × ℕ) → Result (List Part) Why
   after earlier entries = parts_after samples stretch claim.drift_ppb earlier entries
 
-  abbrev says : List Part → ℕ × ℕ → Result Part Why
-  says earlier entry =
-      part_from stretch claim.drift_ppb earlier (slice_get samples entry.0) (slice_get samples entry.1)
-
   -- what an entry says after some parts it says after others, if its server isn't named among these
   pub record SaysAgain (low high : Option Sample) (earlier : List Part) (part : Part) : Type 0 where
     pub new : names part.server earlier ≡ false
     pub again : (other : List Part) → names part.server other ≡ false
         → part_from stretch claim.drift_ppb other low high ≡ Ok part
 
-  again_test : (earlier : List Part) (low high : Sample) (mixed repeated : Bool) (part : Part)
-      → not (low.server == high.server) ≡ mixed → names low.server earlier ≡ repeated
-      → cond mixed (Err MixedServers)
-      (cond repeated (Err RepeatedServer) (Ok (part_of low high stretch claim.drift_ppb)))
-      ≡ Ok part
-      → SaysAgain (Some low) (Some high) earlier part
-  again_test earlier low high true repeated part m r e = absurd cc
-  again_test earlier low high false true part m r e = absurd cc
-  again_test earlier low high false false part m r e =
-      let same : part_of low high stretch claim.drift_ppb ≡ part = cc in
-      subst (λ (p : Part). SaysAgain (Some low) (Some high) earlier p) same (record {
-        new = r;
-        again = λ other new.
-            cond-false (not (low.server == high.server)) _ _ m ∙ cond-false (names low.server other) _ _ new;
-      })
-
   says_again : (low high : Option Sample) (earlier : List Part) (part : Part)
       → part_from stretch claim.drift_ppb earlier low high ≡ Ok part → SaysAgain low high earlier part
-  says_again None high earlier part e = absurd cc
-  says_again (Some low) None earlier part e = absurd cc
-  says_again (Some low) (Some high) earlier part e =
-      again_test earlier low high (not (low.server == high.server)) (names low.server earlier) part refl refl e
-
-  -- an entry that isn't refused, and the rest
-  pub record Begins (earlier : List Part) (entry : ℕ × ℕ) (entries : List (ℕ × ℕ)) (parts : List Part) : Type 0 where
-    pub part : Part
-    pub said : says earlier entry ≡ Ok part
-    pub rest : after (earlier ++ part ∷ []) entries ≡ Ok parts
-
-  begins_at : (earlier : List Part) (entry : ℕ × ℕ) (entries : List (ℕ × ℕ)) (parts : List Part)
-      (first : Result Part Why) → says earlier entry ≡ first
-      → unless_refused first (λ part. after (earlier ++ part ∷ []) entries) ≡ Ok parts
-      → Begins earlier entry entries parts
-  begins_at earlier entry entries parts (Err why) is e = absurd cc
-  begins_at earlier entry entries parts (Ok part) is e = record { part = part; said = is; rest = e }
-
-  pub begins : (earlier : List Part) (entry : ℕ × ℕ) (entries : List (ℕ × ℕ)) (parts : List Part)
-      → after earlier (entry ∷ entries) ≡ Ok parts → Begins earlier entry entries parts
-  begins earlier entry entries parts e = begins_at earlier entry entries parts (says earlier entry) refl e
-
-  pub begin_with : (earlier : List Part) (entry : ℕ × ℕ) (entries : List (ℕ × ℕ)) (part : Part)
-      → says earlier entry ≡ Ok part → after earlier (entry ∷ entries) ≡ after (earlier ++ part ∷ []) entries
-  begin_with earlier entry entries part said =
-      ap (λ (r : Result Part Why). unless_refused r (λ p. after (earlier ++ p ∷ []) entries)) said
+  says_again low high earlier part e =
+      let taken = takes stretch claim.drift_ppb earlier low high part e in
+      subst (λ (p : Part). SaysAgain low high earlier p) taken.is (record {
+        new = taken.new;
+        again = λ other new. accepted stretch claim.drift_ppb other taken.low taken.high low high taken.low_is
+            taken.high_is taken.one_server new;
+      })
 
   -- what the same entries say after similar parts is similar
   pub record SaysSimilar (other : List Part) (entries : List (ℕ × ℕ)) (parts : List Part) : Type 0 where
@@ -178,15 +137,15 @@ module _ (samples : List Sample) (claim : ClaimData) (stretch : Stretch) where
             is;
       }
   says_similar earlier other (entry ∷ entries) parts is e =
-      let first = begins earlier entry entries parts e in
+      let first = begins samples stretch claim.drift_ppb earlier entry entries parts e in
       let again = says_again (slice_get samples entry.0) (slice_get samples entry.1) earlier first.part first.said in
-      let said : says other entry ≡ Ok first.part =
+      let said : says samples stretch claim.drift_ppb other entry ≡ Ok first.part =
       again.again other (sym (is.named first.part.server) ∙ again.new) in
       let rest = says_similar (earlier ++ first.part ∷ []) (other ++ first.part ∷ []) entries parts
       (similar_more claim.groups earlier other first.part is) first.rest in
       record {
         parts' = rest.parts';
-        said = begin_with other entry entries first.part said ∙ rest.said;
+        said = begin_with samples stretch claim.drift_ppb other entry entries first.part said ∙ rest.said;
         similar = rest.similar;
       }
 
@@ -202,24 +161,26 @@ module _ (samples : List Sample) (claim : ClaimData) (stretch : Stretch) where
   turned : (earlier : List Part) (x y : ℕ × ℕ) (back : List (ℕ × ℕ)) (parts : List Part)
       → after earlier (x ∷ y ∷ back) ≡ Ok parts → SaysSimilar earlier (y ∷ x ∷ back) parts
   turned earlier x y back parts e =
-      let first = begins earlier x (y ∷ back) parts e in
-      let second = begins (earlier ++ first.part ∷ []) y back parts first.rest in
+      let first = begins samples stretch claim.drift_ppb earlier x (y ∷ back) parts e in
+      let second = begins samples stretch claim.drift_ppb (earlier ++ first.part ∷ []) y back parts first.rest in
       let p = first.part in
       let q = second.part in
       let again_p = says_again (slice_get samples x.0) (slice_get samples x.1) earlier p first.said in
       let again_q = says_again (slice_get samples y.0) (slice_get samples y.1) (earlier ++ p ∷ []) q second.said in
       let new_q = both_new (names q.server earlier) (p.server == q.server)
       (sym (list_any-append (λ r. r.server == q.server) earlier (p ∷ [])) ∙ again_q.new) in
-      let q_first : says earlier y ≡ Ok q = again_q.again earlier new_q.0 in
+      let q_first : says samples stretch claim.drift_ppb earlier y ≡ Ok q = again_q.again earlier new_q.0 in
       let p_new : names p.server (earlier ++ q ∷ []) ≡ false =
       list_any-append (λ r. r.server == p.server) earlier (q ∷ [])
       ∙ rw (again_p.new, other_server p.server q.server new_q.1) refl in
-      let p_second : says (earlier ++ q ∷ []) x ≡ Ok p = again_p.again (earlier ++ q ∷ []) p_new in
+      let p_second : says samples stretch claim.drift_ppb (earlier ++ q ∷ []) x ≡ Ok p =
+      again_p.again (earlier ++ q ∷ []) p_new in
       let rest = says_similar ((earlier ++ p ∷ []) ++ q ∷ []) ((earlier ++ q ∷ []) ++ p ∷ []) back parts
       (similar_swapped claim.groups earlier p q) second.rest in
       record {
         parts' = rest.parts';
-        said = begin_with earlier y (x ∷ back) q q_first ∙ begin_with (earlier ++ q ∷ []) x back p p_second ∙ rest.said;
+        said = begin_with samples stretch claim.drift_ppb earlier y (x ∷ back) q q_first
+            ∙ begin_with samples stretch claim.drift_ppb (earlier ++ q ∷ []) x back p p_second ∙ rest.said;
         similar = rest.similar;
       }
 
@@ -227,11 +188,12 @@ module _ (samples : List Sample) (claim : ClaimData) (stretch : Stretch) where
       → after earlier (front ++ x ∷ y ∷ back) ≡ Ok parts → SaysSimilar earlier (front ++ y ∷ x ∷ back) parts
   turned_after earlier [] x y back parts e = turned earlier x y back parts e
   turned_after earlier (entry ∷ front) x y back parts e =
-      let first = begins earlier entry (front ++ x ∷ y ∷ back) parts e in
+      let first = begins samples stretch claim.drift_ppb earlier entry (front ++ x ∷ y ∷ back) parts e in
       let rest = turned_after (earlier ++ first.part ∷ []) front x y back parts first.rest in
       record {
         parts' = rest.parts';
-        said = begin_with earlier entry (front ++ y ∷ x ∷ back) first.part first.said ∙ rest.said;
+        said = begin_with samples stretch claim.drift_ppb earlier entry (front ++ y ∷ x ∷ back) first.part first.said
+            ∙ rest.said;
         similar = rest.similar;
       }
 
@@ -245,30 +207,16 @@ module _ (samples : List Sample) (claim : ClaimData) (stretch : Stretch) where
       ap (λ (r : Result (List Part) Why). parts_fault claim r) again.said
       ∙ ap (λ (list : List Interval). hull_fault claim.bound (hull_of list claim.false_max)) (sym same) ∙ e
 
-module _ (samples : List Sample) (claim : ClaimData) where
-  abbrev never : Why → Type 0
-  never why = ⊥
-
-  itself : (piece : PieceData) → Follows samples claim claim never piece piece
-  itself piece = record { upto = refl; fault = λ begin e. inl e }
-
-  zip_at : (before : List PieceData) (piece next : PieceData) (others : List PieceData)
-      → Follows samples claim claim never piece next
-      → AllZip (Follows samples claim claim never) (before ++ piece ∷ others) (before ++ next ∷ others)
-  zip_at [] piece next others follows = (follows, all_follow samples claim claim never itself others)
-  zip_at (first ∷ before) piece next others follows = (itself first, zip_at before piece next others follows)
-
-  pub entries_turned : (certificate swapped : CertificateData) → HasEntriesSwapped certificate swapped
-      → verdict_of samples claim certificate ≡ Yes → verdict_of samples claim swapped ≡ Yes
-  entries_turned certificate swapped has e =
-      let piece : PieceData = record { entries = has.front ++ has.first ∷ has.second ∷ has.back; upto = has.upto } in
-      let next : PieceData = record { entries = has.front ++ has.second ∷ has.first ∷ has.back; upto = has.upto } in
-      let follows = piece_follows samples claim claim never refl piece next refl
-      (λ stretch passes. inl
-      (turned_passes samples claim stretch has.front has.first has.second has.back _ refl passes)) in
-      let verdict = verdict_follows samples claim claim never refl 0 claim.first
-      (has.before ++ piece ∷ has.after) (has.before ++ next ∷ has.after)
-      (zip_at has.before piece next has.after follows)
-      (ap (λ (ps : List PieceData). verdict_from samples claim 0 claim.first ps) (sym has.is) ∙ e) in
-      ap (λ (ps : List PieceData). verdict_from samples claim 0 claim.first ps) has.swapped_is
-      ∙ ⊎_elim (λ is. is) (λ found. absurd found.3) verdict
+pub entries_turned : (samples : List Sample) (claim : ClaimData) (certificate swapped : CertificateData)
+    → HasEntriesSwapped certificate swapped
+    → verdict_of samples claim certificate ≡ Yes → verdict_of samples claim swapped ≡ Yes
+entries_turned samples claim certificate swapped has e =
+    let never : Why → Type 0 = λ why. ⊥ in
+    let piece : PieceData = record { entries = has.front ++ has.first ∷ has.second ∷ has.back; upto = has.upto } in
+    let next : PieceData = record { entries = has.front ++ has.second ∷ has.first ∷ has.back; upto = has.upto } in
+    let verdict = one_changed samples claim never has.before piece next has.after refl
+    (λ stretch passes. inl
+    (turned_passes samples claim stretch has.front has.first has.second has.back _ refl passes))
+    (ap (λ (ps : List PieceData). verdict_from samples claim 0 claim.first ps) (sym has.is) ∙ e) in
+    ap (λ (ps : List PieceData). verdict_from samples claim 0 claim.first ps) has.swapped_is
+    ∙ ⊎_elim (λ is. is) (λ found. absurd found.3) verdict

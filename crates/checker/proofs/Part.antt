@@ -1,5 +1,5 @@
 -- What the entries of a piece say, each by itself.
-use Rattle.checker.proofs.Common.{◌≡◌, ◌≢◌, ℕ, ◌<◌, Bool, true, false, cond, not, List, [], ◌∷◌, ◌++◌, Option, Some, None, Result, Ok, Err, length, refl, sym, ◌∙◌, subst, arith, All, slice_get, ◌==◌, list_any, cond-true, cond-false, nat_tests, All-push, All-nil, Sample, part_of, part_from, parts_after, unless_refused, Part, Stretch, Why, MixedServers, RepeatedServer, All-slice_get}
+use Rattle.checker.proofs.Common.{◌≡◌, ◌≢◌, ℕ, ◌<◌, Bool, true, false, cond, not, List, [], ◌∷◌, ◌++◌, Option, Some, None, Result, Ok, Err, length, refl, sym, ◌∙◌, subst, arith, All, slice_get, ◌==◌, list_any, inl, inr, ap, IsRefusedEntry, BadSample, cond-true, cond-false, nat_tests, Sample, part_of, part_from, parts_after, unless_refused, Part, Stretch, Why, MixedServers, RepeatedServer}
 
 -- one server: the test on two samples fails
 pub same_server : (a b : ℕ) → not (a == b) ≡ false → a ≡ b
@@ -37,70 +37,87 @@ module _ (stretch : Stretch) (ppb : ℕ) (earlier : List Part) (low high : Sampl
       (sym (cond-false (not (low.server == high.server)) _ _ (test_fails low.server high.server one)
       ∙ cond-true (list_any (λ (part : Part). part.server == low.server) earlier) _ _ named))
 
-module _ (samples : List Sample) (stretch : Stretch) (ppb : ℕ) (P : Part → Type 0) where
-  -- P holds of whatever an entry can say
-  abbrev pub HoldsOfEntries : Type 0
-  HoldsOfEntries = (a b : ℕ) (low high : Sample) → slice_get samples a ≡ Some low → slice_get samples b ≡ Some high
-      → low.server ≡ high.server → P (part_of low high stretch ppb)
+-- ---- and what follows of an entry that isn't refused
 
-  kept_at : (earlier : List Part) (low high : Sample) (mixed repeated : Bool) (part : Part)
-      → (mixed ≡ false → P (part_of low high stretch ppb))
-      → cond mixed (Err MixedServers) (cond repeated (Err RepeatedServer) (Ok (part_of low high stretch ppb))) ≡ Ok part
-      → P part
-  kept_at earlier low high true repeated part holds e = absurd cc
-  kept_at earlier low high false true part holds e = absurd cc
-  kept_at earlier low high false false part holds e =
-      let same : part_of low high stretch ppb ≡ part = cc in
-      subst P same (holds refl)
+-- an entry of these samples is what they say, and its server isn't named yet
+pub record Takes (stretch : Stretch) (ppb : ℕ) (earlier : List Part) (at_low at_high : Option Sample) (part : Part)
+    : Type 0 where
+  pub low : Sample
+  pub high : Sample
+  pub low_is : at_low ≡ Some low
+  pub high_is : at_high ≡ Some high
+  pub one_server : low.server ≡ high.server
+  pub new : list_any (λ part. part.server == low.server) earlier ≡ false
+  pub is : part_of low high stretch ppb ≡ part
 
-  part_kept : (earlier : List Part) (low high : Option Sample) (part : Part)
-      → ((l h : Sample) → low ≡ Some l → high ≡ Some h → l.server ≡ h.server → P (part_of l h stretch ppb))
-      → part_from stretch ppb earlier low high ≡ Ok part → P part
-  part_kept earlier None high part holds e = absurd cc
-  part_kept earlier (Some low) None part holds e = absurd cc
-  part_kept earlier (Some low) (Some high) part holds e =
-      kept_at earlier low high (not (low.server == high.server))
-      (list_any (λ (other : Part). other.server == low.server) earlier) part
-      (λ one. holds low high refl refl (same_server low.server high.server one)) e
+takes_tested : (stretch : Stretch) (ppb : ℕ) (earlier : List Part) (low high : Sample) (mixed repeated : Bool)
+    (part : Part) → not (low.server == high.server) ≡ mixed
+    → list_any (λ part. part.server == low.server) earlier ≡ repeated
+    → cond mixed (Err MixedServers) (cond repeated (Err RepeatedServer) (Ok (part_of low high stretch ppb))) ≡ Ok part
+    → Takes stretch ppb earlier (Some low) (Some high) part
+takes_tested stretch ppb earlier low high true repeated part one new e = absurd cc
+takes_tested stretch ppb earlier low high false true part one new e = absurd cc
+takes_tested stretch ppb earlier low high false false part one new e = record {
+  low = low;
+  high = high;
+  low_is = refl;
+  high_is = refl;
+  one_server = same_server low.server high.server one;
+  new = new;
+  is = (let same : part_of low high stretch ppb ≡ part = cc in same);
+}
 
-  -- an entry that isn't refused, and then the others
-  step_kept : (earlier : List Part) (first : Result Part Why) (next : Part → Result (List Part) Why)
-      (parts : List Part) → All P earlier → ((part : Part) → first ≡ Ok part → P part)
-      → ((part : Part) → All P (earlier ++ part ∷ []) → next part ≡ Ok parts → All P parts)
-      → unless_refused first next ≡ Ok parts → All P parts
-  step_kept earlier (Err why) next parts all holds rest e = absurd cc
-  step_kept earlier (Ok part) next parts all holds rest e =
-      rest part (All-push P earlier part all (holds part refl)) e
+pub takes : (stretch : Stretch) (ppb : ℕ) (earlier : List Part) (at_low at_high : Option Sample) (part : Part)
+    → part_from stretch ppb earlier at_low at_high ≡ Ok part → Takes stretch ppb earlier at_low at_high part
+takes stretch ppb earlier None at_high part e = absurd cc
+takes stretch ppb earlier (Some low) None part e = absurd cc
+takes stretch ppb earlier (Some low) (Some high) part e =
+    takes_tested stretch ppb earlier low high _ _ part refl refl e
 
-  -- what holds of whatever an entry can say holds of all that the entries say
-  pub parts_kept : (earlier : List Part) (entries : List (ℕ × ℕ)) (parts : List Part) → HoldsOfEntries
-      → All P earlier → parts_after samples stretch ppb earlier entries ≡ Ok parts → All P parts
-  parts_kept earlier [] parts holds all e =
-      let same : earlier ≡ parts = cc in
-      subst (All P) same all
-  parts_kept earlier (entry ∷ entries) parts holds all e =
-      step_kept earlier (part_from stretch ppb earlier (slice_get samples entry.0) (slice_get samples entry.1))
-      (λ part. parts_after samples stretch ppb (earlier ++ part ∷ []) entries) parts all
-      (λ part is. part_kept earlier (slice_get samples entry.0) (slice_get samples entry.1) part
-      (λ low high at_low at_high one. holds entry.0 entry.1 low high at_low at_high one) is)
-      (λ part all' e'. parts_kept (earlier ++ part ∷ []) entries parts holds all' e')
-      e
+-- ---- and of one that is
 
-  pub all_parts : (entries : List (ℕ × ℕ)) (parts : List Part) → HoldsOfEntries
-      → parts_after samples stretch ppb [] entries ≡ Ok parts → All P parts
-  all_parts entries parts holds e = parts_kept [] entries parts holds (All-nil P) e
+refused_test : (mixed repeated : Bool) (part : Part) (why : Why)
+    → cond mixed (Err MixedServers) (cond repeated (Err RepeatedServer) (Ok part)) ≡ Err why → IsRefusedEntry why
+refused_test true repeated part why e = inr (inl (let same : why ≡ MixedServers = cc in same))
+refused_test false true part why e = inr (inr (let same : why ≡ RepeatedServer = cc in same))
+refused_test false false part why e = absurd cc
 
--- the servers of what the entries say are listed, if those of the samples are
-pub listed_parts : (samples : List Sample) (stretch : Stretch) (ppb servers : ℕ) (entries : List (ℕ × ℕ))
-    (parts : List Part) → All (λ sample. sample.server < servers) samples
-    → parts_after samples stretch ppb [] entries ≡ Ok parts → All (λ part. part.server < servers) parts
-listed_parts samples stretch ppb servers entries parts listed e =
-    all_parts samples stretch ppb (λ part. part.server < servers) entries parts
-    (λ a b low high at_low at_high one. All-slice_get (λ sample. sample.server < servers) samples a low listed
-    at_low)
-    e
+pub refused : (stretch : Stretch) (ppb : ℕ) (earlier : List Part) (low high : Option Sample) (why : Why)
+    → part_from stretch ppb earlier low high ≡ Err why → IsRefusedEntry why
+refused stretch ppb earlier None high why e = inl (let same : why ≡ BadSample = cc in same)
+refused stretch ppb earlier (Some low) None why e = inl (let same : why ≡ BadSample = cc in same)
+refused stretch ppb earlier (Some low) (Some high) why e = refused_test _ _ _ why e
 
--- the same of lists that are equal
+-- ---- the first of several entries, and the rest
+
+module _ (samples : List Sample) (stretch : Stretch) (ppb : ℕ) where
+  abbrev pub says : List Part → ℕ × ℕ → Result Part Why
+  says earlier entry = part_from stretch ppb earlier (slice_get samples entry.0) (slice_get samples entry.1)
+
+  pub record Begins (earlier : List Part) (entry : ℕ × ℕ) (entries : List (ℕ × ℕ)) (parts : List Part) : Type 0 where
+    pub part : Part
+    pub said : says earlier entry ≡ Ok part
+    pub rest : parts_after samples stretch ppb (earlier ++ part ∷ []) entries ≡ Ok parts
+
+  begins_at : (earlier : List Part) (entry : ℕ × ℕ) (entries : List (ℕ × ℕ)) (parts : List Part)
+      (first : Result Part Why) → says earlier entry ≡ first
+      → unless_refused first (λ part. parts_after samples stretch ppb (earlier ++ part ∷ []) entries) ≡ Ok parts
+      → Begins earlier entry entries parts
+  begins_at earlier entry entries parts (Err why) is e = absurd cc
+  begins_at earlier entry entries parts (Ok part) is e = record { part = part; said = is; rest = e }
+
+  pub begins : (earlier : List Part) (entry : ℕ × ℕ) (entries : List (ℕ × ℕ)) (parts : List Part)
+      → parts_after samples stretch ppb earlier (entry ∷ entries) ≡ Ok parts → Begins earlier entry entries parts
+  begins earlier entry entries parts e = begins_at earlier entry entries parts (says earlier entry) refl e
+
+  pub begin_with : (earlier : List Part) (entry : ℕ × ℕ) (entries : List (ℕ × ℕ)) (part : Part)
+      → says earlier entry ≡ Ok part → parts_after samples stretch ppb earlier (entry ∷ entries)
+      ≡ parts_after samples stretch ppb (earlier ++ part ∷ []) entries
+  begin_with earlier entry entries part said =
+      ap (λ (r : Result Part Why).
+      unless_refused r (λ p. parts_after samples stretch ppb (earlier ++ p ∷ []) entries)) said
+
+-- the servers of parts are listed, if they are those of a list that is the same
 pub listed_again : (xs ys : List Part) (groups : List ℕ) (n : ℕ) → xs ≡ ys → length groups ≡ n
     → All (λ part. part.server < n) ys → All (λ part. part.server < length groups) xs
 listed_again xs ys groups n same count all =

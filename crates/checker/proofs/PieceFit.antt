@@ -1,6 +1,6 @@
 -- A course that fits a capture fits what any entries name of it.
-use Rattle.checker.proofs.Common.{◌≡◌, ℕ, zero, suc, ◌+◌, ◌<◌, ◌≤◌, Bool, true, false, cond, ◌&&◌, List, [], ◌∷◌, ◌++◌, length, Some, count_by, refl, sym, ap, ◌∙◌, subst, inl, inr, arith, slice_get, slice_index, ◌==◌, range_with_len, cond-true, cond-false, and_parts, and_from, nat_tests, Any-from_list_any, sum_by-le-sum_by, get_or_from_slice_get, slice_get-get_or, slice_get_within, ClaimData, Exchange, DriftsWithin, Course, Fits, holds_false, false_group_count, numbers_below, HasFewFalse, OfEachEntry, FitsPiece, by_test}
-use Rattle.checker.proofs.Counting.{fails_below}
+use Rattle.checker.proofs.Common.{◌≡◌, ℕ, zero, suc, ◌+◌, ◌<◌, ◌≤◌, Bool, true, false, cond, ◌&&◌, List, [], ◌∷◌, ◌++◌, length, Some, count_by, refl, sym, ap, ◌∙◌, subst, inl, inr, arith, slice_get, slice_index, ◌==◌, range_with_len, and_parts, and_from, nat_tests, Any-from_list_any, sum_by-le-sum_by, get_or_from_slice_get, slice_get-get_or, slice_get_within, ClaimData, Exchange, DriftsWithin, Course, Fits, holds_false, false_group_count, numbers_below, HasFewFalse, OfEachEntry, FitsPiece, by_test}
+use Rattle.checker.proofs.Counting.{fails_below, implies_le}
 
 -- ---- numbers
 
@@ -62,20 +62,11 @@ module _ (claim : ClaimData) (xs : List Exchange) (entries : List (ℕ × ℕ)) 
         let is : slice_index claim.groups server ≡ group = grind (arith, nat_tests) in
         subst (λ (g : ℕ). few.is_wrong g ≡ true) is both.1
 
-    no_more_at : (g : ℕ) →
-        cond (holds_false claim.groups counts_as_false g) 1 0 ≤ cond (few.is_wrong g) 1 0
-    no_more_at g = by_test (holds_false claim.groups counts_as_false g)
-        (λ holds. omega (
-          arith,
-          cond-true {A = ℕ} (holds_false claim.groups counts_as_false g) 1 0 holds,
-          cond-true {A = ℕ} (few.is_wrong g) 1 0 (is_wrong_group g holds),
-        ))
-        (λ fails. omega (arith, cond-false {A = ℕ} (holds_false claim.groups counts_as_false g) 1 0 fails))
-
     pub count_from_few : false_group_count claim.groups counts_as_false ≤ claim.false_max
     count_from_few =
         let less = sum_by-le-sum_by (λ g. cond (holds_false claim.groups counts_as_false g) 1 0)
-        (λ g. cond (few.is_wrong g) 1 0) (numbers_below (length claim.groups)) no_more_at in
+        (λ g. cond (few.is_wrong g) 1 0) (numbers_below (length claim.groups))
+        (λ g. implies_le _ _ (is_wrong_group g)) in
         let most = subst (λ (l : List ℕ). count_by few.is_wrong l ≤ claim.false_max)
         (sym (all_numbers (length claim.groups))) few.few in
         omega arith

@@ -1,15 +1,10 @@
 -- The course that an accepted refutation stands for.
-use Rattle.checker.proofs.Common.{◌≡◌, ℕ, ◌<◌, ℤ, pos, ◌+ℤ◌, ◌-ℤ◌, ◌*ℤ◌, ◌≤ℤ◌, ◌<ℤ◌, unsigned_abs, false, ⊎_elim, List, length, Option, Some, None, refl, sym, ap, ◌∙◌, subst, arith, All, AllPairs, slice_get, int_max, slice_index_or, ints, clamps, nat_tests, get_or_from_slice_get, slice_get_within, RefutationData, ClaimData, SameRequest, Exchange, Moment, error_of, error_change, DriftsWithin, IsInWindow, IsWithinDistance, request_start, reply_end, Course, Fits, FitsInWindows, IsClientMoment, ReadsInWindows, ComesInOrder, KeepsRootDistance, is_liar, AdmitsError, Admits, IsRefuted, SharesRequests, HasCourse, SomeCourseFits, IsObservedIn, IsTraceable, samples_of, moment_with, by_test, All-slice_get, int_max-least, ≤ℤ-sub, ≤ℤ-<ℤ_trans}
+use Rattle.checker.proofs.Common.{◌≡◌, ℕ, ◌<◌, ℤ, pos, ◌+ℤ◌, ◌-ℤ◌, ◌*ℤ◌, ◌≤ℤ◌, unsigned_abs, false, ⊎_elim, List, length, Option, Some, None, refl, sym, ap, ◌∙◌, subst, arith, All, AllPairs, slice_get, int_max, slice_index_or, ints, clamps, nat_tests, get_or_from_slice_get, slice_get_within, RefutationData, ClaimData, SameRequest, Exchange, Moment, error_of, IsInWindow, IsWithinDistance, request_start, reply_end, Course, Fits, FitsInWindows, IsClientMoment, ReadsInWindows, ComesInOrder, KeepsRootDistance, is_liar, AdmitsError, Admits, IsRefuted, SharesRequests, HasCourse, SomeCourseFits, IsObservedIn, IsTraceable, samples_of, moment_with, by_test, All-slice_get, int_max-least, ≤ℤ-sub, ≤ℤ-<ℤ_trans}
 use Rattle.std.specs.Prelude.{nat_lt}
+use Rattle.checker.proofs.Course.{one_error, reads_back, at_start, beyond}
 use Rattle.pairing.specs.Exchange.{IsLawful as IsLawfulExchange}
 
 -- ---- bounds
-
-first_comes : (a b : ℤ) → a ≤ℤ int_max a b
-first_comes a b = omega (arith, ints, clamps)
-
-second_comes : (a b : ℤ) → b ≤ℤ int_max a b
-second_comes a b = omega (arith, ints, clamps)
 
 pub around : (stamp distance : ℤ) → pos 0 ≤ℤ distance → (stamp -ℤ distance) ≤ℤ (stamp +ℤ distance)
 around stamp distance some = omega (arith, ints)
@@ -33,8 +28,11 @@ module _ (start end t2 t3 distance error : ℤ) where
   in_order room =
       let leaves = ≤ℤ-sub start end error room.leaves_before_arrival in
       let receives = room.receives_before_arrival in
-      let answers = room.answers_before_arrival in
-      (first_comes _ _, first_comes _ _, int_max-least _ _ _ (int_max-least _ _ _ leaves receives) answers)
+      let answers = room.answers_before_arrival in (
+        omega (arith, ints, clamps),
+        omega (arith, ints, clamps),
+        int_max-least _ _ _ (int_max-least _ _ _ leaves receives) answers,
+      )
 
   near_stamps : AdmitsError start end t2 t3 distance error → pos 0 ≤ℤ distance
       → IsWithinDistance 1 t2 distance receipt_time × IsWithinDistance 1 t3 distance answer_time
@@ -43,29 +41,12 @@ module _ (start end t2 t3 distance error : ℤ) where
       (around t2 distance some) in
       let answer = int_max-least receipt_time (t3 -ℤ distance) (t3 +ℤ distance)
       (int_max-least _ _ _ room.leaves_before_answer room.receives_before_answer) (around t3 distance some) in (
-        within t2 distance receipt_time (second_comes _ _) receipt,
-        within t3 distance answer_time (second_comes _ _) answer,
+        within t2 distance receipt_time (omega (arith, ints, clamps)) receipt,
+        within t3 distance answer_time (omega (arith, ints, clamps)) answer,
       )
-
--- ---- one error throughout
-
-one_error : (ppb : ℕ) (a b : Moment) (e : ℤ) → error_of a ≡ e → error_of b ≡ e → DriftsWithin ppb a b
-one_error ppb a b e at_a at_b =
-    let none : error_change a b ≡ 0 = rw (at_a, at_b) (omega (arith, ints)) in
-    rw none (omega arith)
-
-reads_back : (error reading : ℤ) → reading -ℤ (reading -ℤ error) ≡ error
-reads_back error reading = omega (arith, ints)
-
-beyond : (bound error reading : ℤ) → bound <ℤ pos (unsigned_abs error)
-    → pos (unsigned_abs (reading -ℤ (reading -ℤ error))) ≤ℤ (bound *ℤ pos 1) → ⊥
-beyond bound error reading far near = omega (arith, ints)
 
 once : (a : ℤ) → (a *ℤ pos 1) ≡ a
 once a = omega (arith, ints)
-
-at_start : (start end : ℤ) → start ≤ℤ end → IsInWindow 1 start end start
-at_start start end forward = (omega (arith, ints), omega (arith, ints))
 
 at_end : (start end : ℤ) → start ≤ℤ end → IsInWindow 1 start end end
 at_end start end forward = (omega (arith, ints), omega (arith, ints))

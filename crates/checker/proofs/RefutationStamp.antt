@@ -16,15 +16,6 @@ minus_times a b n = let sum = times-add a (a -ℤ b) b n (omega (arith, ints)) i
 plus_times : (a b : ℤ) (n : ℕ) → ((a *ℤ pos n) +ℤ (b *ℤ pos n)) ≡ ((a +ℤ b) *ℤ pos n)
 plus_times a b n = sym (times-add (a +ℤ b) a b n refl)
 
--- the inequalities, n times over
-pub record ScaledRoom (start end t2 t3 distance error : ℤ) : Type 0 where
-  pub receipt : (start -ℤ error) ≤ℤ (t2 +ℤ distance)
-  pub answer : (start -ℤ error) ≤ℤ (t3 +ℤ distance)
-  pub arrival : start ≤ℤ end
-  pub receipt_answer : (t2 -ℤ distance) ≤ℤ (t3 +ℤ distance)
-  pub receipt_arrival : (t2 -ℤ distance) ≤ℤ (end -ℤ error)
-  pub answer_arrival : (t3 -ℤ distance) ≤ℤ (end -ℤ error)
-
 -- moments one after another, with a clock that is off by an error at the first and the last
 module _ (start end t2 t3 distance error : ℤ) (request reply : Moment) (received sent : ℤ)
     (off_first : error_of request ≡ error) (off_last : error_of reply ≡ error)
@@ -32,53 +23,44 @@ module _ (start end t2 t3 distance error : ℤ) (request reply : Moment) (receiv
     (order : (request.time ≤ℤ received) × (received ≤ℤ sent) × (sent ≤ℤ reply.time))
     (near_first : pos (unsigned_abs (received -ℤ t2)) ≤ℤ distance)
     (near_last : pos (unsigned_abs (sent -ℤ t3)) ≤ℤ distance) where
-  leaves : (start -ℤ error) ≤ℤ request.time
-  leaves = omega (arith, ints, off_first, from)
+  near : (stamp time : ℤ) → pos (unsigned_abs (time -ℤ stamp)) ≤ℤ distance
+      → ((stamp -ℤ distance) ≤ℤ time) × (time ≤ℤ (stamp +ℤ distance))
+  near stamp time h = (omega (arith, ints, h), omega (arith, ints, h))
 
-  arrives : reply.time ≤ℤ (end -ℤ error)
-  arrives = omega (arith, ints, off_last, to)
-
-  receipt_from : (t2 -ℤ distance) ≤ℤ received
-  receipt_from = omega (arith, ints, near_first)
-
-  receipt_to : received ≤ℤ (t2 +ℤ distance)
-  receipt_to = omega (arith, ints, near_first)
-
-  answer_from : (t3 -ℤ distance) ≤ℤ sent
-  answer_from = omega (arith, ints, near_last)
-
-  answer_to : sent ≤ℤ (t3 +ℤ distance)
-  answer_to = omega (arith, ints, near_last)
-
-  scaled_room : ScaledRoom start end t2 t3 distance error
+  scaled_room : AdmitsError start end t2 t3 distance error
   scaled_room =
       let (o1, o2, o3) = order in
+      let leaves : (start -ℤ error) ≤ℤ request.time = omega (arith, ints, off_first, from) in
+      let arrives : reply.time ≤ℤ (end -ℤ error) = omega (arith, ints, off_last, to) in
+      let (receipt_from, receipt_to) = near t2 received near_first in
+      let (answer_from, answer_to) = near t3 sent near_last in
       record {
-        receipt = ≤ℤ_trans_twice _ _ _ _ leaves o1 receipt_to;
-        answer = ≤ℤ_trans_twice _ _ _ _ leaves o1 (≤ℤ_trans _ _ _ o2 answer_to);
-        arrival = unshifted start end error (≤ℤ_trans_twice _ _ _ _ leaves o1 (≤ℤ_trans_twice _ _ _ _ o2 o3 arrives));
-        receipt_answer = ≤ℤ_trans_twice _ _ _ _ receipt_from o2 answer_to;
-        receipt_arrival = ≤ℤ_trans_twice _ _ _ _ receipt_from o2 (≤ℤ_trans _ _ _ o3 arrives);
-        answer_arrival = ≤ℤ_trans_twice _ _ _ _ answer_from o3 arrives;
+        leaves_before_receipt = ≤ℤ_trans_twice _ _ _ _ leaves o1 receipt_to;
+        leaves_before_answer = ≤ℤ_trans_twice _ _ _ _ leaves o1 (≤ℤ_trans _ _ _ o2 answer_to);
+        leaves_before_arrival = unshifted start end error
+            (≤ℤ_trans_twice _ _ _ _ leaves o1 (≤ℤ_trans_twice _ _ _ _ o2 o3 arrives));
+        receives_before_answer = ≤ℤ_trans_twice _ _ _ _ receipt_from o2 answer_to;
+        receives_before_arrival = ≤ℤ_trans_twice _ _ _ _ receipt_from o2 (≤ℤ_trans _ _ _ o3 arrives);
+        answers_before_arrival = ≤ℤ_trans_twice _ _ _ _ answer_from o3 arrives;
       }
 
 -- room n times over is room
 module _ (start end t2 t3 distance error : ℤ) (n : ℕ) (some : 0 < n) where
-  room_once : ScaledRoom (start *ℤ pos n) (end *ℤ pos n) (t2 *ℤ pos n) (t3 *ℤ pos n) (distance *ℤ pos n)
+  room_once : AdmitsError (start *ℤ pos n) (end *ℤ pos n) (t2 *ℤ pos n) (t3 *ℤ pos n) (distance *ℤ pos n)
       (error *ℤ pos n)
       → AdmitsError start end t2 t3 distance error
   room_once h = record {
     leaves_before_receipt = le_from_times _ _ n some
-        (rw (minus_times start error n, plus_times t2 distance n) at h.receipt);
+        (rw (minus_times start error n, plus_times t2 distance n) at h.leaves_before_receipt);
     leaves_before_answer = le_from_times _ _ n some
-        (rw (minus_times start error n, plus_times t3 distance n) at h.answer);
-    leaves_before_arrival = le_from_times _ _ n some h.arrival;
+        (rw (minus_times start error n, plus_times t3 distance n) at h.leaves_before_answer);
+    leaves_before_arrival = le_from_times _ _ n some h.leaves_before_arrival;
     receives_before_answer = le_from_times _ _ n some
-        (rw (minus_times t2 distance n, plus_times t3 distance n) at h.receipt_answer);
+        (rw (minus_times t2 distance n, plus_times t3 distance n) at h.receives_before_answer);
     receives_before_arrival = le_from_times _ _ n some
-        (rw (minus_times t2 distance n, minus_times end error n) at h.receipt_arrival);
+        (rw (minus_times t2 distance n, minus_times end error n) at h.receives_before_arrival);
     answers_before_arrival = le_from_times _ _ n some
-        (rw (minus_times t3 distance n, minus_times end error n) at h.answer_arrival);
+        (rw (minus_times t3 distance n, minus_times end error n) at h.answers_before_arrival);
   }
 
 module _ (claim : ClaimData) (xs : List Exchange) (r : RefutationData) (against : IsAgainst claim r)
@@ -125,3 +107,5 @@ module _ (claim : ClaimData) (xs : List Exchange) (r : RefutationData) (course :
       let scaled : (pos (unsigned_abs r.error) *ℤ pos n) ≡ pos (unsigned_abs r.error * n) = omega (arith, ints) in
       let near = le_from_times (pos (unsigned_abs r.error)) claim.bound n of.fits.fits.some_fineness (rw scaled abs) in
       not_both claim.bound (pos (unsigned_abs r.error)) against.beyond_bound near
+
+pub ruleset course_breaks_claim = (course_in_span, course_beyond_bound)

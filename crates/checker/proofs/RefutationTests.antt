@@ -129,3 +129,7 @@ refuted_to claim xs r h =
 pub refused_by_test : (claim : ClaimData) (xs : List Exchange) (r : RefutationData) → is_refuted claim xs r ≡ false
     → ¬ (IsRefuted claim xs r)
 refused_by_test claim xs r fails h = true≢false (sym (refuted_to claim xs r h) ∙ fails)
+
+pub ruleset admitted_by_test = (admits_from, admits_to)
+
+pub ruleset refuted_by_test = (refuted_from, refuted_to)

@@ -2,11 +2,10 @@
 --
 -- A group leaves a point out if one of its parts does, and that part's finer group leaves it out too. Finer groups
 -- of different groups are different, so at least as many of them leave the point out.
-use Rattle.checker.proofs.Common.{◌≡◌, ℕ, zero, suc, ◌+◌, ◌<◌, ◌≤◌, ℤ, Bool, true, false, cond, not, ◌&&◌, ◌||◌, List, [], ◌∷◌, length, Option, Some, None, Result, Ok, Err, count_by, refl, sym, ap, ◌∙◌, subst, arith, All, slice_index, ◌==◌, fold, filter, filter_map, list_any, cons_option, ints, clamps, cond-true, cond-false, and_parts, and_from, and_left, and_right, not-true, or_left, or_right, or_from, nat_tests, Any-from_list_any, sum_by-cons, sum_by-append, All-get_or, any_passes_from_place, slice_get_read, CertificateData, ClaimData, leaves_out, Interval, Sample, IsYesOr, IsContradiction, IsTakenApart, numbers_below, meet_of, narrowed, group_interval, parts_after, parts_fault, verdict_of, Part, Stretch, Yes, Why, by_test, or_rest, cond-le_one, or-false, or_assoc}
+use Rattle.checker.proofs.Common.{◌≡◌, ℕ, zero, suc, ◌+◌, ◌<◌, ◌≤◌, ℤ, Bool, true, false, cond, not, ◌&&◌, ◌||◌, List, [], ◌∷◌, length, Option, Some, None, Result, Ok, Err, count_by, refl, sym, ap, ◌∙◌, subst, arith, All, slice_index, ◌==◌, fold, filter, filter_map, list_any, cons_option, ints, clamps, cond-true, cond-false, and_parts, and_from, and_left, and_right, not-true, or_left, or_right, or_from, nat_tests, Any-from_list_any, sum_by-cons, sum_by-append, All-get_or, any_passes_from_place, slice_get_read, CertificateData, ClaimData, leaves_out, Interval, Sample, IsYesOr, IsContradiction, IsTakenApart, numbers_below, meet_of, narrowed, group_interval, parts_after, parts_fault, verdict_of, Part, Stretch, Yes, Why, by_test, or_rest, cond-le_one, or-false, or_assoc, ◌≤ℤ◌}
 use Rattle.std.specs.Prelude.{nat_lt}
-use Rattle.checker.proofs.Part.{listed_parts}
+use Rattle.checker.proofs.EntryStatement.{listed_parts}
 use Rattle.checker.proofs.Comparison.{FaultIs, verdict_follows, all_follow, piece_follows, EveryHull, hull_follows}
-use Rattle.checker.proofs.EntryStep.{held_ends, held_test, meet_leaves_out}
 use Rattle.checker.proofs.Order.{meet_turned}
 use Rattle.checker.proofs.Counting.{found_below}
 
@@ -170,6 +169,21 @@ module _ (p : Interval → Bool) (either : IsOfEither p) (groups finer : List �
       rw apart.same_servers (omega (arith, through, coarse, fine))
 
 -- ---- the two tests
+
+pub held_ends : (i : Interval) (point : ℤ) → leaves_out i point ≡ false → (i.lo ≤ℤ point) × (point ≤ℤ i.hi)
+held_ends i point h = (grind (arith, ints), grind (arith, ints))
+
+pub held_test : (i : Interval) (point : ℤ) → i.lo ≤ℤ point → point ≤ℤ i.hi → leaves_out i point ≡ false
+held_test i point low high = grind (arith, ints)
+
+pub meet_leaves_out : (a b : Interval) (point : ℤ) → leaves_out a point ≡ true → leaves_out (meet_of a b) point ≡ true
+meet_leaves_out a b point out = by_test (leaves_out (meet_of a b) point) (λ is. is)
+    (λ held. absurd (
+    let ends = held_ends (meet_of a b) point held in
+    let low = ends.0 in
+    let high = ends.1 in
+    let in_a = held_test a point (omega (arith, ints, clamps)) (omega (arith, ints, clamps)) in
+    cc))
 
 -- a meet leaves a point out exactly if one of the two does
 pub meet_leaves_it_out : (point : ℤ) (a b : Interval)

@@ -1,10 +1,11 @@
 -- A shorter piece has narrower intervals, so what is left of a certificate in a span shows no less.
-use Rattle.checker.proofs.Common.{◌≡◌, ℕ, ◌+◌, ◌<◌, ◌≤◌, ℤ, pos, ◌≤ℤ◌, ◌<ℤ◌, Bool, true, false, cond, not, ◌&&◌, ◌||◌, int_lt, nat_lt, inl, List, [], ◌∷◌, ◌++◌, length, Option, Some, None, Result, Ok, Err, refl, sym, ap, ◌∙◌, subst, arith, get_or, All, slice_get, ◌==◌, nat_le, AllZip, int_eq, ints, cond-true, cond-false, nat_tests, get_or_default, AllZip-push, AllZip-get_or, length_all_zip, PieceData, CertificateData, ClaimData, IsLawfulSample, billion, Sample, moved_low, moved_high, IsYesOr, IsContradiction, IsNarrower, AreNarrower, part_of, part_from, parts_after, parts_fault, piece_fault, verdict_from, verdict_of, Part, Stretch, Yes, No, Why, Cut, MixedServers, RepeatedServer, Uncovered, by_test, All-slice_get}
+use Rattle.checker.proofs.Common.{◌≡◌, ℕ, ◌+◌, ◌<◌, ◌≤◌, ℤ, pos, ◌≤ℤ◌, ◌<ℤ◌, Bool, true, false, cond, ◌&&◌, ◌||◌, int_lt, nat_lt, inl, List, [], ◌∷◌, ◌++◌, length, Option, Some, None, Result, Ok, Err, refl, sym, ap, ◌∙◌, subst, arith, get_or, All, slice_get, ◌==◌, nat_le, AllZip, int_eq, ints, cond-true, cond-false, nat_tests, get_or_default, AllZip-push, AllZip-get_or, length_all_zip, PieceData, CertificateData, ClaimData, IsLawfulSample, billion, Sample, moved_low, moved_high, IsYesOr, IsContradiction, IsNarrower, AreNarrower, part_of, part_from, parts_after, parts_fault, piece_fault, verdict_from, verdict_of, Part, Stretch, Yes, No, Why, Cut, Uncovered, by_test, All-slice_get}
 use Rattle.checker.specs.Span.{IsSpanWithin, claim_within, pieces_within, certificate_within}
 use Rattle.checker.proofs.VerdictPieces.{yes_step, yes_end}
 use Rattle.checker.proofs.Comparison.{FaultIs, fails_here, EveryHull}
 use Rattle.checker.proofs.Narrow.{narrower_hull}
-use Rattle.checker.proofs.Order.{names, begins, begin_with}
+use Rattle.checker.proofs.Order.{names}
+use Rattle.checker.proofs.Part.{takes, accepted, begins, begin_with}
 
 -- the laws of the layer below: a piece inside another has narrower intervals
 pub record PieceLaws : Type 0 where
@@ -58,35 +59,20 @@ module _ (laws : PieceLaws) (hulls : EveryHull) (samples : List Sample) (claim :
       pub said : part_from inner claim.drift_ppb other low high ≡ Ok next
       pub narrower : IsNarrower part next
 
-    narrower_test : (earlier other : List Part) (low high : Sample) (mixed repeated : Bool) (part : Part)
-        → AllZip IsNarrower earlier other
-        → IsNarrower (part_of low high outer claim.drift_ppb) (part_of low high inner claim.drift_ppb)
-        → not (low.server == high.server) ≡ mixed → names low.server earlier ≡ repeated
-        → cond mixed (Err MixedServers)
-        (cond repeated (Err RepeatedServer) (Ok (part_of low high outer claim.drift_ppb)))
-        ≡ Ok part
-        → SaysNarrower (Some low) (Some high) other part
-    narrower_test earlier other low high true repeated part zip is m r e = absurd cc
-    narrower_test earlier other low high false true part zip is m r e = absurd cc
-    narrower_test earlier other low high false false part zip is m r e =
-        let same : part_of low high outer claim.drift_ppb ≡ part = cc in
-        let new : names low.server other ≡ false = sym (same_names low.server earlier other zip) ∙ r in
-        subst (λ (p : Part). SaysNarrower (Some low) (Some high) other p) same (record {
+    says_narrower : (earlier other : List Part) → AllZip IsNarrower earlier other → (a b : ℕ) (part : Part)
+        → part_from outer claim.drift_ppb earlier (slice_get samples a) (slice_get samples b) ≡ Ok part
+        → SaysNarrower (slice_get samples a) (slice_get samples b) other part
+    says_narrower earlier other zip a b part e =
+        let taken = takes outer claim.drift_ppb earlier _ _ part e in
+        let low = taken.low in
+        let high = taken.high in
+        let new : names low.server other ≡ false = sym (same_names low.server earlier other zip) ∙ taken.new in
+        subst (λ (p : Part). SaysNarrower (slice_get samples a) (slice_get samples b) other p) taken.is (record {
           next = part_of low high inner claim.drift_ppb;
-          said = cond-false (not (low.server == high.server)) _ _ m ∙ cond-false (names low.server other) _ _ new;
-          narrower = is;
+          said = accepted inner claim.drift_ppb other low high _ _ taken.low_is taken.high_is taken.one_server new;
+          narrower = narrower_part low high (All-slice_get IsLawfulSample samples a low each taken.low_is)
+              (All-slice_get IsLawfulSample samples b high each taken.high_is);
         })
-
-    says_narrower : (earlier other : List Part) → AllZip IsNarrower earlier other → (a b : ℕ)
-        (low high : Option Sample) → slice_get samples a ≡ low → slice_get samples b ≡ high → (part : Part)
-        → part_from outer claim.drift_ppb earlier low high ≡ Ok part → SaysNarrower low high other part
-    says_narrower earlier other zip a b None high at_low at_high part e = absurd cc
-    says_narrower earlier other zip a b (Some low) None at_low at_high part e = absurd cc
-    says_narrower earlier other zip a b (Some low) (Some high) at_low at_high part e =
-        narrower_test earlier other low high (not (low.server == high.server)) (names low.server earlier) part zip
-        (narrower_part low high (All-slice_get IsLawfulSample samples a low each at_low)
-        (All-slice_get IsLawfulSample samples b high each at_high))
-        refl refl e
 
     -- what entries say about the shorter piece
     record SayNarrower (other : List Part) (entries : List (ℕ × ℕ)) (parts : List Part) : Type 0 where
@@ -105,14 +91,13 @@ module _ (laws : PieceLaws) (hulls : EveryHull) (samples : List Sample) (claim :
           narrower = subst (λ (ps : List Part). AllZip IsNarrower ps other) same zip;
         }
     entries_narrower earlier other (entry ∷ entries) parts zip e =
-        let first = begins samples claim outer earlier entry entries parts e in
-        let next = says_narrower earlier other zip entry.0 entry.1 (slice_get samples entry.0)
-        (slice_get samples entry.1) refl refl first.part first.said in
+        let first = begins samples outer claim.drift_ppb earlier entry entries parts e in
+        let next = says_narrower earlier other zip entry.0 entry.1 first.part first.said in
         let rest = entries_narrower (earlier ++ first.part ∷ []) (other ++ next.next ∷ []) entries parts
         (AllZip-push IsNarrower earlier other first.part next.next zip next.narrower) first.rest in
         record {
           next = rest.next;
-          said = begin_with samples claim inner other entry entries next.next next.said ∙ rest.said;
+          said = begin_with samples inner claim.drift_ppb other entry entries next.next next.said ∙ rest.said;
           narrower = rest.narrower;
         }
 

@@ -1,5 +1,5 @@
 -- Why a yes can be relied on: from the hulls of the pieces to the bound on the error over the span.
-use Rattle.checker.proofs.Common.{◌≡◌, ℕ, ◌*◌, ◌≤◌, ℤ, pos, negsuc, neg_ℤ, ◌*ℤ◌, ◌≤ℤ◌, unsigned_abs, List, Option, Some, None, inl, refl, sym, subst, arith, slice_get, IsSomeAnd, ints, ticks_per_second, CertificateData, ClaimData, IsLawful, times_le, Hull, Unbounded, Empty, Bounded, Exchange, error_of, Sample, AreSaidBy, Course, Fits, piece_hull, FitsPiece, AreSamplesOf, begin_of, last_end, stretch_of, stretches_of, IsObservedIn, IsWithin, IsWithinNanoseconds, IsInHull, IsTraceable, IsTraceableByPieces, IsContradicted, HoldsErrorOfPiece, HasHull, IsOfHull, IsRefusedByHull, hull_fault, verdict_of, Part, Stretch, Yes, No, Why, Contradiction, neg_times}
+use Rattle.checker.proofs.Common.{◌≡◌, ℕ, ◌*◌, ◌≤◌, ℤ, pos, neg_ℤ, ◌*ℤ◌, ◌≤ℤ◌, unsigned_abs, List, Option, Some, None, inl, refl, sym, subst, arith, slice_get, IsSomeAnd, ints, ticks_per_second, CertificateData, ClaimData, IsLawful, times_le, Hull, Unbounded, Empty, Bounded, Exchange, error_of, Sample, AreSaidBy, Course, Fits, piece_hull, FitsPiece, AreSamplesOf, begin_of, last_end, stretch_of, stretches_of, IsObservedIn, IsWithin, IsWithinNanoseconds, IsInHull, IsTraceable, IsTraceableByPieces, IsContradicted, HoldsErrorOfPiece, HasHull, IsOfHull, IsRefusedByHull, hull_fault, verdict_of, Part, Stretch, Yes, No, Why, Contradiction, times-add}
 use Rattle.std.proofs.Math.Nat.{mul-le-mul_right}
 use Rattle.era_unfold.specs.Nanoseconds.{nanoseconds_per_second, ticks_down}
 use Rattle.checker.proofs.Cover.{all_covered, piece_at, stretch_of_piece}
@@ -10,18 +10,13 @@ use Rattle.checker.proofs.VerdictPieces.{HullGives, empty_hull, inside_from, fro
 -- ---- bounds
 
 -- between n times -bound and n times bound
-inside_at : (b n : ℕ) (lo hi e : ℤ) → (lo *ℤ pos n) ≤ℤ e → e ≤ℤ (hi *ℤ pos n) → neg_ℤ (pos b) ≤ℤ lo → hi ≤ℤ pos b
-    → pos (unsigned_abs e) ≤ℤ (pos b *ℤ pos n)
-inside_at b n lo hi e from to above below =
-    let low = times_le (neg_ℤ (pos b)) lo n above in
-    let high = times_le hi (pos b) n below in
-    let is = neg_times b n in
+inside : (bound : ℤ) (n : ℕ) (lo hi e : ℤ) → (lo *ℤ pos n) ≤ℤ e → e ≤ℤ (hi *ℤ pos n) → neg_ℤ bound ≤ℤ lo
+    → hi ≤ℤ bound → pos (unsigned_abs e) ≤ℤ (bound *ℤ pos n)
+inside bound n lo hi e from to above below =
+    let low = times_le (neg_ℤ bound) lo n above in
+    let high = times_le hi bound n below in
+    let none = times-add (pos 0) bound (neg_ℤ bound) n (omega (arith, ints)) in
     omega (arith, ints)
-
-inside : (bound : ℤ) (n : ℕ) (lo hi e : ℤ) → pos 0 ≤ℤ bound → (lo *ℤ pos n) ≤ℤ e → e ≤ℤ (hi *ℤ pos n)
-    → neg_ℤ bound ≤ℤ lo → hi ≤ℤ bound → pos (unsigned_abs e) ≤ℤ (bound *ℤ pos n)
-inside (pos b) n lo hi e some from to above below = inside_at b n lo hi e from to above below
-inside (negsuc b) n lo hi e some from to above below = absurd (omega (arith, ints))
 
 -- ---- verdicts
 
@@ -52,8 +47,7 @@ module _ (hulls : HullLaw) (claim : ClaimData) (samples : List Sample) (certific
   within_hull course Empty e holds = absurd cc
   within_hull course (Bounded lo hi) e holds =
       let ends = inside_from claim.bound lo hi e in
-      inside claim.bound course.fineness lo hi (error_of course.observation) lawful.bound_not_negative holds.0 holds.1
-      ends.0 ends.1
+      inside claim.bound course.fineness lo hi (error_of course.observation) holds.0 holds.1 ends.0 ends.1
 
   pub traceable_by_pieces : verdict_of samples claim certificate ≡ Yes
       → IsTraceableByPieces claim samples certificate

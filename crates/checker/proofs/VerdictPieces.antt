@@ -1,30 +1,26 @@
 -- What a verdict says about the pieces.
-use Rattle.checker.proofs.Common.{◌≡◌, ℕ, suc, ◌+◌, ◌<◌, ℤ, pos, neg_ℤ, ◌≤ℤ◌, Bool, true, false, cond, ◌&&◌, ◌||◌, int_le, int_lt, nat_lt, List, [], ◌∷◌, ◌++◌, length, Option, Some, None, Result, Ok, Err, inl, inr, refl, sym, ap, ◌∙◌, subst, arith, slice_get, int_eq, ints, cond-true, cond-false, nat_tests, PieceData, ClaimData, Hull, Unbounded, Empty, Bounded, Sample, piece_hull, begin_of, last_end, IsOfHull, part_from, parts_after, unless_refused, hull_fault, parts_fault, piece_fault, verdict_after, verdict_from, Part, Stretch, Verdict, Yes, No, Why, Cut, BadSample, MixedServers, RepeatedServer, Contradiction, Exceeds, Uncovered, by_test, and_parts}
+use Rattle.checker.proofs.Common.{◌≡◌, ℕ, suc, ◌+◌, ◌<◌, ℤ, pos, neg_ℤ, ◌≤ℤ◌, Bool, true, false, cond, ◌&&◌, ◌||◌, int_le, int_lt, nat_lt, List, [], ◌∷◌, ◌++◌, length, Option, Some, None, Result, Ok, Err, inl, inr, refl, sym, ap, ◌∙◌, subst, arith, slice_get, int_eq, ints, cond-true, nat_tests, PieceData, ClaimData, Hull, Unbounded, Empty, Bounded, Sample, piece_hull, begin_of, last_end, IsOfHull, parts_after, unless_refused, hull_fault, parts_fault, piece_fault, verdict_after, verdict_from, Part, Stretch, Verdict, Yes, No, Why, Cut, Contradiction, Exceeds, Uncovered, and_parts, IsRefusedEntry, int_le-true}
+use Rattle.checker.proofs.Part.{says, refused}
+
+exceeds_or_none : (t : Bool) → cond t None (Some Exceeds) ≡ Some Contradiction → ⊥
+exceeds_or_none true e = absurd cc
+exceeds_or_none false e = absurd cc
+
+passed : (t : Bool) → cond t None (Some Exceeds) ≡ None → t ≡ true
+passed true e = refl
+passed false e = absurd cc
 
 pub empty_hull : (bound : ℤ) (hull : Hull) → hull_fault bound hull ≡ Some Contradiction → hull ≡ Empty
 empty_hull bound Unbounded e = absurd cc
 empty_hull bound Empty e = refl
-empty_hull bound (Bounded lo hi) e = by_test (int_le (neg_ℤ bound) lo && int_le hi bound)
-    (λ inside. absurd (
-    let no : None ≡ Some Contradiction =
-    sym (cond-true (int_le (neg_ℤ bound) lo && int_le hi bound) None (Some Exceeds) inside) ∙ e in
-    cc))
-    (λ outside. absurd (
-    let no : Some Exceeds ≡ Some Contradiction =
-    sym (cond-false (int_le (neg_ℤ bound) lo && int_le hi bound) None (Some Exceeds) outside) ∙ e in
-    cc))
+empty_hull bound (Bounded lo hi) e = absurd (exceeds_or_none (int_le (neg_ℤ bound) lo && int_le hi bound) e)
 
 -- a bounded hull gives no fault exactly if it lies inside the bound
 pub inside_from : (bound lo hi : ℤ) → hull_fault bound (Bounded lo hi) ≡ None
     → (neg_ℤ bound ≤ℤ lo) × (hi ≤ℤ bound)
-inside_from bound lo hi e = by_test (int_le (neg_ℤ bound) lo && int_le hi bound)
-    (λ inside.
-    let tests = and_parts (int_le (neg_ℤ bound) lo) (int_le hi bound) inside in
-    (grind (arith, ints), grind (arith, ints)))
-    (λ outside. absurd (
-    let no : Some Exceeds ≡ None =
-    sym (cond-false (int_le (neg_ℤ bound) lo && int_le hi bound) None (Some Exceeds) outside) ∙ e in
-    cc))
+inside_from bound lo hi e =
+    let tests = and_parts (int_le (neg_ℤ bound) lo) (int_le hi bound) (passed _ e) in
+    (int_le-true _ _ tests.0, int_le-true _ _ tests.1)
 
 pub none_from_inside : (bound lo hi : ℤ) → neg_ℤ bound ≤ℤ lo → hi ≤ℤ bound
     → hull_fault bound (Bounded lo hi) ≡ None
@@ -39,8 +35,8 @@ IsFromHull (Some Exceeds) = Unit {0}
 IsFromHull _ = ⊥
 
 pub from_hull : (why : Why) → IsOfHull why → IsFromHull (Some why)
-from_hull why (inl is) = subst (λ (w : Why). IsFromHull (Some w)) (sym is) tt
-from_hull why (inr is) = subst (λ (w : Why). IsFromHull (Some w)) (sym is) tt
+from_hull why (inl is) = rw is tt
+from_hull why (inr is) = rw is tt
 
 module _ (samples : List Sample) (claim : ClaimData) where
   -- none of these entries is refused, and their hull over a stretch gives this fault, or none
@@ -51,44 +47,36 @@ module _ (samples : List Sample) (claim : ClaimData) where
 
   -- ---- one piece
 
-  refused_test : (mixed repeated : Bool) (part : Part) (why : Why) → IsFromHull (Some why)
-      → cond mixed (Err MixedServers) (cond repeated (Err RepeatedServer) (Ok part)) ≡ Err why → ⊥
-  refused_test true repeated part why from e =
-      let same : why ≡ MixedServers = cc in subst (λ (w : Why). IsFromHull (Some w)) same from
-  refused_test false true part why from e =
-      let same : why ≡ RepeatedServer = cc in subst (λ (w : Why). IsFromHull (Some w)) same from
-  refused_test false false part why from e = absurd cc
-
   -- no entry is refused for a reason that a hull gives
-  refused_part : (stretch : Stretch) (earlier : List Part) (low high : Option Sample) (why : Why)
-      → IsFromHull (Some why) → part_from stretch claim.drift_ppb earlier low high ≡ Err why → ⊥
-  refused_part stretch earlier None high why from e =
-      let same : why ≡ BadSample = cc in subst (λ (w : Why). IsFromHull (Some w)) same from
-  refused_part stretch earlier (Some low) None why from e =
-      let same : why ≡ BadSample = cc in subst (λ (w : Why). IsFromHull (Some w)) same from
-  refused_part stretch earlier (Some low) (Some high) why from e = refused_test _ _ _ why from e
+  not_from_hull : (why : Why) → IsRefusedEntry why → IsFromHull (Some why) → ⊥
+  not_from_hull why (inl is) from = rw is at from
+  not_from_hull why (inr (inl is)) from = rw is at from
+  not_from_hull why (inr (inr is)) from = rw is at from
 
-  refused_step : (first : Result Part Why) (next : Part → Result (List Part) Why) (why : Why)
-      → (first ≡ Err why → ⊥) → ((part : Part) → next part ≡ Err why → ⊥)
-      → unless_refused first next ≡ Err why → ⊥
-  refused_step (Err other) next why here rest e = here (let same : other ≡ why = cc in ap Err same)
-  refused_step (Ok part) next why here rest e = rest part e
+  refused_step : (stretch : Stretch) (earlier : List Part) (entries : List (ℕ × ℕ)) (why : Why)
+      (first : Result Part Why) → (first ≡ Err why → IsRefusedEntry why)
+      → ((part : Part) → parts_after samples stretch claim.drift_ppb (earlier ++ part ∷ []) entries ≡ Err why
+      → IsRefusedEntry why)
+      → unless_refused first (λ part. parts_after samples stretch claim.drift_ppb (earlier ++ part ∷ []) entries)
+      ≡ Err why
+      → IsRefusedEntry why
+  refused_step stretch earlier entries why (Err other) here rest e =
+      here (let same : other ≡ why = cc in ap Err same)
+  refused_step stretch earlier entries why (Ok part) here rest e = rest part e
 
   refused_parts : (stretch : Stretch) (earlier : List Part) (entries : List (ℕ × ℕ)) (why : Why)
-      → IsFromHull (Some why) → parts_after samples stretch claim.drift_ppb earlier entries ≡ Err why → ⊥
-  refused_parts stretch earlier [] why from e = absurd cc
-  refused_parts stretch earlier (entry ∷ entries) why from e =
-      refused_step
-      (part_from stretch claim.drift_ppb earlier (slice_get samples entry.0) (slice_get samples entry.1))
-      (λ part. parts_after samples stretch claim.drift_ppb (earlier ++ part ∷ []) entries) why
-      (refused_part stretch earlier (slice_get samples entry.0) (slice_get samples entry.1) why from)
-      (λ part e'. refused_parts stretch (earlier ++ part ∷ []) entries why from e') e
+      → parts_after samples stretch claim.drift_ppb earlier entries ≡ Err why → IsRefusedEntry why
+  refused_parts stretch earlier [] why e = absurd cc
+  refused_parts stretch earlier (entry ∷ entries) why e =
+      refused_step stretch earlier entries why (says samples stretch claim.drift_ppb earlier entry)
+      (refused stretch claim.drift_ppb earlier (slice_get samples entry.0) (slice_get samples entry.1) why)
+      (λ part e'. refused_parts stretch (earlier ++ part ∷ []) entries why e') e
 
   parts_tested : (stretch : Stretch) (entries : List (ℕ × ℕ)) (said : Result (List Part) Why) (fault : Option Why)
       → IsFromHull fault → parts_after samples stretch claim.drift_ppb [] entries ≡ said
       → parts_fault claim said ≡ fault → HullGives stretch entries fault
   parts_tested stretch entries (Err why) fault from is e =
-      absurd (refused_parts stretch [] entries why (subst IsFromHull (sym e) from) is)
+      absurd (not_from_hull why (refused_parts stretch [] entries why is) (subst IsFromHull (sym e) from))
   parts_tested stretch entries (Ok parts) fault from is e = record { parts = parts; said = is; gives = e }
 
   cut_tested : (stretch : Stretch) (entries : List (ℕ × ℕ)) (cut : Bool) (fault : Option Why) → IsFromHull fault
@@ -120,16 +108,15 @@ module _ (samples : List Sample) (claim : ClaimData) where
   same_number : (a b : ℤ) → int_eq a b ≡ true → a ≡ b
   same_number a b h = grind (arith, ints)
 
+  yes_passed : (t : Bool) (k : ℕ) → cond t Yes (No k Uncovered) ≡ Yes → t ≡ true
+  yes_passed true k e = refl
+  yes_passed false k e = absurd cc
+
   covers_test : (k : ℕ) (begin : ℤ) → cond (nat_lt 0 k && int_eq begin claim.last) Yes (No k Uncovered) ≡ Yes
       → (0 < k) × (begin ≡ claim.last)
-  covers_test k begin e = by_test (nat_lt 0 k && int_eq begin claim.last)
-      (λ passes.
-      let parts = and_parts (nat_lt 0 k) (int_eq begin claim.last) passes in
-      (grind (arith, nat_tests), same_number begin claim.last parts.1))
-      (λ fails. absurd (
-      let no : No k Uncovered ≡ Yes =
-      sym (cond-false (nat_lt 0 k && int_eq begin claim.last) Yes (No k Uncovered) fails) ∙ e in
-      cc))
+  covers_test k begin e =
+      let parts = and_parts (nat_lt 0 k) (int_eq begin claim.last) (yes_passed _ k e) in
+      (grind (arith, nat_tests), same_number begin claim.last parts.1)
 
   -- if the verdict is yes, the pieces end with the span
   pub yes_end : (k : ℕ) (begin : ℤ) (pieces : List PieceData) → verdict_from samples claim k begin pieces ≡ Yes
@@ -153,8 +140,7 @@ module _ (samples : List Sample) (claim : ClaimData) where
   uncovered_test : (first k : ℕ) (covered : Bool) (why : Why) → IsFromHull (Some why)
       → cond covered Yes (No first Uncovered) ≡ No k why → ⊥
   uncovered_test first k true why from e = absurd cc
-  uncovered_test first k false why from e =
-      let same : why ≡ Uncovered = cc in subst (λ (w : Why). IsFromHull (Some w)) same from
+  uncovered_test first k false why from e = let same : why ≡ Uncovered = cc in rw same at from
 
   no_step : (first k : ℕ) (begin : ℤ) (piece : PieceData) (pieces : List PieceData) (why : Why) (fault : Option Why)
       (rest : Verdict) → piece_fault samples claim begin piece ≡ fault

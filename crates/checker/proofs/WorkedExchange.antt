@@ -80,3 +80,5 @@ is_capture = record {
   );
   joined = refl;
 }
+
+pub ruleset is_captured = (is_capture, is_exchange)

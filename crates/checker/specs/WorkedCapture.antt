@@ -1,26 +1,10 @@
 -- The bytes in which the worked exchange is captured: a capture of one request and its reply, which
 -- was written by hand.
-use Rattle.std.specs.Prelude.{ℕ, List, [], ◌∷◌}
+use Rattle.std.specs.Prelude.{ℕ, List, [], ◌∷◌, ◌++◌}
 use Rattle.era_unfold.specs.declared.unit.Unit.TheVariants.{Micro}
 use Rattle.pcap_reader.specs.declared.format.Endian.TheVariants.{Little}
 use Rattle.pcap_reader.specs.declared.format.Format.{Format}
 use Rattle.pcap_reader.specs.Capture.{Record}
-
--- the capture: a header of 24 bytes, and two records with 16 more before their frames
-abbrev pub worked_capture : List ℕ
-worked_capture =
-    212 ∷ 195 ∷ 178 ∷ 161 ∷ 2 ∷ 0 ∷ 4 ∷ 0 ∷ 0 ∷ 0 ∷ 0 ∷ 0 ∷ 0 ∷ 0 ∷ 0 ∷ 0 ∷ 0 ∷ 0 ∷ 4 ∷ 0 ∷ 1 ∷
-    0 ∷ 0 ∷ 0 ∷ 0 ∷ 202 ∷ 154 ∷ 59 ∷ 0 ∷ 0 ∷ 0 ∷ 0 ∷ 90 ∷ 0 ∷ 0 ∷ 0 ∷ 90 ∷ 0 ∷ 0 ∷ 0 ∷ 2 ∷ 0 ∷
-    0 ∷ 0 ∷ 0 ∷ 2 ∷ 2 ∷ 0 ∷ 0 ∷ 0 ∷ 0 ∷ 1 ∷ 8 ∷ 0 ∷ 69 ∷ 0 ∷ 0 ∷ 76 ∷ 0 ∷ 0 ∷ 64 ∷ 0 ∷ 64 ∷ 17 ∷
-    0 ∷ 0 ∷ 192 ∷ 0 ∷ 2 ∷ 10 ∷ 192 ∷ 0 ∷ 2 ∷ 1 ∷ 192 ∷ 0 ∷ 0 ∷ 123 ∷ 0 ∷ 56 ∷ 0 ∷ 0 ∷ 35 ∷ 0 ∷
-    6 ∷ 0 ∷ 0 ∷ 0 ∷ 0 ∷ 0 ∷ 0 ∷ 0 ∷ 0 ∷ 0 ∷ 0 ∷ 0 ∷ 0 ∷ 0 ∷ 0 ∷ 0 ∷ 0 ∷ 0 ∷ 0 ∷ 0 ∷ 0 ∷ 0 ∷ 0 ∷
-    0 ∷ 0 ∷ 0 ∷ 0 ∷ 0 ∷ 0 ∷ 0 ∷ 0 ∷ 0 ∷ 0 ∷ 0 ∷ 0 ∷ 0 ∷ 0 ∷ 0 ∷ 17 ∷ 34 ∷ 51 ∷ 68 ∷ 85 ∷ 102 ∷
-    119 ∷ 136 ∷ 0 ∷ 202 ∷ 154 ∷ 59 ∷ 32 ∷ 78 ∷ 0 ∷ 0 ∷ 90 ∷ 0 ∷ 0 ∷ 0 ∷ 90 ∷ 0 ∷ 0 ∷ 0 ∷ 2 ∷ 0 ∷
-    0 ∷ 0 ∷ 0 ∷ 1 ∷ 2 ∷ 0 ∷ 0 ∷ 0 ∷ 0 ∷ 2 ∷ 8 ∷ 0 ∷ 69 ∷ 0 ∷ 0 ∷ 76 ∷ 0 ∷ 0 ∷ 64 ∷ 0 ∷ 64 ∷ 17 ∷
-    0 ∷ 0 ∷ 192 ∷ 0 ∷ 2 ∷ 1 ∷ 192 ∷ 0 ∷ 2 ∷ 10 ∷ 0 ∷ 123 ∷ 192 ∷ 0 ∷ 0 ∷ 56 ∷ 0 ∷ 0 ∷ 36 ∷ 1 ∷
-    6 ∷ 224 ∷ 0 ∷ 0 ∷ 0 ∷ 0 ∷ 0 ∷ 0 ∷ 0 ∷ 0 ∷ 71 ∷ 80 ∷ 83 ∷ 0 ∷ 191 ∷ 69 ∷ 72 ∷ 128 ∷ 0 ∷ 0 ∷
-    0 ∷ 0 ∷ 17 ∷ 34 ∷ 51 ∷ 68 ∷ 85 ∷ 102 ∷ 119 ∷ 136 ∷ 191 ∷ 69 ∷ 72 ∷ 128 ∷ 2 ∷ 143 ∷ 92 ∷ 41 ∷
-    191 ∷ 69 ∷ 72 ∷ 128 ∷ 2 ∷ 143 ∷ 92 ∷ 41 ∷ []
 
 -- the frame of the request: 192.0.2.10 asks 192.0.2.1
 abbrev pub request_frame : List ℕ
@@ -39,6 +23,14 @@ reply_frame =
     36 ∷ 1 ∷ 6 ∷ 224 ∷ 0 ∷ 0 ∷ 0 ∷ 0 ∷ 0 ∷ 0 ∷ 0 ∷ 0 ∷ 71 ∷ 80 ∷ 83 ∷ 0 ∷ 191 ∷ 69 ∷ 72 ∷ 128 ∷
     0 ∷ 0 ∷ 0 ∷ 0 ∷ 17 ∷ 34 ∷ 51 ∷ 68 ∷ 85 ∷ 102 ∷ 119 ∷ 136 ∷ 191 ∷ 69 ∷ 72 ∷ 128 ∷ 2 ∷ 143 ∷
     92 ∷ 41 ∷ 191 ∷ 69 ∷ 72 ∷ 128 ∷ 2 ∷ 143 ∷ 92 ∷ 41 ∷ []
+
+-- the capture: a header of 24 bytes, and two records with 16 more before their frames
+abbrev pub worked_capture : List ℕ
+worked_capture =
+    (212 ∷ 195 ∷ 178 ∷ 161 ∷ 2 ∷ 0 ∷ 4 ∷ 0 ∷ 0 ∷ 0 ∷ 0 ∷ 0 ∷ 0 ∷ 0 ∷ 0 ∷ 0 ∷ 0 ∷ 0 ∷ 4 ∷ 0 ∷ 1 ∷ 0 ∷
+    0 ∷ 0 ∷ [])
+    ++ (0 ∷ 202 ∷ 154 ∷ 59 ∷ 0 ∷ 0 ∷ 0 ∷ 0 ∷ 90 ∷ 0 ∷ 0 ∷ 0 ∷ 90 ∷ 0 ∷ 0 ∷ 0 ∷ []) ++ request_frame
+    ++ (0 ∷ 202 ∷ 154 ∷ 59 ∷ 32 ∷ 78 ∷ 0 ∷ 0 ∷ 90 ∷ 0 ∷ 0 ∷ 0 ∷ 90 ∷ 0 ∷ 0 ∷ 0 ∷ []) ++ reply_frame
 
 -- its format: little-endian, with microseconds
 abbrev pub worked_format : Format

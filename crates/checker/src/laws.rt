@@ -74,6 +74,7 @@ pub fn few_groups_leave_the_error_out()
 {}
 
 /// Pieces that share their ends hold every reading of the span, fractions of a tick too.
+#[tactic(auto, using(crate::proofs::Cover::all_covered))]
 pub fn pieces_hold_every_reading()
     ensures { (n : ℕ) (reading begin : ℤ) (pieces : List PieceData) → 0 < length pieces →
         IsInWindow n begin (last_end begin pieces) reading →
@@ -146,6 +147,7 @@ pub fn verdicts_are_traceable()
 
 /// What is within a bound in ticks, which is a number of nanoseconds rounded down, is within that
 /// number of nanoseconds.
+#[tactic(auto, using(crate::proofs::Traceability::in_nanoseconds))]
 pub fn bounds_hold_in_nanoseconds()
     ensures { (course : Course) (bound : ℤ) (bound_ns : ℕ) → bound ≡ pos (ticks_down bound_ns) →
         IsWithin course bound → IsWithinNanoseconds course bound_ns }
@@ -156,6 +158,7 @@ pub fn bounds_hold_in_nanoseconds()
 /// The verdict is yes exactly if the certificate is accepted: its pieces share their ends and
 /// are the span, each names samples of one server in an entry and no server twice, and each hull
 /// lies inside the bound.
+#[tactic(auto, using(crate::proofs::Acceptance::acceptance))]
 pub fn yes_is_acceptance()
     ensures { (samples : List Sample) (claim : ClaimData) (certificate : CertificateData) →
         (verdict_of samples claim certificate ≡ Yes) ↔ IsAccepted samples claim certificate }
@@ -213,6 +216,7 @@ pub fn stamps_err_on_one_side()
 /// A step of the clock before the exchanges that a piece names doesn't affect the piece: the
 /// course of a clock that was stepped fits what an entry names of the exchange after the step, and
 /// doesn't fit the two exchanges.
+#[tactic(auto, using(crate::proofs::Course::stepped_clock))]
 pub fn step_before_a_piece_is_no_matter()
     ensures piece { FitsPiece worked_claim (earlier_exchange ∷ worked_exchange ∷ [])
         ((1, 1) ∷ []) stepped_course }
@@ -222,6 +226,7 @@ pub fn step_before_a_piece_is_no_matter()
 
 /// The exchange of the worked courses is what a capture of two packets gives under their claim: the
 /// bytes are a capture of two records, and these have that one exchange.
+#[tactic(auto, using(crate::proofs::WorkedExchange::is_captured))]
 pub fn worked_exchange_is_captured()
     ensures capture { IsCapture worked_capture worked_format worked_records }
     ensures exchange { exchanges_of worked_claim worked_records ≡ worked_exchange ∷ [] }
@@ -238,6 +243,7 @@ pub fn nothing_is_known_without_exchanges()
 }
 
 /// Yes for a bound is yes for every wider bound.
+#[tactic(auto, using(crate::proofs::Comparison::wider_bound))]
 pub fn wider_bounds_hold_too()
     ensures { (samples : List Sample) (claim : ClaimData) (wider : ℤ)
         (certificate : CertificateData) → claim.bound ≤ℤ wider →
@@ -247,6 +253,7 @@ pub fn wider_bounds_hold_too()
 
 /// If fewer groups may be false, a yes stays yes or becomes a contradiction: the bound is no
 /// wider.
+#[tactic(auto, using(crate::proofs::Comparison::fewer_false))]
 pub fn fewer_false_groups_narrow()
     ensures { (samples : List Sample) (claim : ClaimData) (fewer : ℕ)
         (certificate : CertificateData) → fewer ≤ claim.false_max →
@@ -281,6 +288,7 @@ pub fn order_of_entries_changes_no_yes()
 /// a piece is the points that all its servers leave, and apart each of them counts by itself. So
 /// whoever doubts that servers depend on one reference may count them one by one without fear of a
 /// wider bound.
+#[tactic(auto, using(crate::proofs::Separation::verdict_apart))]
 pub fn groups_taken_apart_narrow()
     ensures { (samples : List Sample) (claim : ClaimData) (finer : List ℕ)
         (certificate : CertificateData) →
@@ -294,6 +302,7 @@ pub fn groups_taken_apart_narrow()
 
 /// If a certificate gives yes for the claim's span, then cut to a span inside that one it gives yes
 /// too, or shows a contradiction: a shorter piece has narrower intervals.
+#[tactic(auto, using(crate::proofs::Span::verdict_within))]
 pub fn spans_inside_narrow()
     ensures { (samples : List Sample) (claim : ClaimData) (certificate : CertificateData)
         (first last : ℕ) → IsLawful claim → All IsLawfulSample samples →
@@ -306,6 +315,7 @@ pub fn spans_inside_narrow()
 }
 
 /// What the entries of a piece say, if none is refused, is said by samples.
+#[tactic(auto, using(crate::proofs::Narrow::of_samples))]
 pub fn parts_are_of_samples()
     ensures { (samples : List Sample) (stretch : Stretch) (ppb : ℕ) (entries : List (ℕ × ℕ))
         (parts : List Part) → parts_after samples stretch ppb [] entries ≡ Ok parts →
@@ -314,6 +324,7 @@ pub fn parts_are_of_samples()
 
 /// If the hull over some parts lies in a bound, and each of them has a narrower one among other
 /// parts, the hull over these is empty or lies in the bound too.
+#[tactic(auto, using(crate::proofs::Narrow::empty_or_inside))]
 pub fn narrower_parts_narrow()
     ensures { (groups : List ℕ) (false_max : ℕ) (bound : ℤ) (parts next : List Part) →
         AreNarrower parts next → hull_fault bound (piece_hull groups false_max parts) ≡ None →

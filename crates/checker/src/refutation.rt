@@ -1,6 +1,6 @@
 //! Whether a refutation stands.
 
-ghost use Rattle.std.specs.Prelude.{◌≡◌, ◌≤◌, ◌+ℤ◌, ◌-ℤ◌, ◌↔◌, IsTrue};
+ghost use Rattle.std.specs.Prelude.{◌≡◌, ◌≤◌, ◌&&◌, ◌+ℤ◌, ◌-ℤ◌, ◌↔◌, IsTrue};
 ghost use Rattle.std.specs.Prelude.{nat_lt, length, map, All};
 ghost use Rattle.std.specs.List.{list_all};
 ghost use Rattle.certificate.specs.Refutation.{data_of as refutation_data};
@@ -76,9 +76,18 @@ fn is_outside(claim: &Claim, refutation: &Refutation) -> bool
     ensures { result ≡ spec.is_outside (claim_data claim.now) (refutation_data refutation.now) }
 {
     let reading = i128::from(refutation.reading);
-    i128::from(refutation.error.unsigned_abs()) > claim.bound
-        && claim.first <= reading
-        && reading <= claim.last
+    all_hold(
+        i128::from(refutation.error.unsigned_abs()) > claim.bound,
+        claim.first <= reading,
+        reading <= claim.last,
+    )
+}
+
+/// Whether three tests pass.
+fn all_hold(first: bool, second: bool, third: bool) -> bool
+    ensures { result ≡ (first && second && third) }
+{
+    first && second && third
 }
 
 /// Whether these servers are listed, each is named once, and all of them may be false.
@@ -86,9 +95,11 @@ fn may_be_false(claim: &Claim, liars: &[u8]) -> bool
     requires { length claim.now.groups.items ≤ 32 }
     ensures { result ≡ spec.may_be_false (claim_data claim.now) liars.now }
 {
-    are_listed(liars, claim.servers.len())
-        && are_different(liars)
-        && false_group_count(claim.groups.as_slice(), liars) <= usize::from(claim.false_max)
+    all_hold(
+        are_listed(liars, claim.servers.len()),
+        are_different(liars),
+        false_group_count(claim.groups.as_slice(), liars) <= usize::from(claim.false_max),
+    )
 }
 
 /// Whether each of these numbers is below the count of servers.

@@ -21,12 +21,14 @@ ghost use Rattle.checker.specs.declared.verdict.Verdict.TheVariants.{Yes};
 use crate::laws::verdicts_are_traceable;
 
 /// The test is passed exactly by the refutations that are accepted.
+#[tactic(auto, using(crate::proofs::RefutationTests::refuted_by_test))]
 pub fn test_is_passed_where_refuted()
     ensures { (claim : ClaimData) (xs : List Exchange) (refutation : RefutationData) →
         (is_refuted claim xs refutation ≡ true) ↔ IsRefuted claim xs refutation }
 {}
 
 /// The test on one exchange is passed exactly if it leaves room for the error.
+#[tactic(auto, using(crate::proofs::RefutationTests::admitted_by_test))]
 pub fn test_is_passed_where_room_is_left()
     ensures { (allowance error : ℤ) (x : Exchange) →
         (admits allowance error x ≡ true) ↔ Admits allowance error x }
@@ -85,6 +87,7 @@ pub fn courses_fit_whatever_the_bound()
 
 /// What refutes a claim refutes it with every narrower bound, and with every drift: the clock that
 /// it speaks of doesn't drift at all.
+#[tactic(auto, using(crate::proofs::RefutationCourse::refuted_with_less))]
 pub fn narrower_bounds_are_refuted_too()
     ensures { (claim : ClaimData) (narrower : ℤ) (drift_ppb : ℕ) (xs : List Exchange)
         (refutation : RefutationData) → narrower ≤ℤ claim.bound →
@@ -94,6 +97,7 @@ pub fn narrower_bounds_are_refuted_too()
 
 /// A course that an accepted refutation stands for breaks the claim: when the clock is observed,
 /// its reading lies in the span and its error is beyond the bound.
+#[tactic(auto, using(crate::proofs::RefutationStamp::course_breaks_claim))]
 pub fn courses_of_refutations_break_the_claim()
     ensures in_span { (claim : ClaimData) (xs : List Exchange) (refutation : RefutationData)
         (course : Course) → IsAgainst claim refutation → IsCourseOf claim xs refutation course →

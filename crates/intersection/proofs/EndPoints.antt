@@ -1,216 +1,11 @@
 -- If a point is admissible, so are an end that is not above it and one that is not below it.
-use Rattle.intersection.proofs.Common.{◌≡◌, ℕ, ◌+◌, ◌<◌, ◌≤◌, ℤ, ◌≤ℤ◌, Bool, true, false, cond, nat_le, ◌⊎◌, inl, inr, ⊎_elim, List, [], ◌∷◌, length, refl, sym, ap, ◌∙◌, subst, arith, filter, fold, int_max, int_min, ints, clamps, sum_by-cons, cond-true, cond-false, nat_tests, leaves_out, count_leaving_out, IsAdmissible, IsHull, end_points, admissible_ends, range_of, hull_of, Interval, Unbounded, by_test, leb-true}
-use Rattle.intersection.proofs.Intervals.{int_max_or, int_min_or}
+use Rattle.intersection.proofs.Common.{◌≡◌, ℕ, ◌<◌, ◌≤◌, ℤ, ◌≤ℤ◌, Bool, true, false, cond, int_le, nat_le, ◌⊎◌, inl, inr, ⊎_elim, List, [], ◌∷◌, length, refl, ap, sym, ◌∙◌, subst, arith, filter, fold, ints, clamps, nat_tests, cond-true, cond-false, leb-true, sum_by-cons, int_max, int_min, leaves_out, Interval, count_leaving_out, IsAdmissible, IsHull, end_points, admissible_ends, range_of, hull_of, Unbounded, by_test, le-int_le, int_le-true, ≤ℤ_trans}
+use Rattle.intersection.proofs.Intervals.{int_max_or, int_min_or, test_le, inside_from_test, test_from_inside}
 
 -- a point stands in a list
 abbrev pub StandsIn : List ℤ → ℤ → Type 0
 StandsIn [] q = ⊥
 StandsIn (p ∷ ps) q = (q ≡ p) ⊎ StandsIn ps q
-
-count_yes : (interval : Interval) (list : List Interval) (p : ℤ) → leaves_out interval p ≡ true
-    → count_leaving_out (interval ∷ list) p ≡ 1 + count_leaving_out list p
-count_yes interval list p h =
-    sum_by-cons _ interval list ∙ ap (λ n. n + count_leaving_out list p) (cond-true (leaves_out interval p) 1 0 h)
-
-count_no : (interval : Interval) (list : List Interval) (p : ℤ) → leaves_out interval p ≡ false
-    → count_leaving_out (interval ∷ list) p ≡ count_leaving_out list p
-count_no interval list p h =
-    sum_by-cons _ interval list ∙ ap (λ n. n + count_leaving_out list p) (cond-false (leaves_out interval p) 1 0 h)
-    ∙ omega arith
-
-at_most_one : (interval : Interval) (list : List Interval) (p : ℤ)
-    → count_leaving_out (interval ∷ list) p ≤ 1 + count_leaving_out list p
-at_most_one interval list p = by_test (leaves_out interval p)
-    (λ yes'. omega (arith, count_yes interval list p yes'))
-    (λ no'. omega (arith, count_no interval list p no'))
-
--- q is an end that no more intervals leave out than p
-pub record Near (list : List Interval) (p q : ℤ) : Type 0 where
-  pub stands : StandsIn (end_points list) q
-  pub fewer : count_leaving_out list q ≤ count_leaving_out list p
-
--- ---- below
-
--- from q on, the greatest low end of the intervals that hold p
-abbrev top : ℤ → ℤ → List Interval → ℤ
-top q p [] = q
-top q p (interval ∷ list) = top (cond (leaves_out interval p) q (int_max q interval.lo)) p list
-
-top_step : (q p : ℤ) (interval : Interval) (list : List Interval) (b : Bool) → leaves_out interval p ≡ b
-    → top q p (interval ∷ list) ≡ top (cond b q (int_max q interval.lo)) p list
-top_step q p interval list b e = ap (λ (t : Bool). top (cond t q (int_max q interval.lo)) p list) e
-
-top_from : (q p : ℤ) (list : List Interval) → (q ≤ℤ top q p list)
-top_from q p [] = omega (arith, ints)
-top_from q p (interval ∷ list) = by_test (leaves_out interval p)
-    (λ out. rw (top_step q p interval list true out) (top_from q p list))
-    (λ held. rw (top_step q p interval list false held)
-    (let rest = top_from (int_max q interval.lo) p list in omega (arith, ints, clamps)))
-
-held_lo : (interval : Interval) (p : ℤ) → leaves_out interval p ≡ false → (interval.lo ≤ℤ p)
-held_lo interval p h = grind (arith, ints)
-
-top_to : (q p : ℤ) (list : List Interval) → (q ≤ℤ p) → (top q p list ≤ℤ p)
-top_to q p [] le = le
-top_to q p (interval ∷ list) le = by_test (leaves_out interval p)
-    (λ out. rw (top_step q p interval list true out) (top_to q p list le))
-    (λ held. rw (top_step q p interval list false held)
-    (top_to (int_max q interval.lo) p list (let end = held_lo interval p held in omega (arith, ints, clamps))))
-
-top_held : (interval : Interval) (p r : ℤ) → leaves_out interval p ≡ false → (interval.lo ≤ℤ r) → (r ≤ℤ p)
-    → leaves_out interval r ≡ false
-top_held interval p r held below above = grind (arith, ints)
-
--- from there to p, no more intervals leave a point out than leave p out
-top_count : (q p r : ℤ) (list : List Interval) → (top q p list ≤ℤ r) → (r ≤ℤ p)
-    → count_leaving_out list r ≤ count_leaving_out list p
-top_count q p r [] low high = omega arith
-top_count q p r (interval ∷ list) low high = by_test (leaves_out interval p)
-    (λ out.
-    let low' = rw (top_step q p interval list true out) at low in
-    let rest = top_count q p r list low' high in
-    omega (arith, count_yes interval list p out, at_most_one interval list r))
-    (λ held.
-    let low' = rw (top_step q p interval list false held) at low in
-    let rest = top_count (int_max q interval.lo) p r list low' high in
-    let from = top_from (int_max q interval.lo) p list in
-    let here : (interval.lo ≤ℤ r) = omega (arith, ints, clamps) in
-    omega (arith, count_no interval list p held, count_no interval list r (top_held interval p r held here high)))
-
-top_stands : (q p : ℤ) (list : List Interval)
-    → (top q p list ≡ q) ⊎ StandsIn (end_points list) (top q p list)
-top_stands q p [] = inl refl
-top_stands q p (interval ∷ list) = by_test (leaves_out interval p)
-    (λ out. rw (top_step q p interval list true out)
-    (⊎_elim (λ e. inl e) (λ h. inr (inr (inr h))) (top_stands q p list)))
-    (λ held. rw (top_step q p interval list false held)
-    (⊎_elim
-    (λ e. ⊎_elim (λ first. inl (e ∙ first)) (λ second. inr (inl (e ∙ second))) (int_max_or q interval.lo))
-    (λ h. inr (inr (inr h)))
-    (top_stands (int_max q interval.lo) p list)))
-
--- an end that stands near among the others stands near among all
-near_more : (interval : Interval) (list : List Interval) (p q : ℤ) → leaves_out interval p ≡ true → Near list p q
-    → Near (interval ∷ list) p q
-near_more interval list p q out near = record {
-  stands = inr (inr near.stands);
-  fewer = omega (arith, near.fewer, count_yes interval list p out, at_most_one interval list q);
-}
-
-pub near_below : (list : List Interval) (p : ℤ) → count_leaving_out list p < length list
-    → (q : ℤ) × Near list p q × (q ≤ℤ p)
-near_below [] p few = absurd (omega arith)
-near_below (interval ∷ list) p few = by_test (leaves_out interval p)
-    (λ out.
-    let rest = near_below list p (omega (arith, count_yes interval list p out)) in
-    (rest.0, near_more interval list p rest.0 out rest.1, rest.2))
-    (λ held.
-    let q = top interval.lo p list in
-    let from : (interval.lo ≤ℤ q) = top_from interval.lo p list in
-    let to : (q ≤ℤ p) = top_to interval.lo p list (held_lo interval p held) in (
-      q,
-      record {
-        stands = ⊎_elim (λ e. inl e) (λ h. inr (inr h)) (top_stands interval.lo p list);
-        fewer = omega (
-          arith,
-          count_no interval list p held,
-          count_no interval list q (top_held interval p q held from to),
-          top_count interval.lo p q list (omega (arith, ints)) to,
-        );
-      },
-      to,
-    ))
-
--- ---- above
-
--- from q on, the least high end of the intervals that hold p
-abbrev bottom : ℤ → ℤ → List Interval → ℤ
-bottom q p [] = q
-bottom q p (interval ∷ list) = bottom (cond (leaves_out interval p) q (int_min q interval.hi)) p list
-
-bottom_step : (q p : ℤ) (interval : Interval) (list : List Interval) (b : Bool) → leaves_out interval p ≡ b
-    → bottom q p (interval ∷ list) ≡ bottom (cond b q (int_min q interval.hi)) p list
-bottom_step q p interval list b e = ap (λ (t : Bool). bottom (cond t q (int_min q interval.hi)) p list) e
-
-bottom_from : (q p : ℤ) (list : List Interval) → (bottom q p list ≤ℤ q)
-bottom_from q p [] = omega (arith, ints)
-bottom_from q p (interval ∷ list) = by_test (leaves_out interval p)
-    (λ out. rw (bottom_step q p interval list true out) (bottom_from q p list))
-    (λ held. rw (bottom_step q p interval list false held)
-    (let rest = bottom_from (int_min q interval.hi) p list in omega (arith, ints, clamps)))
-
-held_hi : (interval : Interval) (p : ℤ) → leaves_out interval p ≡ false → (p ≤ℤ interval.hi)
-held_hi interval p h = grind (arith, ints)
-
-bottom_to : (q p : ℤ) (list : List Interval) → (p ≤ℤ q) → (p ≤ℤ bottom q p list)
-bottom_to q p [] le = le
-bottom_to q p (interval ∷ list) le = by_test (leaves_out interval p)
-    (λ out. rw (bottom_step q p interval list true out) (bottom_to q p list le))
-    (λ held. rw (bottom_step q p interval list false held)
-    (bottom_to (int_min q interval.hi) p list (let end = held_hi interval p held in omega (arith, ints, clamps))))
-
-bottom_held : (interval : Interval) (p r : ℤ) → leaves_out interval p ≡ false → (r ≤ℤ interval.hi) → (p ≤ℤ r)
-    → leaves_out interval r ≡ false
-bottom_held interval p r held below above = grind (arith, ints)
-
--- from there to p, no more intervals leave a point out than leave p out
-bottom_count : (q p r : ℤ) (list : List Interval) → (r ≤ℤ bottom q p list) → (p ≤ℤ r)
-    → count_leaving_out list r ≤ count_leaving_out list p
-bottom_count q p r [] low high = omega arith
-bottom_count q p r (interval ∷ list) low high = by_test (leaves_out interval p)
-    (λ out.
-    let low' = rw (bottom_step q p interval list true out) at low in
-    let rest = bottom_count q p r list low' high in
-    omega (arith, count_yes interval list p out, at_most_one interval list r))
-    (λ held.
-    let low' = rw (bottom_step q p interval list false held) at low in
-    let rest = bottom_count (int_min q interval.hi) p r list low' high in
-    let from = bottom_from (int_min q interval.hi) p list in
-    let here : (r ≤ℤ interval.hi) = omega (arith, ints, clamps) in
-    omega (
-      arith,
-      count_no interval list p held,
-      count_no interval list r
-          (bottom_held interval p r held here high),
-    ))
-
-bottom_stands : (q p : ℤ) (list : List Interval)
-    → (bottom q p list ≡ q) ⊎ StandsIn (end_points list) (bottom q p list)
-bottom_stands q p [] = inl refl
-bottom_stands q p (interval ∷ list) = by_test (leaves_out interval p)
-    (λ out. rw (bottom_step q p interval list true out)
-    (⊎_elim (λ e. inl e) (λ h. inr (inr (inr h))) (bottom_stands q p list)))
-    (λ held. rw (bottom_step q p interval list false held)
-    (⊎_elim
-    (λ e. ⊎_elim (λ first. inl (e ∙ first)) (λ second. inr (inr (inl (e ∙ second)))) (int_min_or q interval.hi))
-    (λ h. inr (inr (inr h)))
-    (bottom_stands (int_min q interval.hi) p list)))
-
-pub near_above : (list : List Interval) (p : ℤ) → count_leaving_out list p < length list
-    → (q : ℤ) × Near list p q × (p ≤ℤ q)
-near_above [] p few = absurd (omega arith)
-near_above (interval ∷ list) p few = by_test (leaves_out interval p)
-    (λ out.
-    let rest = near_above list p (omega (arith, count_yes interval list p out)) in
-    (rest.0, near_more interval list p rest.0 out rest.1, rest.2))
-    (λ held.
-    let q = bottom interval.hi p list in
-    let from : (q ≤ℤ interval.hi) = bottom_from interval.hi p list in
-    let to : (p ≤ℤ q) = bottom_to interval.hi p list (held_hi interval p held) in (
-      q,
-      record {
-        stands = ⊎_elim (λ e. inr (inl e)) (λ h. inr (inr h)) (bottom_stands interval.hi p list);
-        fewer = omega (
-          arith,
-          count_no interval list p held,
-          count_no interval list q (bottom_held interval p q held from to),
-          bottom_count interval.hi p q list (omega (arith, ints)) to,
-        );
-      },
-      to,
-    ))
-
--- ---- among the admissible ends
 
 filter_stands : (test : ℤ → Bool) (xs : List ℤ) (q : ℤ) → test q ≡ true → StandsIn xs q → StandsIn (filter test xs) q
 filter_stands test [] q h s = absurd s
@@ -221,100 +16,153 @@ filter_stands test (x ∷ xs) q h s = by_test (test x)
     (⊎_elim (λ e. absurd (let same : test x ≡ test q = ap test (sym e) in cc))
     (λ later. filter_stands test xs q h later) s))
 
-passes_filter : (test : ℤ → Bool) (xs : List ℤ) (q : ℤ) → StandsIn (filter test xs) q → test q ≡ true
-passes_filter test [] q s = absurd s
-passes_filter test (x ∷ xs) q s = by_test (test x)
+from_filter : (test : ℤ → Bool) (xs : List ℤ) (q : ℤ) → StandsIn (filter test xs) q
+    → (test q ≡ true) × StandsIn xs q
+from_filter test [] q s = absurd s
+from_filter test (x ∷ xs) q s = by_test (test x)
     (λ passes.
     let s' = rw (cond-true (test x) (x ∷ filter test xs) (filter test xs) passes) at s in
-    ⊎_elim (λ e. ap test e ∙ passes) (λ later. passes_filter test xs q later) s')
+    ⊎_elim (λ e. (ap test e ∙ passes, inl e))
+    (λ later. let rest = from_filter test xs q later in (rest.0, inr rest.1)) s')
     (λ fails.
     let s' = rw (cond-false (test x) (x ∷ filter test xs) (filter test xs) fails) at s in
-    passes_filter test xs q s')
+    let rest = from_filter test xs q s' in
+    (rest.0, inr rest.1))
 
-pub admissible_stands : (list : List Interval) (f : ℕ) (q : ℤ) → IsAdmissible list f q → StandsIn (end_points list) q
-    → StandsIn (admissible_ends list f) q
-admissible_stands list f q few s = filter_stands _ (end_points list) q (grind (arith, nat_tests)) s
+-- ---- the least point of a list, or the greatest
 
-pub stands_admissible : (list : List Interval) (f : ℕ) (q : ℤ) → StandsIn (admissible_ends list f) q
-    → IsAdmissible list f q
-stands_admissible list f q s =
-    let passed : nat_le (count_leaving_out list q) f ≡ true = passes_filter _ (end_points list) q s in
-    grind (arith, nat_tests)
+-- `pick` picks of two points the one that comes first in the order R, which `test` decides
+record Picks (pick : ℤ → ℤ → ℤ) (R : ℤ → ℤ → Type 0) (test : ℤ → ℤ → Bool) : Type 0 where
+  either : (x y : ℤ) → (pick x y ≡ x) ⊎ (pick x y ≡ y)
+  before_first : (x y : ℤ) → R (pick x y) x
+  before_second : (x y : ℤ) → R (pick x y) y
+  same : (x : ℤ) → R x x
+  chain : (x y z : ℤ) → R x y → R y z → R x z
+  passes : (x y : ℤ) → R x y → test x y ≡ true
+  passed : (x y : ℤ) → test x y ≡ true → R x y
 
-least_stands : (p : ℤ) (ps : List ℤ) → StandsIn (p ∷ ps) (fold int_min p ps)
-least_stands p [] = inl refl
-least_stands p (x ∷ xs) = ⊎_elim
-    (λ e. ⊎_elim (λ first. inl (e ∙ first)) (λ second. inr (inl (e ∙ second))) (int_min_or p x))
-    (λ later. inr (inr later))
-    (least_stands (int_min p x) xs)
+module _ (pick : ℤ → ℤ → ℤ) (R : ℤ → ℤ → Type 0) (test : ℤ → ℤ → Bool) (picks : Picks pick R test) where
+  -- of these points the first is one of them, and comes before each
+  first_of : (p : ℤ) (ps : List ℤ) → StandsIn (p ∷ ps) (fold pick p ps)
+      × ((q : ℤ) → StandsIn (p ∷ ps) q → R (fold pick p ps) q)
+  first_of p [] = (inl refl, λ q. ⊎_elim (λ e. rw e (picks.same p)) (λ none. absurd none))
+  first_of p (x ∷ xs) =
+      let rest = first_of (pick p x) xs in
+      let before = rest.1 (pick p x) (inl refl) in (
+        ⊎_elim
+            (λ e. ⊎_elim (λ first. inl (e ∙ first)) (λ second. inr (inl (e ∙ second))) (picks.either p x))
+            (λ later. inr (inr later)) rest.0,
+        λ q. ⊎_elim (λ e. rw e (picks.chain _ _ _ before (picks.before_first p x)))
+            (⊎_elim (λ e. rw e (picks.chain _ _ _ before (picks.before_second p x)))
+            (λ later. rest.1 q (inr later))),
+      )
 
-least_first : (p : ℤ) (ps : List ℤ) → fold int_min p ps ≤ℤ p
-least_first p [] = omega (arith, ints)
-least_first p (x ∷ xs) = let rest = least_first (int_min p x) xs in omega (arith, ints, clamps)
+  -- of the points of a list that p comes before there is a first, if there is one
+  nearest : (p : ℤ) (ps after : List ℤ) (q : ℤ) → filter (test p) ps ≡ after → StandsIn ps q → R p q
+      → (first : ℤ) × StandsIn ps first × R p first × ((e : ℤ) → StandsIn ps e → R p e → R first e)
+  nearest p ps [] q is s h = absurd (rw is at (filter_stands (test p) ps q (picks.passes p q h) s))
+  nearest p ps (x ∷ xs) q is s h =
+      let first = first_of x xs in
+      let found = from_filter (test p) ps (fold pick x xs) (rw is first.0) in (
+        fold pick x xs,
+        found.1,
+        picks.passed p _ found.0,
+        λ e s' h'. first.1 e (rw is at (filter_stands (test p) ps e (picks.passes p e h') s')),
+      )
 
-least_below : (p : ℤ) (ps : List ℤ) (q : ℤ) → StandsIn (p ∷ ps) q → fold int_min p ps ≤ℤ q
-least_below p [] q s = ⊎_elim (λ e. omega (arith, ints)) (λ none. absurd none) s
-least_below p (x ∷ xs) q s =
-    let rest = least_first (int_min p x) xs in
-    ⊎_elim (λ e. omega (arith, ints, clamps))
-    (⊎_elim (λ e. omega (arith, ints, clamps)) (λ later. least_below (int_min p x) xs q (inr later))) s
+least : Picks int_min (λ x y. x ≤ℤ y) int_le
+least = record {
+  either = int_min_or;
+  before_first = λ x y. omega (arith, ints, clamps);
+  before_second = λ x y. omega (arith, ints, clamps);
+  same = λ x. omega (arith, ints);
+  chain = ≤ℤ_trans;
+  passes = le-int_le;
+  passed = int_le-true;
+}
 
-greatest_stands : (p : ℤ) (ps : List ℤ) → StandsIn (p ∷ ps) (fold int_max p ps)
-greatest_stands p [] = inl refl
-greatest_stands p (x ∷ xs) = ⊎_elim
-    (λ e. ⊎_elim (λ first. inl (e ∙ first)) (λ second. inr (inl (e ∙ second))) (int_max_or p x))
-    (λ later. inr (inr later))
-    (greatest_stands (int_max p x) xs)
+greatest : Picks int_max (λ x y. y ≤ℤ x) (λ x y. int_le y x)
+greatest = record {
+  either = int_max_or;
+  before_first = λ x y. omega (arith, ints, clamps);
+  before_second = λ x y. omega (arith, ints, clamps);
+  same = λ x. omega (arith, ints);
+  chain = λ x y z h k. omega (arith, ints);
+  passes = λ x y. le-int_le y x;
+  passed = λ x y. int_le-true y x;
+}
 
-greatest_first : (p : ℤ) (ps : List ℤ) → p ≤ℤ fold int_max p ps
-greatest_first p [] = omega (arith, ints)
-greatest_first p (x ∷ xs) = let rest = greatest_first (int_max p x) xs in omega (arith, ints, clamps)
+-- ---- ends beside a point
 
-greatest_above : (p : ℤ) (ps : List ℤ) (q : ℤ) → StandsIn (p ∷ ps) q → q ≤ℤ fold int_max p ps
-greatest_above p [] q s = ⊎_elim (λ e. omega (arith, ints)) (λ none. absurd none) s
-greatest_above p (x ∷ xs) q s =
-    let rest = greatest_first (int_max p x) xs in
-    ⊎_elim (λ e. omega (arith, ints, clamps))
-    (⊎_elim (λ e. omega (arith, ints, clamps)) (λ later. greatest_above (int_max p x) xs q (inr later))) s
+-- an interval that holds p holds q, if no end passes from one side of p to the other side of q
+no_more : (list : List Interval) (p q : ℤ) → ((e : ℤ) → StandsIn (end_points list) e → e ≤ℤ p → e ≤ℤ q)
+    → ((e : ℤ) → StandsIn (end_points list) e → p ≤ℤ e → q ≤ℤ e)
+    → count_leaving_out list q ≤ count_leaving_out list p
+no_more [] p q below above = omega arith
+no_more (interval ∷ list) p q below above =
+    let rest = no_more list p q (λ e s. below e (inr (inr s))) (λ e s. above e (inr (inr s))) in
+    let here = test_le (leaves_out interval q) (leaves_out interval p)
+    (λ held.
+    let inside = inside_from_test interval p held in
+    test_from_inside interval q (below interval.lo (inl refl) inside.0, above interval.hi (inr (inl refl)) inside.1)) in
+    omega (
+      arith,
+      sum_by-cons (λ i. cond (leaves_out i q) 1 0) interval list,
+      sum_by-cons (λ i. cond (leaves_out i p) 1 0) interval list,
+    )
+
+-- if an interval holds p, one of its ends is not above p, and one is not below it
+some_ends : (list : List Interval) (p : ℤ) → count_leaving_out list p < length list
+    → ((q : ℤ) × StandsIn (end_points list) q × (q ≤ℤ p)) × ((q : ℤ) × StandsIn (end_points list) q × (p ≤ℤ q))
+some_ends [] p few = absurd (omega arith)
+some_ends (interval ∷ list) p few = by_test (leaves_out interval p)
+    (λ out.
+    let count = sum_by-cons (λ i. cond (leaves_out i p) 1 0) interval list in
+    let rest = some_ends list p (omega (arith, count, cond-true {A = ℕ} (leaves_out interval p) 1 0 out)) in
+    ((rest.0.0, inr (inr rest.0.1), rest.0.2), (rest.1.0, inr (inr rest.1.1), rest.1.2)))
+    (λ held.
+    let inside = inside_from_test interval p held in
+    ((interval.lo, inl refl, inside.0), (interval.hi, inr (inl refl), inside.1)))
 
 -- ---- the hull
 
 module _ (list : List Interval) (f : ℕ) (below : f < length list) where
-  end_below : (p : ℤ) → IsAdmissible list f p → (q : ℤ) × StandsIn (admissible_ends list f) q × (q ≤ℤ p)
-  end_below p few =
-      let near = near_below list p (omega arith) in
-      let fewer = near.1.fewer in
-      (near.0, admissible_stands list f near.0 (omega arith) near.1.stands, near.2)
+  admissible_stands : (q : ℤ) → IsAdmissible list f q → StandsIn (end_points list) q
+      → StandsIn (admissible_ends list f) q
+  admissible_stands q few s = filter_stands _ (end_points list) q (grind (arith, nat_tests)) s
 
-  end_above : (p : ℤ) → IsAdmissible list f p → (q : ℤ) × StandsIn (admissible_ends list f) q × (p ≤ℤ q)
-  end_above p few =
-      let near = near_above list p (omega arith) in
-      let fewer = near.1.fewer in
-      (near.0, admissible_stands list f near.0 (omega arith) near.1.stands, near.2)
+  stands_admissible : (q : ℤ) → StandsIn (admissible_ends list f) q → IsAdmissible list f q
+  stands_admissible q s =
+      let passed : nat_le (count_leaving_out list q) f ≡ true = (from_filter _ (end_points list) q s).0 in
+      grind (arith, nat_tests)
+
+  ends_beside : (p : ℤ) → IsAdmissible list f p → ((q : ℤ) × StandsIn (admissible_ends list f) q × (q ≤ℤ p))
+      × ((q : ℤ) × StandsIn (admissible_ends list f) q × (p ≤ℤ q))
+  ends_beside p few =
+      let ends = some_ends list p (omega arith) in
+      let low = nearest _ _ _ greatest p (end_points list) _ ends.0.0 refl ends.0.1 ends.0.2 in
+      let high = nearest _ _ _ least p (end_points list) _ ends.1.0 refl ends.1.1 ends.1.2 in
+      let fewer_low = no_more list p low.0 low.3 (λ e s above. ≤ℤ_trans low.0 p e low.2 above) in
+      let fewer_high = no_more list p high.0 (λ e s below. ≤ℤ_trans e p high.0 below high.2) high.3 in (
+        (low.0, admissible_stands low.0 (omega arith) low.1, low.2),
+        (high.0, admissible_stands high.0 (omega arith) high.1, high.2),
+      )
 
   range_is_hull : (ends : List ℤ) → admissible_ends list f ≡ ends → IsHull list f (range_of ends)
-  range_is_hull [] e = (below, λ p few. let q = end_below p few in subst (λ (xs : List ℤ). StandsIn xs q.0) e q.1)
+  range_is_hull [] e = (below, λ p few. let q = (ends_beside p few).0 in subst (λ (xs : List ℤ). StandsIn xs q.0) e q.1)
   range_is_hull (first ∷ ends) e =
-      let stands : (q : ℤ) → StandsIn (first ∷ ends) q → StandsIn (admissible_ends list f) q =
-      λ q s. subst (λ (xs : List ℤ). StandsIn xs q) (sym e) s in
+      let lo = first_of _ _ _ least first ends in
+      let hi = first_of _ _ _ greatest first ends in
       let given : (q : ℤ) → StandsIn (admissible_ends list f) q → StandsIn (first ∷ ends) q =
       λ q s. subst (λ (xs : List ℤ). StandsIn xs q) e s in (
         below,
         (
-          stands_admissible list f _ (stands _ (least_stands first ends)),
-          λ p few.
-              let q = end_below p few in
-              let least = least_below first ends q.0 (given q.0 q.1) in
-              let near = q.2 in
-              omega (arith, ints),
+          stands_admissible _ (subst (λ (xs : List ℤ). StandsIn xs (fold int_min first ends)) (sym e) lo.0),
+          λ p few. let q = (ends_beside p few).0 in ≤ℤ_trans _ q.0 p (lo.1 q.0 (given q.0 q.1)) q.2,
         ),
         (
-          stands_admissible list f _ (stands _ (greatest_stands first ends)),
-          λ p few.
-              let q = end_above p few in
-              let greatest = greatest_above first ends q.0 (given q.0 q.1) in
-              let near = q.2 in
-              omega (arith, ints),
+          stands_admissible _ (subst (λ (xs : List ℤ). StandsIn xs (fold int_max first ends)) (sym e) hi.0),
+          λ p few. let q = (ends_beside p few).1 in ≤ℤ_trans p q.0 _ q.2 (hi.1 q.0 (given q.0 q.1)),
         ),
       )
 

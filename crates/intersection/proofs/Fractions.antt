@@ -1,70 +1,42 @@
 -- Products by a positive number, floors and ceilings, and whole points beside fractions.
-use Rattle.intersection.proofs.Common.{◌≡◌, ℕ, zero, suc, ◌*◌, ◌/◌, ◌<◌, ◌≤◌, ℤ, pos, negsuc, ◌+ℤ◌, ◌*ℤ◌, ◌<ℤ◌, ◌≤ℤ◌, neg_ℤ, Bool, true, false, cond, List, refl, arith, count_by, ints, by_lt_z, sum_by-le-sum_by, times_le, leaves_out, count_leaving_out, IsAdmissible, IsHull, HoldsFraction, leaves_fraction_out, IsAdmissibleFraction, HullHoldsFraction, Interval, Hull, Unbounded, Empty, Bounded}
+use Rattle.intersection.proofs.Common.{◌≡◌, ℕ, ◌/◌, ◌<◌, ◌≤◌, ℤ, pos, negsuc, ◌+ℤ◌, ◌*ℤ◌, ◌<ℤ◌, ◌≤ℤ◌, false, List, refl, arith, count_by, ints, by_lt_z, sum_by-le-sum_by, times-add, times_le, count_leaving_out, IsAdmissible, IsHull, HoldsFraction, leaves_fraction_out, IsAdmissibleFraction, HullHoldsFraction, Interval, Hull, Unbounded, Empty, Bounded}
 use Rattle.era_unfold.specs.Ratio.{IsSignedFloor, IsSignedCeiling}
+use Rattle.intersection.proofs.Intervals.{test_le, test_from_inside}
 
-next_times : (a next : ℤ) (n : ℕ) → next ≡ a +ℤ pos 1 → (next *ℤ pos n) ≡ (a *ℤ pos n) +ℤ pos n
-next_times (pos x) (pos y) n h = let is : y ≡ suc x = omega (arith, ints) in rw is (omega (arith, ints))
-next_times (pos x) (negsuc y) n h = absurd (omega (arith, ints))
-next_times (negsuc x) (pos y) n h =
-    let zero_y : y ≡ 0 = omega (arith, ints) in
-    let zero_x : x ≡ 0 = omega (arith, ints) in
-    rw (zero_y, zero_x) (omega (arith, ints))
-next_times (negsuc x) (negsuc y) n h = let is : x ≡ suc y = omega (arith, ints) in rw is (omega (arith, ints))
-
--- n times one more than a
-times_next : (a : ℤ) (n : ℕ) → ((a +ℤ pos 1) *ℤ pos n) ≡ (a *ℤ pos n) +ℤ pos n
-times_next a n = next_times a (a +ℤ pos 1) n refl
-
-pub neg_times : (k n : ℕ) → (neg_ℤ (pos k) *ℤ pos n) ≡ neg_ℤ (pos (k * n))
-neg_times zero n = omega (arith, ints)
-neg_times (suc k) n = omega (arith, ints)
+-- a whole number of which n times lies below n times q + 1 is no more than q
+no_more : (q whole : ℤ) (n : ℕ) → (whole *ℤ pos n) <ℤ ((q *ℤ pos n) +ℤ pos n) → whole ≤ℤ q
+no_more q whole n h = by_lt_z q whole
+    (λ less. absurd (let step = times_le (q +ℤ pos 1) whole n (omega (arith, ints)) in
+    let next = times-add (q +ℤ pos 1) q (pos 1) n refl in omega (arith, ints)))
+    (λ le. le)
 
 -- if products by n are in order, so are the factors
 pub le_from_times : (a b : ℤ) (n : ℕ) → 0 < n → (a *ℤ pos n) ≤ℤ (b *ℤ pos n) → a ≤ℤ b
-le_from_times a b n positive h =
-    by_lt_z b a
-    (λ less. absurd (let step = times_le (b +ℤ pos 1) a n (omega (arith, ints)) in let next = times_next b n in
-    omega (arith, ints)))
-    (λ le. le)
+le_from_times a b n positive h = no_more b a n (omega (arith, ints))
 
 -- q is the floor if e/n lies from q to below q + 1
-floor_between : (q e : ℤ) (n : ℕ) → 0 < n → (q *ℤ pos n) ≤ℤ e → e <ℤ ((q *ℤ pos n) +ℤ pos n) → IsSignedFloor q e n
-floor_between q e n positive low high = (
-  low,
-  λ whole below. by_lt_z q whole
-      (λ less. absurd (let step = times_le (q +ℤ pos 1) whole n (omega (arith, ints)) in let next = times_next q n in
-      omega (arith, ints)))
-      (λ le. le),
-)
-
-ceiling_between : (q e : ℤ) (n : ℕ) → 0 < n → e ≤ℤ (q *ℤ pos n) → (q *ℤ pos n) <ℤ (e +ℤ pos n) → IsSignedCeiling q e n
-ceiling_between q e n positive high low = (
-  high,
-  λ whole above. by_lt_z whole q
-      (λ less. absurd (let step = times_le (whole +ℤ pos 1) q n (omega (arith, ints)) in
-      let next = times_next whole n in omega (arith, ints)))
-      (λ le. le),
-)
+floor_between : (q e : ℤ) (n : ℕ) → (q *ℤ pos n) ≤ℤ e → e <ℤ ((q *ℤ pos n) +ℤ pos n) → IsSignedFloor q e n
+floor_between q e n low high = (low, λ whole below. no_more q whole n (omega (arith, ints)))
 
 pub has_floor : (e : ℤ) (n : ℕ) → 0 < n → (floor : ℤ) × IsSignedFloor floor e n
 has_floor (pos a) n positive =
-    (pos (a / n), floor_between (pos (a / n)) (pos a) n positive (omega (arith, ints)) (omega (arith, ints)))
+    (pos (a / n), floor_between (pos (a / n)) (pos a) n (omega (arith, ints)) (omega (arith, ints)))
 has_floor (negsuc a) n positive =
-    (negsuc (a / n), floor_between (negsuc (a / n)) (negsuc a) n positive (omega (arith, ints)) (omega (arith, ints)))
+    (negsuc (a / n), floor_between (negsuc (a / n)) (negsuc a) n (omega (arith, ints)) (omega (arith, ints)))
 
+-- the ceiling of e/n is the floor of (e + n - 1)/n
 pub has_ceiling : (e : ℤ) (n : ℕ) → 0 < n → (ceiling : ℤ) × IsSignedCeiling ceiling e n
-has_ceiling (pos zero) n positive =
-    (pos 0, ceiling_between (pos 0) (pos 0) n positive (omega (arith, ints)) (omega (arith, ints)))
-has_ceiling (pos (suc a)) n positive = (
-  pos (suc (a / n)),
-  ceiling_between (pos (suc (a / n))) (pos (suc a)) n positive (omega (arith, ints))
-      (omega (arith, ints)),
-)
-has_ceiling (negsuc a) n positive = let q =
-    neg_ℤ (pos (suc a / n)) in (
-      q,
-      ceiling_between q (negsuc a) n positive (omega (arith, ints, neg_times (suc a / n) n))
-          (omega (arith, ints, neg_times (suc a / n) n)),
+has_ceiling e n positive =
+    let q = has_floor ((e +ℤ pos n) +ℤ negsuc 0) n positive in
+    let low = q.1.0 in
+    let next = times-add (q.0 +ℤ pos 1) q.0 (pos 1) n refl in (
+      q.0,
+      (
+        by_lt_z (q.0 *ℤ pos n) e
+            (λ less. absurd (let no = q.1.1 (q.0 +ℤ pos 1) (omega (arith, ints)) in omega (arith, ints)))
+            (λ le. le),
+        λ whole above. no_more whole q.0 n (omega (arith, ints)),
+      ),
     )
 
 pub floor_inside : (interval : Interval) (e floor : ℤ) (n : ℕ) → 0 < n → HoldsFraction interval e n
@@ -77,43 +49,31 @@ pub ceiling_inside : (interval : Interval) (e ceiling : ℤ) (n : ℕ) → 0 < n
 ceiling_inside interval e ceiling n positive inside is =
     (le_from_times interval.lo ceiling n positive (omega (arith, ints)), is.1 interval.hi inside.1)
 
--- a test that fails wherever another fails counts no more
-test_le : (p q : Bool) → (q ≡ false → p ≡ false) → cond p 1 0 ≤ cond q 1 0
-test_le p true h = elim p as (λ t. cond t 1 0 ≤ 1) [ true ↦ omega arith | false ↦ omega arith ]
-test_le p false h = let no : p ≡ false = h refl in rw no (omega arith)
-
-inside_from_test : (interval : Interval) (e : ℤ) (n : ℕ) → leaves_fraction_out interval e n ≡ false
+fraction_from_test : (interval : Interval) (e : ℤ) (n : ℕ) → leaves_fraction_out interval e n ≡ false
     → HoldsFraction interval e n
-inside_from_test interval e n h = (grind (arith, ints), grind (arith, ints))
+fraction_from_test interval e n h = (grind (arith, ints), grind (arith, ints))
 
-test_from_inside : (interval : Interval) (point : ℤ) → (interval.lo ≤ℤ point) × (point ≤ℤ interval.hi)
-    → leaves_out interval point ≡ false
-test_from_inside interval point h = grind (arith, ints)
-
--- the whole neighbors of a fraction are left out by no more intervals than the fraction is
-pub floor_left_out : (list : List Interval) (e floor : ℤ) (n : ℕ) → 0 < n → IsSignedFloor floor e n
-    → count_leaving_out list floor ≤ count_by (λ interval. leaves_fraction_out interval e n) list
-floor_left_out list e floor n positive is =
+-- a point that lies in each interval in which the fraction lies is left out by no more intervals
+neighbor_admissible : (list : List Interval) (f : ℕ) (e point : ℤ) (n : ℕ) → IsAdmissibleFraction list f e n
+    → ((interval : Interval) → HoldsFraction interval e n → (interval.lo ≤ℤ point) × (point ≤ℤ interval.hi))
+    → IsAdmissible list f point
+neighbor_admissible list f e point n few inside =
+    let fewer : count_leaving_out list point ≤ count_by (λ interval. leaves_fraction_out interval e n) list =
     sum_by-le-sum_by _ _ list
     (λ interval. test_le _ _
-    (λ passed. test_from_inside interval floor
-    (floor_inside interval e floor n positive (inside_from_test interval e n passed) is)))
-
-pub ceiling_left_out : (list : List Interval) (e ceiling : ℤ) (n : ℕ) → 0 < n → IsSignedCeiling ceiling e n
-    → count_leaving_out list ceiling ≤ count_by (λ interval. leaves_fraction_out interval e n) list
-ceiling_left_out list e ceiling n positive is =
-    sum_by-le-sum_by _ _ list
-    (λ interval. test_le _ _
-    (λ passed. test_from_inside interval ceiling
-    (ceiling_inside interval e ceiling n positive (inside_from_test interval e n passed) is)))
+    (λ passed. test_from_inside interval point (inside interval (fraction_from_test interval e n passed)))) in
+    omega arith
 
 pub floor_admissible : (list : List Interval) (f : ℕ) (e floor : ℤ) (n : ℕ) → 0 < n → IsAdmissibleFraction list f e n
     → IsSignedFloor floor e n → IsAdmissible list f floor
-floor_admissible list f e floor n positive few is = omega (arith, floor_left_out list e floor n positive is)
+floor_admissible list f e floor n positive few is =
+    neighbor_admissible list f e floor n few (λ interval inside. floor_inside interval e floor n positive inside is)
 
 pub ceiling_admissible : (list : List Interval) (f : ℕ) (e ceiling : ℤ) (n : ℕ) → 0 < n
     → IsAdmissibleFraction list f e n → IsSignedCeiling ceiling e n → IsAdmissible list f ceiling
-ceiling_admissible list f e ceiling n positive few is = omega (arith, ceiling_left_out list e ceiling n positive is)
+ceiling_admissible list f e ceiling n positive few is =
+    neighbor_admissible list f e ceiling n few
+    (λ interval inside. ceiling_inside interval e ceiling n positive inside is)
 
 pub hull_is_fine : (list : List Interval) (f : ℕ) (hull : Hull) (e : ℤ) (n : ℕ) → 0 < n
     → IsAdmissibleFraction list f e n → IsHull list f hull → HullHoldsFraction hull e n

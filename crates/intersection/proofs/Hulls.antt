@@ -1,5 +1,5 @@
 -- What follows of hulls from their definition.
-use Rattle.intersection.proofs.Common.{◌≡◌, ℕ, ◌<◌, ◌≤◌, ℤ, ◌↔◌, List, length, IsPermutation, refl, arith, ints, sum_by-IsPermutation, length_permutation, IsPermutation-sym, count_leaving_out, IsAdmissible, IsLeastAdmissible, IsGreatestAdmissible, IsHull, HullHolds, IfBounded, DescribesHull, hull_of, Interval, Hull, Unbounded, Empty, Bounded}
+use Rattle.intersection.proofs.Common.{◌≡◌, ℕ, ◌<◌, ◌≤◌, ℤ, ◌↔◌, List, length, IsPermutation, refl, arith, ints, sum_by-IsPermutation, length_permutation, count_leaving_out, IsAdmissible, IsLeastAdmissible, IsGreatestAdmissible, IsHull, HullHolds, IfBounded, DescribesHull, hull_of, Interval, Hull, Unbounded, Empty, Bounded}
 use Rattle.intersection.proofs.EndPoints.{IsHull-hull_of}
 
 pub one_answer : (list : List Interval) (f : ℕ) (first second : Hull) → IsHull list f first → IsHull list f second
@@ -35,35 +35,23 @@ nested list f g (Bounded lo hi) (Bounded lo' hi') point le w n h =
     (omega (arith, ints), omega (arith, ints))
 
 -- as many intervals leave a point out in whatever order they stand
-pub count-permutation : (list other : List Interval) (point : ℤ) → IsPermutation list other
+count_moved : (list other : List Interval) (point : ℤ) → IsPermutation list other
     → count_leaving_out other point ≡ count_leaving_out list point
-count-permutation list other point moved = sum_by-IsPermutation _ list other moved
-
-pub admissible_moves : (list other : List Interval) (f : ℕ) (point : ℤ) → IsPermutation list other
-    → IsAdmissible list f point → IsAdmissible other f point
-admissible_moves list other f point moved h = let same = count-permutation list other point moved in omega arith
+count_moved list other point moved = sum_by-IsPermutation _ list other moved
 
 pub free_of_order : (list other : List Interval) (f : ℕ) (hull : Hull) → IsPermutation list other → IsHull list f hull
     → IsHull other f hull
 free_of_order list other f Unbounded moved h = let same = length_permutation list other moved in omega arith
 free_of_order list other f Empty moved h =
     let same = length_permutation list other moved in
-    let back = IsPermutation-sym list other moved in
-    (omega arith, λ point k. h.1 point (admissible_moves other list f point back k))
+    (omega arith, λ point few. h.1 point (let still = count_moved list other point moved in omega arith))
 free_of_order list other f (Bounded lo hi) moved h =
     let same = length_permutation list other moved in
-    let back = IsPermutation-sym list other moved in (
+    let few : (point : ℤ) → IsAdmissible list f point ↔ IsAdmissible other f point =
+    λ point. let still = count_moved list other point moved in (λ k. omega arith, λ k. omega arith) in (
       omega arith,
-      (
-        admissible_moves list other f lo moved h.1.0,
-        λ point k. h.1.1 point
-            (admissible_moves other list f point back k),
-      ),
-      (
-        admissible_moves list other f hi moved h.2.0,
-        λ point k. h.2.1 point
-            (admissible_moves other list f point back k),
-      ),
+      ((few lo).0 h.1.0, λ point k. h.1.1 point ((few point).1 k)),
+      ((few hi).0 h.2.0, λ point k. h.2.1 point ((few point).1 k)),
     )
 
 -- ---- a hull, by its cases

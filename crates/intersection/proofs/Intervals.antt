@@ -1,5 +1,5 @@
 -- The tests on one interval, and the points of the meet of two.
-use Rattle.intersection.proofs.Common.{◌≡◌, ℕ, ℤ, pos, ◌*ℤ◌, ◌<ℤ◌, ◌⊎◌, ◌↔◌, inl, inr, ⊎_elim, true, false, cond, refl, sym, subst, ◌∙◌, arith, int_lt, ints, clamps, int_max, int_min, times_le, LeavesOut, LeavesFractionOut, Interval}
+use Rattle.intersection.proofs.Common.{◌≡◌, ℕ, ◌≤◌, ℤ, pos, ◌*ℤ◌, ◌<ℤ◌, ◌≤ℤ◌, ◌⊎◌, ◌↔◌, inl, inr, ⊎_elim, Bool, true, false, cond, refl, subst, ◌∙◌, arith, int_lt, ints, clamps, int_max, int_min, times_le, LeavesOut, leaves_out, LeavesFractionOut, Interval}
 
 pub int_max_or : (x y : ℤ) → (int_max x y ≡ x) ⊎ (int_max x y ≡ y)
 int_max_or x y = elim (int_lt y x) as (λ t. (cond t x y ≡ x) ⊎ (cond t x y ≡ y)) [ true ↦ inl refl | false ↦ inr refl ]
@@ -7,50 +7,48 @@ int_max_or x y = elim (int_lt y x) as (λ t. (cond t x y ≡ x) ⊎ (cond t x y 
 pub int_min_or : (x y : ℤ) → (int_min x y ≡ x) ⊎ (int_min x y ≡ y)
 int_min_or x y = elim (int_lt y x) as (λ t. (cond t y x ≡ x) ⊎ (cond t y x ≡ y)) [ true ↦ inr refl | false ↦ inl refl ]
 
-below_max : (p x y : ℤ) → p <ℤ int_max x y → (p <ℤ x) ⊎ (p <ℤ y)
-below_max p x y h = ⊎_elim (λ e. inl (omega (arith, ints))) (λ e. inr (omega (arith, ints))) (int_max_or x y)
+-- a test that fails wherever another fails counts no more
+pub test_le : (p q : Bool) → (q ≡ false → p ≡ false) → cond p 1 0 ≤ cond q 1 0
+test_le p true h = elim p as (λ t. cond t 1 0 ≤ 1) [ true ↦ omega arith | false ↦ omega arith ]
+test_le p false h = let no : p ≡ false = h refl in rw no (omega arith)
 
-above_min : (p x y : ℤ) → int_min x y <ℤ p → (x <ℤ p) ⊎ (y <ℤ p)
-above_min p x y h = ⊎_elim (λ e. inl (omega (arith, ints))) (λ e. inr (omega (arith, ints))) (int_min_or x y)
+pub inside_from_test : (interval : Interval) (point : ℤ) → leaves_out interval point ≡ false
+    → (interval.lo ≤ℤ point) × (point ≤ℤ interval.hi)
+inside_from_test interval point h = (grind (arith, ints), grind (arith, ints))
+
+pub test_from_inside : (interval : Interval) (point : ℤ) → (interval.lo ≤ℤ point) × (point ≤ℤ interval.hi)
+    → leaves_out interval point ≡ false
+test_from_inside interval point h = grind (arith, ints)
+
+-- what lies below the low end of the meet or above its high end does so for one of the two, and the other way round
+meet_either : (below above : ℤ → Type 0) → ((x y : ℤ) → x ≤ℤ y → below x → below y)
+    → ((x y : ℤ) → x ≤ℤ y → above y → above x) → (a b both : Interval) → both.lo ≡ int_max a.lo b.lo
+    → both.hi ≡ int_min a.hi b.hi
+    → (below both.lo ⊎ above both.hi) ↔ ((below a.lo ⊎ above a.hi) ⊎ (below b.lo ⊎ above b.hi))
+meet_either below above rises falls a b both lo hi = (
+  ⊎_elim
+      (λ h. ⊎_elim (λ k. inl (inl (subst below (lo ∙ k) h))) (λ k. inr (inl (subst below (lo ∙ k) h)))
+      (int_max_or a.lo b.lo))
+      (λ h. ⊎_elim (λ k. inl (inr (subst above (hi ∙ k) h))) (λ k. inr (inr (subst above (hi ∙ k) h)))
+      (int_min_or a.hi b.hi)),
+  ⊎_elim
+      (⊎_elim (λ h. inl (rises a.lo both.lo (omega (arith, ints, clamps)) h))
+      (λ h. inr (falls both.hi a.hi (omega (arith, ints, clamps)) h)))
+      (⊎_elim (λ h. inl (rises b.lo both.lo (omega (arith, ints, clamps)) h))
+      (λ h. inr (falls both.hi b.hi (omega (arith, ints, clamps)) h))),
+)
 
 -- a point is left out by the meet exactly if one of the two leaves it out
 pub meet_leaves_out : (a b both : Interval) → both.lo ≡ int_max a.lo b.lo → both.hi ≡ int_min a.hi b.hi → (point : ℤ)
     → LeavesOut both point ↔ (LeavesOut a point ⊎ LeavesOut b point)
 meet_leaves_out a b both lo hi point =
-    let to_max : int_max a.lo b.lo ≡ both.lo = sym lo in
-    let to_min : int_min a.hi b.hi ≡ both.hi = sym hi in (
-      ⊎_elim
-          (λ (h : point <ℤ both.lo). ⊎_elim (λ e. inl (inl e)) (λ e. inr (inl e))
-          (below_max point a.lo b.lo (omega (arith, ints))))
-          (λ (h : both.hi <ℤ point). ⊎_elim (λ e. inl (inr e)) (λ e. inr (inr e))
-          (above_min point a.hi b.hi (omega (arith, ints)))),
-      ⊎_elim
-          (⊎_elim (λ (h : point <ℤ a.lo). inl (omega (arith, ints, clamps)))
-          (λ (h : a.hi <ℤ point). inr (omega (arith, ints, clamps))))
-          (⊎_elim (λ (h : point <ℤ b.lo). inl (omega (arith, ints, clamps)))
-          (λ (h : b.hi <ℤ point). inr (omega (arith, ints, clamps)))),
-    )
+    meet_either (λ z. point <ℤ z) (λ z. z <ℤ point) (λ x y le h. omega (arith, ints)) (λ x y le h. omega (arith, ints))
+    a b both lo hi
 
 -- the same for a fraction
 pub meet_leaves_fraction_out : (a b both : Interval) (e : ℤ) (n : ℕ) → both.lo ≡ int_max a.lo b.lo
     → both.hi ≡ int_min a.hi b.hi → LeavesFractionOut both e n ↔ (LeavesFractionOut a e n ⊎ LeavesFractionOut b e n)
 meet_leaves_fraction_out a b both e n lo hi =
-    let below : ℤ → Type 0 = λ z. e <ℤ (z *ℤ pos n) in
-    let above : ℤ → Type 0 = λ z. (z *ℤ pos n) <ℤ e in (
-      ⊎_elim
-          (λ (h : e <ℤ (both.lo *ℤ pos n)). ⊎_elim (λ k. inl (inl (subst below (lo ∙ k) h)))
-          (λ k. inr (inl (subst below (lo ∙ k) h))) (int_max_or a.lo b.lo))
-          (λ (h : (both.hi *ℤ pos n) <ℤ e). ⊎_elim (λ k. inl (inr (subst above (hi ∙ k) h)))
-          (λ k. inr (inr (subst above (hi ∙ k) h))) (int_min_or a.hi b.hi)),
-      ⊎_elim
-          (⊎_elim
-          (λ (h : e <ℤ (a.lo *ℤ pos n)). inl
-          (omega (arith, ints, times_le a.lo both.lo n (omega (arith, ints, clamps)))))
-          (λ (h : (a.hi *ℤ pos n) <ℤ e). inr
-          (omega (arith, ints, times_le both.hi a.hi n (omega (arith, ints, clamps))))))
-          (⊎_elim
-          (λ (h : e <ℤ (b.lo *ℤ pos n)). inl
-          (omega (arith, ints, times_le b.lo both.lo n (omega (arith, ints, clamps)))))
-          (λ (h : (b.hi *ℤ pos n) <ℤ e). inr
-          (omega (arith, ints, times_le both.hi b.hi n (omega (arith, ints, clamps)))))),
-    )
+    meet_either (λ z. e <ℤ (z *ℤ pos n)) (λ z. (z *ℤ pos n) <ℤ e)
+    (λ x y le h. omega (arith, ints, times_le x y n le)) (λ x y le h. omega (arith, ints, times_le x y n le))
+    a b both lo hi

@@ -81,11 +81,6 @@ walk_stops walk list f needed ends r moved order below is found =
     }
 
 -- ---- the two walks
-pub walk_up : (list : List Interval) (f needed : ℕ) (ends : List End) (r : Option ℤ)
-    → IsPermutation (ends_of list) ends → IsInOrder ends → f < length list → needed ≡ length list - f
-    → r ≡ first_reached Low needed 0 0 ends → Stops Low list f r
-walk_up list f needed ends r moved order below is found = walk_stops Low list f needed ends r moved order below is found
-
 pub walk_down : (list : List Interval) (f needed : ℕ) (ends turned : List End) (r : Option ℤ)
     → IsPermutation (ends_of list) ends → IsInOrder ends → turned ≡ reverse ends → f < length list
     → needed ≡ length list - f → r ≡ first_reached High needed 0 0 turned → Stops High list f r

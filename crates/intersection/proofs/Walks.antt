@@ -44,50 +44,33 @@ unmet_after_at High p a b High High h k = grind (arith, ints)
 unmet_after : (walk : Side) (p : ℤ) (x y : End) → Follows walk x y → is_met walk p x ≡ false → is_met walk p y ≡ false
 unmet_after walk p x y = unmet_after_at walk p x.at y.at x.side y.side
 
-met_itself_at : (walk : Side) (a : ℤ) (s : Side) → enters walk (record { at = a; side = s }) ≡ true
-    → is_met walk a (record { at = a; side = s }) ≡ true
-met_itself_at Low a Low h = grind (arith, ints)
-met_itself_at Low a High h = cc
-met_itself_at High a Low h = cc
-met_itself_at High a High h = grind (arith, ints)
+-- in a walk down, the high ends enter and the low ones leave
+high_enters : (low : Bool) → cond low false true ≡ true → low ≡ false
+high_enters true h = cc
+high_enters false h = refl
+
+low_leaves : (low : Bool) → cond low false true ≡ false → low ≡ true
+low_leaves true h = refl
+low_leaves false h = cc
 
 met_itself : (walk : Side) (x : End) → enters walk x ≡ true → is_met walk x.at x ≡ true
-met_itself walk x = met_itself_at walk x.at x.side
-
-met_before_at : (walk : Side) (a b : ℤ) (s t : Side)
-    → Follows walk (record { at = a; side = s }) (record { at = b; side = t })
-    → enters walk (record { at = a; side = s }) ≡ true → is_met walk b (record { at = a; side = s }) ≡ true
-met_before_at Low a b Low t h k = let le = h.0 in grind (arith, ints)
-met_before_at Low a b High t h k = cc
-met_before_at High a b Low t h k = cc
-met_before_at High a b High t h k = let le = h.0 in grind (arith, ints)
+met_itself Low x h = rw h (grind (arith, ints))
+met_itself High x h = rw (high_enters (is_low x.side) h) (grind (arith, ints))
 
 -- an end that enters, with another after it, is met before the other's point
 met_before : (walk : Side) (x y : End) → Follows walk x y → enters walk x ≡ true → is_met walk y.at x ≡ true
-met_before walk x y = met_before_at walk x.at y.at x.side y.side
-
-unmet_leaving_at : (walk : Side) (a b : ℤ) (s t : Side)
-    → Follows walk (record { at = a; side = s }) (record { at = b; side = t })
-    → enters walk (record { at = b; side = t }) ≡ false → is_met walk a (record { at = b; side = t }) ≡ false
-unmet_leaving_at Low a b s Low h k = cc
-unmet_leaving_at Low a b s High h k = let le = h.0 in grind (arith, ints)
-unmet_leaving_at High a b s Low h k = let le = h.0 in grind (arith, ints)
-unmet_leaving_at High a b s High h k = cc
+met_before Low x y h k = let le = h.0 in rw k (grind (arith, ints))
+met_before High x y h k = let le = h.0 in rw (high_enters (is_low x.side) k) (grind (arith, ints))
 
 -- an end that leaves, after another, isn't met before the other's point
 unmet_leaving : (walk : Side) (x y : End) → Follows walk x y → enters walk y ≡ false → is_met walk x.at y ≡ false
-unmet_leaving walk x y = unmet_leaving_at walk x.at y.at x.side y.side
-
-short_unmet_at : (walk : Side) (p a : ℤ) (s : Side) → IsShortOf walk p a
-    → enters walk (record { at = a; side = s }) ≡ true → is_met walk p (record { at = a; side = s }) ≡ false
-short_unmet_at Low p a Low h k = grind (arith, ints)
-short_unmet_at Low p a High h k = cc
-short_unmet_at High p a Low h k = cc
-short_unmet_at High p a High h k = grind (arith, ints)
+unmet_leaving Low x y h k = let le = h.0 in rw k (grind (arith, ints))
+unmet_leaving High x y h k = let le = h.0 in rw (low_leaves (is_low y.side) k) (grind (arith, ints))
 
 -- at a point that the walk comes by before it, an end that enters isn't met
 short_unmet : (walk : Side) (p : ℤ) (x : End) → IsShortOf walk p x.at → enters walk x ≡ true → is_met walk p x ≡ false
-short_unmet walk p x = short_unmet_at walk p x.at x.side
+short_unmet Low p x h k = rw k (grind (arith, ints))
+short_unmet High p x h k = rw (high_enters (is_low x.side) k) (grind (arith, ints))
 
 -- ---- lists in order, by recursion
 abbrev pub Ordered : (End → End → Type 0) → List End → Type 0

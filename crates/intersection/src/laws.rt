@@ -29,6 +29,7 @@ pub fn hull_holds_every_admissible_point()
 {}
 
 /// A list and a number of wrong intervals have one hull at most.
+#[tactic(auto, using(crate::proofs::Hulls::one_answer))]
 pub fn hull_is_one_answer()
     ensures { (list : List Interval) (f : ℕ) (first second : Hull) → IsHull list f first
         → IsHull list f second → first ≡ second }
@@ -47,6 +48,7 @@ pub fn hull_is_free_of_order()
 {}
 
 /// With fewer wrong intervals there are fewer admissible points, and the hull is no larger.
+#[tactic(auto, using(crate::proofs::Hulls::nested))]
 pub fn hull_shrinks_as_fewer_are_wrong()
     ensures admissible { (list : List Interval) (f g : ℕ) (point : ℤ) → g ≤ f
         → IsAdmissible list g point → IsAdmissible list f point }

@@ -9,9 +9,9 @@ pub use Rattle.std.proofs.lemmas.Grind.{common_steps, drop_more_same}
 pub use Rattle.std.proofs.lemmas.List.{drop-set-lt, get_or-drop, get_or-replicate, length-map, map-append, map-id}
 pub use Rattle.std.proofs.lemmas.List.{take_all, take_more, take_more_set}
 pub use Rattle.std.proofs.lemmas.List.Elements.{All-cons, All-contains_itself, All-filter, All-map, All-nil, All-push}
-pub use Rattle.std.proofs.lemmas.List.Elements.{All-weaker, filter-append, filter_map-append, filter_passes}
+pub use Rattle.std.proofs.lemmas.List.Elements.{All-tail, All-weaker, filter-append, filter_map-append, filter_passes}
 pub use Rattle.std.proofs.lemmas.List.Quantifiers.{position-Some}
-pub use Rattle.std.proofs.lemmas.List.Sums.{count_by-le-length, length-filter, position_or_len_is, sum_by-append}
+pub use Rattle.std.proofs.lemmas.List.Sums.{count_by-le-length, length-filter, position_or_len_is, sum_by-append, sum_by-cons}
 pub use Rattle.std.proofs.lemmas.Nat.{and_mask, and_or_self, be_bytes_4}
 pub use Rattle.std.proofs.lemmas.Result.{err_from_is_err_and}
 pub use Rattle.std.proofs.lemmas.Slice.Eq.{bytes_eq-Decides}

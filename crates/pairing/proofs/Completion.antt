@@ -90,23 +90,14 @@ leaves-whole claim records old new (Err fault) leaves (inr refused) =
 not_above : (a b : ℕ) → nat_lt a b ≡ false → b ≤ a
 not_above a b h = grind (arith, nat_tests)
 
-limited-parts : (xs : List Exchange) (counts : Counts) (c : Collection) →
-    (if nat_lt most_exchanges (length xs) then Err TooManyExchanges else Ok (record {
-      exchanges = xs;
-      counts =
-          counts;
-    })) ≡ Ok c →
-    (c.exchanges ≡ xs) × (length xs ≤ most_exchanges)
-limited-parts xs counts c is = parts (nat_lt most_exchanges (length xs)) refl is
-  where
-    parts : (many : Bool) → nat_lt most_exchanges (length xs) ≡ many →
-        (if many then Err TooManyExchanges else Ok (record { exchanges = xs; counts = counts })) ≡ Ok c →
-        (c.exchanges ≡ xs) × (length xs ≤ most_exchanges)
-    parts true h e = let wrong : ⊥ = cc in absurd wrong
-    parts false h e =
-        let made : Collection = record { exchanges = xs; counts = counts } in
-        let same : made ≡ c = cc in
-        (ap (λ (d : Collection). d.exchanges) (sym same), not_above most_exchanges (length xs) h)
+limited-parts : (many : Bool) (xs : List Exchange) (counts : Counts) (c : Collection) →
+    (if many then Err TooManyExchanges else Ok (record { exchanges = xs; counts = counts })) ≡ Ok c →
+    (c.exchanges ≡ xs) × (many ≡ false)
+limited-parts true xs counts c is = absurd cc
+limited-parts false xs counts c is =
+    let made : Collection = record { exchanges = xs; counts = counts } in
+    let same : made ≡ c = cc in
+    (ap (λ (d : Collection). d.exchanges) (sym same), refl)
 
 pub lawful-whole : (claim : ClaimData) (records : List Record) (r : Result CompactCollection PairFault) →
     (length (exchanges_of claim records) ≤ most_exchanges →
@@ -114,6 +105,7 @@ pub lawful-whole : (claim : ClaimData) (records : List Record) (r : Result Compa
     IfOk r (λ held. AreLawful (length claim.servers) (compact_data held).exchanges)
 unfolding collection_of
 lawful-whole claim records (Ok held) lawful exact =
-    let parts = limited-parts (exchanges_of claim records) (counts_of claim records) (compact_data held) exact in
-    subst (AreLawful (length claim.servers)) (sym parts.0) (lawful parts.1)
+    let parts = limited-parts (nat_lt most_exchanges (length (exchanges_of claim records))) (exchanges_of claim records)
+    (counts_of claim records) (compact_data held) exact in
+    subst (AreLawful (length claim.servers)) (sym parts.0) (lawful (not_above most_exchanges _ parts.1))
 lawful-whole claim records (Err fault) lawful exact = tt

@@ -1,14 +1,12 @@
 -- What is collected is what the definition says.
-use Rattle.pairing.proofs.Common.{◌≡◌, ◌∙◌, ℕ, ◌+◌, List, [], ◌∷◌, Bool, true, false, Option, Some, None, Result, Ok, Err, refl, sym, ap, length, arith, ◌<◌, ◌≤◌, zero-add, map, origin_of, precision_of, precision_ticks_of, root_delay_of, root_dispersion_of, root_distance_of, ◌*◌, pos, unsigned_abs, unwrap_or, int_lt, filter, count_by, is_none, nat_lt, if◌then◌else◌, cons_option, filter_map, result_ok, nat_tests, sum_by-append, Record, ClaimData, Counts, Exchange, PairFault, TooManyExchanges, CompactExchange, IndexedRequest, Key, Place, Refusal, Version, Leap, Stratum, Precision, ZeroStamp, NoRequest, Ambiguous, count_for, IsJoined, most_exchanges, IsGatheredFrom, is_accepted, is_early, is_for, compact_of, Indexes, found_in, place_of, exchange_by, outcome_by, outcomes_by, request_at, Request, Reply, Collection, collection_of, requests_of, replies_of, requests_for, outcome_of, outcomes_of, paired, unless_refused, distance_of, exchange_of, is_refused, refused_for, is_warning, exchanges_of, counts_of, refusal_of}
+use Rattle.pairing.proofs.Common.{◌≡◌, ◌∙◌, ℕ, ◌+◌, List, [], ◌∷◌, Bool, true, false, Option, Some, None, Result, Ok, Err, refl, sym, ap, length, arith, ◌<◌, ◌≤◌, map, origin_of, precision_of, precision_ticks_of, root_delay_of, root_dispersion_of, root_distance_of, ◌*◌, pos, unsigned_abs, unwrap_or, int_lt, filter, count_by, is_none, nat_lt, if◌then◌else◌, cons_option, filter_map, result_ok, nat_tests, Record, ClaimData, Counts, Exchange, PairFault, TooManyExchanges, CompactExchange, IndexedRequest, Key, Place, Refusal, Version, Leap, Stratum, Precision, ZeroStamp, NoRequest, Ambiguous, count_for, IsJoined, most_exchanges, IsGatheredFrom, is_accepted, is_early, is_for, compact_of, Indexes, found_in, place_of, exchange_by, outcome_by, outcomes_by, request_at, Request, Reply, Collection, collection_of, requests_of, replies_of, requests_for, outcome_of, outcomes_of, paired, unless_refused, distance_of, exchange_of, is_refused, refused_for, is_warning, exchanges_of, counts_of, refusal_of, sum_by-cons}
 use Rattle.pairing.proofs.LookUps.{indexed_as_found}
 use Rattle.pairing.proofs.Windows.{last_tick}
 
 -- the first counts apart
 pub count_by-cons : {X : Type 0} (p : X → Bool) (x : X) (xs : List X) →
     count_by p (x ∷ xs) ≡ (if p x then 1 else 0) + count_by p xs
-count_by-cons p x xs =
-    let f = λ (y : _). if p y then 1 else 0 in
-    sum_by-append f (x ∷ []) xs ∙ ap (λ n. n + count_by p xs) (zero-add (f x))
+count_by-cons p x xs = sum_by-cons _ x xs
 
 kept : (has_none : Bool) (n : ℕ) → let o = if has_none then None else Some (pos n) in
     pos (unsigned_abs (unwrap_or o (pos 0))) ≡ unwrap_or o (pos 0)
@@ -202,21 +200,11 @@ limited xs counts = if nat_lt most_exchanges (length xs) then Err TooManyExchang
 
 few_enough : (xs : List Exchange) (counts : Counts) → length xs ≤ most_exchanges →
     limited xs counts ≡ Ok (record { exchanges = xs; counts = counts })
-few_enough xs counts few =
-    ap (λ (b : Bool). if b then Err TooManyExchanges else Ok (record {
-      exchanges = xs;
-      counts =
-          counts;
-    })) (not_below most_exchanges (length xs) few)
+few_enough xs counts few = rw (not_below most_exchanges (length xs) few) refl
 
 too_large : (xs : List Exchange) (counts : Counts) → most_exchanges < length xs →
     limited xs counts ≡ Err TooManyExchanges
-too_large xs counts more =
-    ap (λ (b : Bool). if b then Err TooManyExchanges else Ok (record {
-      exchanges = xs;
-      counts =
-          counts;
-    })) (below most_exchanges (length xs) more)
+too_large xs counts more = rw (below most_exchanges (length xs) more) refl
 
 -- what is joined of all that was gathered
 module _ (claim : ClaimData) (records : List Record) {kept : List IndexedRequest} {held : List CompactExchange}

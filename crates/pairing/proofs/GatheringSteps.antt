@@ -103,23 +103,14 @@ count_for-renumbered NoRequest records requests replies counts = refl
 count_for-renumbered Ambiguous records requests replies counts = refl
 
 -- one more reply that its own header accepts, or refuses
-holds-accepted : (replies : List Reply) (reply : Reply) → refusal_of reply.header ≡ None →
-    map compact_of (filter is_accepted (replies ++ reply ∷ []))
-    ≡ map compact_of (filter is_accepted replies) ++ compact_of reply ∷ []
-holds-accepted replies reply is =
+holds-push : (replies : List Reply) (reply : Reply) (o : Option Refusal) → refusal_of reply.header ≡ o →
+    map compact_of (filter is_accepted (replies ++ reply ∷ [])) ≡
+    map compact_of (filter is_accepted replies) ++ map compact_of (if is_none o then reply ∷ [] else [])
+holds-push replies reply o is =
     ap (map compact_of) (filter-append is_accepted replies (reply ∷ []))
     ∙ map-append compact_of (filter is_accepted replies) (filter is_accepted (reply ∷ []))
     ∙ ap (λ (o : Option Refusal). map compact_of (filter is_accepted replies) ++ map compact_of
     (if is_none o then reply ∷ [] else [])) is
-
-holds-refused : (replies : List Reply) (reply : Reply) (refusal : Refusal) → refusal_of reply.header ≡ Some refusal →
-    map compact_of (filter is_accepted (replies ++ reply ∷ [])) ≡ map compact_of (filter is_accepted replies)
-holds-refused replies reply refusal is =
-    ap (map compact_of) (filter-append is_accepted replies (reply ∷ []))
-    ∙ map-append compact_of (filter is_accepted replies) (filter is_accepted (reply ∷ []))
-    ∙ ap (λ (o : Option Refusal). map compact_of (filter is_accepted replies) ++ map compact_of
-    (if is_none o then reply ∷ [] else [])) is
-    ∙ append-nil (map compact_of (filter is_accepted replies))
 
 early-push : (reason : Refusal) (replies : List Reply) (reply : Reply) (o : Option Refusal) →
     refusal_of reply.header ≡ o →
@@ -162,7 +153,7 @@ module _ {n : ℕ} {requests : List Request} {replies : List Reply} {kept : List
       let others = keeps_others refusal counted in
       record {
         keeps = rw (append-nil kept, append-nil requests) g.keeps;
-        holds = rw (append-nil held) (g.holds ∙ sym (holds-refused replies reply refusal is));
+        holds = rw (append-nil held) (g.holds ∙ sym (holds-push replies reply (Some refusal) is ∙ append-nil _));
         all_records = others.same_records ∙ ap (λ k. k + 1) g.all_records;
         all_requests = rw (append-nil requests) (others.same_requests ∙ g.all_requests);
         all_replies = others.same_replies ∙ omega (arith, g.all_replies, length-append replies (reply ∷ []));
@@ -177,7 +168,7 @@ module _ {n : ℕ} {requests : List Request} {replies : List Reply} {kept : List
       }
   step head m asked answered (accepted reply is) = record {
     keeps = rw (append-nil kept, append-nil requests) g.keeps;
-    holds = ap (λ hs. hs ++ compact_of reply ∷ []) g.holds ∙ sym (holds-accepted replies reply is);
+    holds = ap (λ hs. hs ++ compact_of reply ∷ []) g.holds ∙ sym (holds-push replies reply None is);
     all_records = ap (λ k. k + 1) g.all_records;
     all_requests = rw (append-nil requests) g.all_requests;
     all_replies = omega (arith, g.all_replies, length-append replies (reply ∷ []));

@@ -1,5 +1,6 @@
 -- One more reply joined with its request.
 use Rattle.pairing.proofs.Common.{◌≡◌, ◌∙◌, ℕ, suc, ◌+◌, ◌≤◌, ◌<◌, List, [], ◌∷◌, ◌++◌, Bool, Result, Ok, Err, refl, sym, ap, length, arith, zero-add, append-nil, Option, Some, None, map, take, drop, get_or, length-append, take-append-drop, true≢false, count_by, IsOk, if◌then◌else◌, filter_map, cons_option, result_ok, filter_map-append, map-append, take_more, sum_by-append, Counts, Exchange, Refusal, Version, Leap, Stratum, Precision, ZeroStamp, NoRequest, Ambiguous, count_for, with_refusal, with_outcome, IsJoined, is_refused, is_warning, same_refusal}
+use Rattle.std.proofs.Math.Seq.{drop-cons}
 
 abbrev Outcome : Type 0
 Outcome = Result Exchange Refusal
@@ -39,50 +40,19 @@ pub record KeepsOthers (before after : Counts) : Type 0 where
   pub same_replies : after.replies ≡ before.replies
   pub same_warnings : after.warnings ≡ before.warnings
 
+kept : {before after : Counts} → after.records ≡ before.records → after.requests ≡ before.requests →
+    after.replies ≡ before.replies → after.warnings ≡ before.warnings → KeepsOthers before after
+kept records requests replies warnings =
+    record { same_records = records; same_requests = requests; same_replies = replies; same_warnings = warnings }
+
 pub keeps_others : (refusal : Refusal) (counts : Counts) → KeepsOthers counts (with_refusal refusal counts)
-keeps_others Version counts = record {
-  same_records = refl;
-  same_requests = refl;
-  same_replies = refl;
-  same_warnings = refl;
-}
-keeps_others Leap counts = record {
-  same_records = refl;
-  same_requests = refl;
-  same_replies = refl;
-  same_warnings =
-      refl;
-}
-keeps_others Stratum counts = record {
-  same_records = refl;
-  same_requests = refl;
-  same_replies = refl;
-  same_warnings = refl;
-}
-keeps_others Precision counts = record {
-  same_records = refl;
-  same_requests = refl;
-  same_replies = refl;
-  same_warnings = refl;
-}
-keeps_others ZeroStamp counts = record {
-  same_records = refl;
-  same_requests = refl;
-  same_replies = refl;
-  same_warnings = refl;
-}
-keeps_others NoRequest counts = record {
-  same_records = refl;
-  same_requests = refl;
-  same_replies = refl;
-  same_warnings = refl;
-}
-keeps_others Ambiguous counts = record {
-  same_records = refl;
-  same_requests = refl;
-  same_replies = refl;
-  same_warnings = refl;
-}
+keeps_others Version counts = kept refl refl refl refl
+keeps_others Leap counts = kept refl refl refl refl
+keeps_others Stratum counts = kept refl refl refl refl
+keeps_others Precision counts = kept refl refl refl refl
+keeps_others ZeroStamp counts = kept refl refl refl refl
+keeps_others NoRequest counts = kept refl refl refl refl
+keeps_others Ambiguous counts = kept refl refl refl refl
 
 accepted : (reason : Refusal) (counts : Counts) (x : Exchange) →
     count_for reason (with_outcome (Ok x) counts) ≡ count_for reason counts
@@ -129,37 +99,30 @@ joined-push start counts outcomes exchanges (Err refusal) j =
       same_replies = others.same_replies ∙ j.same_replies;
     }
 
-ok_given : (o : Outcome) → IsOk o → length (filter_map result_ok (o ∷ [])) ≡ 1
-ok_given (Ok x) h = refl
-ok_given (Err refusal) h = absurd (true≢false (sym h))
+some_given : (o : Outcome) (os : List Outcome) → IsOk o → 1 ≤ length (filter_map result_ok (o ∷ os))
+some_given (Ok x) os h = omega arith
+some_given (Err refusal) os h = absurd (true≢false (sym h))
 
 module _ {W : Type 0} (f : W → Outcome) (xs : List W) (i : ℕ) (d : W) (more : i < length xs) where
   -- one more is taken
   pub outcomes-more : map f (take (i + 1) xs) ≡ map f (take i xs) ++ f (get_or xs i d) ∷ []
   outcomes-more = ap (map f) (take_more xs i d more) ∙ map-append f (take i xs) (get_or xs i d ∷ [])
 
-  -- the exchanges of all are those of the first and those of the rest
-  parted : filter_map result_ok (map f xs) ≡ filter_map result_ok (map f (take (i + 1) xs)) ++ filter_map result_ok
-      (map f (drop (i + 1) xs))
-  parted =
-      ap (λ ys. filter_map result_ok (map f ys)) (sym (take-append-drop (i + 1) xs))
-      ∙ ap (filter_map result_ok) (map-append f (take (i + 1) xs) (drop (i + 1) xs))
-      ∙ filter_map-append result_ok (map f (take (i + 1) xs)) (map f (drop (i + 1) xs))
-
   -- an exchange beyond the most
   pub too_many : (most : ℕ) (exchanges : List Exchange) → exchanges ≡ filter_map result_ok (map f (take i xs)) →
       IsOk (f (get_or xs i d)) → length exchanges ≡ most → most < length (filter_map result_ok (map f xs))
   too_many most exchanges is ok full =
-      let o = f (get_or xs i d) in
-      let one : length (filter_map result_ok (o ∷ [])) ≡ 1 = ok_given o ok in
-      let grown : length (filter_map result_ok (map f (take (i + 1) xs))) ≡ length exchanges + 1 =
-      ap (λ ys. length (filter_map result_ok ys)) outcomes-more
-      ∙ ap length (filter_map-append result_ok (map f (take i xs)) (o ∷ []))
-      ∙ length-append (filter_map result_ok (map f (take i xs))) (filter_map result_ok (o ∷ []))
-      ∙ omega (arith, ap length is, one) in
-      let whole : length (filter_map result_ok (map f xs))
-      ≡ length (filter_map result_ok (map f (take (i + 1) xs))) + length (filter_map result_ok (map f (drop
-      (i + 1) xs))) =
-      ap length parted ∙ length-append (filter_map result_ok (map f (take (i + 1) xs))) (filter_map result_ok (map f
-      (drop (i + 1) xs))) in
-      omega (arith, grown, whole, full)
+      let before = map f (take i xs) in
+      let after = f (get_or xs i d) ∷ map f (drop (suc i) xs) in
+      let split : map f xs ≡ before ++ after =
+      ap (map f) (sym (take-append-drop i xs)) ∙ map-append f (take i xs) (drop i xs)
+      ∙ ap (λ ys. before ++ map f ys) (drop-cons xs i d more) in
+      omega (
+        arith,
+        ap (λ os. length (filter_map result_ok os)) split,
+        ap length (filter_map-append result_ok before after),
+        length-append (filter_map result_ok before) (filter_map result_ok after),
+        some_given (f (get_or xs i d)) (map f (drop (suc i) xs)) ok,
+        ap length is,
+        full,
+      )

@@ -1,6 +1,6 @@
 -- Every exchange keeps its limits.
 use Rattle.std.proofs.Common.{◌*◌}
-use Rattle.pairing.proofs.Common.{◌≡◌, ◌∙◌, ℕ, suc, ◌+◌, ◌^◌, ◌≤◌, ◌<◌, List, [], ◌∷◌, Bool, true, false, Option, Some, None, Result, Ok, Err, refl, sym, ap, length, get_or, arith, map, All, ℤ, pos, ◌≤ℤ◌, ◌<ℤ◌, IfOk, IfSome, slice_get, unwrap_or, position, if◌then◌else◌, cons_option, filter_map, option_and_then, option_map, result_ok, bytes_eq, All-nil, All-cons, All-filter, All-map, position-Some, Unit as SubsecondUnit, per_second, ticks_per_second, window_low, window_high, RecordHead, Record, IsLawfulHead, IsBytes, receive_of, root_distance_of, transmit_of, Packet, packet_of, ClaimData, Exchange, Refusal, AreGiven, IsGiven, AreLawful, IsInRange, SameRequest, most_exchanges, Request, Reply, is_reply, server_at, requested_server, replying_server, request_to, reply_from, request_in, reply_in, request_of, reply_of, requests_of, replies_of, answers, requests_for, low_of, high_of, distance_of, exchange_of, paired, unless_refused, outcome_of, exchanges_of, refusal_of}
+use Rattle.pairing.proofs.Common.{◌≡◌, ◌∙◌, ℕ, ◌+◌, ◌^◌, ◌≤◌, ◌<◌, List, [], ◌∷◌, Bool, true, false, Option, Some, None, Result, Ok, Err, refl, sym, ap, length, get_or, arith, map, All, ℤ, pos, ◌≤ℤ◌, ◌<ℤ◌, IfOk, IfSome, slice_get, unwrap_or, position, if◌then◌else◌, cons_option, filter_map, option_and_then, option_map, result_ok, bytes_eq, All-nil, All-cons, All-filter, All-map, position-Some, Unit as SubsecondUnit, per_second, ticks_per_second, window_low, window_high, RecordHead, Record, IsLawfulHead, IsBytes, receive_of, root_distance_of, transmit_of, Packet, packet_of, ClaimData, Exchange, Refusal, AreGiven, IsGiven, AreLawful, IsInRange, SameRequest, most_exchanges, Request, Reply, is_reply, server_at, requested_server, replying_server, request_to, reply_from, request_in, reply_in, request_of, reply_of, requests_of, replies_of, answers, requests_for, low_of, high_of, distance_of, exchange_of, paired, unless_refused, outcome_of, exchanges_of, refusal_of, subst, All-tail}
 use Rattle.std.proofs.lemmas.Int.{ints}
 use Rattle.era_unfold.specs.Stamp.{IsUnfolded, unfolded}
 use Rattle.pairing.specs.Provenance.{IsExchangeAmong, IsListedReply, IsRequestAmong}
@@ -10,8 +10,16 @@ All-kept : {Y : Type 0} (P : Y → Type 0) (o : Option Y) (ys : List Y) → IfSo
 All-kept P None ys h hs = hs
 All-kept P (Some y) ys h hs = All-cons P y ys h hs
 
-All-tail : {X : Type 0} (P : X → Type 0) (x : X) (xs : List X) → All P (x ∷ xs) → All P xs
-All-tail P x xs h = λ k d below. h (suc k) d (omega arith)
+-- what holds of whatever an option is made to holds of what it gives
+pub IfSome-mapped : {X Y : Type 0} (f : X → Y) (P : Y → Type 0) (o : Option X) → ((x : X) → o ≡ Some x → P (f x)) →
+    IfSome (option_map f o) P
+IfSome-mapped f P None each = tt
+IfSome-mapped f P (Some x) each = each x refl
+
+pub IfSome-and_then : {X Y : Type 0} (f : X → Option Y) (P : Y → Type 0) (o : Option X) →
+    ((x : X) → o ≡ Some x → IfSome (f x) P) → IfSome (option_and_then f o) P
+IfSome-and_then f P None each = tt
+IfSome-and_then f P (Some x) each = each x refl
 
 -- what is given of each element
 pub All-filter_map : {X Y : Type 0} (h : X → Option Y) (P : Y → Type 0) (xs : List X) →
@@ -34,29 +42,14 @@ pub record Laws : Type 0 where
 
 -- ---- requests and replies
 
-asked_by : (records : List Record) (r : Record) (p : Packet) (server : Option ℕ) → IsLawfulHead r.head →
-    slice_get records r.head.number ≡ Some r →
-    IfSome (option_map (request_to r.head p) server) (IsRequestAmong records)
-asked_by records r p None lawful stands = tt
-asked_by records r p (Some server) lawful stands = record {
-  source = r;
-  stands = stands;
-  same_head = refl;
-  lawful =
-      lawful;
-}
-
-asked_in : (claim : ClaimData) (records : List Record) (r : Record) (o : Option Packet) → IsLawfulHead r.head →
-    slice_get records r.head.number ≡ Some r →
-    IfSome (option_and_then (request_in claim r.head) o) (IsRequestAmong records)
-asked_in claim records r None lawful stands = tt
-asked_in claim records r (Some p) lawful stands = asked_by records r p (requested_server claim p) lawful stands
-
 request_of-among : (claim : ClaimData) (records : List Record) (r : Record) → IsLawfulHead r.head →
     slice_get records r.head.number ≡ Some r →
     IfSome (request_of claim r) (IsRequestAmong records)
 unfolding request_of
-request_of-among claim records r lawful stands = asked_in claim records r (packet_of r.bytes) lawful stands
+request_of-among claim records r lawful stands =
+    IfSome-and_then (request_in claim r.head) (IsRequestAmong records) (packet_of r.bytes)
+    (λ p is. IfSome-mapped (request_to r.head p) (IsRequestAmong records) (requested_server claim p)
+    (λ server asked. record { source = r; stands = stands; same_head = refl; lawful = lawful }))
 
 within_servers : (servers : List (List ℕ)) (test : List ℕ → Bool) (o : Option ℕ) → position test servers ≡ o →
     IfSome o (λ s. s < length servers)
@@ -74,25 +67,6 @@ replying-within claim p =
     (within_servers claim.servers (λ server. bytes_eq server p.datagram.source)
     (server_at claim p.datagram.source) refl)
 
-answered_by : (claim : ClaimData) (head : RecordHead) (p : Packet) (server : Option ℕ) → IsLawfulHead head →
-    IsBytes p.header →
-    IfSome server (λ s. s < length claim.servers) → IfSome (option_map (reply_from head p) server)
-    (IsListedReply claim)
-answered_by claim head p None lawful bytes listed = tt
-answered_by claim head p (Some server) lawful bytes listed = record {
-  listed = listed;
-  lawful = lawful;
-  header =
-      bytes;
-}
-
-answered_in : (claim : ClaimData) (head : RecordHead) (o : Option Packet) → IsLawfulHead head →
-    IfSome o (λ p. IsBytes p.header) →
-    IfSome (option_and_then (reply_in claim head) o) (IsListedReply claim)
-answered_in claim head None lawful bytes = tt
-answered_in claim head (Some p) lawful bytes = answered_by claim head p (replying_server claim p) lawful bytes
-    (replying-within claim p)
-
 module _ (claim : ClaimData) (records : List Record) (given : AreGiven records) where
   pub requests-among : All (IsRequestAmong records) (requests_of claim records)
   unfolding requests_of
@@ -103,13 +77,15 @@ module _ (claim : ClaimData) (records : List Record) (given : AreGiven records) 
 
 -- ---- exchanges
 
--- a record's window lies in the first era of Unix ticks
-record HasWindow (head : RecordHead) : Type 0 where
-  pub forward : window_low head.unit head.sec head.sub < window_high head.unit head.sec head.sub
-  pub ends : window_high head.unit head.sec head.sub ≤ 2 ^ 64
-
 in_range_pos : (k : ℕ) → k ≤ 2 ^ 64 → IsInRange (pos k)
 in_range_pos k h = record { least = omega (arith, ints); greatest = omega (arith, ints) }
+
+-- a record's window lies in the first era of Unix ticks
+record HasWindow (head : RecordHead) : Type 0 where
+  pub low : IsInRange (low_of head)
+  pub high : IsInRange (high_of head)
+  pub forward : low_of head ≤ℤ high_of head
+  pub begins : window_low head.unit head.sec head.sub ≤ 2 ^ 64
 
 distance_positive : (o : Option ℤ) → IfSome o (λ ticks. pos 1 ≤ℤ ticks) → pos 0 ≤ℤ unwrap_or o (pos 0)
 distance_positive None h = omega (arith, ints)
@@ -133,7 +109,13 @@ module _ (laws : Laws) where
   reply_of-listed : (claim : ClaimData) (r : Record) → IsGiven r → IfSome (reply_of claim r) (IsListedReply claim)
   unfolding reply_of
   reply_of-listed claim r given =
-      answered_in claim r.head (packet_of r.bytes) given.head (laws.header r.bytes given.bytes)
+      IfSome-and_then (reply_in claim r.head) (IsListedReply claim) (packet_of r.bytes)
+      (λ p is. IfSome-mapped (reply_from r.head p) (IsListedReply claim) (replying_server claim p)
+      (λ server answered. record {
+        listed = subst (λ (o : Option ℕ). IfSome o (λ s. s < length claim.servers)) answered (replying-within claim p);
+        lawful = given.head;
+        header = subst (λ (o : Option Packet). IfSome o (λ q. IsBytes q.header)) is (laws.header r.bytes given.bytes);
+      }))
 
   replies-listed : (claim : ClaimData) (records : List Record) → AreGiven records →
       All (IsListedReply claim) (replies_of claim records)
@@ -143,11 +125,17 @@ module _ (laws : Laws) where
       (λ k d below. reply_of-listed claim (get_or records k d) (given.each k d below))
 
   has_window : (head : RecordHead) → IsLawfulHead head → HasWindow head
-  has_window head h = record {
-    forward = laws.forward head.unit head.sec head.sub;
-    ends = let ends : window_high head.unit head.sec head.sub ≤ (head.sec + 1) * ticks_per_second =
-        laws.ends head.unit head.sec head.sub h.sub in omega (arith, ends, h.sec);
-  }
+  has_window head h =
+      let forward = laws.forward head.unit head.sec head.sub in
+      let ends : window_high head.unit head.sec head.sub ≤ (head.sec + 1) * ticks_per_second =
+      laws.ends head.unit head.sec head.sub h.sub in
+      let high : window_high head.unit head.sec head.sub ≤ 2 ^ 64 = omega (arith, ends, h.sec) in
+      record {
+        low = in_range_pos (window_low head.unit head.sec head.sub) (omega (arith, forward, high));
+        high = in_range_pos (window_high head.unit head.sec head.sub) high;
+        forward = omega (arith, ints, forward);
+        begins = omega (arith, forward, high);
+      }
 
   in_range_unfolded : (stamp k : ℕ) → k ≤ 2 ^ 64 → IsInRange (unfolded stamp (pos k))
   in_range_unfolded stamp k h =
@@ -169,27 +157,18 @@ module _ (laws : Laws) where
         let sent = has_window q.head asked.lawful in
         let received = has_window reply.head answered.lawful in
         let least = distance-least reply.header answered.header in
+        let low = window_low q.head.unit q.head.sec q.head.sub in
         record {
           lawful = record {
             listed = answered.listed;
-            t1_low = in_range_pos (window_low q.head.unit q.head.sec q.head.sub) (omega (
-              arith,
-              sent.forward,
-              sent.ends,
-            ));
-            t1_high = in_range_pos (window_high q.head.unit q.head.sec q.head.sub) sent.ends;
-            t1_ordered = omega (arith, ints, sent.forward);
-            t4_low = in_range_pos (window_low reply.head.unit reply.head.sec reply.head.sub) (omega (
-              arith,
-              received.forward,
-              received.ends,
-            ));
-            t4_high = in_range_pos (window_high reply.head.unit reply.head.sec reply.head.sub) received.ends;
-            t4_ordered = omega (arith, ints, received.forward);
-            t2 = in_range_unfolded (receive_of reply.header) (window_low q.head.unit q.head.sec q.head.sub) (omega
-                (arith, sent.forward, sent.ends));
-            t3 = in_range_unfolded (transmit_of reply.header) (window_low q.head.unit q.head.sec q.head.sub) (omega
-                (arith, sent.forward, sent.ends));
+            t1_low = sent.low;
+            t1_high = sent.high;
+            t1_ordered = sent.forward;
+            t4_low = received.low;
+            t4_high = received.high;
+            t4_ordered = received.forward;
+            t2 = in_range_unfolded (receive_of reply.header) low sent.begins;
+            t3 = in_range_unfolded (transmit_of reply.header) low sent.begins;
             distance = record {
               least = omega (arith, ints, least);
               greatest =

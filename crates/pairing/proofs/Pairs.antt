@@ -1,9 +1,9 @@
 -- Exchanges are those of the pairs.
 use Rattle.std.proofs.Common.{◌==◌, ◌&&◌}
-use Rattle.pairing.proofs.Common.{◌≡◌, ◌∙◌, ℕ, zero, suc, ◌<◌, List, [], ◌∷◌, true, Option, Some, None, Ok, refl, sym, ap, subst, length, get_or, arith, map, All, AllPairs, Contains, IfSome, ◌≢◌, cons_option, filter_map, option_and_then, option_map, result_ok, nat_tests, All-contains_itself, filter_passes, RecordHead, Record, origin_of, Packet, packet_of, ClaimData, Exchange, Refusal, Request, Reply, reply_from, reply_in, reply_of, replying_server, requests_of, replies_of, answers, requests_for, exchange_of, outcome_of, paired, unless_refused, exchanges_of, refusal_of}
+use Rattle.pairing.proofs.Common.{◌≡◌, ◌∙◌, ℕ, zero, suc, ◌<◌, List, [], ◌∷◌, true, Option, Some, None, Ok, refl, sym, ap, subst, length, get_or, arith, map, All, AllPairs, Contains, IfSome, ◌≢◌, cons_option, filter_map, result_ok, nat_tests, All-contains_itself, filter_passes, RecordHead, Record, origin_of, packet_of, ClaimData, Exchange, Refusal, Request, Reply, reply_from, reply_in, reply_of, replying_server, requests_of, replies_of, answers, requests_for, exchange_of, outcome_of, paired, unless_refused, exchanges_of, refusal_of}
 use Rattle.std.proofs.lemmas.List.Kept.{AllPairs-cons}
 use Rattle.pairing.specs.Pair.{IsExchangeOf, IsPair, NameEachOther}
-use Rattle.pairing.proofs.Limits.{All-filter_map}
+use Rattle.pairing.proofs.Limits.{All-filter_map, IfSome-mapped, IfSome-and_then}
 
 filter_map-map : {X Y Z : Type 0} (g : Y → Option Z) (f : X → Y) (xs : List X) →
     filter_map g (map f xs) ≡ filter_map (λ x. g (f x)) xs
@@ -106,21 +106,13 @@ module _ {X Y : Type 0} (h : X → Option Y) (R : X → X → Type 0) (S : Y →
         below,
       ))))
 
-reply_head-by : (head : RecordHead) (p : Packet) (server : Option ℕ) →
-    IfSome (option_map (reply_from head p) server) (λ reply. reply.head ≡ head)
-reply_head-by head p None = tt
-reply_head-by head p (Some server) = refl
-
-reply_head-in : (claim : ClaimData) (head : RecordHead) (o : Option Packet) →
-    IfSome (option_and_then (reply_in claim head) o) (λ reply. reply.head ≡ head)
-reply_head-in claim head None = tt
-reply_head-in claim head (Some p) = reply_head-by head p (replying_server claim p)
-
 reply_head : (claim : ClaimData) (r : Record) (reply : Reply) → reply_of claim r ≡ Some reply → reply.head ≡ r.head
 unfolding reply_of
 reply_head claim r reply is =
-    subst (λ (o : Option Reply). IfSome o (λ (a : Reply). a.head
-    ≡ r.head)) is (reply_head-in claim r.head (packet_of r.bytes))
+    let IsHeaded = λ (a : Reply). a.head ≡ r.head in
+    subst (λ (o : Option Reply). IfSome o IsHeaded) is
+    (IfSome-and_then (reply_in claim r.head) IsHeaded (packet_of r.bytes)
+    (λ p at. IfSome-mapped (reply_from r.head p) IsHeaded (replying_server claim p) (λ server from. refl)))
 
 paired-number : (reply : Reply) (o : Option Refusal) (qs : List Request) →
     IfSome (result_ok (unless_refused o (paired reply qs))) (λ x. x.reply ≡ reply.head.number)

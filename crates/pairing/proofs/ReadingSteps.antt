@@ -50,29 +50,15 @@ known-push (Some coming) before now done head lent (rest, is, records, fault) ne
 
 -- a call gave a record
 pub read-push : (start before now : SourceState) (done : List Record) (head : RecordHead) → IsRead start before done →
-    IsStep before (Ok (Some head)) now → IsBytes now.lent → IsRead start now (done ++ record {
-      head = head;
-      bytes =
-          now.lent;
-    } ∷ [])
+    IsStep before (Ok (Some head)) now → IsBytes now.lent →
+    IsRead start now (done ++ record { head = head; bytes = now.lent } ∷ [])
 read-push start before now done head read step bytes =
     let number : head.number ≡ length done = step.numbers.0 ∙ read.count in
+    let one : Record = record { head = head; bytes = now.lent } in
     record {
-      given = AreGiven-push done (record { head = head; bytes = now.lent }) read.given (omega (
-        arith,
-        number,
-        step.lawful.number,
-      )) (record { head = step.lawful; bytes = bytes }) number;
-      count = omega (
-        arith,
-        step.numbers.1,
-        read.count,
-        length-append done (record {
-          head = head;
-          bytes =
-              now.lent;
-        } ∷ []),
-      );
+      given = AreGiven-push done one read.given (omega (arith, number, step.lawful.number))
+          (record { head = step.lawful; bytes = bytes }) number;
+      count = omega (arith, step.numbers.1, read.count, length-append done (one ∷ []));
       known = known-push start.remaining before.remaining now.remaining done head now.lent read.known step.next_is;
       unfailed = step.stays_failed;
       no_fault = step.counts_fault ∙ read.no_fault;

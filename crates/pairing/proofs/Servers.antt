@@ -1,5 +1,6 @@
 -- To which server a packet is a request, and of which it is a reply.
 use Rattle.pairing.proofs.Common.{◌≡◌, ◌∙◌, ℕ, ◌<◌, List, [], Bool, true, false, Option, Some, None, refl, sym, ap, length, get_or, arith, cond, AllPairs, ◌≢◌, ◌↔◌, ◌&&◌, ◌==◌, nat_lt, slice_get, if◌then◌else◌, position_or_len, bytes_eq, nat_tests, position-Some, position_or_len_is, bytes_eq-Decides, mode_of, version_of, Packet, ntp_port, ClaimData, IsReplyOf, IsRequestTo, client_mode, server_mode, is_reply, is_request, replying_server, requested_server, server_at}
+use Rattle.std.proofs.lemmas.Bool.{and_parts, eqb-true}
 use Rattle.std.proofs.lemmas.Option.{get_or_from_slice_get, slice_get-get_or, slice_get_within}
 
 -- the server at an address
@@ -38,46 +39,10 @@ if_some : (b : Bool) (o : Option ℕ) (s : ℕ) → (if b then o else None) ≡ 
 if_some true o s is = (refl, is)
 if_some false o s is = cc
 
--- the parts of the tests
-record RequestTests (from : Bool) (port mode version : ℕ) : Type 0 where
-  pub from_is : from ≡ true
-  pub port_is : port ≡ ntp_port
-  pub mode_is : mode ≡ client_mode
-  pub version_is : version ≡ 4
-
-request_tests : (from : Bool) (port mode version : ℕ) →
-    (from && port == ntp_port && mode == client_mode && version == 4) ≡ true → RequestTests from port mode version
-request_tests true port mode version h =
-    record {
-      from_is = refl;
-      port_is = grind (arith, nat_tests);
-      mode_is = grind (arith, nat_tests);
-      version_is =
-          grind (arith, nat_tests);
-    }
-request_tests false port mode version h = cc
-
 all_request_tests : (from : Bool) (port mode version : ℕ) → from ≡ true → port ≡ ntp_port → mode ≡ client_mode →
     version ≡ 4 →
     (from && port == ntp_port && mode == client_mode && version == 4) ≡ true
 all_request_tests from port mode version a b c d = grind (arith, nat_tests)
-
-record ReplyTests (to : Bool) (port mode : ℕ) : Type 0 where
-  pub to_is : to ≡ true
-  pub port_is : port ≡ ntp_port
-  pub mode_is : mode ≡ server_mode
-
-reply_tests : (to : Bool) (port mode : ℕ) → (to && port == ntp_port && mode == server_mode) ≡ true →
-    ReplyTests to port mode
-reply_tests true port mode h = record {
-  to_is = refl;
-  port_is = grind (arith, nat_tests);
-  mode_is = grind (
-    arith,
-    nat_tests,
-  );
-}
-reply_tests false port mode h = cc
 
 all_reply_tests : (to : Bool) (port mode : ℕ) → to ≡ true → port ≡ ntp_port → mode ≡ server_mode →
     (to && port == ntp_port && mode == server_mode) ≡ true
@@ -88,14 +53,15 @@ module _ (claim : ClaimData) (p : Packet) (server : ℕ) where
   unfolding requested_server
   request-sound is =
       let parts = if_some (is_request claim p) (server_at claim p.datagram.destination) server is in
-      let tests = request_tests (bytes_eq p.datagram.source claim.client) p.datagram.destination_port
-      (mode_of p.header) (version_of p.header) parts.0 in
+      let (rest, version) = and_parts _ _ parts.0 in
+      let (rest, mode) = and_parts _ _ rest in
+      let (from, port) = and_parts _ _ rest in
       record {
-        from_client = (bytes_eq-Decides p.datagram.source claim.client).0 tests.from_is;
+        from_client = (bytes_eq-Decides p.datagram.source claim.client).0 from;
         to_server = server_at-found claim p.datagram.destination server parts.1;
-        to_port = tests.port_is;
-        mode = tests.mode_is;
-        version = tests.version_is;
+        to_port = eqb-true _ _ port;
+        mode = eqb-true _ _ mode;
+        version = eqb-true _ _ version;
       }
 
   request-complete : AllPairs (λ (a b : List ℕ). a ≢ b) claim.servers → IsRequestTo claim server p →
@@ -113,13 +79,13 @@ module _ (claim : ClaimData) (p : Packet) (server : ℕ) where
   unfolding replying_server
   reply-sound is =
       let parts = if_some (is_reply claim p) (server_at claim p.datagram.source) server is in
-      let tests = reply_tests (bytes_eq p.datagram.destination claim.client) p.datagram.source_port
-      (mode_of p.header) parts.0 in
+      let (rest, mode) = and_parts _ _ parts.0 in
+      let (to, port) = and_parts _ _ rest in
       record {
         from_server = server_at-found claim p.datagram.source server parts.1;
-        from_port = tests.port_is;
-        to_client = (bytes_eq-Decides p.datagram.destination claim.client).0 tests.to_is;
-        mode = tests.mode_is;
+        from_port = eqb-true _ _ port;
+        to_client = (bytes_eq-Decides p.datagram.destination claim.client).0 to;
+        mode = eqb-true _ _ mode;
       }
 
   reply-complete : AllPairs (λ (a b : List ℕ). a ≢ b) claim.servers → IsReplyOf claim server p →

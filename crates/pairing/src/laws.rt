@@ -73,6 +73,7 @@ pub fn order_of_request_and_reply_is_open()
 
 /// A request that repeats another makes the replies that name it ambiguous, and changes nothing for
 /// the others.
+#[tactic(auto, using(crate::proofs::Order::repeated))]
 pub fn repeated_request_is_ambiguous()
     ensures named { (before after : List Request) (q : Request) (reply : Reply) →
         answers reply q ≡ true → 0 < length (requests_for reply (before ++ after)) →
@@ -98,6 +99,7 @@ pub fn reply_is_of_one_server()
 {}
 
 /// No packet is both.
+#[tactic(auto, using(crate::proofs::GatheringSteps::apart))]
 pub fn no_packet_is_request_and_reply()
     ensures { (claim : ClaimData) (packet : Packet) →
         IsSome (requested_server claim packet) → replying_server claim packet ≡ None }

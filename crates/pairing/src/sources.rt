@@ -41,6 +41,7 @@ fn have_reference(exchanges: &[CompactExchange], reference: [u8; 4]) -> bool
 }
 
 /// The reference identifier that all exchanges name, if there is one.
+#[tactic(auto, using(crate::proofs::SourceSteps::first_reference))]
 pub fn common_reference(exchanges: &[CompactExchange]) -> Option<[u8; 4]>
     ensures exact { result ≡ common_reference (map exchange_shown exchanges.now) }
 {

@@ -96,3 +96,5 @@ offset_doubled-is r t1 t2 t3 t4 h = h
 
 pub delay_of-is : (r t1 t2 t3 t4 : ℤ) → r ≡ (t4 -ℤ t1) -ℤ (t3 -ℤ t2) → r ≡ delay_of t1 t2 t3 t4
 delay_of-is r t1 t2 t3 t4 h = h
+
+pub ruleset every_choice = (offset_from_below, offset_to_above, delay_low, delay_high)

@@ -28,6 +28,7 @@ pub fn parts_are_those_of_the_definitions()
 
 /// A drift that is bounded by true time is bounded by the clock's own readings too: from parts in
 /// 10^9 of true time to parts in 10^9 less the rate of what the clock shows.
+#[tactic(auto, using(crate::proofs::LeastWidening::drift_by_reading))]
 pub fn drift_shows_on_the_clock_itself()
     ensures { (ppb : ℕ) (a b : Moment) → ppb ≤ billion →
         DriftsWithin ppb a b → DriftsWithinByReading ppb a b }
@@ -37,6 +38,7 @@ pub fn drift_shows_on_the_clock_itself()
 /// end, and as much more as the clock then read beyond the window's start: the request left before
 /// a true time from which T2 is off by the root distance at most. However far beyond that was, it
 /// costs nothing.
+#[tactic(auto, using(crate::proofs::Moment::at_request))]
 pub fn error_at_the_request_is_no_less()
     ensures { (x : Exchange) (allowance : ℤ) (n : ℕ) (request : Moment) (received : ℤ) →
         request.time ≤ℤ received → IsWithinDistance n x.t2 x.distance received →
@@ -45,6 +47,7 @@ pub fn error_at_the_request_is_no_less()
 
 /// If the server isn't false, the client's error at the reply is no more than the sample's high
 /// end, and as much less as the clock then read short of the window's end.
+#[tactic(auto, using(crate::proofs::Moment::at_reply))]
 pub fn error_at_the_reply_is_no_more()
     ensures { (x : Exchange) (allowance : ℤ) (n : ℕ) (reply : Moment) (sent : ℤ) →
         sent ≤ℤ reply.time → IsWithinDistance n x.t3 x.distance sent →
@@ -106,6 +109,7 @@ pub fn offset_is_rounded_outwards()
 
 /// The intervals of offset and delay hold the offset and the delay of every choice of moments
 /// inside the two windows, fractions of a tick too.
+#[tactic(auto, using(crate::proofs::OnWire::every_choice))]
 pub fn offset_and_delay_hold_every_choice()
     ensures offset { (x : Exchange) (allowance : ℤ) (n : ℕ) (t1 t4 : ℤ) → 0 < n →
         IsInWindow n (request_start x allowance) (request_end x allowance) t1 →

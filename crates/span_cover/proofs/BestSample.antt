@@ -2,6 +2,7 @@
 use Rattle.span_cover.proofs.Common.{⊎_elim, ◌≡◌, ◌≢◌, ℕ, zero, suc, ◌+◌, ◌<◌, ◌≤◌, ℤ, ◌<ℤ◌, ◌≤ℤ◌, true, false, cond, int_lt, nat_eq, List, [], ◌∷◌, Option, None, Some, refl, sym, subst, arith, length, drop, get_or, ◌-◌, neg_ℤ, MatchOption, to_z, of_z, ap, ◌∙◌, drop_all, cases_lt, nat_tests, ints, Sample, HasNoSample, IsFirstBest, IsBestLow, IsBestHigh, better, best_from, first_best_of, best_of, pair_of, IsPiece, moved_low, moved_high, w128, option_map, w128_keeps, eqb-true, eq-eqb, int_lt-true, int_lt-false}
 use Rattle.std.proofs.Math.Seq.{drop-cons}
 use Rattle.std.specs.List.{slice_get}
+use Rattle.std.specs.Prelude.{IfSome, IsNone, ◌↔◌}
 
 -- the best of the samples from number n on, with its merit
 pub record Found (merit : Sample → ℤ) (server n : ℕ) (samples : List Sample) (b : ℕ × ℤ) : Type 0 where
@@ -196,14 +197,6 @@ module _ (merit : Sample → ℤ) (samples : List Sample) (server : ℕ) where
       (IsFirstBest merit samples server)
   first = first_chosen (best_from merit server 0 samples) (chosen merit server 0 samples)
 
-  pub none_of_server : first_best_of merit samples server ≡ None → HasNoSample samples server
-  none_of_server is =
-      subst (λ (o : Option ℕ). MatchOption o (HasNoSample samples server) (IsFirstBest merit samples server)) is first
-
-  pub first_of_server : (k : ℕ) → first_best_of merit samples server ≡ Some k → IsFirstBest merit samples server k
-  first_of_server k is =
-      subst (λ (o : Option ℕ). MatchOption o (HasNoSample samples server) (IsFirstBest merit samples server)) is first
-
   -- whoever has the first best has what the function gives
   pub first_best_of-is : (k : ℕ) → IsFirstBest merit samples server k → first_best_of merit samples server ≡ Some k
   first_best_of-is k is =
@@ -220,9 +213,6 @@ module _ (merit : Sample → ℤ) (samples : List Sample) (server : ℕ) where
         | None ↦ λ none. refl
         | Some j ↦ λ found. absurd (none j found.sample found.stands found.of_server)
       ] first
-
-  pub some_sample : (k : ℕ) → IsFirstBest merit samples server k → ¬ HasNoSample samples server
-  some_sample k best none = none k best.sample best.stands best.of_server
 
 -- the pair of both
 pub best_of-is : (samples : List Sample) (server : ℕ) (p q : ℤ) (ppb : ℕ) (low high : Option ℕ) →
@@ -287,3 +277,20 @@ module _ (samples : List Sample) (server : ℕ) (p q : ℤ) (ppb : ℕ) where
               | Some high ↦ λ is_high. (is_low, is_high)
             ] (first (λ s. neg_ℤ (moved_high s p q ppb)) samples server)
       ] (first (λ s. moved_low s p q ppb) samples server)
+
+  -- a result that is the function's is none if there is no sample, and otherwise the best
+  module _ (result : Option (ℕ × ℕ)) (is : result ≡ best_of samples server p q ppb) where
+    pub told : (IsNone result ↔ HasNoSample samples server)
+        × IfSome result (λ best. IsBestLow samples server p q ppb best.0)
+        × IfSome result (λ best. IsBestHigh samples server p q ppb best.1)
+    told =
+        elim result as (λ (o : Option (ℕ × ℕ)). MatchOption o (HasNoSample samples server) AreBest →
+        (IsNone o ↔ HasNoSample samples server) × IfSome o (λ best. IsBestLow samples server p q ppb best.0)
+        × IfSome o (λ best. IsBestHigh samples server p q ppb best.1)) [
+          | None ↦ λ none. ((λ e. none, λ e. refl), tt, tt)
+          | Some best ↦ λ are. (
+            (λ e. absurd cc, λ none. absurd (none best.0 are.0.sample are.0.stands are.0.of_server)),
+            are.0,
+            are.1,
+          )
+        ] (rw is best_numbers)

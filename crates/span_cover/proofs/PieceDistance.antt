@@ -163,3 +163,5 @@ module _ (widens : HaveWidenings) (n ppb : ℕ) (p q : ℤ) (observed : Moment) 
       (error_of observed) (w * n) parts before most
       (change_of_error (unsigned_abs (end -ℤ reply.reading)) d reply
       (to_end n sample.high_from sample.high_to p q observed.reading forward inside reply.reading before) drift)
+
+pub ruleset error_in_interval = (error_no_less, error_no_more)

@@ -6,9 +6,6 @@ piece_kept p q piece = rw (w128_keeps p (omega (arith, ints)), w128_keeps q (ome
 
 -- the number before another, of a few samples
 module _ (number all : ℕ) (some : 0 < number) (within : number ≤ all) where
-  pub one_back : 1 ≤ number
-  one_back = omega arith
-
   pub before_all : number - 1 < all
   before_all = omega arith
 
@@ -17,6 +14,8 @@ module _ (number all : ℕ) (some : 0 < number) (within : number ≤ all) where
 
   pub place_fits : all ≤ 1000000 → Fits w64 ((number - 1) * 112)
   place_fits few = record { fits = omega arith }
+
+pub ruleset one_before = (piece_kept, before_all, number_fits, place_fits)
 
 pub entry_fits : (server : ℕ) → server < 32 → Fits w64 (server * 48)
 entry_fits server below = record { fits = omega arith }

@@ -33,6 +33,7 @@ pub fn best(samples: &[Sample], server: u8, p: i128, q: i128, drift_ppb: u32) ->
 }
 
 /// The first of the server's samples with the greatest merit.
+#[tactic(auto, using(crate::proofs::Worth::one_before))]
 fn first_best(
     samples: &[Sample],
     server: u8,

@@ -61,6 +61,7 @@ impl BestSamples {
     }
 
     /// Takes one sample more.
+    #[tactic(auto, using(crate::proofs::Worth::piece_kept, crate::proofs::Worth::entry_fits))]
     pub fn take(&mut self, sample: &Sample)
         requires sample { IsLawfulSample sample.now }
         requires server { sample.now.server < 32 }

@@ -17,6 +17,7 @@ use sample_interval::laws::{widening_grows, widening_is_one_number};
 /// drifts within the rate and the two samples bound the error at their own moments. It may have
 /// read any time after the start of the low end's window, and any before the end of the high end's:
 /// what it read beyond, the error is further inside, and it can't have changed by more since.
+#[tactic(auto, using(crate::proofs::PieceDistance::error_in_interval))]
 pub fn error_lies_in_the_interval_of_the_piece()
     ensures { (n ppb : ℕ) (low high : Sample) (p q : ℤ) (request reply observed : Moment) →
         IsRate ppb → low.low_from ≤ℤ low.low_to → high.high_from ≤ℤ high.high_to →
@@ -61,6 +62,7 @@ pub fn first_best_of_both_ends_are_the_best()
 
 /// And the other way round: what the definition gives are the best samples, and it gives none only
 /// if the server has no sample.
+#[tactic(auto, using(crate::proofs::BestSample::best_numbers))]
 pub fn best_samples_are_the_first_best()
     ensures { (samples : List Sample) (server : ℕ) (p q : ℤ) (ppb : ℕ) →
         MatchOption (best_of samples server p q ppb) (HasNoSample samples server)
@@ -69,6 +71,7 @@ pub fn best_samples_are_the_first_best()
 {}
 
 /// No reading of a piece is further from one of a window than the greatest distance.
+#[tactic(auto, using(crate::proofs::PieceDistance::within_farthest))]
 pub fn no_reading_is_farther()
     ensures { (from to p q moment reading : ℤ) → from ≤ℤ moment → moment ≤ℤ to → p ≤ℤ reading →
         reading ≤ℤ q → pos (unsigned_abs (reading -ℤ moment)) ≤ℤ farthest from to p q }

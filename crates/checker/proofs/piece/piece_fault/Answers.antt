@@ -1,7 +1,8 @@
 use Rattle.checker.proofs.Common.{length, Ok, Err, ap, ap₂, ◌∙◌, to_z-of_z, w128, data_of, piece_data, piece_hull, hull_fault}
 use Rattle.checker.proofs.FirstFault.{cut_before, cut_after, uncut, uncut_piece}
 use Rattle.checker.proofs.NoOverflow.{last_kept, bound_kept}
-use Rattle.checker.proofs.Part.{listed_parts, listed_again}
+use Rattle.checker.proofs.EntryStatement.{listed_parts}
+use Rattle.checker.proofs.Part.{listed_again}
 use Rattle.checker.proofs.piece.piece_fault.Goals as goal
 use Rattle.checker.proofs.piece.piece_fault.Goals.{then-stretch-begin-via-then-stretch-begin}
 use Rattle.checker.proofs.piece.piece_fault.Goals.{then-stretch-begin-via-else-stretch-begin+then-claim-stretch}

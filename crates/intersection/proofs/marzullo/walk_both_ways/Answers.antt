@@ -1,29 +1,24 @@
-use Rattle.intersection.proofs.Common.{ℤ, ◌∙◌, sym, ap, Some, rules, arith, to_z, of_z, FitsSigned, reverse, w128, to_z-of_z, items-with_items, IsHull, Empty, Bounded}
+use Rattle.intersection.proofs.Common.{ℤ, ◌∙◌, sym, ap, Some, rules, arith, to_z, of_z, FitsSigned, reverse, w128, to_z-of_z, items-with_items, Low, Empty, Bounded}
 use Rattle.intersection.proofs.Hulls.{described}
-use Rattle.intersection.proofs.Soundness.{walk_up, walk_down, found_none, found_both, found_one}
+use Rattle.intersection.proofs.Soundness.{walk_stops, walk_down, found_none, found_both, found_one}
 use Rattle.intersection.proofs.marzullo.walk_both_ways.Goals as goal
 
-pub returns-in_default : goal.returns-in_default
-returns-in_default g c =
+pub returns-in_default-clause-described : goal.returns-in_default-clause-described
+returns-in_default-clause-described g c =
     let list = c.args.list.now in
     let sorted = c.sorted_ends-ends.ensures in
     let found = rw c.as_slice.ensures.value at c.walk-least.ensures.found in
-    let up = walk_up list c.args.f _ c.sorted_ends-ends.result.items c.walk-least.result.0 sorted.ends sorted.order
-    (omega arith) (omega arith) found in
-    let is_hull : IsHull list c.args.f Empty =
-    found_none list c.args.f c.walk-least.result.0 (omega arith) up (search rules) in
-    record {
-      described = described list c.args.f Empty is_hull;
-      looked = search rules;
-    }
+    let up = walk_stops Low list c.args.f _ c.sorted_ends-ends.result.items c.walk-least.result.0 sorted.ends
+    sorted.order (omega arith) (omega arith) found in
+    described list c.args.f Empty (found_none list c.args.f c.walk-least.result.0 (omega arith) up (search rules))
 
 pub unreachable-requires : goal.unreachable-requires
 unreachable-requires g c =
     let list = c.args.list.now in
     let sorted = c.sorted_ends-ends.ensures in
     let found = rw c.as_slice.ensures.value at c.walk-least.ensures.found in
-    let up = walk_up list c.args.f _ c.sorted_ends-ends.result.items c.walk-least.result.0 sorted.ends sorted.order
-    (omega arith) (omega arith) found in
+    let up = walk_stops Low list c.args.f _ c.sorted_ends-ends.result.items c.walk-least.result.0 sorted.ends
+    sorted.order (omega arith) (omega arith) found in
     let down = walk_down list c.args.f _ c.sorted_ends-ends.result.items c.as_slice-2.result.now
     c.walk-greatest.result.0 sorted.ends sorted.order (c.as_slice-2.ensures.value
     ∙ items-with_items c.sorted_ends-ends.result c.reverse.new.self (search rules) ∙ c.reverse.ensures.after
@@ -31,13 +26,13 @@ unreachable-requires g c =
     found_one list c.args.f c.walk-least.result.0 c.walk-greatest.result.0 c.in-Some.lo up down c.in-Some.is
     c.in-None.is
 
-pub returns : goal.returns
-returns g c =
+pub returns-clause-described : goal.returns-clause-described
+returns-clause-described g c =
     let list = c.args.list.now in
     let sorted = c.sorted_ends-ends.ensures in
     let found = rw c.as_slice.ensures.value at c.walk-least.ensures.found in
-    let up = walk_up list c.args.f _ c.sorted_ends-ends.result.items c.walk-least.result.0 sorted.ends sorted.order
-    (omega arith) (omega arith) found in
+    let up = walk_stops Low list c.args.f _ c.sorted_ends-ends.result.items c.walk-least.result.0 sorted.ends
+    sorted.order (omega arith) (omega arith) found in
     let turned =
     c.as_slice-2.ensures.value ∙ items-with_items c.sorted_ends-ends.result c.reverse.new.self (search rules)
     ∙ c.reverse.ensures.after ∙ ap reverse c.deref_mut.ensures.value in
@@ -50,10 +45,5 @@ returns g c =
     let fits_hi : FitsSigned w128 c.in-Some-greatest.hi = search rules in
     let at_lo = c.in-Some.is ∙ ap Some (sym (to_z-of_z w128 c.in-Some.lo fits_lo)) in
     let at_hi = c.in-Some-greatest.is ∙ ap Some (sym (to_z-of_z w128 c.in-Some-greatest.hi fits_hi)) in
-    let is_hull : IsHull list c.args.f (Bounded lo hi) =
-    found_both list c.args.f c.walk-least.result.0 c.walk-greatest.result.0 lo hi (omega arith) up down at_lo
-    at_hi in
-    record {
-      described = described list c.args.f (Bounded lo hi) is_hull;
-      looked = search rules;
-    }
+    described list c.args.f (Bounded lo hi)
+    (found_both list c.args.f c.walk-least.result.0 c.walk-greatest.result.0 lo hi (omega arith) up down at_lo at_hi)

@@ -1,51 +1,7 @@
 use Rattle.span_cover.proofs.Common.{◌≡◌, ◌∙◌, ◌++◌, ◌∷◌, [], None, Some, refl, sym, ap, subst, to_z, of_z, arith, w128, ints, Interval, Gathered, best_interval}
 use Rattle.span_cover.proofs.GatheringSteps.{one_taken, entry_known, same_server, first_sample}
-use Rattle.span_cover.proofs.Worth.{piece_kept, entry_fits}
 use Rattle.span_cover.proofs.gathering.BestSamples.take.Goals as goal
 use Rattle.span_cover.proofs.gathering.BestSamples.take.Goals.{in-Some, in-None}
-
-pub offset_bounds-self-inside-server : goal.offset_bounds-self-inside-server
-offset_bounds-self-inside-server c = entry_fits c.args.sample.now.server c.requires.server
-
-pub bounds : goal.bounds
-bounds c = c.requires.server
-
-pub bounds-self-inside-server : goal.bounds-self-inside-server
-bounds-self-inside-server c = c.requires.server
-
-pub greater_low-requires-clause-sample : goal.greater_low-requires-clause-sample
-greater_low-requires-clause-sample c = c.requires.sample
-
-pub greater_low-requires-clause-piece : goal.greater_low-requires-clause-piece
-greater_low-requires-clause-piece c = piece_kept c.self.inside.p c.self.inside.q c.self.invariant.piece
-
-pub greater_low-requires-clause-rate : goal.greater_low-requires-clause-rate
-greater_low-requires-clause-rate c = c.self.invariant.rate
-
-pub lesser_high-requires-clause-sample : goal.lesser_high-requires-clause-sample
-lesser_high-requires-clause-sample c = c.requires.sample
-
-pub lesser_high-requires-clause-piece : goal.lesser_high-requires-clause-piece
-lesser_high-requires-clause-piece c = piece_kept c.self.inside.p c.self.inside.q c.self.invariant.piece
-
-pub lesser_high-requires-clause-rate : goal.lesser_high-requires-clause-rate
-lesser_high-requires-clause-rate c = c.self.invariant.rate
-
-pub piece_interval-interval-requires-clause-low : goal.piece_interval-interval-requires-clause-low
-piece_interval-interval-requires-clause-low c = c.requires.sample
-
-pub piece_interval-interval-requires-clause-high : goal.piece_interval-interval-requires-clause-high
-piece_interval-interval-requires-clause-high c = c.requires.sample
-
-pub piece_interval-interval-requires-clause-piece : goal.piece_interval-interval-requires-clause-piece
-piece_interval-interval-requires-clause-piece c =
-    piece_kept c.self.inside.p c.self.inside.q c.self.invariant.piece
-
-pub piece_interval-interval-requires-clause-rate : goal.piece_interval-interval-requires-clause-rate
-piece_interval-interval-requires-clause-rate c = c.self.invariant.rate
-
-pub invariant_of-self : goal.invariant_of-self
-invariant_of-self c = c.self.invariant
 
 pub returns : goal.returns
 returns c = λ samples p q ppb gathered.
