@@ -7,7 +7,7 @@ use Rattle.finder.specs.declared.found.Found.{Found}
 use Rattle.finder.specs.declared.found.Found.TheVariants.{Certificate, Nothing}
 use Rattle.finder.proofs.List.{find_is_first, find_is_none}
 use Rattle.finder.proofs.SpanPieces.{is_few, is_many}
-use Rattle.finder.proofs.Refusal.{Laws, contradicted, none_accepted}
+use Rattle.finder.proofs.Refusal.{contradicted, held, none_accepted}
 use Rattle.finder.proofs.Verdict.{all_accepted}
 
 module _ (samples : List Sample) (claim : ClaimData) (step : ℕ) where
@@ -44,7 +44,7 @@ module _ (samples : List Sample) (claim : ClaimData) (step : ℕ) where
   found_without_memory few (Ok found) is = absurd is
   found_without_memory few (Err fault) is = refuses fault (inl is) (λ e. absurd cc, λ many. absurd (omega arith))
 
-  module _ (laws : Laws) (lawful : IsLawful claim) (are : AreSamplesOf claim samples)
+  module _ (lawful : IsLawful claim) (are : AreSamplesOf claim samples)
       (counted : IsPieceCount claim.first claim.last step (count_of claim step))
       (few : count_of claim step ≤ max_pieces)
     where
@@ -65,7 +65,7 @@ module _ (samples : List Sample) (claim : ClaimData) (step : ℕ) where
           (omega (arith, below))) in
           let count = length-map-range_with_len (piece_at samples claim step) 0 (count_of claim step) in (
             ap (verdict_of samples claim) e
-                ∙ all_accepted laws.best samples claim lawful step (count_of claim step) counted pass,
+                ∙ all_accepted samples claim lawful step (count_of claim step) counted pass,
             rw e (omega (arith, count)),
           )
 
@@ -107,17 +107,15 @@ module _ (samples : List Sample) (claim : ClaimData) (step : ℕ) where
           let number : piece ≡ k = cc in
           let of_it : hull ≡ hull_at samples claim step k = cc in
           let failing = finds_nothing piece hull k first number of_it in
-          let stretch = stretch_at claim step piece in
           record {
             exact = exact (Nothing piece hull) is;
             too_many = (λ is. absurd cc, λ many. absurd (omega arith));
             accepted = tt;
             few = tt;
             failing = failing;
-            none_accepted = none_accepted laws samples claim step lawful are piece hull failing;
-            contradiction = contradicted laws samples claim step lawful are piece hull failing;
-            held = subst (HoldsError claim samples stretch) (sym failing.its_hull)
-                (laws.held claim samples stretch lawful are);
+            none_accepted = none_accepted samples claim step lawful are piece hull failing;
+            contradiction = contradicted samples claim step lawful are piece hull failing;
+            held = held samples claim step lawful are piece hull failing;
           }
 
       pub found_few : (found : Found)

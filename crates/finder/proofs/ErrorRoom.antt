@@ -3,6 +3,7 @@ use Rattle.std.proofs.Common.{◌↔◌}
 use Rattle.finder.proofs.Common.{◌≡◌, ◌⊎◌, inl, inr, ◌≤◌, ◌^◌, ℤ, pos, ◌+ℤ◌, ◌-ℤ◌, ◌≤ℤ◌, ◌<ℤ◌, int_lt, unsigned_abs, to_z, of_z, true, false, not, ◌||◌, refl, sym, ap, ◌∙◌, ⊎_elim, arith, int_max, int_min, ints, clamps, w128, leaves_out, Interval, Exchange, IsInRange, Admits, admits, IsNear, by_test, or_from, w128_keeps}
 use Rattle.sample_interval.specs.Exchange.{IsOfSomeClaim}
 use Rattle.sample_interval.specs.Window.{request_start, reply_end}
+use Rattle.checker.proofs.RefutationTests.{admits_from, admits_to}
 
 -- ---- one interval
 
@@ -11,11 +12,11 @@ is_left_out lo hi e h = by_test (int_lt e lo)
     (λ below. inl (grind (arith, ints)))
     (λ not_below. inr (let above : int_lt hi e ≡ true = rw not_below at h in grind (arith, ints)))
 
-is_inside : (lo hi e : ℤ) → lo ≤ℤ e → e ≤ℤ hi → leaves_out (record { lo = lo; hi = hi }) e ≡ false
+pub is_inside : (lo hi e : ℤ) → lo ≤ℤ e → e ≤ℤ hi → leaves_out (record { lo = lo; hi = hi }) e ≡ false
 is_inside lo hi e from to =
     or_from (int_lt e lo) (int_lt hi e) (grind (arith, ints)) (grind (arith, ints))
 
-not_left_out : (lo hi e : ℤ) → leaves_out (record { lo = lo; hi = hi }) e ≡ false → (lo ≤ℤ e) × (e ≤ℤ hi)
+pub not_left_out : (lo hi e : ℤ) → leaves_out (record { lo = lo; hi = hi }) e ≡ false → (lo ≤ℤ e) × (e ≤ℤ hi)
 not_left_out lo hi e h = by_test (int_lt e lo)
     (λ below. absurd (let is : true ≡ false = rw below at h in cc))
     (λ not_below. (
@@ -38,23 +39,17 @@ left_out_of_either al ah bl bh e =
     (λ b.
     let in_b = not_left_out bl bh e b in
     absurd (⊎_elim
-    (λ below. let low = below in let l = in_a.0 in let m = in_b.0 in omega (arith, ints, clamps))
-    (λ above. let high = above in let l = in_a.1 in let m = in_b.1 in omega (arith, ints, clamps))
+    (λ below. let low = below in omega (arith, ints, clamps))
+    (λ above. let high = above in omega (arith, ints, clamps))
     out_of)))))
     (λ inside.
     let ends = not_left_out (int_max al bl) (int_min ah bh) e inside in
-    let low = ends.0 in
-    let high = ends.1 in
     inside ∙ sym (or_from _ _ (is_inside al ah e (omega (arith, ints, clamps)) (omega (arith, ints, clamps)))
     (is_inside bl bh e (omega (arith, ints, clamps)) (omega (arith, ints, clamps)))))
 
 -- ---- one exchange
 
--- the test on an exchange is passed exactly if it leaves room for the error: a law of the checker
-abbrev pub RoomLaw : Type 0
-RoomLaw = (allowance error : ℤ) (x : Exchange) → (admits allowance error x ≡ true) ↔ Admits allowance error x
-
-module _ (law : RoomLaw) (allowance error : ℤ) (x : Exchange) where
+module _ (allowance error : ℤ) (x : Exchange) where
   abbrev w : ℤ
   w = request_start x allowance
 
@@ -67,7 +62,7 @@ module _ (law : RoomLaw) (allowance error : ℤ) (x : Exchange) where
 
   admits_all : w ≤ℤ z → (x.t2 -ℤ x.distance) ≤ℤ (x.t3 +ℤ x.distance) → room.lo ≤ℤ error → error ≤ℤ room.hi
       → admits allowance error x ≡ true
-  admits_all forward answers from to = (law allowance error x).1 (record {
+  admits_all forward answers from to = admits_to allowance error x (record {
     leaves_before_receipt = omega (arith, ints, clamps);
     leaves_before_answer = omega (arith, ints, clamps);
     leaves_before_arrival = forward;
@@ -77,22 +72,16 @@ module _ (law : RoomLaw) (allowance error : ℤ) (x : Exchange) where
   })
 
   low_inside : Admits allowance error x → room.lo ≤ℤ error
-  low_inside is =
-      let receipt = is.leaves_before_receipt in
-      let answer = is.leaves_before_answer in
-      omega (arith, ints, clamps)
+  low_inside is = omega (arith, ints, clamps)
 
   high_inside : Admits allowance error x → error ≤ℤ room.hi
-  high_inside is =
-      let receipt = is.receives_before_arrival in
-      let answer = is.answers_before_arrival in
-      omega (arith, ints, clamps)
+  high_inside is = omega (arith, ints, clamps)
 
   pub room_is : int_lt z w ≡ false → int_lt (x.t3 +ℤ x.distance) (x.t2 -ℤ x.distance) ≡ false
       → leaves_out room error ≡ not (admits allowance error x)
   room_is forward answers = by_test (admits allowance error x)
       (λ yes'.
-      let is = (law allowance error x).0 yes' in
+      let is = admits_from allowance error x yes' in
       rw yes' (is_inside room.lo room.hi error (low_inside is) (high_inside is)))
       (λ no'. rw no' (by_test (leaves_out room error) (λ out. out) (λ inside.
       let ends = not_left_out room.lo room.hi error inside in
@@ -101,7 +90,7 @@ module _ (law : RoomLaw) (allowance error : ℤ) (x : Exchange) where
 
   not_admitted : ¬ (Admits allowance error x) → admits allowance error x ≡ false
   not_admitted none = by_test (admits allowance error x)
-      (λ yes'. absurd (none ((law allowance error x).0 yes')))
+      (λ yes'. absurd (none (admits_from allowance error x yes')))
       (λ no'. no')
 
   far : (lo hi : ℤ) → lo ≡ pos (2 ^ 80) → IsNear error → leaves_out (record { lo = lo; hi = hi }) error ≡ true
@@ -111,18 +100,16 @@ module _ (law : RoomLaw) (allowance error : ℤ) (x : Exchange) where
 
   pub no_room_backward : int_lt z w ≡ true → IsNear error → (hi : ℤ)
       → leaves_out (record { lo = pos (2 ^ 80); hi = hi }) error ≡ not (admits allowance error x)
-  no_room_backward backward near hi =
-      rw (not_admitted (λ is. let forward = is.leaves_before_arrival in grind (arith, ints))) (far _ hi refl near)
+  no_room_backward backward near hi = rw (not_admitted (λ is. grind (arith, ints))) (far _ hi refl near)
 
   pub no_room_early : int_lt (x.t3 +ℤ x.distance) (x.t2 -ℤ x.distance) ≡ true → IsNear error → (hi : ℤ)
       → leaves_out (record { lo = pos (2 ^ 80); hi = hi }) error ≡ not (admits allowance error x)
-  no_room_early early near hi =
-      rw (not_admitted (λ is. let answers = is.receives_before_answer in grind (arith, ints))) (far _ hi refl near)
+  no_room_early early near hi = rw (not_admitted (λ is. grind (arith, ints))) (far _ hi refl near)
 
 -- ---- what the code computes of it
 
 small : (a : ℤ) → IsInRange a → unsigned_abs a ≤ 2 ^ 70
-small a is = let from = is.least in let to = is.greatest in omega (arith, ints)
+small a is = omega (arith, ints)
 
 -- a number as 128 bits keep it
 abbrev pub bits : ℤ → ℤ
@@ -192,7 +179,7 @@ module _ (x : Exchange) (allowance : ℤ) (c : Computed x allowance) where
   distance = small x.distance c.of_claim.lawful.distance
 
   allowed : unsigned_abs allowance ≤ 2 ^ 32
-  allowed = let from = c.from_zero in let to = c.at_most_a_second in omega (arith, ints)
+  allowed = omega (arith, ints)
 
   difference_kept : (a b : ℤ) → unsigned_abs a ≤ 2 ^ 71 → unsigned_abs b ≤ 2 ^ 71 → (d : ℤ) → d ≡ bits a -ℤ bits b
       → IsKept d (a -ℤ b)

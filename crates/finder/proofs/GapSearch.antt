@@ -5,7 +5,7 @@ use Rattle.std.specs.List.{Contains}
 use Rattle.std.proofs.lemmas.List.Elements.{Contains-append_left, Contains-push, Contains-push_cases}
 use Rattle.finder.specs.declared.neediest.Gap.{Gap}
 use Rattle.finder.specs.declared.neediest.TickNeed.{TickNeed}
-use Rattle.finder.proofs.HullWithout.{WithoutLaw, needs_no_more}
+use Rattle.finder.proofs.HullWithout.{needs_no_more, no_wider_without}
 use Rattle.finder.proofs.Nearest.{int_cases}
 use Rattle.finder.proofs.Verdict.{from_zero_kept}
 
@@ -25,11 +25,9 @@ module _ (claim : ClaimData) (gap : Gap) (tick : TickNeed) (a b : Gap) (halves :
       → IsGap claim a × IsGap claim b
   half_gaps is from to =
       let before : IsGap claim (gap_between gap.first tick) =
-      (let last = is.to_last in
-      record { from_first = is.from_first; in_order = from; to_last = omega (arith, ints, last, to) }) in
+      (record { from_first = is.from_first; in_order = from; to_last = omega (arith, ints, to) }) in
       let after : IsGap claim (gap_between tick gap.last) =
-      (let first = is.from_first in
-      record { from_first = omega (arith, ints, first, from); in_order = to; to_last = is.to_last }) in
+      (record { from_first = omega (arith, ints, from); in_order = to; to_last = is.to_last }) in
       ⊎_elim
       (λ same. (subst (IsGap claim) (sym same.0) before, subst (IsGap claim) (sym same.1) after))
       (λ turned. (subst (IsGap claim) (sym turned.0) after, subst (IsGap claim) (sym turned.1) before))
@@ -101,14 +99,12 @@ module _ (samples : List Sample) (claim : ClaimData) (cover : ℕ → Bool) wher
       → pos last.begin ≡ claim.last → first.ticks ≤ most → last.ticks ≤ most
       → AreLeft most (gap_between first last ∷ [])
   first_left first last most seen seen' begins ends few few' p is =
-      let from = is.from_first in
-      let to = is.to_last in
       ⊎_elim
       (λ more. ⊎_elim
       (λ less. inr (gap_between first last, Contains-push [] (gap_between first last), (more, less)))
-      (λ at. inl (enough last most p seen' few' (omega (arith, ints, ends, to, at))))
+      (λ at. inl (enough last most p seen' few' (omega (arith, ints, ends, at))))
       (int_cases p (pos last.begin)))
-      (λ at. inl (enough first most p seen few (omega (arith, ints, begins, from, at))))
+      (λ at. inl (enough first most p seen few (omega (arith, ints, begins, at))))
       (int_cases (pos first.begin) p)
 
   module _ (most : ℕ) (gaps rest : List Gap) (gap : Gap) (popped : gaps ≡ rest ++ gap ∷ [])
@@ -150,27 +146,21 @@ module _ (samples : List Sample) (claim : ClaimData) (cover : ℕ → Bool) wher
   pub none_left : (most : ℕ) (gaps : List Gap) → length gaps ≡ 0 → AreLeft most gaps → (p : ℤ) → IsInSpan claim p
       → NeedsAtMost most (tick_without samples claim cover p)
   none_left most gaps empty left p is =
-      ⊎_elim (λ need. need) (λ any. absurd (let within = any.1.1 in omega (arith, within, empty))) (left p is)
+      ⊎_elim (λ need. need) (λ any. absurd (omega (arith, empty))) (left p is)
 
   -- a tick within a gap needs no more than all of it
-  pub needs_within : WithoutLaw → IsLawful claim → AreSamplesOf claim samples → (gap : Gap) → IsGap claim gap
+  pub needs_within : IsLawful claim → AreSamplesOf claim samples → (gap : Gap) → IsGap claim gap
       → (most : ℕ)
       → NeedsAtMost most (hull_without samples claim cover (stretch_over (pos gap.first.begin) (pos gap.last.begin)))
       → (p : ℤ) → IsWithin gap p → NeedsAtMost most (tick_without samples claim cover p)
-  needs_within law lawful are gap is most need p within =
-      let begins = lawful.span_begins in
-      let ends = lawful.span_ends in
-      let from = is.from_first in
-      let to = is.to_last in
-      let after = within.0 in
-      let before = within.1 in
+  needs_within lawful are gap is most need p within =
       needs_no_more most _ _
-      (law samples claim cover (stretch_over (pos gap.first.begin) (pos gap.last.begin))
+      (no_wider_without samples claim cover (stretch_over (pos gap.first.begin) (pos gap.last.begin))
       (stretch_over p (next_tick samples claim p)) lawful.drift_in_range are
       (record {
-        from_zero = omega (arith, ints, begins, from, after);
-        in_order = omega (arith, ints, clamps, to, before);
-        in_range = omega (arith, ints, clamps, ends);
+        from_zero = omega (arith, ints);
+        in_order = omega (arith, ints, clamps);
+        in_range = omega (arith, ints, clamps);
       })
-      (omega (arith, ints, after), omega (arith, ints, clamps, before)))
+      (omega (arith, ints), omega (arith, ints, clamps)))
       need

@@ -28,7 +28,7 @@ greatest test first (suc n) = by_test (test (suc n))
     let rest = greatest test first n in
     record {
       number = rest.number;
-      within = (let within = rest.within in omega (arith, within));
+      within = omega arith;
       passes = rest.passes;
       others_fail = λ k more to. ⊎_elim
           (λ earlier. rest.others_fail k more (omega (arith, earlier)))
@@ -211,16 +211,12 @@ module _ (samples : List Sample) (claim : ClaimData) where
 
   pub never_carried_and_too_long : IsCarried samples claim → ¬ (IsTooLong samples claim)
   never_carried_and_too_long (certificate, is) long =
-      let few = is.few in
-      let as_many = long.as_many in
-      end_or_more claim.first is.earlier long.earlier is.longest is.last long.longest (omega (arith, few, as_many))
+      end_or_more claim.first is.earlier long.earlier is.longest is.last long.longest (omega arith)
 
   pub never_stuck_and_too_long : GetStuck samples claim → ¬ (IsTooLong samples claim)
   never_stuck_and_too_long (begin, end, hull, stuck) long =
-      let few = stuck.few in
-      let as_many = long.as_many in
       stuck_or_more claim.first stuck.earlier long.earlier stuck.longest (fails_at stuck) long.longest
-      (omega (arith, few, as_many))
+      (omega arith)
 
   -- ---- and each in only one way
 

@@ -11,7 +11,6 @@ ghost use Rattle.finder.specs.NearestRefutation.{nearest_error, nearest_refutati
 
 use crate::room::{is_possible, mirrored, refusing, rooms_of};
 use certificate::Refutation;
-use checker::laws::test_is_passed_where_room_is_left;
 use claim_file::Claim;
 use intersection::kinds::Interval;
 use pairing::ToExchange;
@@ -38,7 +37,6 @@ pub fn find_refutation<X: ToExchange>(exchanges: &[X], claim: &Claim) -> Option<
     ensures none { IsNone result
         → NoneIsRefuted (claim_data claim.now) (map X.shown exchanges.now) }
 {
-    test_is_passed_where_room_is_left();
     let rooms = rooms_of(exchanges, claim.reading);
     let error = nearest_error(&rooms, claim)?;
     Some(Refutation {

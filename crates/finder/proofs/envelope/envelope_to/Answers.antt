@@ -51,8 +51,6 @@ loop-number-smaller g c = falls _ _ c.loop-number-test.true
 
 pub returns-clause-value : goal.returns-clause-value
 returns-clause-value g c =
-    let up = c.loop-number-test.false in
-    let to = c.loop-number.auto.number-end in
     let all : c.loop-number.number ≡ c.args.count = omega arith in
     envelope_is (g.S.SampleSource.samples c.args.samples) (claim_data c.args.claim.now) c.args.step_s c.args.count _ _
     (rw all at c.loop-number.invariant.pieces) (rw all at c.loop-number.invariant.least)
@@ -62,7 +60,7 @@ returns-clause-lawful g c =
     let samples = g.S.SampleSource.samples c.args.samples in
     let all : All (IsLawfulPiece (length samples)) (map piece_data c.loop-number.pieces.items) =
     rw c.loop-number.invariant.pieces
-    (lawful_pieces samples (claim_data c.args.claim.now) c.args.step_s c.best_samples_are_the_first_best.ensures
+    (lawful_pieces samples (claim_data c.args.claim.now) c.args.step_s
     c.args.claim.now.lawful c.loop-number.number) in
     record {
       pieces = All-map_back (IsLawfulPiece (length samples)) piece_data c.loop-number.pieces.items all;

@@ -70,9 +70,6 @@ loop-number-smaller g c = falls _ _ c.loop-number-test.true
 pub returns : goal.returns
 returns g c =
     let claim = claim_data c.args.claim.now in
-    let up = c.loop-number-test.false in
-    let to = c.loop-number.auto.number-end in
-    let counted = c.requires.count in
     let all : c.loop-number.number ≡ count_of claim c.args.step_s = omega arith in
     found_all (g.S.SampleSource.samples c.args.samples) claim c.args.step_s _ (rw all at c.loop-number.invariant.pieces)
     (rw all at c.loop-number.invariant.passed)

@@ -29,11 +29,11 @@ returns-then-reply-request-clause-room c error near =
     let answer = answer_kept x c.args.allowance first in
     elim c.then-reply-request.branch [
       | then-reply-request-via-then-reply-request w ↦
-          no_room_backward c.test_is_passed_where_room_is_left.ensures c.args.allowance error x
+          no_room_backward c.args.allowance error x
           (rw (request.kept, reply.kept) at w.if-reply-request.true) near
           (neg_ℤ (pos (2 ^ 80)))
       | then-reply-request-via-else-reply-request+then-latest_answer-earliest_receipt w ↦
-          no_room_early c.test_is_passed_where_room_is_left.ensures c.args.allowance error x
+          no_room_early c.args.allowance error x
           (rw (receipt.kept, answer.kept) at w.if-latest_answer-earliest_receipt.true) near
           (neg_ℤ (pos (2 ^ 80)))
     ]
@@ -125,7 +125,7 @@ returns-clause-room c error near =
     c.difference.ensures.value in
     let high = high_kept x c.args.allowance first c.difference-2.result c.difference-3.result before
     c.difference-3.ensures.value in
-    rw (low, high) (room_is c.test_is_passed_where_room_is_left.ensures c.args.allowance error x
+    rw (low, high) (room_is c.args.allowance error x
     (rw (request.kept, reply.kept) at c.if-reply-request.false)
     (rw (receipt.kept, answer.kept) at c.if-latest_answer-earliest_receipt.false))
 

@@ -1,5 +1,6 @@
 use Rattle.finder.proofs.Common.{ℕ, ℤ, ◌≤◌, length, ap, subst, le_trans, falls, ◌∙◌, arith, rules, ◌≡◌, [], ◌∷◌, ◌++◌, slice_get, filter_map, range_with_len, common_steps, to_z-of_z, All-push, w128, data_of, best_over, stretch_over}
 use Rattle.finder.proofs.Claim.{server_fits}
+use Rattle.span_cover.proofs.BestSample.{best_of-none}
 use Rattle.finder.proofs.List.{without}
 use Rattle.finder.proofs.TablePieces.{table_more}
 use Rattle.finder.proofs.table.tables_over.Goals as goal
@@ -52,7 +53,7 @@ loop-server-preserved g c =
             long = rw w.tables-is c.loop-server.invariant.long;
             best = λ k p q is. rw w.tables-is
                 (without (over p q) server _ (c.loop-server.invariant.best k p q is)
-                (c.first_best_of_both_ends_are_the_best.ensures.none (g.S.SampleSource.samples c.args.samples)
+                (best_of-none (g.S.SampleSource.samples c.args.samples)
                 server p q claim.drift_ppb none));
           }
     ]
@@ -73,7 +74,6 @@ pub returns-clause-best : goal.returns-clause-best
 returns-clause-best g c k p q is =
     let claim = data_of c.args.claim.now in
     let over = best_over (g.S.SampleSource.samples c.args.samples) claim (stretch_over p q) in
-    let some = c.loop-server-test.false in
     let all : c.loop-server.server ≡ length claim.servers = grind (arith, common_steps) in
     c.loop-server.invariant.best k p q (rw (to_z-of_z w128 c.args.first c.ranges.first) is)
     ∙ ap (λ (n : ℕ). filter_map over (range_with_len 0 n)) all
