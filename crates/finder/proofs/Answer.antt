@@ -1,5 +1,5 @@
 -- What is found, and what that says.
-use Rattle.finder.proofs.Common.{◌≡◌, ℕ, ◌<◌, ◌≤◌, nat_lt, true, not, length, Option, Some, None, Ok, Err, inl, inr, refl, sym, ap, ◌∙◌, subst, arith, ◌↔◌, IsErrAnd, cond-true, cond-false, length-map-range_with_len, CertificateData, max_pieces, ClaimData, IsLawful, Hull, Sample, HoldsError, verdict_of, Yes, is_inside, Finds, IsFirstFailing, pieces_from, piece_at, hull_at, passes, first_failing, found_without, found_of, IsPieceCount, count_of, stretch_at, AreSamplesOf, FindFault, TooManyPieces, Memory, not-true, not-false}
+use Rattle.finder.proofs.Common.{◌≡◌, ℕ, ◌<◌, ◌≤◌, nat_lt, true, not, length, Option, Some, None, Ok, Err, inl, inr, refl, sym, ap, ◌∙◌, subst, arith, rules, ◌↔◌, IsErrAnd, cond-true, cond-false, length-map-range_with_len, CertificateData, max_pieces, ClaimData, IsLawful, Hull, Sample, HoldsError, verdict_of, Yes, is_inside, Finds, IsFirstFailing, pieces_from, piece_at, hull_at, passes, first_failing, found_without, found_of, IsPieceCount, count_of, stretch_at, AreSamplesOf, FindFault, TooManyPieces, Memory, not-true, not-false}
 use Rattle.std.specs.Prelude.{◌⊎◌, List, Result}
 use Rattle.certificate.specs.Certificate.{data_of as certificate_data}
 use Rattle.finder.specs.Found.{data_of}
@@ -25,16 +25,7 @@ module _ (samples : List Sample) (claim : ClaimData) (step : ℕ) where
   refuses : (fault : FindFault) → (fault ≡ Memory) ⊎ (found_of samples claim step ≡ Err fault)
       → (◌≡◌ {A = Result Found FindFault} (Err fault) (Err TooManyPieces)) ↔ (max_pieces < count_of claim step)
       → Finds samples claim step (Err fault)
-  refuses fault exact too_many = record {
-    exact = exact;
-    too_many = too_many;
-    accepted = tt;
-    few = tt;
-    failing = tt;
-    none_accepted = tt;
-    contradiction = tt;
-    held = tt;
-  }
+  refuses fault exact too_many = search rules
 
   pub found_many : max_pieces < count_of claim step → Finds samples claim step (Err TooManyPieces)
   found_many many = refuses TooManyPieces (inr (found_of_many many)) (λ is. many, λ over. refl)
@@ -122,3 +113,5 @@ module _ (samples : List Sample) (claim : ClaimData) (step : ℕ) where
           → data_of found ≡ found_without samples claim step (first_failing samples claim step)
           → Finds samples claim step (Ok found)
       found_few found e = finds_at found _ refl e e
+
+pub ruleset found_faults = (found_many, found_without_memory)

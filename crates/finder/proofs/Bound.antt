@@ -2,6 +2,7 @@
 use Rattle.finder.proofs.Common.{◌≡◌, inl, inr, ℕ, zero, suc, ◌+◌, ◌-◌, ◌*◌, ◌/◌, ◌%◌, ◌<◌, ◌≤◌, max, ℤ, pos, neg_ℤ, int_le, Bool, true, false, ◌&&◌, refl, sym, ap, ◌∙◌, subst, ⊎_elim, arith, add-one, mul-le-mul_right, cases_lt, div_ceil_times, ints, clamps, div-mul-add, div_ceil, nanoseconds_per_second, ticks_down, IsCeiling, ceiling_of, ticks_per_second, Hull, Unbounded, Empty, Bounded, IsInside, HasNoEnds, AreInside, IsLeastBound, IsFirstInNeed, IsFirstWithout, IsLeast, reach_of, nanoseconds_of, with_need, with_piece, least_of, LeastBound, Holds, NoneHolds, lt-ltb, le-ltb}
 use Rattle.era_unfold.proofs.NanosecondTicks.{IsFloor-ticks_down}
 use Rattle.era_unfold.proofs.Rounding.{IsCeiling-ceiling_of}
+use Rattle.std.proofs.Common.{below_more}
 
 -- ---- the number that the code computes
 
@@ -53,7 +54,8 @@ needed n lo hi inside =
 
 pub enough : (n : ℕ) (lo hi : ℤ) → nanoseconds_of (reach_of lo hi) ≤ n → IsInside n (Bounded lo hi)
 enough n lo hi le =
-    let up = (IsCeiling-ceiling_of (reach_of lo hi * nanoseconds_per_second) ticks_per_second (omega arith)).not_below in
+    let up = (IsCeiling-ceiling_of (reach_of lo hi * nanoseconds_per_second) ticks_per_second
+    (omega arith)).not_below in
     let scaled = mul-le-mul_right ticks_per_second le in
     let reach = (IsFloor-ticks_down n).greatest (reach_of lo hi) (omega (arith, up, scaled)) in
     rw (low_end lo hi (ticks_down n) reach, high_end lo hi (ticks_down n) reach) refl
@@ -83,10 +85,7 @@ SoFar hulls count (NoneHolds k) = IsFirstWithout hulls count k
 module _ (hulls : ℕ → Hull) (count : ℕ) where
   -- all lie inside with one more, if that does
   one_more : (n : ℕ) → AreInside hulls count n → IsInside n (hulls count) → AreInside hulls (count + 1) n
-  one_more n before here k below = ⊎_elim
-      (λ less. before k less)
-      (λ le. let same : count ≡ k = omega arith in subst (λ (i : ℕ). IsInside n (hulls i)) same here)
-      (cases_lt k count)
+  one_more n before here = below_more (λ (k : ℕ). IsInside n (hulls k)) count before here
 
   one_less : (n : ℕ) → AreInside hulls (count + 1) n → AreInside hulls count n
   one_less n all k below = all k (omega arith)
@@ -151,13 +150,7 @@ module _ (hulls : ℕ → Hull) (count : ℕ) where
   piece_more (Holds n j) (Bounded lo hi) is so_far = bounded_more lo hi is n j so_far
 
 none_so_far : (hulls : ℕ → Hull) → HoldsSoFar hulls 0 0 0
-none_so_far hulls = record {
-  all_inside = λ k below. absurd (omega arith);
-  least = λ m all. omega arith;
-  of_span = omega arith;
-  in_need = λ m inside. omega arith;
-  others_are_not = λ j below. absurd (omega arith);
-}
+none_so_far hulls = grind arith
 
 least_so_far : (hulls : ℕ → Hull) (count : ℕ) → SoFar hulls count (least_of hulls count)
 least_so_far hulls zero = none_so_far hulls

@@ -1,5 +1,5 @@
 -- The least bound that a certificate carries.
-use Rattle.finder.proofs.Common.{◌≡◌, ◌⊎◌, inl, inr, ⊎_elim, ℕ, ◌+◌, ◌*◌, ◌<◌, ◌≤◌, ◌^◌, ℤ, pos, ◌≤ℤ◌, ◌<ℤ◌, false, cond, is_some, ◌||◌, int_lt, List, [], ◌∷◌, ◌++◌, length, Option, Some, None, Result, Ok, Err, refl, sym, ap, ◌∙◌, subst, arith, ints, clamps, MatchOption, nanoseconds_per_second, ticks_down, ticks_per_second, CertificateData, PieceData, max_pieces, ClaimData, IsLawful, max_bound_ns, Sample, Part, Stretch, parts_after, parts_fault, piece_fault, verdict_after, verdict_from, verdict_of, Verdict, Yes, Why, Cut, FindsLeastBound, IsCarried, IsFirst, IsNeverEmpty, IsTick, StopsAt, best_hull, with_bound, AreLongest, IsOfLongest, NoneOfFewIsAccepted, end_after, hull_over, next_tick, pieces_over, stretch_over, AreEnds, AreTablesFor, IsReach, AreSamplesOf}
+use Rattle.finder.proofs.Common.{◌≡◌, ◌⊎◌, inl, inr, ⊎_elim, ℕ, ◌+◌, ◌*◌, ◌<◌, ◌≤◌, ◌^◌, ℤ, pos, ◌≤ℤ◌, ◌<ℤ◌, false, cond, is_some, ◌||◌, int_lt, List, [], ◌∷◌, ◌++◌, length, Option, Some, None, Result, Ok, Err, refl, sym, ap, ◌∙◌, subst, arith, rules, ints, clamps, MatchOption, nanoseconds_per_second, ticks_down, ticks_per_second, CertificateData, PieceData, max_pieces, ClaimData, IsLawful, max_bound, max_bound_ns, Sample, Part, Stretch, parts_after, parts_fault, piece_fault, verdict_after, verdict_from, verdict_of, Verdict, Yes, Why, Cut, FindsLeastBound, IsCarried, IsFirst, IsNeverEmpty, IsTick, StopsAt, best_hull, with_bound, AreLongest, IsOfLongest, NoneOfFewIsAccepted, end_after, hull_over, next_tick, pieces_over, stretch_over, AreEnds, AreTablesFor, IsReach, AreSamplesOf}
 use Rattle.era_unfold.proofs.NanosecondTicks.{IsFloor-ticks_down, ticks_down-mono}
 use Rattle.checker.proofs.Comparison.{wider_bound}
 use Rattle.sweep.specs.declared.table.BestTable.{BestTable}
@@ -18,27 +18,10 @@ samples_of_other samples claim m are = record { lawful = are.lawful; listed = ar
 
 pub lawful_with : (claim : ClaimData) (m : ℕ) → m ≤ max_bound_ns → IsLawful claim → IsLawful (with_bound claim m)
 lawful_with claim m small lawful =
-    let le = (IsFloor-ticks_down m).not_above in
-    let ticks : ticks_down m ≤ 1000000 * 2 ^ 32 = omega arith in
-    record {
-      some_server = lawful.some_server;
-      few_servers = lawful.few_servers;
-      addresses_differ = lawful.addresses_differ;
-      client_is_no_server = lawful.client_is_no_server;
-      group_for_each = lawful.group_for_each;
-      groups_in_range = lawful.groups_in_range;
-      few_false = lawful.few_false;
-      span_begins = lawful.span_begins;
-      span_forward = lawful.span_forward;
-      span_ends = lawful.span_ends;
-      bound_not_negative = omega (arith, ints);
-      bound_in_range = omega (arith, ints);
-      bound_ns_in_range = small;
-      drift_in_range = lawful.drift_in_range;
-      reading_not_negative = lawful.reading_not_negative;
-      reading_in_range = lawful.reading_in_range;
-      reading_ns_in_range = lawful.reading_ns_in_range;
-    }
+    let ticks : ticks_down m ≤ 1000000 * 2 ^ 32 = omega (arith, (IsFloor-ticks_down m).not_above) in
+    let from : pos 0 ≤ℤ pos (ticks_down m) = omega (arith, ints) in
+    let to : pos (ticks_down m) ≤ℤ pos max_bound = omega (arith, ints) in
+    search rules
 
 -- a tick ends no earlier than it begins
 pub tick_forward : (samples : List Sample) (claim : ClaimData) → IsLawful claim → (p : ℤ) → IsTick claim p
@@ -75,11 +58,7 @@ module _ (samples : List Sample) (claim : ClaimData) (n : ℕ) where
 
 pub tables_for_other : (samples : List Sample) (claim : ClaimData) (m : ℕ) (tables : List BestTable)
     → AreTablesFor samples claim tables → AreTablesFor samples (with_bound claim m) tables
-tables_for_other samples claim m tables tabled = record {
-  of_claim = samples_of_other samples claim m tabled.of_claim;
-  few = tabled.few;
-  are = tabled.are;
-}
+tables_for_other samples claim m tables tabled = search (rules, samples_of_other)
 
 pub reached_by : (samples : List Sample) (a b : ClaimData) (tables : List BestTable) (reach : Reach) → a ≡ b
     → (AreTablesFor samples a tables → IsReach samples a reach) → AreTablesFor samples b tables

@@ -2,15 +2,6 @@
 use Rattle.finder.proofs.Common.{◌≡◌, ℕ, ◌<◌, ◌≤◌, ◌^◌, pos, ◌-ℤ◌, ◌≤ℤ◌, ◌<ℤ◌, unsigned_abs, length, to_z, of_z, Fits, w8, arith, ints, fits_signed_from_abs, non_neg, yes_non_neg, T, w128, SFits, ClaimData, IsLawful, w128_keeps_difference, first_kept, last_kept}
 
 module _ (claim : ClaimData) (lawful : IsLawful claim) where
-  pub first_from_zero : pos 0 ≤ℤ to_z w128 (of_z w128 claim.first)
-  first_from_zero = rw (first_kept claim lawful) lawful.span_begins
-
-  pub span_in_order : to_z w128 (of_z w128 claim.first) ≤ℤ to_z w128 (of_z w128 claim.last)
-  span_in_order = rw (first_kept claim lawful, last_kept claim lawful) lawful.span_forward
-
-  pub last_in_range : to_z w128 (of_z w128 claim.last) <ℤ pos (2 ^ 64)
-  last_in_range = rw (last_kept claim lawful) lawful.span_ends
-
   -- ---- the length of its span
 
   pub length_kept : to_z w128 (of_z w128 (to_z w128 (of_z w128 claim.last) -ℤ to_z w128 (of_z w128 claim.first)))

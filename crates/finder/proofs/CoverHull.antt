@@ -75,8 +75,7 @@ module _ (claim : ClaimData) (lawful : IsLawful claim) (xs : List Exchange)
       and_from (false_in k) (not (cover k)) there.0 (ap not there.1)) in
       let split = passing_split false_in cover in
       let all = passing_same (λ k. false_in k && cover k) cover (λ k. absorbs (false_in k) (cover k) (false' k)) in
-      let few = few_false claim lawful xs each course fits in
-      omega (arith, below, within, split, all, few)
+      omega (arith, below, within, split, all, few_false claim lawful xs each course fits)
 
 -- ---- the tick of a reading
 
@@ -93,9 +92,7 @@ module _ (samples : List Sample) (claim : ClaimData) (lawful : IsLawful claim) (
   in_tick = record { from = omega arith; to = omega arith }
 
   from_zero : pos (unsigned_abs r) ≡ r
-  from_zero =
-      let begins = times_le (pos 0) claim.first n lawful.span_begins in
-      omega (arith, ints, begins)
+  from_zero = omega (arith, ints, times_le (pos 0) claim.first n lawful.span_begins)
 
   -- a reading of the span lies in one of its ticks
   tick_of : (p : ℤ) × IsInSpan claim p × IsInWindow n p (next_tick samples claim p) r
@@ -161,8 +158,7 @@ module _ (claim : ClaimData) (lawful : IsLawful claim) (xs : List Exchange)
   listed stretch part given =
       let low = All-slice_get (λ (s : Sample). s.server < length claim.servers) samples given.low_number given.low
       are.listed given.low_is in
-      let same = ap (λ (p : Part). p.server) given.is in
-      omega (arith, same, low)
+      omega (arith, (ap (λ (p : Part). p.server) given.is), low)
 
   pub error_in_hull : (stretch : Stretch) → IsObservedIn course stretch.begin stretch.end
       → IsInHull course (hull_without samples claim cover stretch)
@@ -182,7 +178,8 @@ module _ (claim : ClaimData) (lawful : IsLawful claim) (xs : List Exchange)
       (error_of course.observation) course.fineness
       (λ k d below. listed stretch (get_or parts k d) (said k d below))
       (λ k d below uncounted. part_holds stretch observed (get_or parts k d) (said k d below)
-      (sym (both (not (cover (slice_index claim.groups (get_or parts k d).server))) (course.is_false (get_or parts k d).server) (passes k d below)) ∙ uncounted))
+      (sym (both (not (cover (slice_index claim.groups (get_or parts k d).server)))
+      (course.is_false (get_or parts k d).server) (passes k d below)) ∙ uncounted))
       left (few_outside claim lawful xs each cover course fits false'))
       (IsHull-hull_of list left)
 
@@ -194,9 +191,7 @@ module _ (claim : ClaimData) (lawful : IsLawful claim) (xs : List Exchange)
   within_need (Bounded lo hi) most need held =
       let n = course.fineness in
       let low = times_le (neg_ℤ (pos most)) lo n (omega (arith, ints, clamps, need)) in
-      let high = times_le hi (pos most) n (omega (arith, ints, clamps, need)) in
-      let turned = neg_times most n in
-      omega (arith, ints, low, high, turned)
+      omega (arith, ints, low, times_le hi (pos most) n (omega (arith, ints, clamps, need)), neg_times most n)
     where
       neg_times : (b n : ℕ) → (neg_ℤ (pos b) *ℤ pos n) ≡ neg_ℤ (pos (b * n))
       neg_times zero n = omega (arith, ints)

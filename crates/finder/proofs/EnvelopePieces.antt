@@ -84,3 +84,5 @@ module _ (samples : List Sample) (claim : ClaimData) (step : ℕ) where
     least = rw (ap (λ (e : EnvelopeData). e.least) is) least;
     lawful = lawful;
   }
+
+pub ruleset envelope_faults = (envelope_many, envelope_without_memory)

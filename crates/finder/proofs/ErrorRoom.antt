@@ -62,14 +62,7 @@ module _ (allowance error : ℤ) (x : Exchange) where
 
   admits_all : w ≤ℤ z → (x.t2 -ℤ x.distance) ≤ℤ (x.t3 +ℤ x.distance) → room.lo ≤ℤ error → error ≤ℤ room.hi
       → admits allowance error x ≡ true
-  admits_all forward answers from to = admits_to allowance error x (record {
-    leaves_before_receipt = omega (arith, ints, clamps);
-    leaves_before_answer = omega (arith, ints, clamps);
-    leaves_before_arrival = forward;
-    receives_before_answer = answers;
-    receives_before_arrival = omega (arith, ints, clamps);
-    answers_before_arrival = omega (arith, ints, clamps);
-  })
+  admits_all forward answers from to = admits_to allowance error x (omega (arith, ints, clamps))
 
   low_inside : Admits allowance error x → room.lo ≤ℤ error
   low_inside is = omega (arith, ints, clamps)
@@ -108,9 +101,6 @@ module _ (allowance error : ℤ) (x : Exchange) where
 
 -- ---- what the code computes of it
 
-small : (a : ℤ) → IsInRange a → unsigned_abs a ≤ 2 ^ 70
-small a is = omega (arith, ints)
-
 -- a number as 128 bits keep it
 abbrev pub bits : ℤ → ℤ
 bits a = to_z w128 (of_z w128 a)
@@ -135,103 +125,35 @@ pub record IsKept (computed is : ℤ) : Type 0 where
   pub kept : bits computed ≡ is
   pub small : unsigned_abs is ≤ 2 ^ 72
 
-is_kept : (a b : ℤ) → a ≡ b → unsigned_abs b ≤ 2 ^ 72 → IsKept a b
-is_kept a b same small = record { same = same; kept = ap bits same ∙ w128_keeps b (omega arith); small = small }
-
--- a number whose sums and differences are computed
-pub record IsSmall (a : ℤ) : Type 0 where
-  pub in_sum : unsigned_abs (bits a) ≤ 2 ^ 72
-  pub in_difference : unsigned_abs (bits a) ≤ 2 ^ 73
-
-is_small : (a : ℤ) → unsigned_abs a ≤ 2 ^ 70 → IsSmall a
-is_small a h =
-    let same : bits a ≡ a = w128_keeps a (omega arith) in
-    record { in_sum = rw same (omega arith); in_difference = rw same (omega arith) }
-
-pub time_small : (a : ℤ) → IsInRange a → IsSmall a
-time_small a is = is_small a (small a is)
-
-pub allowance_small : (a : ℤ) → pos 0 ≤ℤ a → a ≤ℤ pos (2 ^ 32) → IsSmall a
-allowance_small a from to = is_small a (omega (arith, ints))
-
-pub kept_small : (a b : ℤ) → IsKept a b → IsSmall a
-kept_small a b is =
-    let small = is.small in
-    record { in_sum = rw is.kept small; in_difference = rw is.kept (omega arith) }
-
-pub end_small : (a : ℤ) → unsigned_abs a ≤ 2 ^ 74 → unsigned_abs (bits a) ≤ 2 ^ 80
-end_small a h = rw (w128_keeps a (omega arith)) (omega arith)
+pub in_bits : (a b : ℤ) → IsKept a b → unsigned_abs (bits a) ≤ 2 ^ 72
+in_bits a b is = rw is.kept is.small
 
 module _ (x : Exchange) (allowance : ℤ) (c : Computed x allowance) where
-  t1 : unsigned_abs x.t1_low ≤ 2 ^ 70
-  t1 = small x.t1_low c.of_claim.lawful.t1_low
-
-  t2 : unsigned_abs x.t2 ≤ 2 ^ 70
-  t2 = small x.t2 c.of_claim.lawful.t2
-
-  t3 : unsigned_abs x.t3 ≤ 2 ^ 70
-  t3 = small x.t3 c.of_claim.lawful.t3
-
-  t4 : unsigned_abs x.t4_high ≤ 2 ^ 70
-  t4 = small x.t4_high c.of_claim.lawful.t4_high
-
-  distance : unsigned_abs x.distance ≤ 2 ^ 70
-  distance = small x.distance c.of_claim.lawful.distance
-
-  allowed : unsigned_abs allowance ≤ 2 ^ 32
-  allowed = omega (arith, ints)
-
-  difference_kept : (a b : ℤ) → unsigned_abs a ≤ 2 ^ 71 → unsigned_abs b ≤ 2 ^ 71 → (d : ℤ) → d ≡ bits a -ℤ bits b
-      → IsKept d (a -ℤ b)
-  difference_kept a b p q d is =
-      is_kept d (a -ℤ b) (rw (w128_keeps a (omega (arith, p)), w128_keeps b (omega (arith, q))) at is)
-      (omega (arith, ints, p, q))
-
-  sum_kept : (a b : ℤ) → unsigned_abs a ≤ 2 ^ 71 → unsigned_abs b ≤ 2 ^ 71 → (d : ℤ) → d ≡ bits a +ℤ bits b
-      → IsKept d (a +ℤ b)
-  sum_kept a b p q d is =
-      is_kept d (a +ℤ b) (rw (w128_keeps a (omega (arith, p)), w128_keeps b (omega (arith, q))) at is)
-      (omega (arith, ints, p, q))
-
   pub request_kept : IsKept c.request (request_start x allowance)
-  request_kept =
-      difference_kept x.t1_low allowance (omega (arith, t1)) (omega (arith, allowed)) c.request c.request_is
+  request_kept = omega (arith, ints)
 
   pub reply_kept : IsKept c.reply (reply_end x allowance)
-  reply_kept = sum_kept x.t4_high allowance (omega (arith, t4)) (omega (arith, allowed)) c.reply c.reply_is
+  reply_kept = omega (arith, ints)
 
   pub receipt_kept : IsKept c.receipt (x.t2 -ℤ x.distance)
-  receipt_kept = difference_kept x.t2 x.distance (omega (arith, t2)) (omega (arith, distance)) c.receipt c.receipt_is
+  receipt_kept = omega (arith, ints)
 
   pub answer_kept : IsKept c.answer (x.t3 +ℤ x.distance)
-  answer_kept = sum_kept x.t3 x.distance (omega (arith, t3)) (omega (arith, distance)) c.answer c.answer_is
+  answer_kept = omega (arith, ints)
 
   pub earlier_kept : (a : ℤ) → a ≡ int_min (bits x.t2) (bits x.t3) → IsKept a (int_min x.t2 x.t3)
-  earlier_kept a is =
-      is_kept a (int_min x.t2 x.t3)
-      (rw (w128_keeps x.t2 (omega (arith, t2)), w128_keeps x.t3 (omega (arith, t3))) at is)
-      (omega (arith, ints, clamps, t2, t3))
+  earlier_kept a is = omega (arith, ints, clamps)
 
   pub later_kept : (a : ℤ) → a ≡ int_max (bits x.t2) (bits x.t3) → IsKept a (int_max x.t2 x.t3)
-  later_kept a is =
-      is_kept a (int_max x.t2 x.t3)
-      (rw (w128_keeps x.t2 (omega (arith, t2)), w128_keeps x.t3 (omega (arith, t3))) at is)
-      (omega (arith, ints, clamps, t2, t3))
-
-  distance_kept : bits x.distance ≡ x.distance
-  distance_kept = w128_keeps x.distance (omega (arith, distance))
+  later_kept a is = omega (arith, ints, clamps)
 
   pub after_kept : (earlier a : ℤ) → bits earlier ≡ int_min x.t2 x.t3 → a ≡ bits earlier +ℤ bits x.distance
       → IsKept a (int_min x.t2 x.t3 +ℤ x.distance)
-  after_kept earlier a e is =
-      is_kept a (int_min x.t2 x.t3 +ℤ x.distance) (rw (e, distance_kept) at is)
-      (omega (arith, ints, clamps, t2, t3, distance))
+  after_kept earlier a e is = omega (arith, ints, clamps)
 
   pub before_kept : (later a : ℤ) → bits later ≡ int_max x.t2 x.t3 → a ≡ bits later -ℤ bits x.distance
       → IsKept a (int_max x.t2 x.t3 -ℤ x.distance)
-  before_kept later a e is =
-      is_kept a (int_max x.t2 x.t3 -ℤ x.distance) (rw (e, distance_kept) at is)
-      (omega (arith, ints, clamps, t2, t3, distance))
+  before_kept later a e is = omega (arith, ints, clamps)
 
   pub low_kept : (s lo : ℤ) → IsKept s (int_min x.t2 x.t3 +ℤ x.distance) → lo ≡ bits c.request -ℤ bits s
       → bits lo ≡ request_start x allowance -ℤ (int_min x.t2 x.t3 +ℤ x.distance)

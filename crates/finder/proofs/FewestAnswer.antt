@@ -1,5 +1,5 @@
 -- What is found, and what that says.
-use Rattle.finder.proofs.Common.{◌≡◌, ℕ, ◌+◌, ℤ, pos, ◌≤ℤ◌, to_z, of_z, List, [], ◌∷◌, ◌++◌, length, Ok, Err, inr, refl, sym, ap, ◌∙◌, subst, arith, w128, Certificate, ClaimData, IsLawful, Hull, Sample, HoldsError, IsInHull, verdict_from, IsStuck, IsTooLong, hull_over, pieces_over, stretch_over, FindsFewest, AreEnds, AreSamplesOf, TooManyPieces}
+use Rattle.finder.proofs.Common.{◌≡◌, ℕ, ◌+◌, ℤ, pos, ◌≤ℤ◌, to_z, of_z, List, [], ◌∷◌, ◌++◌, length, Ok, Err, inr, refl, sym, ap, ◌∙◌, subst, arith, rules, w128, Certificate, ClaimData, IsLawful, Hull, Sample, HoldsError, IsInHull, verdict_from, NoneOfFewIsAccepted, IsStuck, IsTooLong, hull_over, pieces_over, stretch_over, FindsFewest, AreEnds, AreSamplesOf, TooManyPieces}
 use Rattle.certificate.specs.Certificate.{data_of as certificate_data}
 use Rattle.finder.specs.declared.fewest.Fewest.TheVariants as found
 use Rattle.finder.proofs.FewestPieces.{InSpan, as_many_pieces, end_after_in_span, end_after_later, first_in_span, more_of_accepted, next_within, none_accepted_over, one_more_end, yes_from}
@@ -79,17 +79,7 @@ module _ (samples : List Sample) (claim : ClaimData) (lawful : IsLawful claim)
       (finds_nothing (pos begin) (pos end) hull is)
 
   pub finds_too_long : IsTooLong samples claim → FindsFewest samples claim (Err TooManyPieces)
-  finds_too_long is = record {
-    exact = tt;
-    stuck = tt;
-    refused = inr (refl, is);
-    accepted = tt;
-    fewest = tt;
-    few = tt;
-    none_accepted = tt;
-    contradiction = tt;
-    held = tt;
-    too_many = λ e other few accepted.
-        let more = more_of_accepted samples claim lawful are is.earlier is.longest other accepted in
-        absurd (omega (arith, more, few));
-  }
+  finds_too_long is =
+      let none : NoneOfFewIsAccepted samples claim = λ other few accepted.
+      absurd (omega (arith, more_of_accepted samples claim lawful are is.earlier is.longest other accepted)) in
+      search rules

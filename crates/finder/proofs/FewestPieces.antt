@@ -31,9 +31,7 @@ module _ (samples : List Sample) (claim : ClaimData) (lawful : IsLawful claim)
   first_in_span = record { from_zero = lawful.span_begins; to_last = lawful.span_forward }
 
   pub piece_to : (p q : ℤ) → InSpan claim p → p ≤ℤ q → q ≤ℤ claim.last → IsPiece p q
-  piece_to p q is forward within =
-      let from_zero = is.from_zero in
-      record { from_zero = from_zero; in_order = forward; in_range = omega (arith, ints) }
+  piece_to p q is forward within = omega (arith, ints)
 
   pub next_later : (p : ℤ) → InSpan claim p → p ≤ℤ next_tick samples claim p
   next_later p is = omega (arith, ints, clamps)
@@ -44,15 +42,10 @@ module _ (samples : List Sample) (claim : ClaimData) (lawful : IsLawful claim)
   -- ---- the longest piece
 
   pub longest_forward : (p q : ℤ) → InSpan claim p → IsLongest samples claim p q → p ≤ℤ q
-  longest_forward p q is long =
-      let next = next_later p is in
-      omega (arith, ints)
+  longest_forward p q is long = omega (arith, ints, next_later p is)
 
   pub end_in_span : (p q : ℤ) → InSpan claim p → IsLongest samples claim p q → InSpan claim q
-  end_in_span p q is long =
-      let forward = longest_forward p q is long in
-      let from_zero = is.from_zero in
-      record { from_zero = omega (arith, ints); to_last = long.in_span }
+  end_in_span p q is long = omega (arith, ints, longest_forward p q is long)
 
   -- a shorter piece shows no less, unless its hull is empty; and then so is the longer one's
   shorter : (p q r : ℤ) → InSpan claim p → p ≤ℤ q → q ≤ℤ r → r ≤ℤ claim.last
@@ -213,8 +206,7 @@ module _ (samples : List Sample) (claim : ClaimData) (lawful : IsLawful claim)
   end_after_later p [] is longest = omega (arith, ints)
   end_after_later p (q ∷ earlier) is longest =
       let forward = longest_forward p q is longest.0 in
-      let rest = end_after_later q earlier (end_in_span p q is longest.0) longest.2 in
-      omega (arith, ints)
+      omega (arith, ints, end_after_later q earlier (end_in_span p q is longest.0) longest.2)
 
   -- ---- halving
 

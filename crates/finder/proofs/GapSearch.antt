@@ -13,21 +13,14 @@ use Rattle.finder.proofs.Verdict.{from_zero_kept}
 pub some_enough : (need : Option ℕ) (all most : ℕ) → Some all ≡ need → all ≤ most → IsSomeAnd need (λ n. n ≤ most)
 some_enough need all most is few = subst (λ (o : Option ℕ). IsSomeAnd o (λ n. n ≤ most)) is few
 
--- the span's first tick as 64 bits hold it
-pub first_is : (claim : ClaimData) → IsLawful claim
-    → pos (unsigned_abs (to_z w128 (of_z w128 claim.first))) ≡ claim.first
-first_is claim lawful = rw (first_kept claim lawful) (from_zero_kept claim.first lawful.span_begins)
-
 -- ---- the gaps
 
 module _ (claim : ClaimData) (gap : Gap) (tick : TickNeed) (a b : Gap) (halves : AreHalves gap tick a b) where
   pub half_gaps : IsGap claim gap → gap.first.begin ≤ tick.begin → tick.begin ≤ gap.last.begin
       → IsGap claim a × IsGap claim b
   half_gaps is from to =
-      let before : IsGap claim (gap_between gap.first tick) =
-      (record { from_first = is.from_first; in_order = from; to_last = omega (arith, ints, to) }) in
-      let after : IsGap claim (gap_between tick gap.last) =
-      (record { from_first = omega (arith, ints, from); in_order = to; to_last = is.to_last }) in
+      let before : IsGap claim (gap_between gap.first tick) = omega (arith, ints) in
+      let after : IsGap claim (gap_between tick gap.last) = omega (arith, ints) in
       ⊎_elim
       (λ same. (subst (IsGap claim) (sym same.0) before, subst (IsGap claim) (sym same.1) after))
       (λ turned. (subst (IsGap claim) (sym turned.0) after, subst (IsGap claim) (sym turned.1) before))

@@ -303,8 +303,7 @@ module _ (leeways : List ℤ) (cover : ℕ → Bool) where
       few = omega arith;
       enough = ⊎_elim
           (λ same. inl (let is' : length before.added ≡ n = same in omega (arith, is')))
-          (λ unlimited. absurd (let beyond = unlimited group tightest.below tightest.outside in
-          omega (arith, ints, beyond)))
+          (λ unlimited. absurd (omega (arith, ints, unlimited group tightest.below tightest.outside)))
           before.enough;
     }
       where

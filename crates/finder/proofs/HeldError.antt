@@ -30,15 +30,11 @@ if_none (Some a) P p = tt
 -- a moment at which the clock is off by so many ticks or more keeps such a mark
 off_above : (n : ℕ) (reading ticks place time : ℤ) → place ≡ reading *ℤ pos n → (ticks *ℤ pos n) ≤ℤ (place -ℤ time)
     → time ≤ℤ ((reading -ℤ ticks) *ℤ pos n)
-off_above n reading ticks place time shows off =
-    let difference = times-sub (reading -ℤ ticks) reading ticks n refl in
-    omega (arith, ints, difference)
+off_above n reading ticks place time shows off = omega (arith, ints, times-sub (reading -ℤ ticks) reading ticks n refl)
 
 off_below : (n : ℕ) (reading ticks place time : ℤ) → place ≡ reading *ℤ pos n → (place -ℤ time) ≤ℤ (ticks *ℤ pos n)
     → ((reading -ℤ ticks) *ℤ pos n) ≤ℤ time
-off_below n reading ticks place time shows off =
-    let difference = times-sub (reading -ℤ ticks) reading ticks n refl in
-    omega (arith, ints, difference)
+off_below n reading ticks place time shows off = omega (arith, ints, times-sub (reading -ℤ ticks) reading ticks n refl)
 
 module _ (claim : ClaimData) (lawful : IsLawful claim) (xs : List Exchange)
     (each : All (IsLawfulExchange (length claim.servers)) xs) (course : Course) (fits : Fits claim xs course) where
@@ -147,8 +143,7 @@ counts_added : (cover : ℕ → Bool) (added : List ℕ) → are_different added
     → All (λ a. a < 32) added
     → passing (λ k. cover k || list_any (λ a. a == k) added) ≡ passing cover + length added
 counts_added cover [] once others below =
-    let same = passing_same (λ k. cover k || false) cover (λ k. or-false (cover k)) in
-    omega arith
+    omega (arith, (passing_same (λ k. cover k || false) cover (λ k. or-false (cover k))))
 counts_added cover (a ∷ added) once others below =
     let parts = and_parts (not (list_any (λ b. b == a) added)) (are_different added) once in
     let rest = counts_added cover added parts.1 (All-tail (λ b. cover b ≡ false) a added others)
@@ -214,8 +209,7 @@ module _ (claim : ClaimData) (lawful : IsLawful claim) (xs : List Exchange)
     too_many =
         let as_many : length narrowed.added ≡ claim.false_max - count_by cover (numbers_below 32) = ⊎_elim
         (λ same. same)
-        (λ unlimited. absurd (let beyond = unlimited bounded.0 bounded.1.below bounded.1.outside in
-        omega (arith, ints, beyond)))
+        (λ unlimited. absurd (omega (arith, ints, unlimited bounded.0 bounded.1.below bounded.1.outside)))
         narrowed.enough in
         let few = few_false claim lawful xs each course fits in
         let all = passing_within one_more (holds_false claim.groups course.is_false) all_are_false in
@@ -226,8 +220,7 @@ module _ (claim : ClaimData) (lawful : IsLawful claim) (xs : List Exchange)
         subst (λ (n : ℕ). found n ≡ false) (sym here) bounded.1.outside) in
         let counted = passing_same found (λ k. cover k || list_any (λ a. a == k) narrowed.added) narrowed.join in
         let added = counts_added cover narrowed.added narrowed.once narrowed.others narrowed.below in
-        let here = counts_here cover in
-        omega arith
+        omega (arith, counts_here cover)
 
   pub held_if_bounded : IsBounded claim.bound leeways found → HoldsFor claim xs reading side (HasFalse claim cover)
   held_if_bounded bounded course fits all_false shows off = too_many bounded course fits all_false shows off
@@ -248,11 +241,9 @@ module _ (claim : ClaimData) (lawful : IsLawful claim) (xs : List Exchange)
       beyond_bound = beyond_of side claim.bound is.most is.beyond lawful.bound_in_range;
       let_be = λ group below outside.
           (are.exact group below ticks (few_of side is.most)).0
-          (let least = is.limit.least group below outside in
-          omega (arith, ints, clamps, least));
+          (omega (arith, ints, clamps, is.limit.least group below outside));
       greatest = λ more in_bits lets. most_of side is.most more in_bits (⊎_elim
-          (λ unlimited. let few = bits_few side more in_bits in
-          omega (arith, ints, few))
+          (λ unlimited. omega (arith, ints, bits_few side more in_bits))
           (λ tight.
           let few = bits_few side more in_bits in
           let le = (are.exact tight.0 tight.1.below more few).1 (lets tight.0 tight.1.below tight.1.outside) in

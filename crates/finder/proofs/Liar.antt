@@ -108,8 +108,7 @@ module _ (claim : ClaimData) (lawful : IsLawful claim) (xs : List Exchange)
   few_named error possible =
       let fewer = no_more_groups claim.groups (is_liar (refusing error)) (refuses claim.reading xs error)
       (λ server below. named_pass (refuses claim.reading xs error) (length claim.servers) server) in
-      let most = leb-true _ _ possible in
-      omega (arith, fewer, most)
+      omega (arith, fewer, leb-true _ _ possible)
 
   others_admit : (error : ℤ) → All
       (λ x. is_liar (refusing error) x.server ≡ false → Admits claim.reading error x) xs

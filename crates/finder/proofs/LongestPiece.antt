@@ -34,25 +34,11 @@ module _ (samples : List Sample) (claim : ClaimData) (lawful : IsLawful claim)
 
   pub halved_first : (high : ℕ) → pos high ≡ claim.last → shows samples claim (pos begin) (pos next) ≡ true
       → IsHalved samples claim begin next next high
-  halved_first high is shown = record {
-    some = omega arith;
-    in_order = omega (arith, ints, clamps);
-    within = omega (arith, ints);
-    shown = shown;
-    no_longer = λ r beyond within. absurd (omega (arith, ints));
-  }
+  halved_first high is shown = grind (arith, ints, clamps)
 
   pub halved_up : (low high middle : ℕ) → IsHalved samples claim begin next low high → low ≤ middle → middle ≤ high
       → shows samples claim (pos begin) (pos middle) ≡ true → IsHalved samples claim begin next middle high
-  halved_up low high middle is from_low to_high shown =
-      let some = is.some in
-      record {
-        some = omega arith;
-        in_order = to_high;
-        within = is.within;
-        shown = shown;
-        no_longer = is.no_longer;
-      }
+  halved_up low high middle is from_low to_high shown = grind arith
 
   pub halved_down : (low high middle : ℕ) → IsHalved samples claim begin next low high → low < middle → middle ≤ high
       → shows samples claim (pos begin) (pos next) ≡ true
@@ -142,8 +128,7 @@ module _ (samples : List Sample) (claim : ClaimData) where
 
 -- an end that is a Unix tick, as it is cast
 pub end_kept : (p q : ℤ) → IsPiece p q → to_z w128 (of_z w128 q) ≡ q
-end_kept p q is =
-    w128_keeps q (omega (arith, ints))
+end_kept p q is = w128_keeps q (omega (arith, ints))
 
 pub fits_64 : (p q : ℤ) → IsPiece p q → T (non_neg q) × Fits w64 (unsigned_abs q)
 fits_64 p q is =
@@ -208,8 +193,7 @@ module _ (ends : Ends) (count : ℕ) (is : count ≡ vec_len ends) where
   one_longer items z below pushed =
       let same = length_is in
       let more : length items ≡ length (ends.items ++ z ∷ []) = ap length pushed in
-      let one = length-append ends.items (z ∷ []) in
-      omega arith
+      omega (arith, length-append ends.items (z ∷ []))
 
   pub all_taken : max_pieces ≤ count → length ends.items ≤ max_pieces → length ends.items ≡ max_pieces
   all_taken past few = let same = length_is in omega arith

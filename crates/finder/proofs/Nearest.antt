@@ -128,20 +128,10 @@ module _ (rooms : List Interval) where
     pub next_is_nearest : (limit : ℤ) → claim.bound <ℤ limit
         → possible_by rooms claim (claim.bound +ℤ pos 1) ≡ true
         → IsFirstBeyond (possible_by rooms claim) claim.bound limit (claim.bound +ℤ pos 1)
-    next_is_nearest limit beyond possible = record {
-      beyond = omega (arith, ints);
-      within = omega (arith, ints);
-      passes = possible;
-      others_fail = λ other above below. absurd (omega (arith, ints));
-    }
+    next_is_nearest limit beyond possible = grind (arith, ints)
 
     pub nothing_so_far : (limit : ℤ) → claim.bound <ℤ limit → SoFar claim limit 0 (limit +ℤ pos 1)
-    nothing_so_far limit beyond = record {
-      beyond = omega (arith, ints);
-      within = omega (arith, ints);
-      passes = λ le. absurd (omega (arith, ints));
-      least = λ server below. absurd (omega arith);
-    }
+    nothing_so_far limit beyond = grind (arith, ints)
 
     module _ (limit : ℤ) (n : ℕ) (first : ℤ) (so_far : SoFar claim limit n first) where
       pub taken : (error : ℤ) → error ≡ (room_at rooms n).lo → claim.bound <ℤ error → error <ℤ first

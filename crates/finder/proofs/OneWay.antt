@@ -164,9 +164,7 @@ module _ (samples : List Sample) (claim : ClaimData) where
 
   -- a longest piece that ends before the span isn't the one that ends with it
   no_end : (p r : ℤ) → IsLongest samples claim p claim.last → IsLongest samples claim p r → r <ℤ claim.last → ⊥
-  no_end p r last long before =
-      let same = same_end p claim.last r last long in
-      omega (arith, ints, same, before)
+  no_end p r last long before = omega (arith, ints, same_end p claim.last r last long, before)
 
   moved : (q r : ℤ) (ends : List ℤ) → q ≡ r → AreLongest samples claim r ends → AreLongest samples claim q ends
   moved q r ends same are = subst (λ (z : ℤ). AreLongest samples claim z ends) (sym same) are

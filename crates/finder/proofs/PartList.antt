@@ -74,3 +74,5 @@ module _ (samples : List Sample) (claim : ClaimData) (tick : ℤ) where
       ≡ best_hull samples claim (stretch_over tick tick)
   unfolding best_hull
   hull_of_entries = ap (piece_hull claim.groups claim.false_max) parts_of_entries
+
+pub ruleset of_entries = (parts_of_entries, hull_of_entries)

@@ -1,5 +1,5 @@
 -- What settles a claim.
-use Rattle.finder.proofs.Common.{◌≡◌, ℕ, ◌<◌, ◌≤◌, ℤ, pos, ◌*ℤ◌, ◌≤ℤ◌, true, false, true≢false, List, [], ◌∷◌, Ok, refl, sym, ◌∙◌, subst, to_z, of_z, Fits, w64, unsigned_abs, arith, T, non_neg, w128, ◌↔◌, All, IsTrue, ints, clamps, ClaimData, IsLawful, Exchange, CertificateData, RefutationData, Certificate, Hull, Sample, IsPiece, Course, IsObservedIn, samples_of, verdict_of, Yes, HasSmallCover, IsCover, SomeCourse, AreLongest, IsStuck, end_after, FindsFewest, AreHeld, NoneIsRefuted}
+use Rattle.finder.proofs.Common.{◌≡◌, ℕ, ◌<◌, ◌≤◌, ℤ, pos, ◌*ℤ◌, ◌≤ℤ◌, true, false, true≢false, List, [], ◌∷◌, Ok, refl, sym, ◌∙◌, subst, to_z, of_z, Fits, w64, unsigned_abs, arith, rules, T, non_neg, w128, ◌↔◌, All, IsTrue, ints, clamps, ClaimData, IsLawful, Exchange, CertificateData, RefutationData, Certificate, Hull, Sample, IsPiece, Course, IsObservedIn, samples_of, verdict_of, Yes, HasSmallCover, IsCover, SomeCourse, AreLongest, IsStuck, end_after, FindsFewest, AreHeld, NoneIsRefuted}
 use Rattle.std.specs.Prelude.{Bool, length}
 use Rattle.pairing.specs.Exchange.{IsLawful as IsLawfulExchange}
 use Rattle.certificate.specs.Certificate.{data_of as certificate_data}
@@ -26,27 +26,12 @@ use Rattle.finder.proofs.LongestPiece.{end_kept, fits_64}
 
 -- an exchange of a claim with so many servers is one of a claim with as many as may be
 pub of_most_servers : (servers : ℕ) (x : Exchange) → servers ≤ 32 → IsLawfulExchange servers x → IsLawfulExchange 32 x
-of_most_servers servers x few h =
-    let listed = h.listed in
-    record {
-      listed = omega (arith, listed);
-      t1_low = h.t1_low;
-      t1_high = h.t1_high;
-      t1_ordered = h.t1_ordered;
-      t4_low = h.t4_low;
-      t4_high = h.t4_high;
-      t4_ordered = h.t4_ordered;
-      t2 = h.t2;
-      t3 = h.t3;
-      distance = h.distance;
-      distance_not_negative = h.distance_not_negative;
-    }
+of_most_servers servers x few h = let listed : x.server < 32 = omega arith in search rules
 
 module _ (claim : ClaimData) (lawful : IsLawful claim) (samples : List Sample) where
   -- a stretch of the span is a piece
   pub piece_within : (begin end : ℤ) → claim.first ≤ℤ begin → begin ≤ℤ end → end ≤ℤ claim.last → IsPiece begin end
-  piece_within begin end from forward to =
-      record { from_zero = omega (arith, ints); in_order = forward; in_range = omega (arith, ints) }
+  piece_within begin end from forward to = omega (arith, ints)
 
   in_span_after : (p : ℤ) (earlier : List ℤ) → claim.first ≤ℤ p → p ≤ℤ claim.last → AreLongest samples claim p earlier
       → (claim.first ≤ℤ end_after p earlier) × (end_after p earlier ≤ℤ claim.last)
@@ -128,23 +113,12 @@ module _ (claim : ClaimData) (xs : List Exchange) where
   pub shown_by : (certificate : Certificate) → IsFitted claim xs
       → FindsFewest (samples_of xs claim) claim (Ok (found.Certificate certificate))
       → IsShownBy claim xs (certificate_data certificate)
-  shown_by certificate courses finds = record {
-    courses = courses;
-    longest = finds.exact;
-    accepted = finds.accepted;
-    fewest = finds.fewest;
-    few = finds.few;
-  }
+  shown_by certificate courses finds = search rules
 
   -- a refutation that stands
   pub contested_by : (refutation : RefutationData) → IsHeard claim xs → SettlesWithDrift claim xs refutation true
       → IsContestedBy claim xs refutation
-  contested_by refutation is_heard settles = record {
-    heard = is_heard;
-    accepted = settles.exact.0 refl;
-    course = settles.course refl;
-    none_accepted = settles.no_yes refl;
-  }
+  contested_by refutation is_heard settles = grind arith
 
   -- the reading at which a course is observed lies in the tick that begins there
   pub observed : (begin end : ℤ) (course : Course) → begin ≤ℤ end
@@ -200,10 +174,12 @@ module _ (samples : List Sample) (claim : ClaimData) (covers : List Groups) wher
       (λ k d below. grown (holds (get_or covers k d)) b all with'.0 (before k d below))
 
 module _ (claim : ClaimData) (xs : List Exchange) (covers : List Groups) (least : AreLeastCovers claim xs covers)
-    (cover_of : (course : Course) → FitsExchanges claim xs course → IsCover claim xs (holds_false claim.groups course.is_false))
+    (cover_of : (course : Course) → FitsExchanges claim xs course
+    → IsCover claim xs (holds_false claim.groups course.is_false))
     (lawful : IsLawful claim) (each : All (IsLawfulExchange (length claim.servers)) xs)
   where
-    pub none_beyond : (n : ℕ) (old new : Option ℕ) → length covers ≤ n → NeedNoMore (samples_of xs claim) claim covers n old
+    pub none_beyond : (n : ℕ) (old new : Option ℕ) → length covers ≤ n
+        → NeedNoMore (samples_of xs claim) claim covers n old
         → IfSome new (λ found. (length covers < 64) × (old ≡ Some found)) → IfSome new (NoneIsBeyond claim xs)
     none_beyond n old None past tried is = tt
     none_beyond n None (Some most) past tried is = absurd cc

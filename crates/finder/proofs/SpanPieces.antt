@@ -1,6 +1,7 @@
 -- The pieces of a span.
 use Rattle.finder.proofs.Common.{◌≡◌, ℕ, zero, suc, ◌+◌, ◌-◌, ◌*◌, ◌/◌, ◌%◌, ◌<◌, ◌≤◌, min, max, ◌^◌, ℤ, pos, ◌+ℤ◌, ◌-ℤ◌, ◌≤ℤ◌, ◌<ℤ◌, nat_lt, true, false, unsigned_abs, List, [], ◌∷◌, ◌++◌, sym, ap, ◌∙◌, ⊎_elim, arith, to_z, of_z, Fits, w32, w64, w128, mul-le-mul_right, cases_lt, nat_tests, div_ceil_times, ints, clamps, map-range_with_len_more, div-mul-add, div_ceil, non_neg, yes_non_neg, T, max_pieces, ClaimData, IsLawful, IsCeiling, ceiling_of, ticks_per_second, IsPiece, piece_end_of, Stretch, IsPieceCount, piece_count_of, piece_begin_of, ends_of, stretch_at, w128_keeps, first_kept, last_kept}
 use Rattle.era_unfold.proofs.Rounding.{IsCeiling-ceiling_of}
+use Rattle.finder.proofs.Claim.{length_fits}
 
 -- a quotient that is rounded up by its remainder
 pub div_ceil-ceiling_of : (n d : ℕ) → 0 < d → div_ceil n d ≡ ceiling_of n d
@@ -38,13 +39,7 @@ module _ (first last : ℤ) (in_order : first ≤ℤ last) (step : ℕ) where
   pub each_is_piece : pos 0 ≤ℤ first → last <ℤ pos (2 ^ 64) → (k : ℕ)
       → IsPiece (piece_begin_of first last step k) (piece_end_of first last step k)
   each_is_piece from_zero in_range k =
-      let begin = begin_from_first k in
-      let end = end_to_last k in
-      record {
-        from_zero = omega (arith, ints);
-        in_order = begin_before_end k;
-        in_range = omega (arith, ints);
-      }
+      omega (arith, ints, begin_from_first k, end_to_last k, begin_before_end k)
 
 -- ---- the count
 
@@ -180,3 +175,5 @@ pub stretch_is : (claim : ClaimData) (step k : ℕ) (begin end : ℤ) → begin 
 stretch_is claim step k begin end a b =
     let make : ℤ → ℤ → Stretch = λ x y. record { begin = x; end = y } in
     ap (λ (x : ℤ). make x end) a ∙ ap (λ (y : ℤ). make (piece_begin_of claim.first claim.last step k) y) b
+
+pub ruleset counting = (length_fits, ticks_fit, some_ticks)

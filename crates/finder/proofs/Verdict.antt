@@ -196,3 +196,5 @@ module _ (samples : List Sample) (claim : ClaimData) (lawful : IsLawful claim) (
       ∙ ap (λ (k : ℕ). verdict_at k []) zero_n
       ∙ cond-true (nat_lt 0 n && int_eq (piece_begin_of claim.first claim.last step n) claim.last) Yes (No n Uncovered)
       (covered n _ is.some last)
+
+pub ruleset accepted_entries = (entries_accepted, entries_fault)

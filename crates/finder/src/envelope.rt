@@ -36,6 +36,7 @@ pub struct Envelope {
 ///
 /// `TooManyPieces` comes exactly if the span has over 100,000 pieces, before any memory is taken,
 /// and `Memory` if none is left.
+#[tactic(auto, using(crate::proofs::EnvelopePieces::envelope_faults))]
 pub fn find_envelope_over<S: SampleSource>(
     alloc: Global,
     samples: S,
@@ -56,6 +57,7 @@ pub fn find_envelope_over<S: SampleSource>(
 }
 
 /// The envelope of the first `count` pieces.
+#[tactic(auto, using(crate::proofs::TablePieces::read_tables))]
 fn envelope_to<S: SampleSource>(
     alloc: Global,
     samples: S,

@@ -57,6 +57,7 @@ pub fn find(
 }
 
 /// `find` over samples from any source, which need not be a list.
+#[tactic(auto, using(crate::proofs::Answer::found_faults))]
 pub fn find_over<S: SampleSource>(
     alloc: Global,
     samples: S,
@@ -77,6 +78,7 @@ pub fn find_over<S: SampleSource>(
 }
 
 /// The pieces up to the first that fails.
+#[tactic(auto, using(crate::proofs::TablePieces::read_tables))]
 fn find_pieces<S: SampleSource>(
     alloc: Global,
     samples: S,

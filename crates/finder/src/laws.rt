@@ -46,6 +46,7 @@ pub fn last_piece_ends_with_the_span()
 {}
 
 /// A verdict refuses none of the best entries of a piece, and the hull that it tests is theirs.
+#[tactic(auto, using(crate::proofs::Verdict::accepted_entries))]
 pub fn best_entries_are_accepted()
     ensures parts { (samples : List Sample) (claim : ClaimData) (stretch : Stretch) →
         let entries = best_entries samples claim stretch in
@@ -59,6 +60,7 @@ pub fn best_entries_are_accepted()
 
 /// What each server says at a tick is what the best entries say of the piece that begins and ends
 /// there, and the hull over it is that piece's.
+#[tactic(auto, using(crate::proofs::PartList::of_entries))]
 pub fn ticks_are_pieces_of_one_reading()
     ensures parts { (samples : List Sample) (claim : ClaimData) (tick : ℤ) →
         let stretch = stretch_over tick tick in
@@ -71,6 +73,7 @@ pub fn ticks_are_pieces_of_one_reading()
 
 /// In every course of events that fits, the error of the client's clock lies in the hull of a
 /// piece's best entries at every moment whose reading lies in the piece, inside a bound or not.
+#[tactic(auto, using(crate::proofs::Verdict::best_held))]
 pub fn best_hulls_hold_the_error()
     ensures { (claim : ClaimData) (samples : List Sample) (stretch : Stretch) → IsLawful claim →
         AreSamplesOf claim samples →
@@ -80,6 +83,7 @@ pub fn best_hulls_hold_the_error()
 /// The best entries of a piece show as much as any entries of a stretch that has the whole of it:
 /// if those pass the tests of a verdict, then the hull of these lies inside the bound too, or is
 /// empty.
+#[tactic(auto, using(crate::proofs::Narrow::shows_as_much))]
 pub fn best_entries_show_as_much()
     ensures { (samples : List Sample) (claim : ClaimData) (outer inner : Stretch)
         (entries : List (ℕ × ℕ)) → claim.drift_ppb ≤ max_drift_ppb → AreSamplesOf claim samples →
@@ -93,6 +97,7 @@ pub fn best_entries_show_as_much()
 /// its ends lie inside the other's; and if the hull of the longer piece is empty, so is its own. So
 /// if the hull over one tick isn't empty, no longer piece with that tick has an empty one, and from
 /// tick to tick the ends only move outwards.
+#[tactic(auto, using(crate::proofs::Narrow::no_wider_within))]
 pub fn pieces_within_have_no_wider_hulls()
     ensures { (samples : List Sample) (claim : ClaimData) (outer inner : Stretch) →
         claim.drift_ppb ≤ max_drift_ppb → AreSamplesOf claim samples →
@@ -101,6 +106,7 @@ pub fn pieces_within_have_no_wider_hulls()
 {}
 
 /// And so it is where the groups of a cover have no say.
+#[tactic(auto, using(crate::proofs::HullWithout::no_wider_without))]
 pub fn pieces_within_have_no_wider_hulls_without_groups()
     ensures { (samples : List Sample) (claim : ClaimData) (cover : ℕ → Bool)
         (outer inner : Stretch) → claim.drift_ppb ≤ max_drift_ppb → AreSamplesOf claim samples →
@@ -122,6 +128,7 @@ pub fn neediest_ticks_bound_the_error()
 
 /// However an accepted certificate cuts the span, none of its pieces ends after the longest piece
 /// of the same number.
+#[tactic(auto, using(crate::proofs::Beyond::ends_no_later))]
 pub fn accepted_pieces_end_no_later()
     ensures { (samples : List Sample) (claim : ClaimData) (ends : List ℤ)
         (other : CertificateData) (k : ℕ) (end : ℤ) (piece : PieceData) → IsLawful claim →
@@ -132,6 +139,7 @@ pub fn accepted_pieces_end_no_later()
 
 /// The least bound of hulls is the least inside which all of them lie, with the first piece that
 /// needs it; and no other answer is.
+#[tactic(auto, using(crate::proofs::Bound::least_is_least, crate::proofs::Bound::least_is_one))]
 pub fn least_bound_is_the_least()
     ensures is { (hulls : ℕ → Hull) (count : ℕ) → 0 < count →
         IsLeast hulls count (least_of hulls count) }

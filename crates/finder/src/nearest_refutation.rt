@@ -25,6 +25,7 @@ pub(crate) const LEAST_ERROR_BELOW: i128 = 1 << 63;
 /// none, the one with the greatest error below it on the other side. It names just the servers that
 /// have an exchange with no room for that error, in their order, and the first reading of the span.
 /// It takes no memory, and looks once at each exchange.
+#[tactic(auto, using(std::proofs::lemmas::Int::ints))]
 pub fn find_refutation<X: ToExchange>(exchanges: &[X], claim: &Claim) -> Option<Refutation>
     requires exchanges { All (IsLawfulExchange (length claim.now.servers.items))
         (map X.shown exchanges.now) }

@@ -43,6 +43,7 @@ pub(crate) fn rooms_of<X: ToExchange>(exchanges: &[X], allowance: i128) -> [Inte
 
 /// The errors for which an exchange leaves room.
 #[inline(always)]
+#[tactic(auto, using(std::proofs::lemmas::Int::ints, std::proofs::lemmas::Int::clamps))]
 fn room_of(exchange: &Exchange, allowance: i128) -> Interval
     requires exchange { IsOfSomeClaim exchange.now }
     requires from_zero { pos 0 ≤ℤ allowance }

@@ -18,6 +18,7 @@ use sweep::{best_of_pieces, servers_of};
 
 /// For each server that has a sample, in the order of the servers, its best samples in each of the
 /// first `count` pieces.
+#[tactic(auto, using(std::proofs::lemmas::Int::ints))]
 pub(crate) fn tables<S: SampleSource>(
     alloc: Global,
     samples: S,

@@ -4,16 +4,6 @@ use Rattle.finder.proofs.Bound.{least_is_least}
 use Rattle.finder.proofs.SpanPieces.{IsPieceCount-piece_count_of}
 use Rattle.finder.proofs.envelope.find_envelope_over.Goals as goal
 
-pub returns-then-count : goal.returns-then-count
-returns-then-count g c =
-    envelope_many (g.S.SampleSource.samples c.args.samples) (claim_data c.args.claim.now) c.args.step_s
-    (rw c.piece_count-count.ensures at c.if-count.true)
-
-pub returns-in_err-found : goal.returns-in_err-found
-returns-in_err-found g c =
-    envelope_without_memory (g.S.SampleSource.samples c.args.samples) (claim_data c.args.claim.now) c.args.step_s
-    (rw c.piece_count-count.ensures at c.if-count.false) c.from_residual.result c.from_residual.ensures.1
-
 pub returns : goal.returns
 returns g c =
     let claim = claim_data c.args.claim.now in

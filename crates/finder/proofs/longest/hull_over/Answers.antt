@@ -3,9 +3,6 @@ use Rattle.finder.proofs.LongestPiece.{tick_kept}
 use Rattle.finder.proofs.Part.{hull_said, listed_said}
 use Rattle.finder.proofs.longest.hull_over.Goals as goal
 
-pub parts_near-parts-requires-clause-few : goal.parts_near-parts-requires-clause-few
-parts_near-parts-requires-clause-few c = c.requires.tables.1.few
-
 pub piece_hull-requires-clause-listed : goal.piece_hull-requires-clause-listed
 piece_hull-requires-clause-listed c =
     let claim = data_of c.args.claim.now in

@@ -11,8 +11,7 @@ loop-low-init c samples tabled =
 pub is_shown-requires-clause-in_order : goal.is_shown-requires-clause-in_order
 is_shown-requires-clause-in_order c =
     let first = next_not_before c.args.begin c.args.next c.args.claim.now.last c.requires.in_span c.requires.next in
-    let halved = c.loop-low.invariant c.requires.tables.0 c.requires.tables.1 in
-    omega arith
+    omega (arith, c.loop-low.invariant c.requires.tables.0 c.requires.tables.1)
 
 pub loop-low-preserved-then-is_shown : goal.loop-low-preserved-then-is_shown
 loop-low-preserved-then-is_shown c samples tabled =

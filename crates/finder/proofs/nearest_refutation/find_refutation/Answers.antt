@@ -3,14 +3,6 @@ use Rattle.std.specs.Prelude.{map}
 use Rattle.finder.proofs.RefutationFinding.{refutation_is, says_none, says_some}
 use Rattle.finder.proofs.nearest_refutation.find_refutation.Goals as goal
 
-pub rooms_of-rooms-requires-clause-from_zero : goal.rooms_of-rooms-requires-clause-from_zero
-rooms_of-rooms-requires-clause-from_zero g c =
-    rw (reading_kept (claim_data c.args.claim.now) c.args.claim.now.lawful) c.args.claim.now.lawful.reading_not_negative
-
-pub rooms_of-rooms-requires-clause-at_most_a_second : goal.rooms_of-rooms-requires-clause-at_most_a_second
-rooms_of-rooms-requires-clause-at_most_a_second g c =
-    rw (reading_kept (claim_data c.args.claim.now) c.args.claim.now.lawful) c.args.claim.now.lawful.reading_in_range
-
 pub nearest_error-requires-clause-low : goal.nearest_error-requires-clause-low
 nearest_error-requires-clause-low g c server below = (c.rooms_of-rooms.ensures.rooms server below).low
 

@@ -4,9 +4,6 @@ use Rattle.finder.proofs.LongestPiece.{tick_kept}
 use Rattle.finder.proofs.Part.{listed_said}
 use Rattle.finder.proofs.neediest.hull_without.Goals as goal
 
-pub parts_near-all-requires-clause-few : goal.parts_near-all-requires-clause-few
-parts_near-all-requires-clause-few c = c.requires.tables.1.few
-
 pub parts_without-parts-requires-clause-listed : goal.parts_without-parts-requires-clause-listed
 parts_without-parts-requires-clause-listed c =
     let claim = data_of c.args.claim.now in

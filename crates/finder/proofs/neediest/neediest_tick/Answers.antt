@@ -1,8 +1,8 @@
 use Rattle.finder.proofs.Common.{◌≡◌, pos, List, [], ◌∷◌, ◌++◌, Some, nat_tests, sym, ap, ◌∙◌, subst, arith, ints, All-nil, All-push, data_of, holds, IsGap, gap_between}
 use Rattle.std.proofs.lemmas.List.Elements.{All-pop}
 use Rattle.finder.specs.declared.neediest.Gap.{Gap}
-use Rattle.finder.proofs.GapSearch.{AreLeft, boundless_at, first_is, first_left, half_gaps, left_behind, left_split, none_left, one_seen, seen_at}
-use Rattle.finder.proofs.LongestPiece.{last_is}
+use Rattle.finder.proofs.GapSearch.{AreLeft, boundless_at, first_left, half_gaps, left_behind, left_split, none_left, one_seen, seen_at}
+use Rattle.finder.proofs.LongestPiece.{first_is, last_is}
 use Rattle.finder.proofs.neediest.neediest_tick.Goals as goal
 use Rattle.finder.proofs.neediest.neediest_tick.Goals.{then-may_need_more+in-Some-tick_need-2+in_ok-push-2+in_ok-push-3, else-may_need_more}
 

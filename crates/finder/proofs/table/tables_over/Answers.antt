@@ -11,20 +11,11 @@ overflow_cast-server g c =
     server_fits (data_of c.args.claim.now) c.args.claim.now.lawful c.loop-server.server c.len-server-end.result
     c.loop-server-test.true (c.len-server-end.ensures ∙ c.args.claim.now.servers.ok.0)
 
-pub best_of_pieces-requires-clause-samples : goal.best_of_pieces-requires-clause-samples
-best_of_pieces-requires-clause-samples g c = c.requires.samples
-
-pub best_of_pieces-requires-clause-few : goal.best_of_pieces-requires-clause-few
-best_of_pieces-requires-clause-few g c = c.requires.few
-
 pub best_of_pieces-requires-clause-servers : goal.best_of_pieces-requires-clause-servers
 best_of_pieces-requires-clause-servers g c = c.as_slice.ensures.value ∙ c.in_ok-servers.ensures
 
 pub best_of_pieces-requires-clause-pieces : goal.best_of_pieces-requires-clause-pieces
 best_of_pieces-requires-clause-pieces g c = rw (to_z-of_z w128 c.args.first c.ranges.first) c.requires.pieces
-
-pub best_of_pieces-requires-clause-rate : goal.best_of_pieces-requires-clause-rate
-best_of_pieces-requires-clause-rate g c = c.args.claim.now.lawful.drift_in_range
 
 pub loop-server-preserved : goal.loop-server-preserved
 loop-server-preserved g c =
@@ -58,17 +49,11 @@ loop-server-preserved g c =
           }
     ]
 
-pub loop-server-smaller : goal.loop-server-smaller
-loop-server-smaller g c = falls _ _ c.loop-server-test.true
-
 pub returns-clause-few : goal.returns-clause-few
 returns-clause-few g c =
     subst (λ (n : ℕ). length c.loop-server.tables.items ≤ n)
     (c.len-server-end.ensures ∙ c.args.claim.now.servers.ok.0)
     (le_trans c.loop-server.invariant.few c.loop-server.auto.server-end)
-
-pub returns-clause-long : goal.returns-clause-long
-returns-clause-long g c = c.loop-server.invariant.long
 
 pub returns-clause-best : goal.returns-clause-best
 returns-clause-best g c k p q is =
