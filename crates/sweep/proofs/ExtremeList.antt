@@ -81,11 +81,11 @@ module _ (side : Side) (samples : List Sample) (server n : ℕ) (extremes : List
   pub ExtremesSoFar-other : (sample : Sample) → slice_get samples n ≡ Some sample → sample.server ≢ server →
       ExtremesSoFar side samples server (n + 1) extremes
   ExtremesSoFar-other sample here other = record {
-    few = let few = so_far.few in omega arith;
+    few = omega arith;
     within = let inside = slice_get_within samples n sample here in omega arith;
     each = λ index extreme is.
         let known = so_far.each index extreme is in
-        (known.0, let less = known.1 in omega arith);
+        (known.0, omega arith);
     all = all;
     rising = so_far.rising;
   }
@@ -124,7 +124,7 @@ module _ (side : Side) (samples : List Sample) (server n : ℕ) (extremes : List
       each : (index : ℕ) (b : Extreme) → slice_get (extremes ++ extreme ∷ []) index ≡ Some b →
           IsOfServer side samples server b × (b.number < n + 1)
       each index b at = ⊎_elim
-          (λ old. let known = so_far.each index b old in (known.0, let less = known.1 in omega arith))
+          (λ old. let known = so_far.each index b old in (known.0, omega arith))
           (λ new. subst (λ (x : Extreme). IsOfServer side samples server x × (x.number < n + 1)) (sym new.1)
           (own, omega (arith, number)))
           (pushed_cases extremes extreme b index at)

@@ -75,8 +75,7 @@ level_of_best : (x y : ℤ) (end wide best_end best_wide level : ℕ) → x +ℤ
     (best_wide ≤ best_end → best_end - best_wide ≤ level) → y +ℤ pos (2 ^ 75) ≡ pos level
 level_of_best x y end wide best_end best_wide level a b reached no_more most =
     let under : best_wide ≤ best_end = omega (arith, ints) in
-    let top = most under in
-    omega (arith, ints)
+    omega (arith, ints, most under)
 
 module _ (side : Side) (samples : List Sample) (server : ℕ) (extremes : List Extreme)
     (are : AreExtremesOf side samples server extremes) where

@@ -115,8 +115,7 @@ module _ (side : Side) (samples : List Sample) (server : ℕ) (extremes : List E
             is.top.index ≤ index → ⊥
         not_before i index b stands number_is before behind = ⊎_elim
             (λ later.
-            let higher = are.rising is.top.index index is.extreme b later is.stands stands in
-            omega (arith, number_is, is.number))
+            omega (arith, number_is, is.number, are.rising is.top.index index is.extreme b later is.stands stands))
             (λ le.
             let here : index ≡ is.top.index = omega arith in
             let same : b ≡ is.extreme =
