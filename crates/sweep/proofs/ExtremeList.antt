@@ -5,13 +5,7 @@ use Rattle.sweep.proofs.List.{pushed_cases, slice_get-front, slice_get-last}
 
 lawful_end : (value start stop : ℤ) (extreme : Extreme) → unsigned_abs value ≤ 2 ^ 72 → unsigned_abs start ≤ 2 ^ 72 →
     start ≤ℤ stop → unsigned_abs stop ≤ 2 ^ 72 → IsEndAt value start stop extreme → IsLawfulExtreme extreme
-lawful_end value start stop extreme a b c d is = record {
-  least_end = omega (arith, ints, is.end);
-  greatest_end = omega (arith, ints, is.end);
-  begins = omega (arith, ints, is.from);
-  in_order = omega (arith, ints, is.from, is.to);
-  ends = omega (arith, ints, is.to);
-}
+lawful_end value start stop extreme a b c d is = omega (arith, ints)
 
 lawful_extreme : (side : Side) (sample : Sample) (extreme : Extreme) → IsLawfulSample sample →
     IsExtremeOf side sample extreme →

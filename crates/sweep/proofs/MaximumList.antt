@@ -18,11 +18,7 @@ pub record MaximaSoFar (queue : List Arrival) (n : ℕ) (maxima : List PrefixMax
   pub rise : MaximaRise maxima
 
 pub MaximaSoFar-none : (queue : List Arrival) → MaximaSoFar queue 0 []
-MaximaSoFar-none queue = record {
-  each = λ i maximum is. absurd cc;
-  all = λ k a less is. absurd (omega arith);
-  rise = λ i j a b le at_i at_j. absurd cc;
-}
+MaximaSoFar-none queue = grind arith
 
 one_later : (queue : List Arrival) (n : ℕ) (maximum : PrefixMaximum) → IsFromArrival queue n maximum →
     IsFromArrival queue (n + 1) maximum

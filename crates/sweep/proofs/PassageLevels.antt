@@ -1,5 +1,5 @@
 -- The highest level that is reached over each stretch, and the first index that reaches it.
-use Rattle.sweep.proofs.Common.{◌≡◌, ℕ, ◌+◌, ◌-◌, ◌*◌, ◌<◌, ◌≤◌, List, Option, Some, max, refl, arith, subst, sym, ◌∙◌, ap, inl, inr, ⊎_elim, slice_get, cases_lt, same_Some, mul-le-mul_right, div-one, IsRate, billion, IsReached, IsFirstBlock, AreUpto, IsLead, IsWantedBelow, Reaches, IsQueueOf, IsTopOf, IsEarlyAtLeast, AreEarlyTops, AreTopsOver, height, height_for, Lead, Wanted, Extreme, Arrival, Top, UnsignedStretch}
+use Rattle.sweep.proofs.Common.{◌≡◌, ℕ, ◌+◌, ◌-◌, ◌*◌, ◌<◌, ◌≤◌, List, Option, Some, max, arith, subst, sym, ◌∙◌, ap, inl, inr, ⊎_elim, slice_get, cases_lt, same_Some, mul-le-mul_right, div-one, IsRate, billion, IsReached, IsFirstBlock, AreUpto, IsLead, IsWantedBelow, Reaches, IsQueueOf, IsTopOf, IsEarlyAtLeast, AreEarlyTops, AreTopsOver, height, height_for, Lead, Wanted, Extreme, Arrival, Top, UnsignedStretch}
 use Rattle.sweep.proofs.BlockLimits.{has_come, reached_by}
 use Rattle.sweep.proofs.TopOrder.{same_top}
 

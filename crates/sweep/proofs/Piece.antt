@@ -1,5 +1,5 @@
 -- The best samples of each piece.
-use Rattle.sweep.proofs.Common.{◌≡◌, ℕ, ℤ, List, Some, arith, get_or, subst, sym, ◌∙◌, slice_get-get_or, slice_get_within, Sample, IsBestLow, IsBestHigh, best_of, AreExtremesOf, AreBestOfPieces, ArePairsOf, AreStretchesOf, IsLawfulStretch, AreTopNumbers, Extreme, Low, High, UnsignedStretch, All-slice_get}
+use Rattle.sweep.proofs.Common.{◌≡◌, ℕ, ℤ, List, arith, get_or, subst, sym, ◌∙◌, slice_get-get_or, slice_get_within, Sample, AreExtremesOf, AreBestOfPieces, ArePairsOf, AreStretchesOf, IsLawfulStretch, AreTopNumbers, Extreme, Low, High, UnsignedStretch, All-slice_get}
 use Rattle.span_cover.proofs.BestSample.{best_of-best}
 use Rattle.sweep.proofs.Merit.{IsFirstBest-top}
 

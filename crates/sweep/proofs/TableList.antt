@@ -1,5 +1,5 @@
 -- The tables of servers, and what they give one after another.
-use Rattle.sweep.proofs.Common.{◌≡◌, ℕ, zero, suc, ◌+◌, ◌<◌, Bool, true, false, ℤ, List, [], ◌∷◌, ◌++◌, length, map, take, get_or, Option, Some, None, refl, sym, ◌∙◌, ap, arith, cond, nat_eq, true≢false, slice_get, filter, filter_map, cons_option, range_with_len, nat_tests, append-nil, take_more, map-append, filter-append, filter_map-append, slice_get-get_or, Sample, HasNoSample, best_of, Part, AreTablesOf, IsTableOf, best_part, best_parts, has_sample, Extreme, BestTable, or_right, eq-eqb, range_with_len_more}
+use Rattle.sweep.proofs.Common.{◌≡◌, ℕ, zero, suc, ◌+◌, ◌<◌, Bool, true, false, ℤ, List, [], ◌∷◌, ◌++◌, length, map, take, get_or, Option, Some, None, refl, sym, ◌∙◌, ap, arith, cond, nat_eq, true≢false, slice_get, filter, filter_map, cons_option, range_with_len, nat_tests, append-nil, take_more, map-append, filter-append, filter_map-append, slice_get-get_or, Sample, HasNoSample, Part, AreTablesOf, IsTableOf, best_part, best_parts, has_sample, Extreme, BestTable, or_right, eq-eqb, range_with_len_more}
 use Rattle.span_cover.proofs.BestSample.{best_of-none}
 
 -- ---- whether a server has a sample
