@@ -1,5 +1,5 @@
 -- What is found, and what that says.
-use Rattle.finder.proofs.Common.{◌≡◌, ℕ, ◌<◌, ◌≤◌, nat_lt, true, not, length, Option, Some, None, Ok, Err, inl, inr, refl, sym, ap, ◌∙◌, subst, arith, rules, ◌↔◌, IsErrAnd, cond-true, cond-false, length-map-range_with_len, CertificateData, max_pieces, ClaimData, IsLawful, Hull, Sample, HoldsError, verdict_of, Yes, is_inside, Finds, IsFirstFailing, pieces_from, piece_at, hull_at, passes, first_failing, found_without, found_of, IsPieceCount, count_of, stretch_at, AreSamplesOf, FindFault, TooManyPieces, Memory, not-true, not-false}
+use Rattle.finder.proofs.Common.{◌≡◌, ℕ, ◌<◌, ◌≤◌, nat_lt, true, not, length, Option, Some, None, Ok, Err, inl, inr, refl, sym, ap, ◌∙◌, arith, rules, ◌↔◌, IsErrAnd, cond-true, cond-false, length-map-range_with_len, CertificateData, max_pieces, ClaimData, IsLawful, Hull, Sample, verdict_of, Yes, is_inside, Finds, IsFirstFailing, pieces_from, piece_at, hull_at, passes, first_failing, found_without, found_of, IsPieceCount, count_of, AreSamplesOf, FindFault, TooManyPieces, Memory, not-true, not-false}
 use Rattle.std.specs.Prelude.{◌⊎◌, List, Result}
 use Rattle.certificate.specs.Certificate.{data_of as certificate_data}
 use Rattle.finder.specs.Found.{data_of}

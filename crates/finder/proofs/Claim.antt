@@ -1,5 +1,5 @@
 -- The numbers of a claim that keeps its limits, as 128 bits hold them.
-use Rattle.finder.proofs.Common.{◌≡◌, ℕ, ◌<◌, ◌≤◌, ◌^◌, pos, ◌-ℤ◌, ◌≤ℤ◌, ◌<ℤ◌, unsigned_abs, length, to_z, of_z, Fits, w8, arith, ints, fits_signed_from_abs, non_neg, yes_non_neg, T, w128, SFits, ClaimData, IsLawful, w128_keeps_difference, first_kept, last_kept}
+use Rattle.finder.proofs.Common.{◌≡◌, ℕ, ◌<◌, ◌≤◌, ◌^◌, ◌-ℤ◌, unsigned_abs, length, to_z, of_z, Fits, w8, arith, ints, fits_signed_from_abs, non_neg, yes_non_neg, T, w128, SFits, ClaimData, IsLawful, w128_keeps_difference, first_kept, last_kept}
 
 module _ (claim : ClaimData) (lawful : IsLawful claim) where
   -- ---- the length of its span

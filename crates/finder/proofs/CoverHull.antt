@@ -3,7 +3,7 @@ use Rattle.finder.proofs.Common.{◌≡◌, ℕ, zero, suc, ◌+◌, ◌-◌, �
 use Rattle.std.proofs.lemmas.List.Elements.{filter_passes}
 use Rattle.std.specs.Prelude.{nat_lt}
 use Rattle.intersection.specs.Fineness.{times_le}
-use Rattle.intersection.specs.Fraction.{HoldsFraction, IsAdmissibleFraction}
+use Rattle.intersection.specs.Fraction.{HoldsFraction}
 use Rattle.intersection.specs.Hull.{hull_of}
 use Rattle.sample_interval.specs.Moment.{error_of, IsInWindow}
 use Rattle.pairing.specs.Exchange.{IsLawful as IsLawfulExchange}

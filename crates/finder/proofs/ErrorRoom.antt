@@ -1,6 +1,5 @@
 -- The errors for which exchanges leave room.
-use Rattle.std.proofs.Common.{◌↔◌}
-use Rattle.finder.proofs.Common.{◌≡◌, ◌⊎◌, inl, inr, ◌≤◌, ◌^◌, ℤ, pos, ◌+ℤ◌, ◌-ℤ◌, ◌≤ℤ◌, ◌<ℤ◌, int_lt, unsigned_abs, to_z, of_z, true, false, not, ◌||◌, refl, sym, ap, ◌∙◌, ⊎_elim, arith, int_max, int_min, ints, clamps, w128, leaves_out, Interval, Exchange, IsInRange, Admits, admits, IsNear, by_test, or_from, w128_keeps}
+use Rattle.finder.proofs.Common.{◌≡◌, ◌⊎◌, inl, inr, ◌≤◌, ◌^◌, ℤ, pos, ◌+ℤ◌, ◌-ℤ◌, ◌≤ℤ◌, ◌<ℤ◌, int_lt, unsigned_abs, to_z, of_z, true, false, not, ◌||◌, refl, sym, ap, ◌∙◌, ⊎_elim, arith, int_max, int_min, ints, clamps, w128, leaves_out, Interval, Exchange, Admits, admits, IsNear, by_test, or_from, w128_keeps}
 use Rattle.sample_interval.specs.Exchange.{IsOfSomeClaim}
 use Rattle.sample_interval.specs.Window.{request_start, reply_end}
 use Rattle.checker.proofs.RefutationTests.{admits_from, admits_to}

@@ -1,5 +1,5 @@
 -- What is found, and what that says.
-use Rattle.finder.proofs.Common.{◌≡◌, ℕ, ◌+◌, ℤ, pos, ◌≤ℤ◌, to_z, of_z, List, [], ◌∷◌, ◌++◌, length, Ok, Err, inr, refl, sym, ap, ◌∙◌, subst, arith, rules, w128, Certificate, ClaimData, IsLawful, Hull, Sample, HoldsError, IsInHull, verdict_from, NoneOfFewIsAccepted, IsStuck, IsTooLong, hull_over, pieces_over, stretch_over, FindsFewest, AreEnds, AreSamplesOf, TooManyPieces}
+use Rattle.finder.proofs.Common.{◌≡◌, ℕ, ◌+◌, ℤ, pos, ◌≤ℤ◌, to_z, of_z, List, [], ◌∷◌, ◌++◌, length, Ok, Err, sym, ap, ◌∙◌, subst, arith, rules, w128, Certificate, ClaimData, IsLawful, Hull, Sample, HoldsError, IsInHull, verdict_from, NoneOfFewIsAccepted, IsStuck, IsTooLong, hull_over, pieces_over, stretch_over, FindsFewest, AreEnds, AreSamplesOf, TooManyPieces}
 use Rattle.certificate.specs.Certificate.{data_of as certificate_data}
 use Rattle.finder.specs.declared.fewest.Fewest.TheVariants as found
 use Rattle.finder.proofs.FewestPieces.{InSpan, as_many_pieces, end_after_in_span, end_after_later, first_in_span, more_of_accepted, next_within, none_accepted_over, one_more_end, yes_from}

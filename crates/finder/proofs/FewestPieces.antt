@@ -1,5 +1,5 @@
 -- What the longest pieces say of certificates: theirs is accepted, and no accepted one has fewer pieces.
-use Rattle.finder.proofs.Common.{◌≡◌, ◌≢◌, ℕ, suc, ◌+◌, ◌<◌, ℤ, pos, ◌≤ℤ◌, int_lt, nat_lt, unsigned_abs, Bool, true, false, true≢false, cond, ◌&&◌, ◌||◌, ⊎_elim, List, [], ◌∷◌, ◌++◌, length, Option, Some, None, refl, sym, ap, ◌∙◌, subst, arith, slice_get, IsSomeAnd, int_eq, cond-true, nat_tests, ints, clamps, slice_get_within, PieceData, CertificateData, ClaimData, IsLawful, Hull, Empty, Sample, is_inside, IsPiece, Stretch, last_end, stretches_from, HoldsError, parts_after, parts_fault, piece_fault, verdict_after, verdict_from, verdict_of, PassBelow, Yes, No, Why, Cut, Uncovered, best_entries, best_hull, AreLongest, IsLongest, IsNoWider, end_after, hull_over, next_tick, piece_over, pieces_over, shows, stretch_over, HoldsWhole, AreSamplesOf, int_lt-false}
+use Rattle.finder.proofs.Common.{◌≡◌, ◌≢◌, ℕ, suc, ◌+◌, ◌<◌, ℤ, pos, ◌≤ℤ◌, int_lt, nat_lt, unsigned_abs, Bool, true, false, true≢false, cond, ◌&&◌, ◌||◌, ⊎_elim, List, [], ◌∷◌, ◌++◌, length, Option, Some, None, refl, sym, ap, ◌∙◌, subst, arith, slice_get, IsSomeAnd, int_eq, cond-true, nat_tests, ints, clamps, PieceData, CertificateData, ClaimData, IsLawful, Hull, Empty, Sample, is_inside, IsPiece, last_end, stretches_from, parts_after, parts_fault, piece_fault, verdict_after, verdict_from, verdict_of, Yes, No, Why, Cut, Uncovered, best_entries, AreLongest, IsLongest, IsNoWider, end_after, hull_over, next_tick, piece_over, pieces_over, shows, stretch_over, HoldsWhole, AreSamplesOf, int_lt-false}
 use Rattle.checker.proofs.PieceVerdict.{each_passes}
 use Rattle.checker.proofs.VerdictPieces.{yes_end}
 use Rattle.finder.proofs.Narrow.{no_wider_within, shows_as_much}

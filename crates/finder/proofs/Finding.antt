@@ -1,5 +1,5 @@
 -- What is found, piece by piece.
-use Rattle.finder.proofs.Common.{◌≡◌, ℕ, ◌+◌, ◌<◌, ℤ, true, false, not, List, [], ◌∷◌, ◌++◌, Some, None, sym, ap, ◌∙◌, subst, ⊎_elim, unsigned_abs, arith, cases_lt, map-range_with_len_more, PieceData, ClaimData, Hull, Sample, piece_end_of, piece_hull, Stretch, is_inside, best_entries, best_hull, parts_named, certificate, nothing, piece_at, pieces_from, hull_at, passes, first_failing, found_without, count_of, stretch_at}
+use Rattle.finder.proofs.Common.{◌≡◌, ℕ, ◌+◌, ◌<◌, ℤ, true, false, not, List, [], ◌∷◌, ◌++◌, Some, None, sym, ap, ◌∙◌, unsigned_abs, arith, map-range_with_len_more, PieceData, ClaimData, Hull, Sample, piece_end_of, piece_hull, Stretch, is_inside, best_entries, best_hull, parts_named, certificate, nothing, piece_at, pieces_from, hull_at, passes, first_failing, found_without, count_of, stretch_at}
 use Rattle.finder.proofs.List.{find_none, find_first}
 use Rattle.std.proofs.Common.{below_more}
 

@@ -1,5 +1,5 @@
 -- Pieces that are cut finer.
-use Rattle.finder.proofs.Common.{◌≡◌, ◌≢◌, inl, inr, ℕ, zero, suc, ◌+◌, ◌-◌, ◌*◌, ◌/◌, ◌<◌, ◌≤◌, ℤ, pos, ◌+ℤ◌, ◌≤ℤ◌, ◌<ℤ◌, List, Ok, refl, sym, ◌∙◌, ⊎_elim, arith, mod-lt, mul-le-mul_right, cases_lt, ints, clamps, div-add-mod', ticks_per_second, ClaimData, IsLawful, Hull, Unbounded, Empty, Sample, IsPiece, piece_end_of, Stretch, best_entries, best_hull, AreInside, EnvelopeData, IsInside, envelope_of, with_bound, hull_at, IsPieceCount, count_of, piece_begin_of, stretch_at, HoldsWhole, AreSamplesOf, Holds, NoneHolds, mul-pos}
+use Rattle.finder.proofs.Common.{◌≡◌, ◌≢◌, inl, inr, ℕ, zero, suc, ◌+◌, ◌-◌, ◌*◌, ◌/◌, ◌<◌, ◌≤◌, ℤ, pos, ◌+ℤ◌, ◌≤ℤ◌, ◌<ℤ◌, List, Ok, sym, ◌∙◌, ⊎_elim, arith, mul-le-mul_right, cases_lt, ints, clamps, ticks_per_second, ClaimData, IsLawful, Hull, Unbounded, Empty, Sample, IsPiece, piece_end_of, Stretch, best_entries, best_hull, AreInside, EnvelopeData, IsInside, envelope_of, with_bound, hull_at, IsPieceCount, count_of, piece_begin_of, stretch_at, HoldsWhole, AreSamplesOf, Holds, NoneHolds, mul-pos}
 use Rattle.finder.proofs.Bound.{none_inside}
 use Rattle.finder.proofs.OtherBounds.{least_is, same_hull}
 use Rattle.finder.proofs.Narrow.{shows_as_much}

@@ -1,5 +1,5 @@
 -- The search for the tick that needs most: what is known of the gaps that are left, and of all other ticks.
-use Rattle.finder.proofs.Common.{◌≡◌, ℕ, ◌≤◌, ℤ, pos, ◌≤ℤ◌, ◌<ℤ◌, Bool, ◌⊎◌, inl, inr, ⊎_elim, List, [], ◌∷◌, ◌++◌, length, Option, Some, None, refl, sym, ap, ◌∙◌, subst, arith, ints, clamps, ClaimData, IsLawful, to_z, of_z, w128, unsigned_abs, Hull, Unbounded, Empty, Bounded, Sample, next_tick, stretch_over, AreSamplesOf, AreHalves, gap_between, IsBoundless, IsGap, IsInSpan, IsWithin, NeedsAtMost, need_of, hull_without, tick_without, first_kept}
+use Rattle.finder.proofs.Common.{◌≡◌, ℕ, ◌≤◌, ℤ, pos, ◌≤ℤ◌, ◌<ℤ◌, Bool, ◌⊎◌, inl, inr, ⊎_elim, List, [], ◌∷◌, ◌++◌, length, Option, Some, None, refl, sym, ap, ◌∙◌, subst, arith, ints, clamps, ClaimData, IsLawful, Hull, Unbounded, Empty, Bounded, Sample, next_tick, stretch_over, AreSamplesOf, AreHalves, gap_between, IsBoundless, IsGap, IsInSpan, IsWithin, NeedsAtMost, need_of, hull_without, tick_without}
 use Rattle.std.specs.Prelude.{IsSomeAnd}
 use Rattle.std.specs.List.{Contains}
 use Rattle.std.proofs.lemmas.List.Elements.{Contains-append_left, Contains-push, Contains-push_cases}
@@ -7,7 +7,6 @@ use Rattle.finder.specs.declared.neediest.Gap.{Gap}
 use Rattle.finder.specs.declared.neediest.TickNeed.{TickNeed}
 use Rattle.finder.proofs.HullWithout.{needs_no_more, no_wider_without}
 use Rattle.finder.proofs.Nearest.{int_cases}
-use Rattle.finder.proofs.Verdict.{from_zero_kept}
 
 -- what a stretch needs is known
 pub some_enough : (need : Option ℕ) (all most : ℕ) → Some all ≡ need → all ≤ most → IsSomeAnd need (λ n. n ≤ most)

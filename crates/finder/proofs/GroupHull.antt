@@ -1,6 +1,6 @@
 -- Narrower intervals of the same servers: the hull over their groups is no wider, and if the wider one is empty, so
 -- is this one.
-use Rattle.finder.proofs.Common.{ℕ, ◌<◌, ℤ, true, List, length, refl, arith, leaves_out, Hull, Unbounded, Empty, Bounded, Interval, AreNarrower, group_intervals, piece_hull, Part, IsNoWider, meet_leaves_it_out, all_counted, no_fewer_groups, still_left_out, EveryHull}
+use Rattle.finder.proofs.Common.{ℕ, ◌<◌, ℤ, true, List, length, refl, arith, leaves_out, Hull, Unbounded, Empty, Bounded, Interval, AreNarrower, group_intervals, piece_hull, Part, IsNoWider, meet_leaves_it_out, all_counted, no_fewer_groups, still_left_out}
 use Rattle.intersection.specs.Hull.{IsAdmissible, IsHull}
 use Rattle.intersection.proofs.EndPoints.{IsHull-hull_of}
 

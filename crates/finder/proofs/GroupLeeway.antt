@@ -1,7 +1,7 @@
 -- The leeways of groups, from one exchange to the next.
 use Rattle.std.proofs.Common.{get_or-set_other, get_or-set_same}
 use Rattle.std.proofs.lemmas.List.{get_or-replicate}
-use Rattle.finder.proofs.Common.{◌≡◌, ℕ, zero, suc, ◌+◌, ◌-◌, ◌*◌, ◌/◌, ◌<◌, ◌≤◌, ℤ, pos, negsuc, neg_ℤ, ◌+ℤ◌, ◌-ℤ◌, ◌*ℤ◌, ◌≤ℤ◌, ◌<ℤ◌, unsigned_abs, Bool, true, false, ◌||◌, inl, inr, ⊎_elim, List, [], ◌∷◌, Some, replicate, length, get_or, set, refl, sym, ap, ap₂, ◌∙◌, subst, arith, to_z, of_z, ◌^◌, w128, ◌↔◌, ◌==◌, slice_get, int_min, list_any, All-cons, All-nil, ints, nat_tests, le-div_iff_mul-le, ClaimData, group_of, low_mark, AreCompatible, Mark, Exchange, billion, Side, Below, Lets, DoLet, AreLeeways, IsNarrowed, IsTightest, IsUnlimited, leeway_in, mark_at, no_limit, turned, by_test, not_lt_zero, lt_next_cases, or_parts, w128_keeps, or-false}
+use Rattle.finder.proofs.Common.{◌≡◌, ℕ, ◌+◌, ◌-◌, ◌*◌, ◌/◌, ◌<◌, ◌≤◌, ℤ, pos, negsuc, neg_ℤ, ◌+ℤ◌, ◌-ℤ◌, ◌*ℤ◌, ◌≤ℤ◌, ◌<ℤ◌, unsigned_abs, Bool, true, false, ◌||◌, inl, inr, ⊎_elim, List, [], ◌∷◌, Some, replicate, length, set, refl, sym, ap, ap₂, ◌∙◌, subst, arith, to_z, of_z, ◌^◌, w128, ◌↔◌, ◌==◌, slice_get, int_min, list_any, All-cons, All-nil, ints, nat_tests, le-div_iff_mul-le, ClaimData, group_of, low_mark, AreCompatible, Mark, Exchange, billion, Side, Below, Lets, DoLet, AreLeeways, IsNarrowed, IsTightest, IsUnlimited, leeway_in, mark_at, no_limit, turned, by_test, not_lt_zero, lt_next_cases, or_parts, w128_keeps, or-false}
 
 -- ---- the greatest error under one mark
 

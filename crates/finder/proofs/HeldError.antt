@@ -2,7 +2,7 @@
 use Rattle.std.proofs.Common.{◌==◌}
 use Rattle.std.proofs.lemmas.List.{get_or_default}
 use Rattle.std.specs.Prelude.{nat_lt}
-use Rattle.finder.proofs.Common.{◌≡◌, ℕ, zero, suc, ◌+◌, ◌-◌, ◌<◌, ◌≤◌, ℤ, pos, neg_ℤ, ◌+ℤ◌, ◌-ℤ◌, ◌*ℤ◌, ◌≤ℤ◌, ◌<ℤ◌, Bool, true, false, not, ◌&&◌, ◌||◌, inl, inr, is_some, ◌⊎◌, ⊎_elim, Option, None, Some, List, [], ◌∷◌, length, get_or, refl, sym, ap, ◌∙◌, subst, arith, ◌↔◌, All, Any, IfNone, count_by, slice_index, AllPairs, int_min, list_any, clamps, ints, and_parts, lt-ltb, or_cases, nat_tests, All-cons, All-head, All-nil, All-tail, list_any-append, slice_get_within, RefutationData, ClaimData, IsLawful, max_bound, Exchange, low_mark, high_mark, Course, holds_false, are_different, IsCover, size_of, AreApart, HoldsOne, HoldsOneOr64, holds, numbers_below, AreHeld, AreLeeways, DoLet, HasFalse, HoldsFor, IsBounded, IsCandidate, IsHeld, IsHeldAtAll, IsMade, IsNarrowed, IsOff, IsRounded, greatest_of, leeway_in, mark_at, no_limit, turned, IsErrorOf64Bits, Side, Above, Below, by_test, not-true, lt_next_cases, ≤ℤ-from_equal, or_from, and_from, or-false}
+use Rattle.finder.proofs.Common.{◌≡◌, ℕ, zero, suc, ◌+◌, ◌-◌, ◌<◌, ◌≤◌, ℤ, pos, neg_ℤ, ◌+ℤ◌, ◌-ℤ◌, ◌*ℤ◌, ◌≤ℤ◌, ◌<ℤ◌, Bool, true, false, not, ◌&&◌, ◌||◌, inl, inr, ◌⊎◌, ⊎_elim, Option, None, Some, List, [], ◌∷◌, length, get_or, refl, sym, ap, ◌∙◌, subst, arith, ◌↔◌, All, Any, IfNone, count_by, slice_index, AllPairs, int_min, list_any, clamps, ints, and_parts, lt-ltb, or_cases, nat_tests, All-cons, All-head, All-nil, All-tail, list_any-append, slice_get_within, RefutationData, ClaimData, IsLawful, max_bound, Exchange, low_mark, high_mark, Course, holds_false, are_different, IsCover, size_of, AreApart, HoldsOne, HoldsOneOr64, holds, numbers_below, AreHeld, AreLeeways, DoLet, HasFalse, HoldsFor, IsBounded, IsCandidate, IsHeld, IsHeldAtAll, IsMade, IsNarrowed, IsOff, IsRounded, greatest_of, leeway_in, mark_at, no_limit, turned, IsErrorOf64Bits, Side, Above, Below, by_test, not-true, lt_next_cases, ≤ℤ-from_equal, or_from, and_from, or-false}
 use Rattle.pairing.specs.Exchange.{IsLawful as IsLawfulExchange}
 use Rattle.checker.specs.Course.{Fits}
 use Rattle.feasibility.specs.Conflicts.{ConflictData, group_count, HoldsNoLess as HoldsNoLessBy, IsCover as IsCoverBy}

@@ -1,5 +1,5 @@
 -- The hull over a stretch where the groups of a cover have no say.
-use Rattle.finder.proofs.Common.{◌≡◌, ℕ, zero, suc, ◌+◌, ◌<◌, ◌≤◌, ℤ, Bool, true, false, cond, not, List, [], ◌∷◌, ◌++◌, length, take, append-nil, get_or, refl, sym, ap, ◌∙◌, subst, arith, ints, clamps, slice_index, All-filter, filter, Any, max_drift_ppb, Hull, Unbounded, Empty, Bounded, Sample, ClaimData, IsPiece, Part, Stretch, AreNarrower, IsNarrower, numbers_below, best_entries, parts_named, piece_hull, stretch_over, HoldsWhole, AreSamplesOf, IsNoWider, NeedsAtMost, has_say, hull_without, EveryHull}
+use Rattle.finder.proofs.Common.{◌≡◌, ℕ, zero, suc, ◌+◌, ◌<◌, ◌≤◌, ℤ, Bool, true, false, cond, not, List, [], ◌∷◌, ◌++◌, length, take, append-nil, get_or, refl, sym, ap, ◌∙◌, subst, arith, ints, clamps, slice_index, All-filter, filter, Any, max_drift_ppb, Hull, Unbounded, Empty, Bounded, Sample, ClaimData, IsPiece, Part, Stretch, AreNarrower, IsNarrower, numbers_below, best_entries, parts_named, piece_hull, stretch_over, HoldsWhole, AreSamplesOf, IsNoWider, NeedsAtMost, has_say, hull_without}
 use Rattle.std.specs.Prelude.{count_by, ◌-◌}
 use Rattle.std.proofs.lemmas.List.Elements.{filter_more, filter_passes}
 use Rattle.sweep.specs.Table.{best_parts}

@@ -1,5 +1,5 @@
 -- What the best entries of a piece show, if others show something of a stretch that has the whole of it.
-use Rattle.finder.proofs.Common.{◌≡◌, ℕ, zero, suc, ◌+◌, ◌<◌, ◌≤◌, ℤ, ◌≤ℤ◌, true, ◌⊎◌, inl, inr, ⊎_elim, get_or, List, [], ◌∷◌, length, Option, Some, None, Result, Ok, Err, refl, sym, subst, arith, All, Any, slice_get, cons_option, range_with_len, cases_lt, ints, ClaimData, max_drift_ppb, Empty, IsLawfulSample, billion, Sample, is_inside, piece_hull, part_of, IsPiece, moved_low, moved_high, Part, Stretch, IsNarrower, AreNarrower, IsOfSamples, parts_after, hull_fault, parts_fault, Why, best_over, best_entries, best_hull, part_named, parts_named, HoldsWhole, AreSamplesOf, IsNoWider, All-slice_get, EveryHull}
+use Rattle.finder.proofs.Common.{◌≡◌, ℕ, zero, suc, ◌+◌, ◌<◌, ◌≤◌, true, ◌⊎◌, inl, inr, ⊎_elim, get_or, List, [], ◌∷◌, length, Option, Some, None, Result, Ok, Err, refl, sym, subst, arith, Any, slice_get, cons_option, range_with_len, cases_lt, ints, ClaimData, max_drift_ppb, Empty, IsLawfulSample, Sample, is_inside, part_of, IsPiece, Part, Stretch, IsNarrower, AreNarrower, IsOfSamples, parts_after, parts_fault, Why, best_over, best_entries, best_hull, part_named, parts_named, HoldsWhole, AreSamplesOf, IsNoWider, All-slice_get}
 use Rattle.std.specs.Prelude.{filter_map}
 use Rattle.intersection.proofs.EndPoints.{IsHull-hull_of}
 use Rattle.span_cover.proofs.PieceDistance.{moved_high-narrower, moved_low-narrower}

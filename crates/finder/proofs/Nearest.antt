@@ -1,5 +1,5 @@
 -- The nearest error that few enough groups refuse.
-use Rattle.finder.proofs.Common.{◌≡◌, ◌⊎◌, inl, inr, ℕ, zero, suc, ◌+◌, ◌<◌, ◌≤◌, ℤ, pos, ◌+ℤ◌, ◌≤ℤ◌, ◌<ℤ◌, int_lt, true, false, true≢false, ◌||◌, List, length, refl, sym, ap, ◌∙◌, ⊎_elim, arith, add-one, cases_lt, ints, ClaimData, Interval, room_at, refused_by, possible_by, IsFirstBeyond, by_test, leb-true, le-leb}
+use Rattle.finder.proofs.Common.{◌≡◌, ◌⊎◌, inl, inr, ℕ, zero, suc, ◌+◌, ◌<◌, ◌≤◌, ℤ, pos, ◌+ℤ◌, ◌≤ℤ◌, ◌<ℤ◌, int_lt, true, false, true≢false, List, length, refl, sym, ap, ◌∙◌, ⊎_elim, arith, add-one, cases_lt, ints, ClaimData, Interval, room_at, refused_by, possible_by, IsFirstBeyond, by_test, leb-true, le-leb}
 use Rattle.finder.proofs.ErrorRoom.{is_inside, not_left_out}
 use Rattle.finder.proofs.Group.{no_more_groups}
 

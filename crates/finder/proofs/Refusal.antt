@@ -1,5 +1,5 @@
 -- What it says that a piece fails: no certificate with a piece over it is accepted.
-use Rattle.finder.proofs.Common.{◌≡◌, ◌≢◌, ℕ, zero, suc, ◌+◌, ℤ, pos, Bool, true, false, true≢false, cond, ⊎_elim, List, [], ◌∷◌, ◌++◌, length, Option, Some, None, refl, sym, ap, ◌∙◌, subst, arith, slice_get, IsSomeAnd, slice_get_within, PieceData, CertificateData, ClaimData, IsLawful, Hull, Empty, Sample, is_inside, Stretch, begin_of, stretches_from, stretches_of, HoldsError, IsContradicted, IsInHull, IsVerdictOn, parts_after, parts_fault, piece_fault, verdict_of, PassBelow, Yes, Cut, best_hull, piece_at, pieces_from, IsFirstFailing, stretch_at, HoldsWhole, NoneIsAcceptedOver, AreSamplesOf}
+use Rattle.finder.proofs.Common.{◌≡◌, ◌≢◌, ℕ, zero, suc, ℤ, pos, Bool, true, false, true≢false, cond, ⊎_elim, List, [], ◌∷◌, Option, Some, None, refl, sym, ap, ◌∙◌, subst, slice_get, IsSomeAnd, PieceData, ClaimData, IsLawful, Hull, Empty, Sample, is_inside, Stretch, begin_of, stretches_from, HoldsError, IsContradicted, IsInHull, parts_after, parts_fault, piece_fault, Cut, IsFirstFailing, stretch_at, HoldsWhole, NoneIsAcceptedOver, AreSamplesOf}
 use Rattle.checker.proofs.PieceVerdict.{each_passes}
 use Rattle.finder.proofs.Narrow.{shows_as_much}
 use Rattle.finder.proofs.SpanPieces.{piece_of_claim}

@@ -13,7 +13,7 @@ use Rattle.checker.specs.Traceability.{IsWithin}
 use Rattle.feasibility.specs.LeastCovers.{AreLeastCovers}
 use Rattle.feasibility.specs.declared.groups.Groups.{Groups}
 use Rattle.finder.specs.declared.neediest.Neediest.{Neediest}
-use Rattle.finder.proofs.Common.{Bool, ◌+◌, pos, holds, holds_false, HasFalse, IsBoundless, IsNeediest, NoneNeedsMore, need_of, tick_without}
+use Rattle.finder.proofs.Common.{Bool, ◌+◌, pos, holds, holds_false, IsBoundless, IsNeediest, NoneNeedsMore, need_of, tick_without}
 use Rattle.checker.proofs.Exchange.{are_samples}
 use Rattle.finder.proofs.CoverHull.{within_most}
 use Rattle.finder.proofs.GapSearch.{more_enough}

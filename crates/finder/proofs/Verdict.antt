@@ -1,5 +1,5 @@
 -- What the checker says about pieces with the best samples.
-use Rattle.finder.proofs.Common.{◌≡◌, ℕ, zero, suc, ◌+◌, ◌-◌, ◌<◌, ◌≤◌, ℤ, pos, ◌≤ℤ◌, int_lt, nat_lt, unsigned_abs, Bool, true, false, cond, not, ◌&&◌, ◌||◌, List, [], ◌∷◌, ◌++◌, length, Option, Some, None, Result, Ok, refl, sym, ap, ◌∙◌, subst, arith, append_assoc, add-one, add-zero, slice_get, ◌==◌, list_any, filter_map, cons_option, range_with_len, int_eq, cond-true, cond-false, nat_tests, ints, append-nil, list_any-append, PieceData, ClaimData, IsLawful, Hull, Unbounded, Empty, Bounded, Sample, piece_end_of, stretches_from, part_of, part_from, parts_after, unless_refused, hull_fault, parts_fault, piece_fault, verdict_after, verdict_from, Part, Stretch, Verdict, Yes, No, Why, Cut, Contradiction, Exceeds, Uncovered, is_inside, best_over, best_entries, best_hull, part_between, parts_named, piece_at, pieces_from, hull_at, passes, IsPieceCount, piece_begin_of, stretch_at, AreSamplesOf, HoldsError}
+use Rattle.finder.proofs.Common.{◌≡◌, ℕ, zero, suc, ◌+◌, ◌-◌, ◌<◌, ◌≤◌, ℤ, pos, ◌≤ℤ◌, int_lt, nat_lt, unsigned_abs, Bool, true, false, cond, not, ◌&&◌, ◌||◌, List, [], ◌∷◌, ◌++◌, length, Option, Some, None, Result, Ok, refl, sym, ap, ◌∙◌, subst, arith, append_assoc, add-one, add-zero, slice_get, ◌==◌, list_any, filter_map, cons_option, range_with_len, int_eq, cond-true, cond-false, nat_tests, ints, append-nil, list_any-append, PieceData, ClaimData, IsLawful, Hull, Unbounded, Empty, Bounded, Sample, piece_end_of, part_of, part_from, parts_after, unless_refused, hull_fault, parts_fault, piece_fault, verdict_after, verdict_from, Part, Stretch, Verdict, Yes, No, Why, Cut, Exceeds, Uncovered, is_inside, best_over, best_entries, best_hull, part_between, parts_named, piece_at, pieces_from, hull_at, passes, IsPieceCount, piece_begin_of, stretch_at, AreSamplesOf, HoldsError}
 use Rattle.finder.proofs.Best.{best_of_is}
 use Rattle.finder.proofs.Known.{hull_laws}
 use Rattle.checker.proofs.Hull.{capture_holds}

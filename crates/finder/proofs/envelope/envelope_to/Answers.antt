@@ -1,7 +1,6 @@
-use Rattle.finder.proofs.Common.{◌≡◌, length, map, ap, ◌∙◌, falls, arith, All, map-append, data_of as claim_data, IsLawfulPiece, PieceHullData, All-map_back}
+use Rattle.finder.proofs.Common.{◌≡◌, length, map, ap, ◌∙◌, arith, All, map-append, data_of as claim_data, IsLawfulPiece, PieceHullData, All-map_back}
 use Rattle.finder.specs.Envelope.{piece_data}
 use Rattle.finder.proofs.EnvelopePieces.{envelope_is, lawful_pieces, least_more, piece_hulls_more}
-use Rattle.finder.proofs.TablePieces.{best_tables, few_tables, long_tables}
 use Rattle.finder.proofs.envelope.envelope_to.Goals as goal
 
 pub loop-number-preserved : goal.loop-number-preserved

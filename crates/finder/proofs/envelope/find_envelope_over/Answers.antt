@@ -1,5 +1,5 @@
 use Rattle.finder.proofs.Common.{data_of as claim_data, hull_at, count_of}
-use Rattle.finder.proofs.EnvelopePieces.{envelope_few, envelope_many, envelope_without_memory}
+use Rattle.finder.proofs.EnvelopePieces.{envelope_few}
 use Rattle.finder.proofs.Bound.{least_is_least}
 use Rattle.finder.proofs.SpanPieces.{IsPieceCount-piece_count_of}
 use Rattle.finder.proofs.envelope.find_envelope_over.Goals as goal

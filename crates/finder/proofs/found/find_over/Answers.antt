@@ -1,5 +1,5 @@
 use Rattle.claim_file.specs.Claim.{data_of as claim_data}
-use Rattle.finder.proofs.Answer.{found_few, found_many, found_without_memory}
+use Rattle.finder.proofs.Answer.{found_few}
 use Rattle.finder.proofs.SpanPieces.{IsPieceCount-piece_count_of}
 use Rattle.finder.proofs.found.find_over.Goals as goal
 

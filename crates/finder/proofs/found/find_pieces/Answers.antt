@@ -1,7 +1,6 @@
-use Rattle.finder.proofs.Common.{◌≡◌, ◌<◌, map, false, true, sym, ap, ◌∙◌, falls, arith, map-append, piece_data, data_of as claim_data, is_inside, PieceHullData, count_of, bound_kept}
+use Rattle.finder.proofs.Common.{◌≡◌, ◌<◌, map, false, true, sym, ap, ◌∙◌, arith, map-append, piece_data, data_of as claim_data, is_inside, PieceHullData, count_of, bound_kept}
 use Rattle.finder.proofs.Finding.{found_all, found_failing, passed_more, pieces_more}
 use Rattle.finder.proofs.SpanPieces.{end_fits, end_kept}
-use Rattle.finder.proofs.TablePieces.{best_tables, few_tables, long_tables}
 use Rattle.finder.proofs.found.find_pieces.Goals as goal
 
 pub returns-then-not-is_inside : goal.returns-then-not-is_inside

@@ -1,4 +1,4 @@
-use Rattle.finder.proofs.Common.{◌<◌, ◌≤◌, length, get_or, ap, ◌∙◌, falls, arith, common_steps, take_all, data_of, IsLawfulSample, part_named, parts_named, All-slice_get}
+use Rattle.finder.proofs.Common.{◌<◌, ◌≤◌, length, get_or, ap, ◌∙◌, arith, common_steps, take_all, data_of, IsLawfulSample, part_named, parts_named, All-slice_get}
 use Rattle.finder.proofs.EntryList.{listed_parts, part_computed}
 use Rattle.finder.proofs.List.{filter_map_more}
 use Rattle.finder.proofs.hull.parts.Goals as goal

@@ -1,6 +1,6 @@
 use Rattle.finder.proofs.Common.{ap, subst, sym, ◌<◌, ◌^◌, ℕ, unsigned_abs, data_of}
-use Rattle.finder.proofs.Claim.{length_kept, length_fits, length_below, length_from_zero, length_fits_unsigned}
-use Rattle.finder.proofs.SpanPieces.{count_from, count_fits, some_ticks, ticks_fit}
+use Rattle.finder.proofs.Claim.{length_kept, length_below, length_from_zero, length_fits_unsigned}
+use Rattle.finder.proofs.SpanPieces.{count_from, count_fits, some_ticks}
 use Rattle.finder.proofs.piece.piece_count.Goals as goal
 
 pub overflow_cast-length : goal.overflow_cast-length

@@ -1,4 +1,4 @@
-use Rattle.finder.proofs.Common.{rules, falls, le_antisymm, ◌≡◌, [], ◌∷◌, ◌++◌, to_z, of_z, w128, to_z-of_z}
+use Rattle.finder.proofs.Common.{rules, le_antisymm, ◌≡◌, [], ◌∷◌, ◌++◌, to_z, of_z, w128, to_z-of_z}
 use Rattle.finder.proofs.SpanPieces.{ends_more}
 use Rattle.finder.proofs.piece.piece_ends.Goals as goal
 

@@ -1,4 +1,4 @@
-use Rattle.finder.proofs.Common.{ℕ, ℤ, ◌≤◌, length, ap, subst, le_trans, falls, ◌∙◌, arith, rules, ◌≡◌, [], ◌∷◌, ◌++◌, slice_get, filter_map, range_with_len, common_steps, to_z-of_z, All-push, w128, data_of, best_over, stretch_over}
+use Rattle.finder.proofs.Common.{ℕ, ℤ, ◌≤◌, length, ap, subst, le_trans, ◌∙◌, arith, rules, ◌≡◌, [], ◌∷◌, ◌++◌, slice_get, filter_map, range_with_len, common_steps, to_z-of_z, All-push, w128, data_of, best_over, stretch_over}
 use Rattle.finder.proofs.Claim.{server_fits}
 use Rattle.span_cover.proofs.BestSample.{best_of-none}
 use Rattle.finder.proofs.List.{without}
