@@ -1,5 +1,5 @@
 -- What is found, and what that says.
-use Rattle.finder.proofs.Common.{◌≡◌, ℕ, ◌<◌, ◌≤◌, nat_lt, true, not, length, Option, Some, None, Ok, Err, inl, inr, refl, sym, ap, ◌∙◌, subst, arith, ◌↔◌, IsErrAnd, cond-true, cond-false, length-map-range_with_len, CertificateData, max_pieces, ClaimData, IsLawful, Hull, Sample, HoldsError, verdict_of, Yes, is_inside, Finds, IsFirstFailing, pieces_from, piece_at, hull_at, passes, first_failing, found_without, found_of, IsPieceCount, count_of, stretch_at, AreSamplesOf, FindFault, TooManyPieces, Memory, not-true, not-false}
+use Rattle.finder.proofs.Common.{◌≡◌, ℕ, ◌<◌, ◌≤◌, nat_lt, true, not, length, Option, Some, None, Ok, Err, inl, inr, refl, sym, ap, ◌∙◌, arith, rules, ◌↔◌, IsErrAnd, cond-true, cond-false, length-map-range_with_len, CertificateData, max_pieces, ClaimData, IsLawful, Hull, Sample, verdict_of, Yes, is_inside, Finds, IsFirstFailing, pieces_from, piece_at, hull_at, passes, first_failing, found_without, found_of, IsPieceCount, count_of, AreSamplesOf, FindFault, TooManyPieces, Memory, not-true, not-false}
 use Rattle.std.specs.Prelude.{◌⊎◌, List, Result}
 use Rattle.certificate.specs.Certificate.{data_of as certificate_data}
 use Rattle.finder.specs.Found.{data_of}
@@ -7,7 +7,7 @@ use Rattle.finder.specs.declared.found.Found.{Found}
 use Rattle.finder.specs.declared.found.Found.TheVariants.{Certificate, Nothing}
 use Rattle.finder.proofs.List.{find_is_first, find_is_none}
 use Rattle.finder.proofs.SpanPieces.{is_few, is_many}
-use Rattle.finder.proofs.Refusal.{Laws, contradicted, none_accepted}
+use Rattle.finder.proofs.Refusal.{contradicted, held, none_accepted}
 use Rattle.finder.proofs.Verdict.{all_accepted}
 
 module _ (samples : List Sample) (claim : ClaimData) (step : ℕ) where
@@ -25,16 +25,7 @@ module _ (samples : List Sample) (claim : ClaimData) (step : ℕ) where
   refuses : (fault : FindFault) → (fault ≡ Memory) ⊎ (found_of samples claim step ≡ Err fault)
       → (◌≡◌ {A = Result Found FindFault} (Err fault) (Err TooManyPieces)) ↔ (max_pieces < count_of claim step)
       → Finds samples claim step (Err fault)
-  refuses fault exact too_many = record {
-    exact = exact;
-    too_many = too_many;
-    accepted = tt;
-    few = tt;
-    failing = tt;
-    none_accepted = tt;
-    contradiction = tt;
-    held = tt;
-  }
+  refuses fault exact too_many = search rules
 
   pub found_many : max_pieces < count_of claim step → Finds samples claim step (Err TooManyPieces)
   found_many many = refuses TooManyPieces (inr (found_of_many many)) (λ is. many, λ over. refl)
@@ -44,7 +35,7 @@ module _ (samples : List Sample) (claim : ClaimData) (step : ℕ) where
   found_without_memory few (Ok found) is = absurd is
   found_without_memory few (Err fault) is = refuses fault (inl is) (λ e. absurd cc, λ many. absurd (omega arith))
 
-  module _ (laws : Laws) (lawful : IsLawful claim) (are : AreSamplesOf claim samples)
+  module _ (lawful : IsLawful claim) (are : AreSamplesOf claim samples)
       (counted : IsPieceCount claim.first claim.last step (count_of claim step))
       (few : count_of claim step ≤ max_pieces)
     where
@@ -65,7 +56,7 @@ module _ (samples : List Sample) (claim : ClaimData) (step : ℕ) where
           (omega (arith, below))) in
           let count = length-map-range_with_len (piece_at samples claim step) 0 (count_of claim step) in (
             ap (verdict_of samples claim) e
-                ∙ all_accepted laws.best samples claim lawful step (count_of claim step) counted pass,
+                ∙ all_accepted samples claim lawful step (count_of claim step) counted pass,
             rw e (omega (arith, count)),
           )
 
@@ -107,20 +98,20 @@ module _ (samples : List Sample) (claim : ClaimData) (step : ℕ) where
           let number : piece ≡ k = cc in
           let of_it : hull ≡ hull_at samples claim step k = cc in
           let failing = finds_nothing piece hull k first number of_it in
-          let stretch = stretch_at claim step piece in
           record {
             exact = exact (Nothing piece hull) is;
             too_many = (λ is. absurd cc, λ many. absurd (omega arith));
             accepted = tt;
             few = tt;
             failing = failing;
-            none_accepted = none_accepted laws samples claim step lawful are piece hull failing;
-            contradiction = contradicted laws samples claim step lawful are piece hull failing;
-            held = subst (HoldsError claim samples stretch) (sym failing.its_hull)
-                (laws.held claim samples stretch lawful are);
+            none_accepted = none_accepted samples claim step lawful are piece hull failing;
+            contradiction = contradicted samples claim step lawful are piece hull failing;
+            held = held samples claim step lawful are piece hull failing;
           }
 
       pub found_few : (found : Found)
           → data_of found ≡ found_without samples claim step (first_failing samples claim step)
           → Finds samples claim step (Ok found)
       found_few found e = finds_at found _ refl e e
+
+pub ruleset found_faults = (found_many, found_without_memory)

@@ -1,5 +1,8 @@
 -- The least bound of hulls.
-use Rattle.finder.proofs.Common.{◌≡◌, inl, inr, ℕ, zero, suc, ◌+◌, ◌-◌, ◌*◌, ◌/◌, ◌%◌, ◌<◌, ◌≤◌, max, ℤ, pos, neg_ℤ, int_le, Bool, true, false, ◌&&◌, refl, sym, ap, ◌∙◌, subst, ⊎_elim, arith, add-one, mul-le-mul_right, cases_lt, div_ceil_times, ints, clamps, div-mul-add, div_ceil, nanoseconds_per_second, ticks_down, IsCeiling, ceiling_of, ticks_per_second, Hull, Unbounded, Empty, Bounded, IsInside, HasNoEnds, AreInside, IsLeastBound, IsFirstInNeed, IsFirstWithout, IsLeast, reach_of, nanoseconds_of, with_need, with_piece, least_of, LeastBound, Holds, NoneHolds, lt-ltb, le-ltb}
+use Rattle.finder.proofs.Common.{◌≡◌, inl, inr, ℕ, zero, suc, ◌+◌, ◌-◌, ◌*◌, ◌/◌, ◌%◌, ◌<◌, ◌≤◌, max, ℤ, pos, neg_ℤ, int_le, Bool, true, false, ◌&&◌, refl, sym, ap, ◌∙◌, ⊎_elim, arith, add-one, mul-le-mul_right, cases_lt, div_ceil_times, ints, clamps, div-mul-add, div_ceil, nanoseconds_per_second, ticks_down, ceiling_of, ticks_per_second, Hull, Unbounded, Empty, Bounded, IsInside, HasNoEnds, AreInside, IsLeastBound, IsFirstInNeed, IsFirstWithout, IsLeast, reach_of, nanoseconds_of, with_need, with_piece, least_of, LeastBound, Holds, NoneHolds, lt-ltb, le-ltb}
+use Rattle.era_unfold.proofs.NanosecondTicks.{IsFloor-ticks_down}
+use Rattle.era_unfold.proofs.Rounding.{IsCeiling-ceiling_of}
+use Rattle.std.proofs.Common.{below_more}
 
 -- ---- the number that the code computes
 
@@ -20,12 +23,6 @@ sum_is_ceiling ticks q is =
 
 -- ---- when a hull lies inside a bound
 
--- how the roundings go
-pub record Roundings : Type 0 where
-  pub down : (n : ℕ) → ticks_down n * nanoseconds_per_second ≤ n * ticks_per_second
-  pub greatest : (n tick : ℕ) → tick * nanoseconds_per_second ≤ n * ticks_per_second → tick ≤ ticks_down n
-  pub up : (n d : ℕ) → 0 < d → IsCeiling n d (ceiling_of n d)
-
 both : (a b : Bool) → a && b ≡ true → (a ≡ true) × (b ≡ true)
 both true b e = (refl, e)
 both false b e = absurd cc
@@ -45,145 +42,136 @@ none_inside n Empty inside none = absurd cc
 none_inside n (Bounded lo hi) inside (inl is) = absurd cc
 none_inside n (Bounded lo hi) inside (inr is) = absurd cc
 
-module _ (roundings : Roundings) where
-  -- a bound in which the hull lies is no less than what the hull needs
-  pub needed : (n : ℕ) (lo hi : ℤ) → IsInside n (Bounded lo hi) → nanoseconds_of (reach_of lo hi) ≤ n
-  needed n lo hi inside =
-      let ends = both _ _ inside in
-      let reach = reaches lo hi (ticks_down n) ends.0 ends.1 in
-      let scaled = mul-le-mul_right nanoseconds_per_second reach in
-      let down = roundings.down n in
-      (roundings.up (reach_of lo hi * nanoseconds_per_second) ticks_per_second (omega arith)).least n
-      (omega (arith, scaled, down))
+-- a bound in which the hull lies is no less than what the hull needs
+pub needed : (n : ℕ) (lo hi : ℤ) → IsInside n (Bounded lo hi) → nanoseconds_of (reach_of lo hi) ≤ n
+needed n lo hi inside =
+    let ends = both _ _ inside in
+    let reach = reaches lo hi (ticks_down n) ends.0 ends.1 in
+    let scaled = mul-le-mul_right nanoseconds_per_second reach in
+    let down = (IsFloor-ticks_down n).not_above in
+    (IsCeiling-ceiling_of (reach_of lo hi * nanoseconds_per_second) ticks_per_second (omega arith)).least n
+    (omega (arith, scaled, down))
 
-  pub enough : (n : ℕ) (lo hi : ℤ) → nanoseconds_of (reach_of lo hi) ≤ n → IsInside n (Bounded lo hi)
-  enough n lo hi le =
-      let up = (roundings.up (reach_of lo hi * nanoseconds_per_second) ticks_per_second (omega arith)).not_below in
-      let scaled = mul-le-mul_right ticks_per_second le in
-      let reach = roundings.greatest n (reach_of lo hi) (omega (arith, up, scaled)) in
-      rw (low_end lo hi (ticks_down n) reach, high_end lo hi (ticks_down n) reach) refl
+pub enough : (n : ℕ) (lo hi : ℤ) → nanoseconds_of (reach_of lo hi) ≤ n → IsInside n (Bounded lo hi)
+enough n lo hi le =
+    let up = (IsCeiling-ceiling_of (reach_of lo hi * nanoseconds_per_second) ticks_per_second
+    (omega arith)).not_below in
+    let scaled = mul-le-mul_right ticks_per_second le in
+    let reach = (IsFloor-ticks_down n).greatest (reach_of lo hi) (omega (arith, up, scaled)) in
+    rw (low_end lo hi (ticks_down n) reach, high_end lo hi (ticks_down n) reach) refl
 
-  -- a wider bound holds too
-  pub wider : (m n : ℕ) (hull : Hull) → m ≤ n → IsInside m hull → IsInside n hull
-  wider m n Unbounded le inside = absurd cc
-  wider m n Empty le inside = absurd cc
-  wider m n (Bounded lo hi) le inside =
-      let least = needed m lo hi inside in
-      enough n lo hi (omega arith)
+-- a wider bound holds too
+pub wider : (m n : ℕ) (hull : Hull) → m ≤ n → IsInside m hull → IsInside n hull
+wider m n Unbounded le inside = absurd cc
+wider m n Empty le inside = absurd cc
+wider m n (Bounded lo hi) le inside =
+    let least = needed m lo hi inside in
+    enough n lo hi (omega arith)
 
-  -- ---- the least bound of the pieces so far
+-- ---- the least bound of the pieces so far
 
-  -- the same as `IsLeast`, of no piece too
-  pub record HoldsSoFar (hulls : ℕ → Hull) (count n k : ℕ) : Type 0 where
-    pub all_inside : AreInside hulls count n
-    pub least : (m : ℕ) → AreInside hulls count m → n ≤ m
-    pub of_span : k < max 1 count
-    pub in_need : (m : ℕ) → IsInside m (hulls k) → n ≤ m
-    pub others_are_not : (j : ℕ) → j < k → (m : ℕ) × (m < n) × IsInside m (hulls j)
+-- the same as `IsLeast`, of no piece too
+pub record HoldsSoFar (hulls : ℕ → Hull) (count n k : ℕ) : Type 0 where
+  pub all_inside : AreInside hulls count n
+  pub least : (m : ℕ) → AreInside hulls count m → n ≤ m
+  pub of_span : k < max 1 count
+  pub in_need : (m : ℕ) → IsInside m (hulls k) → n ≤ m
+  pub others_are_not : (j : ℕ) → j < k → (m : ℕ) × (m < n) × IsInside m (hulls j)
 
-  abbrev SoFar : (ℕ → Hull) → ℕ → LeastBound → Type 0
-  SoFar hulls count (Holds n k) = HoldsSoFar hulls count n k
-  SoFar hulls count (NoneHolds k) = IsFirstWithout hulls count k
+abbrev SoFar : (ℕ → Hull) → ℕ → LeastBound → Type 0
+SoFar hulls count (Holds n k) = HoldsSoFar hulls count n k
+SoFar hulls count (NoneHolds k) = IsFirstWithout hulls count k
 
-  module _ (hulls : ℕ → Hull) (count : ℕ) where
-    -- all lie inside with one more, if that does
-    one_more : (n : ℕ) → AreInside hulls count n → IsInside n (hulls count) → AreInside hulls (count + 1) n
-    one_more n before here k below = ⊎_elim
-        (λ less. before k less)
-        (λ le. let same : count ≡ k = omega arith in subst (λ (i : ℕ). IsInside n (hulls i)) same here)
-        (cases_lt k count)
+module _ (hulls : ℕ → Hull) (count : ℕ) where
+  -- all lie inside with one more, if that does
+  one_more : (n : ℕ) → AreInside hulls count n → IsInside n (hulls count) → AreInside hulls (count + 1) n
+  one_more n before here = below_more (λ (k : ℕ). IsInside n (hulls k)) count before here
 
-    one_less : (n : ℕ) → AreInside hulls (count + 1) n → AreInside hulls count n
-    one_less n all k below = all k (omega arith)
+  one_less : (n : ℕ) → AreInside hulls (count + 1) n → AreInside hulls count n
+  one_less n all k below = all k (omega arith)
 
-    module _ (lo hi : ℤ) (is : hulls count ≡ Bounded lo hi) where
-      needs : (m : ℕ) → IsInside m (hulls count) → nanoseconds_of (reach_of lo hi) ≤ m
-      needs m inside = needed m lo hi (rw is at inside)
+  module _ (lo hi : ℤ) (is : hulls count ≡ Bounded lo hi) where
+    needs : (m : ℕ) → IsInside m (hulls count) → nanoseconds_of (reach_of lo hi) ≤ m
+    needs m inside = needed m lo hi (rw is at inside)
 
-      inside : (m : ℕ) → nanoseconds_of (reach_of lo hi) ≤ m → IsInside m (hulls count)
-      inside m le = rw is (enough m lo hi le)
+    inside : (m : ℕ) → nanoseconds_of (reach_of lo hi) ≤ m → IsInside m (hulls count)
+    inside m le = rw is (enough m lo hi le)
 
-      more_needed : (n j : ℕ) → HoldsSoFar hulls count n j → n < nanoseconds_of (reach_of lo hi)
-          → HoldsSoFar hulls (count + 1) (nanoseconds_of (reach_of lo hi)) count
-      more_needed n j so_far less = record {
-        all_inside = one_more (nanoseconds_of (reach_of lo hi))
-            (λ k below. wider n (nanoseconds_of (reach_of lo hi)) (hulls k) (omega arith) (so_far.all_inside k below))
-            (inside (nanoseconds_of (reach_of lo hi)) (omega arith));
-        least = λ m all. needs m (all count (omega arith));
-        of_span = omega arith;
-        in_need = needs;
-        others_are_not = λ k below. (n, less, so_far.all_inside k below);
-      }
-
-      no_more_needed : (n j : ℕ) → HoldsSoFar hulls count n j → nanoseconds_of (reach_of lo hi) ≤ n
-          → HoldsSoFar hulls (count + 1) n j
-      no_more_needed n j so_far le =
-          let of_span = so_far.of_span in
-          record {
-            all_inside = one_more n so_far.all_inside (inside n le);
-            least = λ m all. so_far.least m (one_less m all);
-            of_span = omega arith;
-            in_need = so_far.in_need;
-            others_are_not = so_far.others_are_not;
-          }
-
-      bounded_more : (n j : ℕ) → HoldsSoFar hulls count n j
-          → SoFar hulls (count + 1) (with_need n j count (nanoseconds_of (reach_of lo hi)))
-      bounded_more n j so_far = ⊎_elim
-          (λ less. rw (lt-ltb n (nanoseconds_of (reach_of lo hi)) less) (more_needed n j so_far less))
-          (λ le. rw (le-ltb n (nanoseconds_of (reach_of lo hi)) le) (no_more_needed n j so_far le))
-          (cases_lt n (nanoseconds_of (reach_of lo hi)))
-
-    without_ends : (n j : ℕ) → HoldsSoFar hulls count n j → HasNoEnds (hulls count)
-        → IsFirstWithout hulls (count + 1) count
-    without_ends n j so_far without = record {
+    more_needed : (n j : ℕ) → HoldsSoFar hulls count n j → n < nanoseconds_of (reach_of lo hi)
+        → HoldsSoFar hulls (count + 1) (nanoseconds_of (reach_of lo hi)) count
+    more_needed n j so_far less = record {
+      all_inside = one_more (nanoseconds_of (reach_of lo hi))
+          (λ k below. wider n (nanoseconds_of (reach_of lo hi)) (hulls k) (omega arith) (so_far.all_inside k below))
+          (inside (nanoseconds_of (reach_of lo hi)) (omega arith));
+      least = λ m all. needs m (all count (omega arith));
       of_span = omega arith;
-      without = without;
-      others_have_ends = λ k below. none_inside n (hulls k) (so_far.all_inside k below);
+      in_need = needs;
+      others_are_not = λ k below. (n, less, so_far.all_inside k below);
     }
 
-    piece_more : (so_far : LeastBound) (hull : Hull) → hulls count ≡ hull → SoFar hulls count so_far
-        → SoFar hulls (count + 1) (with_piece so_far count hull)
-    piece_more (NoneHolds j) hull is so_far =
+    no_more_needed : (n j : ℕ) → HoldsSoFar hulls count n j → nanoseconds_of (reach_of lo hi) ≤ n
+        → HoldsSoFar hulls (count + 1) n j
+    no_more_needed n j so_far le =
         let of_span = so_far.of_span in
         record {
-          of_span = omega arith;
-          without = so_far.without;
-          others_have_ends = so_far.others_have_ends;
-        }
-    piece_more (Holds n j) Unbounded is so_far = without_ends n j so_far (inl is)
-    piece_more (Holds n j) Empty is so_far = without_ends n j so_far (inr is)
-    piece_more (Holds n j) (Bounded lo hi) is so_far = bounded_more lo hi is n j so_far
-
-  none_so_far : (hulls : ℕ → Hull) → HoldsSoFar hulls 0 0 0
-  none_so_far hulls = record {
-    all_inside = λ k below. absurd (omega arith);
-    least = λ m all. omega arith;
-    of_span = omega arith;
-    in_need = λ m inside. omega arith;
-    others_are_not = λ j below. absurd (omega arith);
-  }
-
-  least_so_far : (hulls : ℕ → Hull) (count : ℕ) → SoFar hulls count (least_of hulls count)
-  least_so_far hulls zero = none_so_far hulls
-  least_so_far hulls (suc n) =
-      rw (← add-one) (piece_more hulls n (least_of hulls n) (hulls n) refl (least_so_far hulls n))
-
-  so_far_is_least : (hulls : ℕ → Hull) (count : ℕ) (least : LeastBound) → 0 < count → SoFar hulls count least
-      → IsLeast hulls count least
-  so_far_is_least hulls count (NoneHolds k) some so_far = so_far
-  so_far_is_least hulls count (Holds n k) some so_far = (
-    record { all_inside = so_far.all_inside; least = so_far.least },
-    let of_span = so_far.of_span in
-        record {
+          all_inside = one_more n so_far.all_inside (inside n le);
+          least = λ m all. so_far.least m (one_less m all);
           of_span = omega arith;
           in_need = so_far.in_need;
           others_are_not = so_far.others_are_not;
-        },
-  )
+        }
 
-  pub least_is_least : (hulls : ℕ → Hull) (count : ℕ) → 0 < count → IsLeast hulls count (least_of hulls count)
-  least_is_least hulls count some = so_far_is_least hulls count (least_of hulls count) some (least_so_far hulls count)
+    bounded_more : (n j : ℕ) → HoldsSoFar hulls count n j
+        → SoFar hulls (count + 1) (with_need n j count (nanoseconds_of (reach_of lo hi)))
+    bounded_more n j so_far = ⊎_elim
+        (λ less. rw (lt-ltb n (nanoseconds_of (reach_of lo hi)) less) (more_needed n j so_far less))
+        (λ le. rw (le-ltb n (nanoseconds_of (reach_of lo hi)) le) (no_more_needed n j so_far le))
+        (cases_lt n (nanoseconds_of (reach_of lo hi)))
+
+  without_ends : (n j : ℕ) → HoldsSoFar hulls count n j → HasNoEnds (hulls count)
+      → IsFirstWithout hulls (count + 1) count
+  without_ends n j so_far without = record {
+    of_span = omega arith;
+    without = without;
+    others_have_ends = λ k below. none_inside n (hulls k) (so_far.all_inside k below);
+  }
+
+  piece_more : (so_far : LeastBound) (hull : Hull) → hulls count ≡ hull → SoFar hulls count so_far
+      → SoFar hulls (count + 1) (with_piece so_far count hull)
+  piece_more (NoneHolds j) hull is so_far =
+      let of_span = so_far.of_span in
+      record {
+        of_span = omega arith;
+        without = so_far.without;
+        others_have_ends = so_far.others_have_ends;
+      }
+  piece_more (Holds n j) Unbounded is so_far = without_ends n j so_far (inl is)
+  piece_more (Holds n j) Empty is so_far = without_ends n j so_far (inr is)
+  piece_more (Holds n j) (Bounded lo hi) is so_far = bounded_more lo hi is n j so_far
+
+none_so_far : (hulls : ℕ → Hull) → HoldsSoFar hulls 0 0 0
+none_so_far hulls = grind arith
+
+least_so_far : (hulls : ℕ → Hull) (count : ℕ) → SoFar hulls count (least_of hulls count)
+least_so_far hulls zero = none_so_far hulls
+least_so_far hulls (suc n) =
+    rw (← add-one) (piece_more hulls n (least_of hulls n) (hulls n) refl (least_so_far hulls n))
+
+so_far_is_least : (hulls : ℕ → Hull) (count : ℕ) (least : LeastBound) → 0 < count → SoFar hulls count least
+    → IsLeast hulls count least
+so_far_is_least hulls count (NoneHolds k) some so_far = so_far
+so_far_is_least hulls count (Holds n k) some so_far = (
+  record { all_inside = so_far.all_inside; least = so_far.least },
+  let of_span = so_far.of_span in
+      record {
+        of_span = omega arith;
+        in_need = so_far.in_need;
+        others_are_not = so_far.others_are_not;
+      },
+)
+
+pub least_is_least : (hulls : ℕ → Hull) (count : ℕ) → 0 < count → IsLeast hulls count (least_of hulls count)
+least_is_least hulls count some = so_far_is_least hulls count (least_of hulls count) some (least_so_far hulls count)
 
 -- ---- no other answer is
 
@@ -192,7 +180,6 @@ module _ (hulls : ℕ → Hull) (count : ℕ) where
   not_later n j k a b before =
       let less = b.others_are_not j before in
       let no_less = a.in_need less.0 less.2 in
-      let below = less.1 in
       absurd (omega arith)
 
   one_piece : (n m j k : ℕ) → n ≡ m → IsFirstInNeed hulls count n j → IsFirstInNeed hulls count m k → j ≡ k
@@ -206,22 +193,18 @@ module _ (hulls : ℕ → Hull) (count : ℕ) where
   not_without : (n k : ℕ) → IsLeastBound hulls count n → IsFirstWithout hulls count k → ⊥
   not_without n k a b = none_inside n (hulls k) (a.all_inside k b.of_span) b.without
 
-  pub least_is_one_of : (a b : LeastBound) → IsLeast hulls count a → IsLeast hulls count b → a ≡ b
-  least_is_one_of (Holds n j) (Holds m k) (a, in_a) (b, in_b) =
+  pub least_is_one : (a b : LeastBound) → IsLeast hulls count a → IsLeast hulls count b → a ≡ b
+  least_is_one (Holds n j) (Holds m k) (a, in_a) (b, in_b) =
       let up = a.least m b.all_inside in
       let down = b.least n a.all_inside in
       let same : n ≡ m = omega arith in
       ap (λ (i : ℕ). Holds i j) same ∙ ap (Holds m) (one_piece n m j k same in_a in_b)
-  least_is_one_of (Holds n j) (NoneHolds k) (a, in_a) b = absurd (not_without n k a b)
-  least_is_one_of (NoneHolds j) (Holds m k) a (b, in_b) = absurd (not_without m j b a)
-  least_is_one_of (NoneHolds j) (NoneHolds k) a b = ⊎_elim
+  least_is_one (Holds n j) (NoneHolds k) (a, in_a) b = absurd (not_without n k a b)
+  least_is_one (NoneHolds j) (Holds m k) a (b, in_b) = absurd (not_without m j b a)
+  least_is_one (NoneHolds j) (NoneHolds k) a b = ⊎_elim
       (λ before. absurd (b.others_have_ends j before a.without))
       (λ le. ⊎_elim
       (λ after. absurd (a.others_have_ends k after b.without))
       (λ ge. ap NoneHolds (let same : j ≡ k = omega arith in same))
       (cases_lt k j))
       (cases_lt j k)
-
-pub least_is_one : (hulls : ℕ → Hull) (count : ℕ) (a b : LeastBound) → IsLeast hulls count a → IsLeast hulls count b
-    → a ≡ b
-least_is_one hulls count = least_is_one_of hulls count

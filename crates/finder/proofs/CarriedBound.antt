@@ -1,53 +1,32 @@
 -- The least bound that a certificate carries.
-use Rattle.finder.proofs.Common.{◌≡◌, ◌⊎◌, inl, inr, ⊎_elim, ℕ, ◌+◌, ◌*◌, ◌<◌, ◌≤◌, ◌^◌, ℤ, pos, ◌≤ℤ◌, ◌<ℤ◌, false, cond, is_some, ◌||◌, int_lt, List, [], ◌∷◌, ◌++◌, length, Option, Some, None, Result, Ok, Err, refl, sym, ap, ◌∙◌, subst, arith, ints, clamps, MatchOption, nanoseconds_per_second, ticks_down, ticks_per_second, CertificateData, PieceData, max_pieces, ClaimData, IsLawful, max_bound_ns, Sample, Part, Stretch, parts_after, parts_fault, piece_fault, verdict_after, verdict_from, verdict_of, Verdict, Yes, Why, Cut, FindsLeastBound, IsCarried, IsFirst, IsNeverEmpty, IsTick, StopsAt, best_hull, with_bound, AreLongest, IsOfLongest, NoneOfFewIsAccepted, end_after, hull_over, next_tick, pieces_over, stretch_over, AreEnds, AreTablesFor, IsReach, AreSamplesOf}
+use Rattle.finder.proofs.Common.{◌≡◌, ◌⊎◌, inl, inr, ⊎_elim, ℕ, ◌+◌, ◌*◌, ◌<◌, ◌≤◌, ◌^◌, ℤ, pos, ◌≤ℤ◌, ◌<ℤ◌, false, cond, is_some, ◌||◌, int_lt, List, [], ◌∷◌, ◌++◌, length, Option, Some, None, Result, Ok, Err, refl, sym, ap, ◌∙◌, subst, arith, rules, ints, clamps, MatchOption, ticks_down, CertificateData, PieceData, max_pieces, ClaimData, IsLawful, max_bound, max_bound_ns, Sample, Part, Stretch, parts_after, parts_fault, piece_fault, verdict_after, verdict_from, verdict_of, Verdict, Yes, Why, Cut, FindsLeastBound, IsCarried, IsFirst, IsNeverEmpty, IsTick, StopsAt, with_bound, AreLongest, IsOfLongest, NoneOfFewIsAccepted, end_after, hull_over, next_tick, pieces_over, stretch_over, AreEnds, AreTablesFor, IsReach, AreSamplesOf}
+use Rattle.era_unfold.proofs.NanosecondTicks.{IsFloor-ticks_down, ticks_down-mono}
+use Rattle.checker.proofs.Comparison.{wider_bound}
 use Rattle.sweep.specs.declared.table.BestTable.{BestTable}
 use Rattle.finder.specs.declared.carried.LeastCarried.{LeastCarried}
 use Rattle.finder.specs.declared.reach.Reach.{Reach}
 use Rattle.finder.proofs.FewestAnswer.{finds_nothing, finds_too_long}
-use Rattle.finder.proofs.FewestPieces.{Laws, as_many_pieces, first_in_span, one_more_end, yes_from}
+use Rattle.finder.proofs.FewestPieces.{as_many_pieces, first_in_span, one_more_end, yes_from}
 use Rattle.finder.proofs.OneWay.{one_of_three}
+use Rattle.finder.proofs.OtherBounds.{same_hull}
 
 -- ---- what a claimed bound has no part in
-
-same_hull : (samples : List Sample) (claim : ClaimData) (m : ℕ) (stretch : Stretch)
-    → best_hull samples (with_bound claim m) stretch ≡ best_hull samples claim stretch
-unfolding best_hull
-same_hull samples claim m stretch = refl
 
 pub samples_of_other : (samples : List Sample) (claim : ClaimData) (m : ℕ) → AreSamplesOf claim samples
     → AreSamplesOf (with_bound claim m) samples
 samples_of_other samples claim m are = record { lawful = are.lawful; listed = are.listed }
 
-pub lawful_with : (down : (n : ℕ) → ticks_down n * nanoseconds_per_second ≤ n * ticks_per_second)
-    → (claim : ClaimData) (m : ℕ) → m ≤ max_bound_ns → IsLawful claim → IsLawful (with_bound claim m)
-lawful_with down claim m small lawful =
-    let le = down m in
-    let ticks : ticks_down m ≤ 1000000 * 2 ^ 32 = omega arith in
-    record {
-      some_server = lawful.some_server;
-      few_servers = lawful.few_servers;
-      addresses_differ = lawful.addresses_differ;
-      client_is_no_server = lawful.client_is_no_server;
-      group_for_each = lawful.group_for_each;
-      groups_in_range = lawful.groups_in_range;
-      few_false = lawful.few_false;
-      span_begins = lawful.span_begins;
-      span_forward = lawful.span_forward;
-      span_ends = lawful.span_ends;
-      bound_not_negative = omega (arith, ints);
-      bound_in_range = omega (arith, ints);
-      bound_ns_in_range = small;
-      drift_in_range = lawful.drift_in_range;
-      reading_not_negative = lawful.reading_not_negative;
-      reading_in_range = lawful.reading_in_range;
-      reading_ns_in_range = lawful.reading_ns_in_range;
-    }
+pub lawful_with : (claim : ClaimData) (m : ℕ) → m ≤ max_bound_ns → IsLawful claim → IsLawful (with_bound claim m)
+lawful_with claim m small lawful =
+    let ticks : ticks_down m ≤ 1000000 * 2 ^ 32 = omega (arith, (IsFloor-ticks_down m).not_above) in
+    let from : pos 0 ≤ℤ pos (ticks_down m) = omega (arith, ints) in
+    let to : pos (ticks_down m) ≤ℤ pos max_bound = omega (arith, ints) in
+    search rules
 
 -- a tick ends no earlier than it begins
 pub tick_forward : (samples : List Sample) (claim : ClaimData) → IsLawful claim → (p : ℤ) → IsTick claim p
     → p ≤ℤ next_tick samples claim p
 tick_forward samples claim lawful p tick =
-    let forward = lawful.span_forward in
     ⊎_elim (λ first. omega (arith, ints, clamps)) (λ before. omega (arith, ints, clamps)) tick.begins
 
 -- ---- the verdict has no part in how the bound is spelled in nanoseconds
@@ -79,11 +58,7 @@ module _ (samples : List Sample) (claim : ClaimData) (n : ℕ) where
 
 pub tables_for_other : (samples : List Sample) (claim : ClaimData) (m : ℕ) (tables : List BestTable)
     → AreTablesFor samples claim tables → AreTablesFor samples (with_bound claim m) tables
-tables_for_other samples claim m tables tabled = record {
-  of_claim = samples_of_other samples claim m tabled.of_claim;
-  few = tabled.few;
-  are = tabled.are;
-}
+tables_for_other samples claim m tables tabled = search (rules, samples_of_other)
 
 pub reached_by : (samples : List Sample) (a b : ClaimData) (tables : List BestTable) (reach : Reach) → a ≡ b
     → (AreTablesFor samples a tables → IsReach samples a reach) → AreTablesFor samples b tables
@@ -92,9 +67,9 @@ reached_by samples a b tables reach same reaches tabled =
     subst (λ (x : ClaimData). IsReach samples x reach) same
     (reaches (subst (λ (x : ClaimData). AreTablesFor samples x tables) (sym same) tabled))
 
-pub carried_by_ends : (laws : Laws) (samples : List Sample) (claim : ClaimData) → IsLawful claim
-    → AreSamplesOf claim samples → (ends : List ℤ) → AreEnds samples claim ends → IsCarried samples claim
-carried_by_ends laws samples claim lawful are ends is = (
+pub carried_by_ends : (samples : List Sample) (claim : ClaimData) (ends : List ℤ) → AreEnds samples claim ends
+    → IsCarried samples claim
+carried_by_ends samples claim ends is = (
   record { pieces = pieces_over samples claim claim.first (is.earlier ++ claim.last ∷ []) },
   record { earlier = is.earlier; longest = is.longest; last = is.last; few = is.few; pieces = refl },
 )
@@ -104,27 +79,19 @@ pub none_of : {A : Type 0} (P : Type 0) (Q : A → Type 0) (o : Option A) → is
 none_of P Q None e is = is
 none_of P Q (Some a) e is = absurd cc
 
--- ---- what is known
+-- ---- of the least bound
 
-pub record BoundLaws : Type 0 where
-  pub fewest : Laws
-  pub wider : (samples : List Sample) (claim : ClaimData) (wider : ℤ) (certificate : CertificateData)
-      → claim.bound ≤ℤ wider → verdict_of samples claim certificate ≡ Yes
-      → verdict_of samples (record claim { bound = wider }) certificate ≡ Yes
-  pub down : (n : ℕ) → ticks_down n * nanoseconds_per_second ≤ n * ticks_per_second
-  pub more : (m n : ℕ) → m ≤ n → ticks_down m ≤ ticks_down n
-
-module _ (laws : BoundLaws) (samples : List Sample) (claim : ClaimData) (lawful : IsLawful claim)
+module _ (samples : List Sample) (claim : ClaimData) (lawful : IsLawful claim)
     (are : AreSamplesOf claim samples) where
   -- what is accepted under a bound is accepted under a wider one
   accepted_wider : (m n : ℕ) (certificate : CertificateData) → m ≤ n
       → verdict_of samples (with_bound claim m) certificate ≡ Yes
       → verdict_of samples (with_bound claim n) certificate ≡ Yes
   accepted_wider m n certificate le accepted =
-      let ticks = laws.more m n le in
+      let ticks = ticks_down-mono m n le in
       let spelled : ClaimData = record (with_bound claim m) { bound = pos (ticks_down n) } in
       same_verdict samples spelled n 0 claim.first certificate.pieces
-      ∙ laws.wider samples (with_bound claim m) (pos (ticks_down n)) certificate (omega (arith, ints)) accepted
+      ∙ wider_bound samples (with_bound claim m) (pos (ticks_down n)) certificate (omega (arith, ints)) accepted
 
   -- ---- where the longest pieces have come to, a piece of one tick begins
 
@@ -136,8 +103,6 @@ module _ (laws : BoundLaws) (samples : List Sample) (claim : ClaimData) (lawful 
       → AreLongest samples (with_bound claim m) p earlier → Reaches p (end_after p earlier)
   reached m p [] within longest = record { later = omega (arith, ints); begins = inl refl }
   reached m p (q ∷ earlier) within longest =
-      let some = longest.0.some_tick in
-      let before = longest.1 in
       let rest = reached m q earlier (omega (arith, ints)) longest.2 in
       let later = rest.later in
       record {
@@ -161,7 +126,7 @@ module _ (laws : BoundLaws) (samples : List Sample) (claim : ClaimData) (lawful 
       → StopsAt samples (with_bound claim m) tick → NoneOfFewIsAccepted samples (with_bound claim m)
   none_where_stopped m tick small never (inl (end, hull, stuck)) certificate few accepted =
       let bounded = with_bound claim m in
-      let finds = finds_nothing laws.fewest samples bounded (lawful_with laws.down claim m small lawful)
+      let finds = finds_nothing samples bounded (lawful_with claim m small lawful)
       (samples_of_other samples claim m are) tick end hull stuck in
       let its_hull : hull_over samples claim tick (next_tick samples claim tick) ≡ hull =
       sym (stuck.its_hull ∙ ap (hull_over samples bounded tick) stuck.ends
@@ -169,7 +134,7 @@ module _ (laws : BoundLaws) (samples : List Sample) (claim : ClaimData) (lawful 
       finds.none_accepted
       (λ empty. never tick (stop_is_tick m tick (inl (end, hull, stuck))) (its_hull ∙ empty)) certificate accepted
   none_where_stopped m tick small never (inr (long, is)) certificate few accepted =
-      (finds_too_long laws.fewest samples (with_bound claim m) (lawful_with laws.down claim m small lawful)
+      (finds_too_long samples (with_bound claim m) (lawful_with claim m small lawful)
       (samples_of_other samples claim m are) long).too_many refl certificate few accepted
 
   -- ---- a certificate of longest pieces is accepted
@@ -179,23 +144,22 @@ module _ (laws : BoundLaws) (samples : List Sample) (claim : ClaimData) (lawful 
       → verdict_of samples (with_bound claim m) certificate ≡ Yes
   accepted_if_carried m small certificate is =
       let bounded = with_bound claim m in
-      let lawful' = lawful_with laws.down claim m small lawful in
+      let lawful' = lawful_with claim m small lawful in
       let are' = samples_of_other samples claim m are in
       ap (verdict_from samples bounded 0 claim.first) is.pieces
-      ∙ yes_from laws.fewest samples bounded lawful' are' 0 claim.first is.earlier
-      (first_in_span laws.fewest samples bounded lawful' are') is.longest is.last
+      ∙ yes_from samples bounded lawful' are' 0 claim.first is.earlier
+      (first_in_span samples bounded lawful' are') is.longest is.last
 
   few_pieces : (m : ℕ) → m ≤ max_bound_ns → (certificate : CertificateData)
       → (is : IsOfLongest samples (with_bound claim m) certificate) → length certificate.pieces ≤ max_pieces
   few_pieces m small certificate is =
       let bounded = with_bound claim m in
-      let lawful' = lawful_with laws.down claim m small lawful in
+      let lawful' = lawful_with claim m small lawful in
       let are' = samples_of_other samples claim m are in
       let count = ap length is.pieces
-      ∙ as_many_pieces laws.fewest samples bounded lawful' are' claim.first (is.earlier ++ claim.last ∷ [])
-      ∙ one_more_end laws.fewest samples bounded lawful' are' is.earlier claim.last in
-      let few = is.few in
-      omega (arith, count, few)
+      ∙ as_many_pieces samples bounded lawful' are' claim.first (is.earlier ++ claim.last ∷ [])
+      ∙ one_more_end samples bounded lawful' are' is.earlier claim.last in
+      omega (arith, count)
 
   -- ---- the answers
 

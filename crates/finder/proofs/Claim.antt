@@ -1,44 +1,25 @@
 -- The numbers of a claim that keeps its limits, as 128 bits hold them.
-use Rattle.finder.proofs.Common.{◌≡◌, ℕ, ◌<◌, ◌≤◌, ◌^◌, pos, ◌-ℤ◌, ◌≤ℤ◌, ◌<ℤ◌, unsigned_abs, length, to_z, of_z, Fits, w8, arith, ints, fits_signed_from_abs, non_neg, yes_non_neg, T, w128, SFits, ClaimData, IsLawful, w128_keeps_difference, first_kept, last_kept}
+use Rattle.finder.proofs.Common.{◌≡◌, ℕ, ◌<◌, ◌≤◌, ◌^◌, ◌-ℤ◌, unsigned_abs, length, to_z, of_z, Fits, w8, arith, ints, fits_signed_from_abs, non_neg, yes_non_neg, T, w128, SFits, ClaimData, IsLawful, w128_keeps_difference, first_kept, last_kept}
 
 module _ (claim : ClaimData) (lawful : IsLawful claim) where
-  pub first_from_zero : pos 0 ≤ℤ to_z w128 (of_z w128 claim.first)
-  first_from_zero = rw (first_kept claim lawful) lawful.span_begins
-
-  pub span_in_order : to_z w128 (of_z w128 claim.first) ≤ℤ to_z w128 (of_z w128 claim.last)
-  span_in_order = rw (first_kept claim lawful, last_kept claim lawful) lawful.span_forward
-
-  pub last_in_range : to_z w128 (of_z w128 claim.last) <ℤ pos (2 ^ 64)
-  last_in_range = rw (last_kept claim lawful) lawful.span_ends
-
   -- ---- the length of its span
 
   pub length_kept : to_z w128 (of_z w128 (to_z w128 (of_z w128 claim.last) -ℤ to_z w128 (of_z w128 claim.first)))
       ≡ claim.last -ℤ claim.first
   length_kept =
-      let begins = lawful.span_begins in
-      let forward = lawful.span_forward in
-      let ends = lawful.span_ends in
       w128_keeps_difference claim.last claim.first (omega (arith, ints)) (omega (arith, ints))
 
   pub length_fits : SFits w128 (to_z w128 (of_z w128 claim.last) -ℤ to_z w128 (of_z w128 claim.first))
   length_fits =
-      let begins = lawful.span_begins in
-      let forward = lawful.span_forward in
-      let ends = lawful.span_ends in
       rw (last_kept claim lawful, first_kept claim lawful)
       (fits_signed_from_abs w128 (claim.last -ℤ claim.first) (omega (arith, ints)))
 
   pub length_below : unsigned_abs (claim.last -ℤ claim.first) < 2 ^ 64
-  length_below =
-      let begins = lawful.span_begins in
-      let forward = lawful.span_forward in
-      let ends = lawful.span_ends in
-      omega (arith, ints)
+  length_below = omega (arith, ints)
 
   pub length_from_zero : T (non_neg (to_z w128 (of_z w128
       (to_z w128 (of_z w128 claim.last) -ℤ to_z w128 (of_z w128 claim.first)))))
-  length_from_zero = let forward = lawful.span_forward in rw length_kept (yes_non_neg (omega (arith, ints)))
+  length_from_zero = rw length_kept (yes_non_neg (omega (arith, ints)))
 
   pub length_fits_unsigned : Fits w128 (unsigned_abs (to_z w128 (of_z w128
       (to_z w128 (of_z w128 claim.last) -ℤ to_z w128 (of_z w128 claim.first)))))
@@ -47,7 +28,7 @@ module _ (claim : ClaimData) (lawful : IsLawful claim) where
   -- ---- its servers and groups
 
   pub server_fits : (server count : ℕ) → server < count → count ≡ length claim.servers → Fits w8 server
-  server_fits server count below is = let few = lawful.few_servers in record { fits = omega arith }
+  server_fits server count below is = record { fits = omega arith }
 
   pub few_groups : length claim.groups ≤ 32
-  few_groups = let same = lawful.group_for_each in let few = lawful.few_servers in omega arith
+  few_groups = omega arith

@@ -1,6 +1,6 @@
 -- The entries of a piece, one after another.
 use Rattle.finder.proofs.Common.{◌≡◌, ℕ, ◌<◌, List, [], ◌∷◌, length, Option, Some, None, refl, sym, ap, All, slice_get, cons_option, All-nil, All-cons, slice_get_within, ClaimData, servers_of, Sample, part_of, Part, Stretch, AreNamed, best_over, best_entries, part_between, part_named, parts_named, All-slice_get}
-use Rattle.finder.proofs.Best.{BestLaw, best_of_is}
+use Rattle.finder.proofs.Best.{best_of_is}
 use Rattle.finder.proofs.List.{All-filter_map}
 
 -- the same if what is said was computed
@@ -38,13 +38,13 @@ listed_parts samples claim stretch entries n listed =
 -- ---- the entries of a piece
 
 -- each names two samples that there are
-pub entries_there : (law : BestLaw) (samples : List Sample) (claim : ClaimData) (stretch : Stretch)
+pub entries_there : (samples : List Sample) (claim : ClaimData) (stretch : Stretch)
     → AreNamed (length samples) (best_entries samples claim stretch)
-entries_there law samples claim stretch =
+entries_there samples claim stretch =
     All-filter_map (best_over samples claim stretch)
     (λ entry. (entry.0 < length samples) × (entry.1 < length samples))
     (λ server entry is.
-    let best = best_of_is law samples server stretch.begin stretch.end claim.drift_ppb entry is in (
+    let best = best_of_is samples server stretch.begin stretch.end claim.drift_ppb entry is in (
       slice_get_within samples entry.0 best.0.sample best.0.stands,
       slice_get_within samples entry.1 best.1.sample best.1.stands,
     ))

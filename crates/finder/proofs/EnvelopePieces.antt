@@ -3,7 +3,6 @@ use Rattle.finder.proofs.Common.{◌≡◌, ℕ, zero, suc, ◌+◌, ◌<◌, �
 use Rattle.std.specs.Prelude.{Result, ◌⊎◌}
 use Rattle.finder.specs.Envelope.{data_of}
 use Rattle.finder.specs.declared.envelope.Envelope.{Envelope}
-use Rattle.finder.proofs.Best.{BestLaw}
 use Rattle.finder.proofs.EntryList.{entries_there}
 use Rattle.finder.proofs.SpanPieces.{is_few, is_many, piece_of_claim}
 
@@ -42,11 +41,11 @@ module _ (samples : List Sample) (claim : ClaimData) (step : ℕ) where
 
   -- ---- each piece is lawful
 
-  module _ (law : BestLaw) (lawful : IsLawful claim) where
+  module _ (lawful : IsLawful claim) where
     lawful_piece : (k : ℕ) → IsLawfulPiece (length samples) (piece_hull_at samples claim step k)
     lawful_piece k = record {
       stretch = piece_of_claim claim lawful step k;
-      named = entries_there law samples claim (stretch_at claim step k);
+      named = entries_there samples claim (stretch_at claim step k);
     }
 
     lawful_from : (k n : ℕ)
@@ -85,3 +84,5 @@ module _ (samples : List Sample) (claim : ClaimData) (step : ℕ) where
     least = rw (ap (λ (e : EnvelopeData). e.least) is) least;
     lawful = lawful;
   }
+
+pub ruleset envelope_faults = (envelope_many, envelope_without_memory)

@@ -1,11 +1,12 @@
 -- What is found, and what that says.
-use Rattle.finder.proofs.Common.{◌≡◌, ℕ, ◌+◌, ℤ, pos, ◌≤ℤ◌, to_z, of_z, List, [], ◌∷◌, ◌++◌, length, Ok, Err, inr, refl, sym, ap, ◌∙◌, subst, arith, w128, Certificate, ClaimData, IsLawful, Hull, Sample, HoldsError, IsInHull, verdict_from, IsStuck, IsTooLong, hull_over, pieces_over, stretch_over, FindsFewest, AreEnds, AreSamplesOf, TooManyPieces}
+use Rattle.finder.proofs.Common.{◌≡◌, ℕ, ◌+◌, ℤ, pos, ◌≤ℤ◌, to_z, of_z, List, [], ◌∷◌, ◌++◌, length, Ok, Err, sym, ap, ◌∙◌, subst, arith, rules, w128, Certificate, ClaimData, IsLawful, Hull, Sample, HoldsError, IsInHull, verdict_from, NoneOfFewIsAccepted, IsStuck, IsTooLong, hull_over, pieces_over, stretch_over, FindsFewest, AreEnds, AreSamplesOf, TooManyPieces}
 use Rattle.certificate.specs.Certificate.{data_of as certificate_data}
 use Rattle.finder.specs.declared.fewest.Fewest.TheVariants as found
-use Rattle.finder.proofs.FewestPieces.{InSpan, Laws, as_many_pieces, end_after_in_span, end_after_later, first_in_span, more_of_accepted, next_within, none_accepted_over, one_more_end, yes_from}
+use Rattle.finder.proofs.FewestPieces.{InSpan, as_many_pieces, end_after_in_span, end_after_later, first_in_span, more_of_accepted, next_within, none_accepted_over, one_more_end, yes_from}
 use Rattle.finder.proofs.LongestPiece.{in_64_bits, tick_kept}
+use Rattle.finder.proofs.Verdict.{best_held}
 
-module _ (laws : Laws) (samples : List Sample) (claim : ClaimData) (lawful : IsLawful claim)
+module _ (samples : List Sample) (claim : ClaimData) (lawful : IsLawful claim)
     (are : AreSamplesOf claim samples) where
   pub finds_certificate : (certificate : Certificate) (ends : List ℤ) → AreEnds samples claim ends
       → (certificate_data certificate).pieces ≡ pieces_over samples claim claim.first ends
@@ -13,19 +14,19 @@ module _ (laws : Laws) (samples : List Sample) (claim : ClaimData) (lawful : IsL
   finds_certificate certificate ends is pieces =
       let all = is.earlier ++ claim.last ∷ [] in
       let e = pieces ∙ ap (pieces_over samples claim claim.first) is.are in
-      let span = first_in_span laws samples claim lawful are in
+      let span = first_in_span samples claim lawful are in
       let count : length (certificate_data certificate).pieces ≡ length is.earlier + 1 =
-      ap length e ∙ as_many_pieces laws samples claim lawful are claim.first all
-      ∙ one_more_end laws samples claim lawful are is.earlier claim.last in
+      ap length e ∙ as_many_pieces samples claim lawful are claim.first all
+      ∙ one_more_end samples claim lawful are is.earlier claim.last in
       let few = is.few in
       record {
         exact = record { earlier = is.earlier; longest = is.longest; last = is.last; few = few; pieces = e };
         stuck = tt;
         refused = tt;
         accepted = ap (verdict_from samples claim 0 claim.first) e
-            ∙ yes_from laws samples claim lawful are 0 claim.first is.earlier span is.longest is.last;
+            ∙ yes_from samples claim lawful are 0 claim.first is.earlier span is.longest is.last;
         fewest = λ other accepted.
-            let more = more_of_accepted laws samples claim lawful are is.earlier is.longest other accepted in
+            let more = more_of_accepted samples claim lawful are is.earlier is.longest other accepted in
             omega (arith, more, count);
         few = omega (arith, count, few);
         none_accepted = tt;
@@ -37,14 +38,14 @@ module _ (laws : Laws) (samples : List Sample) (claim : ClaimData) (lawful : IsL
   pub finds_nothing : (begin end : ℤ) (hull : Hull) → IsStuck samples claim begin end hull
       → FindsFewest samples claim (Ok (found.Nothing begin end hull))
   finds_nothing begin end hull is =
-      let span = first_in_span laws samples claim lawful are in
+      let span = first_in_span samples claim lawful are in
       let inside : InSpan claim begin =
       subst (InSpan claim) (sym is.begins)
-      (end_after_in_span laws samples claim lawful are claim.first is.earlier span is.longest) in
-      let later = end_after_later laws samples claim lawful are claim.first is.earlier span is.longest in
+      (end_after_in_span samples claim lawful are claim.first is.earlier span is.longest) in
+      let later = end_after_later samples claim lawful are claim.first is.earlier span is.longest in
       let stretch = stretch_over begin end in
       let holds : HoldsError claim samples stretch hull =
-      subst (HoldsError claim samples stretch) (sym is.its_hull) (laws.held claim samples stretch lawful are) in
+      subst (HoldsError claim samples stretch) (sym is.its_hull) (best_held claim samples stretch lawful are) in
       record {
         exact = tt;
         stuck = is;
@@ -52,7 +53,7 @@ module _ (laws : Laws) (samples : List Sample) (claim : ClaimData) (lawful : IsL
         accepted = tt;
         fewest = tt;
         few = tt;
-        none_accepted = none_accepted_over laws samples claim lawful are begin hull inside (rw is.begins later)
+        none_accepted = none_accepted_over samples claim lawful are begin hull inside (rw is.begins later)
             (is.its_hull ∙ ap (hull_over samples claim begin) is.ends) is.fails;
         contradiction = λ empty xs course made fits observed.
             subst (IsInHull course) empty (holds xs course made fits observed);
@@ -65,12 +66,12 @@ module _ (laws : Laws) (samples : List Sample) (claim : ClaimData) (lawful : IsL
       → IsStuck samples claim (pos begin) (pos end) hull
       → FindsFewest samples claim (Ok (found.Nothing (to_z w128 (of_z w128 b)) (to_z w128 (of_z w128 e)) hull))
   finds_nothing_kept begin end b e hull begins ends is =
-      let span = first_in_span laws samples claim lawful are in
+      let span = first_in_span samples claim lawful are in
       let inside : InSpan claim (pos begin) =
       subst (InSpan claim) (sym is.begins)
-      (end_after_in_span laws samples claim lawful are claim.first is.earlier span is.longest) in
+      (end_after_in_span samples claim lawful are claim.first is.earlier span is.longest) in
       let within : pos end ≤ℤ claim.last =
-      rw is.ends (next_within laws samples claim lawful are (pos begin)) in
+      rw is.ends (next_within samples claim lawful are (pos begin)) in
       rw (
         tick_kept begin b (in_64_bits begin claim.last inside.to_last lawful.span_ends) begins,
         tick_kept end e (in_64_bits end claim.last within lawful.span_ends) ends,
@@ -78,18 +79,7 @@ module _ (laws : Laws) (samples : List Sample) (claim : ClaimData) (lawful : IsL
       (finds_nothing (pos begin) (pos end) hull is)
 
   pub finds_too_long : IsTooLong samples claim → FindsFewest samples claim (Err TooManyPieces)
-  finds_too_long is = record {
-    exact = tt;
-    stuck = tt;
-    refused = inr (refl, is);
-    accepted = tt;
-    fewest = tt;
-    few = tt;
-    none_accepted = tt;
-    contradiction = tt;
-    held = tt;
-    too_many = λ e other few accepted.
-        let more = more_of_accepted laws samples claim lawful are is.earlier is.longest other accepted in
-        let count = is.as_many in
-        absurd (omega (arith, more, count, few));
-  }
+  finds_too_long is =
+      let none : NoneOfFewIsAccepted samples claim = λ other few accepted.
+      absurd (omega (arith, more_of_accepted samples claim lawful are is.earlier is.longest other accepted)) in
+      search rules

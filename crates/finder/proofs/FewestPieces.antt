@@ -1,24 +1,11 @@
 -- What the longest pieces say of certificates: theirs is accepted, and no accepted one has fewer pieces.
-use Rattle.finder.proofs.Common.{◌≡◌, ◌≢◌, ℕ, suc, ◌+◌, ◌<◌, ℤ, pos, ◌≤ℤ◌, int_lt, nat_lt, unsigned_abs, Bool, true, false, true≢false, cond, ◌&&◌, ◌||◌, ⊎_elim, List, [], ◌∷◌, ◌++◌, length, Option, Some, None, refl, sym, ap, ◌∙◌, subst, arith, slice_get, IsSomeAnd, int_eq, cond-true, nat_tests, ints, clamps, slice_get_within, PieceData, CertificateData, ClaimData, IsLawful, Hull, Empty, Sample, is_inside, IsPiece, Stretch, last_end, stretches_from, HoldsError, parts_after, parts_fault, piece_fault, verdict_after, verdict_from, verdict_of, PassBelow, Yes, No, Why, Cut, Uncovered, best_entries, best_hull, AreLongest, IsLongest, IsNoWider, end_after, hull_over, next_tick, piece_over, pieces_over, shows, stretch_over, HoldsWhole, AreSamplesOf, int_lt-false}
-use Rattle.finder.proofs.Best.{BestLaw}
-use Rattle.finder.proofs.Narrow.{NarrowLaw, WithinLaw}
+use Rattle.finder.proofs.Common.{◌≡◌, ◌≢◌, ℕ, suc, ◌+◌, ◌<◌, ℤ, pos, ◌≤ℤ◌, int_lt, nat_lt, unsigned_abs, Bool, true, false, true≢false, cond, ◌&&◌, ◌||◌, ⊎_elim, List, [], ◌∷◌, ◌++◌, length, Option, Some, None, refl, sym, ap, ◌∙◌, subst, arith, slice_get, IsSomeAnd, int_eq, cond-true, nat_tests, ints, clamps, PieceData, CertificateData, ClaimData, IsLawful, Hull, Empty, Sample, is_inside, IsPiece, last_end, stretches_from, parts_after, parts_fault, piece_fault, verdict_after, verdict_from, verdict_of, Yes, No, Why, Cut, Uncovered, best_entries, AreLongest, IsLongest, IsNoWider, end_after, hull_over, next_tick, piece_over, pieces_over, shows, stretch_over, HoldsWhole, AreSamplesOf, int_lt-false}
+use Rattle.checker.proofs.PieceVerdict.{each_passes}
+use Rattle.checker.proofs.VerdictPieces.{yes_end}
+use Rattle.finder.proofs.Narrow.{no_wider_within, shows_as_much}
 use Rattle.finder.proofs.Nearest.{int_cases}
 use Rattle.finder.proofs.Refusal.{Pass, pass_each, shows_piece, some_and}
 use Rattle.finder.proofs.Verdict.{entries_fault, from_zero_kept, inside_passes, not_less}
-
--- what is known of the best samples and of verdicts
-pub record Laws : Type 0 where
-  pub best : BestLaw
-  pub narrow : NarrowLaw
-  pub within : WithinLaw
-  pub each : (samples : List Sample) (claim : ClaimData) (certificate : CertificateData)
-      → verdict_of samples claim certificate ≡ Yes
-      → PassBelow samples claim certificate (length certificate.pieces)
-  pub covers : (samples : List Sample) (claim : ClaimData) (certificate : CertificateData)
-      → verdict_of samples claim certificate ≡ Yes
-      → (0 < length certificate.pieces) × (last_end claim.first certificate.pieces ≡ claim.last)
-  pub held : (claim : ClaimData) (samples : List Sample) (stretch : Stretch) → IsLawful claim
-      → AreSamplesOf claim samples → HoldsError claim samples stretch (best_hull samples claim stretch)
 
 not_inside : (bound : ℤ) (hull : Hull) → hull ≡ Empty → is_inside bound hull ≡ true → ⊥
 not_inside bound hull empty inside = true≢false (sym inside ∙ ap (is_inside bound) empty)
@@ -38,19 +25,16 @@ pub record InSpan (claim : ClaimData) (p : ℤ) : Type 0 where
   pub from_zero : pos 0 ≤ℤ p
   pub to_last : p ≤ℤ claim.last
 
-module _ (laws : Laws) (samples : List Sample) (claim : ClaimData) (lawful : IsLawful claim)
+module _ (samples : List Sample) (claim : ClaimData) (lawful : IsLawful claim)
     (are : AreSamplesOf claim samples) where
   pub first_in_span : InSpan claim claim.first
   first_in_span = record { from_zero = lawful.span_begins; to_last = lawful.span_forward }
 
   pub piece_to : (p q : ℤ) → InSpan claim p → p ≤ℤ q → q ≤ℤ claim.last → IsPiece p q
-  piece_to p q is forward within =
-      let from_zero = is.from_zero in
-      let ends = lawful.span_ends in
-      record { from_zero = from_zero; in_order = forward; in_range = omega (arith, ints) }
+  piece_to p q is forward within = omega (arith, ints)
 
   pub next_later : (p : ℤ) → InSpan claim p → p ≤ℤ next_tick samples claim p
-  next_later p is = let to = is.to_last in omega (arith, ints, clamps)
+  next_later p is = omega (arith, ints, clamps)
 
   pub next_within : (p : ℤ) → next_tick samples claim p ≤ℤ claim.last
   next_within p = omega (arith, ints, clamps)
@@ -58,22 +42,16 @@ module _ (laws : Laws) (samples : List Sample) (claim : ClaimData) (lawful : IsL
   -- ---- the longest piece
 
   pub longest_forward : (p q : ℤ) → InSpan claim p → IsLongest samples claim p q → p ≤ℤ q
-  longest_forward p q is long =
-      let next = next_later p is in
-      let some = long.some_tick in
-      omega (arith, ints)
+  longest_forward p q is long = omega (arith, ints, next_later p is)
 
   pub end_in_span : (p q : ℤ) → InSpan claim p → IsLongest samples claim p q → InSpan claim q
-  end_in_span p q is long =
-      let forward = longest_forward p q is long in
-      let from_zero = is.from_zero in
-      record { from_zero = omega (arith, ints); to_last = long.in_span }
+  end_in_span p q is long = omega (arith, ints, longest_forward p q is long)
 
   -- a shorter piece shows no less, unless its hull is empty; and then so is the longer one's
   shorter : (p q r : ℤ) → InSpan claim p → p ≤ℤ q → q ≤ℤ r → r ≤ℤ claim.last
       → IsNoWider (hull_over samples claim p r) (hull_over samples claim p q)
   shorter p q r is forward more within =
-      laws.within samples claim (stretch_over p r) (stretch_over p q) lawful.drift_in_range are
+      no_wider_within samples claim (stretch_over p r) (stretch_over p q) lawful.drift_in_range are
       (piece_to p q is forward (omega (arith, ints))) (omega (arith, ints), more)
 
   fault_over : (p q end : ℤ) → InSpan claim p → p ≤ℤ q → q ≤ℤ claim.last → end ≡ q
@@ -92,7 +70,7 @@ module _ (laws : Laws) (samples : List Sample) (claim : ClaimData) (lawful : IsL
       let forward = longest_forward p q is long in
       let end = end_in_span p q is long in
       fault_over p q (pos (unsigned_abs q)) is forward long.in_span (from_zero_kept q end.from_zero)
-      ∙ entries_fault laws.best samples claim (stretch_over p q)
+      ∙ entries_fault samples claim (stretch_over p q)
       ∙ inside_passes claim.bound (hull_over samples claim p q) long.shown
 
   -- ---- their certificate is accepted
@@ -135,7 +113,7 @@ module _ (laws : Laws) (samples : List Sample) (claim : ClaimData) (lawful : IsL
       (empty_stays (hull_over samples claim p end) (hull_over samples claim p q)
       (shorter p q end is forward (omega (arith, ints)) within) empty) long.shown)
       (λ inside. true≢false (sym inside ∙ long.no_longer end beyond within))
-      (laws.narrow samples claim (stretch_over a end) (stretch_over p end) shown.entries lawful.drift_in_range are
+      (shows_as_much samples claim (stretch_over a end) (stretch_over p end) shown.entries lawful.drift_in_range are
       (piece_to p end is on within) (earlier, omega (arith, ints)) shown.passes)))
       (λ le. le)
       (int_cases q (pos t.upto))
@@ -148,7 +126,6 @@ module _ (laws : Laws) (samples : List Sample) (claim : ClaimData) (lawful : IsL
   more_pieces a p [] (q ∷ ours) is earlier longest pass last some = absurd (omega arith)
   more_pieces a p (t ∷ []) (q ∷ ours) is earlier longest pass last some = absurd (
       let end = no_further a p q t is earlier longest.0 (pass 0 t refl) in
-      let before = longest.1 in
       let all : pos t.upto ≡ claim.last = last in
       omega (arith, ints))
   more_pieces a p (t ∷ next ∷ theirs) (q ∷ ours) is earlier longest pass last some =
@@ -160,15 +137,19 @@ module _ (laws : Laws) (samples : List Sample) (claim : ClaimData) (lawful : IsL
 
   pub pass_of : (other : CertificateData) → verdict_of samples claim other ≡ Yes
       → Pass samples claim claim.first other.pieces
-  pass_of other accepted k piece at =
-      laws.each samples claim other accepted k piece (slice_get_within other.pieces k piece at) at
+  pass_of other accepted = each_passes samples claim 0 claim.first other.pieces accepted
+
+  covers : (other : CertificateData) → verdict_of samples claim other ≡ Yes
+      → (0 < length other.pieces) × (last_end claim.first other.pieces ≡ claim.last)
+  covers other accepted =
+      let ends = yes_end samples claim 0 claim.first other.pieces accepted in (omega (arith, ends.0), ends.1)
 
   pub more_of_accepted : (earlier : List ℤ) → AreLongest samples claim claim.first earlier
       → (other : CertificateData) → verdict_of samples claim other ≡ Yes → length earlier < length other.pieces
   more_of_accepted earlier longest other accepted =
-      let covers = laws.covers samples claim other accepted in
+      let (some_piece, to_end) = covers other accepted in
       more_pieces claim.first claim.first other.pieces earlier first_in_span (omega (arith, ints)) longest
-      (pass_of other accepted) covers.1 covers.0
+      (pass_of other accepted) to_end some_piece
 
   pub as_many_pieces : (p : ℤ) (ends : List ℤ) → length (pieces_over samples claim p ends) ≡ length ends
   as_many_pieces p [] = refl
@@ -199,17 +180,17 @@ module _ (laws : Laws) (samples : List Sample) (claim : ClaimData) (lawful : IsL
       → hull ≡ hull_over samples claim p (next_tick samples claim p) → is_inside claim.bound hull ≡ false
       → hull ≢ Empty → (other : CertificateData) → ¬ (verdict_of samples claim other ≡ Yes)
   none_accepted_over p hull is from its_hull fails some other accepted =
-      let covers = laws.covers samples claim other accepted in
+      let (some_piece, to_end) = covers other accepted in
       let inner = stretch_over p (next_tick samples claim p) in
       let within : next_tick samples claim p ≤ℤ last_end claim.first other.pieces =
-      rw covers.1 (next_within p) in
-      let over = some_over claim.first p other.pieces from covers.0 within in
+      rw to_end (next_within p) in
+      let over = some_over claim.first p other.pieces from some_piece within in
       let outer = some_and (λ outer. HoldsWhole outer inner) _ over.1 in
       let shown = pass_each samples claim claim.first other.pieces (pass_of other accepted) over.0 outer.0 outer.1 in
       ⊎_elim
       (λ empty. some (its_hull ∙ empty))
       (λ inside. true≢false (sym inside ∙ ap (is_inside claim.bound) (sym its_hull) ∙ fails))
-      (laws.narrow samples claim outer.0 inner shown.entries lawful.drift_in_range are
+      (shows_as_much samples claim outer.0 inner shown.entries lawful.drift_in_range are
       (piece_to p (next_tick samples claim p) is (next_later p is) (next_within p)) outer.2 shown.passes)
 
   -- ---- where the longest pieces have come to
@@ -225,8 +206,7 @@ module _ (laws : Laws) (samples : List Sample) (claim : ClaimData) (lawful : IsL
   end_after_later p [] is longest = omega (arith, ints)
   end_after_later p (q ∷ earlier) is longest =
       let forward = longest_forward p q is longest.0 in
-      let rest = end_after_later q earlier (end_in_span p q is longest.0) longest.2 in
-      omega (arith, ints)
+      omega (arith, ints, end_after_later q earlier (end_in_span p q is longest.0) longest.2)
 
   -- ---- halving
 
@@ -238,7 +218,7 @@ module _ (laws : Laws) (samples : List Sample) (claim : ClaimData) (lawful : IsL
       let next = next_later p is in
       let forward : p ≤ℤ q = omega (arith, ints) in
       let to : q ≤ℤ claim.last = omega (arith, ints) in
-      let passes = entries_fault laws.best samples claim (stretch_over p r)
+      let passes = entries_fault samples claim (stretch_over p r)
       ∙ inside_passes claim.bound (hull_over samples claim p r) shown in
       let order : p ≤ℤ p = omega (arith, ints) in
       ⊎_elim
@@ -246,5 +226,5 @@ module _ (laws : Laws) (samples : List Sample) (claim : ClaimData) (lawful : IsL
       (empty_stays (hull_over samples claim p q) (hull_over samples claim p (next_tick samples claim p))
       (shorter p (next_tick samples claim p) q is next some to) empty) least))
       (λ inside. inside)
-      (laws.narrow samples claim (stretch_over p r) (stretch_over p q) (best_entries samples claim (stretch_over p r))
+      (shows_as_much samples claim (stretch_over p r) (stretch_over p q) (best_entries samples claim (stretch_over p r))
       lawful.drift_in_range are (piece_to p q is forward to) (order, more) passes)

@@ -1,6 +1,7 @@
 -- What is found, piece by piece.
-use Rattle.finder.proofs.Common.{◌≡◌, ℕ, ◌+◌, ◌<◌, ℤ, true, false, not, List, [], ◌∷◌, ◌++◌, Some, None, sym, ap, ◌∙◌, subst, ⊎_elim, unsigned_abs, arith, cases_lt, map-range_with_len_more, PieceData, ClaimData, Hull, Sample, piece_end_of, piece_hull, Stretch, is_inside, best_entries, best_hull, parts_named, certificate, nothing, piece_at, pieces_from, hull_at, passes, first_failing, found_without, count_of, stretch_at}
+use Rattle.finder.proofs.Common.{◌≡◌, ℕ, ◌+◌, ◌<◌, ℤ, true, false, not, List, [], ◌∷◌, ◌++◌, Some, None, sym, ap, ◌∙◌, unsigned_abs, arith, map-range_with_len_more, PieceData, ClaimData, Hull, Sample, piece_end_of, piece_hull, Stretch, is_inside, best_entries, best_hull, parts_named, certificate, nothing, piece_at, pieces_from, hull_at, passes, first_failing, found_without, count_of, stretch_at}
 use Rattle.finder.proofs.List.{find_none, find_first}
+use Rattle.std.proofs.Common.{below_more}
 
 module _ (samples : List Sample) (claim : ClaimData) (step : ℕ) where
   pub hull_is : (k : ℕ) (stretch : Stretch) (entries : List (ℕ × ℕ)) (hull : Hull) → stretch ≡ stretch_at claim step k
@@ -49,7 +50,4 @@ module _ (samples : List Sample) (claim : ClaimData) (step : ℕ) where
 
   pub passed_more : (k : ℕ) → ((j : ℕ) → j < k → passes samples claim step j ≡ true)
       → passes samples claim step k ≡ true → (j : ℕ) → j < k + 1 → passes samples claim step j ≡ true
-  passed_more k before here j below = ⊎_elim
-      (λ less. before j less)
-      (λ le. let same : k ≡ j = omega arith in subst (λ (i : ℕ). passes samples claim step i ≡ true) same here)
-      (cases_lt j k)
+  passed_more k before here = below_more (λ (j : ℕ). passes samples claim step j ≡ true) k before here

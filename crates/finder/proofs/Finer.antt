@@ -1,49 +1,34 @@
 -- Pieces that are cut finer.
-use Rattle.finder.proofs.Common.{◌≡◌, ◌≢◌, inl, inr, ℕ, zero, suc, ◌+◌, ◌-◌, ◌*◌, ◌/◌, ◌<◌, ◌≤◌, ℤ, pos, ◌+ℤ◌, ◌≤ℤ◌, ◌<ℤ◌, List, Ok, refl, sym, ◌∙◌, ⊎_elim, arith, mod-lt, mul-le-mul_right, cases_lt, ints, clamps, div-add-mod', ticks_per_second, ClaimData, IsLawful, Hull, Unbounded, Empty, Sample, IsPiece, piece_end_of, Stretch, best_entries, best_hull, AreInside, EnvelopeData, IsInside, envelope_of, with_bound, hull_at, IsPieceCount, count_of, piece_begin_of, stretch_at, HoldsWhole, AreSamplesOf, Holds, NoneHolds, mul-pos}
-use Rattle.finder.proofs.Bound.{Roundings, none_inside}
-use Rattle.finder.proofs.OtherBounds.{least_is}
-use Rattle.finder.proofs.Best.{BestLaw}
-use Rattle.finder.proofs.Narrow.{NarrowLaw}
+use Rattle.finder.proofs.Common.{◌≡◌, ◌≢◌, inl, inr, ℕ, zero, suc, ◌+◌, ◌-◌, ◌*◌, ◌/◌, ◌<◌, ◌≤◌, ℤ, pos, ◌+ℤ◌, ◌≤ℤ◌, ◌<ℤ◌, List, Ok, sym, ◌∙◌, ⊎_elim, arith, mul-le-mul_right, cases_lt, ints, clamps, ticks_per_second, ClaimData, IsLawful, Hull, Unbounded, Empty, Sample, IsPiece, piece_end_of, Stretch, best_entries, best_hull, AreInside, EnvelopeData, IsInside, envelope_of, with_bound, hull_at, IsPieceCount, count_of, piece_begin_of, stretch_at, HoldsWhole, AreSamplesOf, Holds, NoneHolds, mul-pos}
+use Rattle.finder.proofs.Bound.{none_inside}
+use Rattle.finder.proofs.OtherBounds.{least_is, same_hull}
+use Rattle.finder.proofs.Narrow.{shows_as_much}
 use Rattle.finder.proofs.SpanPieces.{IsPieceCount-piece_count_of, begin_from_first, piece_of_claim}
 use Rattle.finder.proofs.Verdict.{entries_fault, inside_passes}
 
--- what is known of the best entries, and of ticks
-pub record Laws : Type 0 where
-  pub best : BestLaw
-  pub narrow : NarrowLaw
-  pub roundings : Roundings
-
 -- ---- a stretch inside another
 
-module _ (laws : Laws) (samples : List Sample) (claim : ClaimData) (lawful : IsLawful claim)
+module _ (samples : List Sample) (claim : ClaimData) (lawful : IsLawful claim)
     (are : AreSamplesOf claim samples) (outer inner : Stretch) (n : ℕ)
   where
-    same_hull : (stretch : Stretch)
-        → best_hull samples (with_bound claim n) stretch ≡ best_hull samples claim stretch
-    unfolding best_hull
-    same_hull stretch = refl
-
     -- its hull lies in a bound in which that of the other does, or is empty
     pub inner_inside : IsPiece inner.begin inner.end → HoldsWhole outer inner
         → IsInside n (best_hull samples claim outer) → best_hull samples claim inner ≢ Empty
         → IsInside n (best_hull samples claim inner)
     inner_inside piece whole inside some =
         let wider = with_bound claim n in
-        let passes = entries_fault laws.best samples wider outer
-        ∙ inside_passes wider.bound _ (rw (same_hull outer) inside) in
-        rw (← same_hull inner) (⊎_elim
-        (λ empty. absurd (some (sym (same_hull inner) ∙ empty)))
+        let passes = entries_fault samples wider outer
+        ∙ inside_passes wider.bound _ (rw (same_hull samples claim n outer) inside) in
+        rw (← same_hull samples claim n inner) (⊎_elim
+        (λ empty. absurd (some (sym (same_hull samples claim n inner) ∙ empty)))
         (λ is. is)
-        (laws.narrow samples wider outer inner (best_entries samples wider outer) lawful.drift_in_range
+        (shows_as_much samples wider outer inner (best_entries samples wider outer) lawful.drift_in_range
         (record { lawful = are.lawful; listed = are.listed }) piece whole passes))
 
 -- ---- a piece inside another
 
-quotient : (k d : ℕ) → 0 < d → (k / d * d ≤ k) × (k < (k / d + 1) * d)
-quotient k d some =
-    let parts = div-add-mod' k d in
-    let rest = mod-lt k some in
-    (omega (arith, parts), omega (arith, parts, rest))
+pub quotient : (k d : ℕ) → 0 < d → (k / d * d ≤ k) × (k < (k / d + 1) * d)
+quotient k d some = (omega arith, omega arith)
 
 module _ (first last : ℤ) (in_order : first ≤ℤ last) (step times k q : ℕ) (from : q * times ≤ k)
     (to : k < (q + 1) * times) where
@@ -74,7 +59,6 @@ module _ (first last : ℤ) (in_order : first ≤ℤ last) (step times k q : ℕ
   count_more few many coarse fine some below = ⊎_elim
       (λ less. less)
       (λ past. absurd (
-      let some_piece = coarse.some in
       let one : times ≤ few * times =
       (let h : 1 * times ≤ few * times = mul-le-mul_right times (omega arith) in omega (arith, h)) in
       let up : few * times ≤ q * times = mul-le-mul_right times past in
@@ -82,7 +66,7 @@ module _ (first last : ℤ) (in_order : first ≤ℤ last) (step times k q : ℕ
       let before : k - 1 + 1 ≡ k = omega (arith, one, later, some) in
       let short = fine.first_to_end (k - 1) (rw before below) in
       let whole = coarse.ends_with_span in
-      let last_piece : few - 1 + 1 ≡ few = omega (arith, some_piece) in
+      let last_piece : few - 1 + 1 ≡ few = omega arith in
       let near : (first +ℤ pos (k * step * ticks_per_second)) <ℤ last =
       (let h = rw before at short in omega (arith, ints, clamps)) in
       let far : last ≤ℤ (first +ℤ pos (few * (step * times) * ticks_per_second)) =
@@ -106,11 +90,11 @@ begin_inside first last in_order step times (suc l) (suc p) some from to =
 
 -- ---- the least bounds
 
-module _ (laws : Laws) (samples : List Sample) (claim : ClaimData) (lawful : IsLawful claim)
+module _ (samples : List Sample) (claim : ClaimData) (lawful : IsLawful claim)
     (are : AreSamplesOf claim samples) (step times : ℕ) (some_step : 0 < step) (some : 0 < times) where
   counted : (s : ℕ) → 0 < s → IsPieceCount claim.first claim.last s (count_of claim s)
   counted s more =
-      IsPieceCount-piece_count_of laws.roundings.up claim.first claim.last s lawful.span_forward more
+      IsPieceCount-piece_count_of claim.first claim.last s lawful.span_forward more
 
   -- the hull of each finer piece lies in a bound that holds, or is empty
   piece_inside : (n : ℕ) → AreInside (hull_at samples claim (step * times)) (count_of claim (step * times)) n
@@ -124,7 +108,7 @@ module _ (laws : Laws) (samples : List Sample) (claim : ClaimData) (lawful : IsL
       count_more claim.first claim.last forward step times k q parts.0 parts.1 (count_of claim (step * times))
       (count_of claim step) (counted (step * times) (mul-pos some_step some)) (counted step some_step)
       some below in
-      inner_inside laws samples claim lawful are (stretch_at claim (step * times) q) (stretch_at claim step k) n
+      inner_inside samples claim lawful are (stretch_at claim (step * times) q) (stretch_at claim step k) n
       (piece_of_claim claim lawful step k) (
         begin_inside claim.first claim.last forward step times k q some parts.0 parts.1,
         end_inside claim.first claim.last forward step times k q parts.0 parts.1,
@@ -134,17 +118,17 @@ module _ (laws : Laws) (samples : List Sample) (claim : ClaimData) (lawful : IsL
   module _ (wide narrow : EnvelopeData) (wide_is : envelope_of samples claim (step * times) ≡ Ok wide)
       (narrow_is : envelope_of samples claim step ≡ Ok narrow) (n j : ℕ) (holds : wide.least ≡ Holds n j) where
     wide_inside : AreInside (hull_at samples claim (step * times)) (count_of claim (step * times)) n
-    wide_inside = (least_is samples claim (step * times) laws.roundings wide wide_is (Holds n j) holds).0.all_inside
+    wide_inside = (least_is samples claim (step * times) wide wide_is (Holds n j) holds).0.all_inside
 
     pub no_wider : (m k : ℕ) → narrow.least ≡ Holds m k → m ≤ n
     no_wider m k is =
-        let least = (least_is samples claim step laws.roundings narrow narrow_is (Holds m k) is).0 in
+        let least = (least_is samples claim step narrow narrow_is (Holds m k) is).0 in
         least.least n (λ i below. piece_inside n wide_inside i below
         (λ empty. none_inside m (hull_at samples claim step i) (least.all_inside i below) (inr empty)))
 
     pub is_empty : (k : ℕ) → narrow.least ≡ NoneHolds k → hull_at samples claim step k ≡ Empty
     is_empty k is =
-        let first = least_is samples claim step laws.roundings narrow narrow_is (NoneHolds k) is in
+        let first = least_is samples claim step narrow narrow_is (NoneHolds k) is in
         ⊎_elim
         (λ unbounded. absurd (none_inside n (hull_at samples claim step k)
         (piece_inside n wide_inside k first.of_span (λ empty. not_both _ unbounded empty)) (inl unbounded)))

@@ -1,22 +1,16 @@
 -- The search for the tick that needs most: what is known of the gaps that are left, and of all other ticks.
-use Rattle.finder.proofs.Common.{◌≡◌, ℕ, ◌≤◌, ℤ, pos, ◌≤ℤ◌, ◌<ℤ◌, Bool, ◌⊎◌, inl, inr, ⊎_elim, List, [], ◌∷◌, ◌++◌, length, Option, Some, None, refl, sym, ap, ◌∙◌, subst, arith, ints, clamps, ClaimData, IsLawful, to_z, of_z, w128, unsigned_abs, Hull, Unbounded, Empty, Bounded, Sample, next_tick, stretch_over, AreSamplesOf, AreHalves, gap_between, IsBoundless, IsGap, IsInSpan, IsWithin, NeedsAtMost, need_of, hull_without, tick_without, first_kept}
+use Rattle.finder.proofs.Common.{◌≡◌, ℕ, ◌≤◌, ℤ, pos, ◌≤ℤ◌, ◌<ℤ◌, Bool, ◌⊎◌, inl, inr, ⊎_elim, List, [], ◌∷◌, ◌++◌, length, Option, Some, None, refl, sym, ap, ◌∙◌, subst, arith, ints, clamps, ClaimData, IsLawful, Hull, Unbounded, Empty, Bounded, Sample, next_tick, stretch_over, AreSamplesOf, AreHalves, gap_between, IsBoundless, IsGap, IsInSpan, IsWithin, NeedsAtMost, need_of, hull_without, tick_without}
 use Rattle.std.specs.Prelude.{IsSomeAnd}
 use Rattle.std.specs.List.{Contains}
 use Rattle.std.proofs.lemmas.List.Elements.{Contains-append_left, Contains-push, Contains-push_cases}
 use Rattle.finder.specs.declared.neediest.Gap.{Gap}
 use Rattle.finder.specs.declared.neediest.TickNeed.{TickNeed}
-use Rattle.finder.proofs.HullWithout.{WithoutLaw, needs_no_more}
+use Rattle.finder.proofs.HullWithout.{needs_no_more, no_wider_without}
 use Rattle.finder.proofs.Nearest.{int_cases}
-use Rattle.finder.proofs.Verdict.{from_zero_kept}
 
 -- what a stretch needs is known
 pub some_enough : (need : Option ℕ) (all most : ℕ) → Some all ≡ need → all ≤ most → IsSomeAnd need (λ n. n ≤ most)
 some_enough need all most is few = subst (λ (o : Option ℕ). IsSomeAnd o (λ n. n ≤ most)) is few
-
--- the span's first tick as 64 bits hold it
-pub first_is : (claim : ClaimData) → IsLawful claim
-    → pos (unsigned_abs (to_z w128 (of_z w128 claim.first))) ≡ claim.first
-first_is claim lawful = rw (first_kept claim lawful) (from_zero_kept claim.first lawful.span_begins)
 
 -- ---- the gaps
 
@@ -24,12 +18,8 @@ module _ (claim : ClaimData) (gap : Gap) (tick : TickNeed) (a b : Gap) (halves :
   pub half_gaps : IsGap claim gap → gap.first.begin ≤ tick.begin → tick.begin ≤ gap.last.begin
       → IsGap claim a × IsGap claim b
   half_gaps is from to =
-      let before : IsGap claim (gap_between gap.first tick) =
-      (let last = is.to_last in
-      record { from_first = is.from_first; in_order = from; to_last = omega (arith, ints, last, to) }) in
-      let after : IsGap claim (gap_between tick gap.last) =
-      (let first = is.from_first in
-      record { from_first = omega (arith, ints, first, from); in_order = to; to_last = is.to_last }) in
+      let before : IsGap claim (gap_between gap.first tick) = omega (arith, ints) in
+      let after : IsGap claim (gap_between tick gap.last) = omega (arith, ints) in
       ⊎_elim
       (λ same. (subst (IsGap claim) (sym same.0) before, subst (IsGap claim) (sym same.1) after))
       (λ turned. (subst (IsGap claim) (sym turned.0) after, subst (IsGap claim) (sym turned.1) before))
@@ -101,14 +91,12 @@ module _ (samples : List Sample) (claim : ClaimData) (cover : ℕ → Bool) wher
       → pos last.begin ≡ claim.last → first.ticks ≤ most → last.ticks ≤ most
       → AreLeft most (gap_between first last ∷ [])
   first_left first last most seen seen' begins ends few few' p is =
-      let from = is.from_first in
-      let to = is.to_last in
       ⊎_elim
       (λ more. ⊎_elim
       (λ less. inr (gap_between first last, Contains-push [] (gap_between first last), (more, less)))
-      (λ at. inl (enough last most p seen' few' (omega (arith, ints, ends, to, at))))
+      (λ at. inl (enough last most p seen' few' (omega (arith, ints, ends, at))))
       (int_cases p (pos last.begin)))
-      (λ at. inl (enough first most p seen few (omega (arith, ints, begins, from, at))))
+      (λ at. inl (enough first most p seen few (omega (arith, ints, begins, at))))
       (int_cases (pos first.begin) p)
 
   module _ (most : ℕ) (gaps rest : List Gap) (gap : Gap) (popped : gaps ≡ rest ++ gap ∷ [])
@@ -150,27 +138,21 @@ module _ (samples : List Sample) (claim : ClaimData) (cover : ℕ → Bool) wher
   pub none_left : (most : ℕ) (gaps : List Gap) → length gaps ≡ 0 → AreLeft most gaps → (p : ℤ) → IsInSpan claim p
       → NeedsAtMost most (tick_without samples claim cover p)
   none_left most gaps empty left p is =
-      ⊎_elim (λ need. need) (λ any. absurd (let within = any.1.1 in omega (arith, within, empty))) (left p is)
+      ⊎_elim (λ need. need) (λ any. absurd (omega (arith, empty))) (left p is)
 
   -- a tick within a gap needs no more than all of it
-  pub needs_within : WithoutLaw → IsLawful claim → AreSamplesOf claim samples → (gap : Gap) → IsGap claim gap
+  pub needs_within : IsLawful claim → AreSamplesOf claim samples → (gap : Gap) → IsGap claim gap
       → (most : ℕ)
       → NeedsAtMost most (hull_without samples claim cover (stretch_over (pos gap.first.begin) (pos gap.last.begin)))
       → (p : ℤ) → IsWithin gap p → NeedsAtMost most (tick_without samples claim cover p)
-  needs_within law lawful are gap is most need p within =
-      let begins = lawful.span_begins in
-      let ends = lawful.span_ends in
-      let from = is.from_first in
-      let to = is.to_last in
-      let after = within.0 in
-      let before = within.1 in
+  needs_within lawful are gap is most need p within =
       needs_no_more most _ _
-      (law samples claim cover (stretch_over (pos gap.first.begin) (pos gap.last.begin))
+      (no_wider_without samples claim cover (stretch_over (pos gap.first.begin) (pos gap.last.begin))
       (stretch_over p (next_tick samples claim p)) lawful.drift_in_range are
       (record {
-        from_zero = omega (arith, ints, begins, from, after);
-        in_order = omega (arith, ints, clamps, to, before);
-        in_range = omega (arith, ints, clamps, ends);
+        from_zero = omega (arith, ints);
+        in_order = omega (arith, ints, clamps);
+        in_range = omega (arith, ints, clamps);
       })
-      (omega (arith, ints, after), omega (arith, ints, clamps, before)))
+      (omega (arith, ints), omega (arith, ints, clamps)))
       need

@@ -61,5 +61,4 @@ pub as_many_groups : (groups : List ℕ) (p q : ℕ → Bool) → ((k : ℕ) →
     → false_group_count groups p ≡ false_group_count groups q
 as_many_groups groups p q same =
     let up = no_more_groups groups p q (λ k below e. sym (same k below) ∙ e) in
-    let down = no_more_groups groups q p (λ k below e. same k below ∙ e) in
-    omega (arith, up, down)
+    omega (arith, up, (no_more_groups groups q p (λ k below e. same k below ∙ e)))

@@ -1,7 +1,8 @@
 -- Narrower intervals of the same servers: the hull over their groups is no wider, and if the wider one is empty, so
 -- is this one.
-use Rattle.finder.proofs.Common.{ℕ, ◌<◌, ℤ, true, List, length, refl, arith, leaves_out, Hull, Unbounded, Empty, Bounded, Interval, AreNarrower, group_intervals, piece_hull, Part, IsNoWider, meet_leaves_it_out, all_counted, no_fewer_groups, still_left_out, EveryHull}
+use Rattle.finder.proofs.Common.{ℕ, ◌<◌, ℤ, true, List, length, refl, arith, leaves_out, Hull, Unbounded, Empty, Bounded, Interval, AreNarrower, group_intervals, piece_hull, Part, IsNoWider, meet_leaves_it_out, all_counted, no_fewer_groups, still_left_out}
 use Rattle.intersection.specs.Hull.{IsAdmissible, IsHull}
+use Rattle.intersection.proofs.EndPoints.{IsHull-hull_of}
 
 no_wider : (list other : List Interval) (f : ℕ) (hull next : Hull)
     → ((point : ℤ) → IsAdmissible other f point → IsAdmissible list f point) → (f < length list → f < length other)
@@ -15,9 +16,9 @@ no_wider list other f (Bounded lo hi) Empty fewer longer is is' = tt
 no_wider list other f (Bounded lo hi) (Bounded lo' hi') fewer longer is is' =
     (is.1.1 lo' (fewer lo' is'.1.0), is.2.1 hi' (fewer hi' is'.2.0))
 
-pub narrower_is_no_wider : (hulls : EveryHull) (groups : List ℕ) (f : ℕ) (parts next : List Part)
+pub narrower_is_no_wider : (groups : List ℕ) (f : ℕ) (parts next : List Part)
     → AreNarrower parts next → IsNoWider (piece_hull groups f parts) (piece_hull groups f next)
-narrower_is_no_wider hulls groups f parts next each =
+narrower_is_no_wider groups f parts next each =
     let list = group_intervals groups parts in
     let other = group_intervals groups next in
     let longer = no_fewer_groups (λ i. true) (λ a b. refl) (λ part next is h. refl) groups parts next each in
@@ -27,4 +28,4 @@ narrower_is_no_wider hulls groups f parts next each =
     parts next each in
     omega arith)
     (λ some. omega (arith, longer, all_counted list, all_counted other))
-    (hulls list f) (hulls other f)
+    (IsHull-hull_of list f) (IsHull-hull_of other f)

@@ -1,6 +1,7 @@
 -- The leeways of groups, from one exchange to the next.
 use Rattle.std.proofs.Common.{get_or-set_other, get_or-set_same}
-use Rattle.finder.proofs.Common.{◌≡◌, ℕ, zero, suc, ◌+◌, ◌-◌, ◌*◌, ◌/◌, ◌<◌, ◌≤◌, ℤ, pos, negsuc, neg_ℤ, ◌+ℤ◌, ◌-ℤ◌, ◌*ℤ◌, ◌≤ℤ◌, ◌<ℤ◌, unsigned_abs, Bool, true, false, ◌||◌, inl, inr, ⊎_elim, List, [], ◌∷◌, Some, replicate, length, get_or, set, refl, sym, ap, ap₂, ◌∙◌, subst, arith, to_z, of_z, ◌^◌, w128, ◌↔◌, ◌==◌, slice_get, int_min, list_any, All-cons, All-nil, ints, nat_tests, le-div_iff_mul-le, ClaimData, group_of, low_mark, AreCompatible, Mark, Exchange, billion, Side, Below, Lets, DoLet, AreLeeways, IsNarrowed, IsTightest, IsUnlimited, leeway_in, mark_at, no_limit, turned, by_test, not_lt_zero, lt_next_cases, or_parts, w128_keeps, or-false}
+use Rattle.std.proofs.lemmas.List.{get_or-replicate}
+use Rattle.finder.proofs.Common.{◌≡◌, ℕ, ◌+◌, ◌-◌, ◌*◌, ◌/◌, ◌<◌, ◌≤◌, ℤ, pos, negsuc, neg_ℤ, ◌+ℤ◌, ◌-ℤ◌, ◌*ℤ◌, ◌≤ℤ◌, ◌<ℤ◌, unsigned_abs, Bool, true, false, ◌||◌, inl, inr, ⊎_elim, List, [], ◌∷◌, Some, replicate, length, set, refl, sym, ap, ap₂, ◌∙◌, subst, arith, to_z, of_z, ◌^◌, w128, ◌↔◌, ◌==◌, slice_get, int_min, list_any, All-cons, All-nil, ints, nat_tests, le-div_iff_mul-le, ClaimData, group_of, low_mark, AreCompatible, Mark, Exchange, billion, Side, Below, Lets, DoLet, AreLeeways, IsNarrowed, IsTightest, IsUnlimited, leeway_in, mark_at, no_limit, turned, by_test, not_lt_zero, lt_next_cases, or_parts, w128_keeps, or-false}
 
 -- ---- the greatest error under one mark
 
@@ -94,7 +95,7 @@ module _ (ppb : ℕ) (a b : Mark) where
     rises = λ back. rw (same_error, same_back) (agree.rises (omega (arith, ints, back)));
   }
 
-negated : (z : ℤ) → neg_ℤ (neg_ℤ z) ≡ z
+pub negated : (z : ℤ) → neg_ℤ (neg_ℤ z) ≡ z
 negated z = omega (arith, ints)
 
 module _ (claim : ClaimData) (x : Exchange) (reading ticks : ℤ) where
@@ -121,22 +122,12 @@ module _ (claim : ClaimData) (x : Exchange) (reading ticks : ℤ) where
 
 -- ---- lists of leeways
 
-pub replicated : (n : ℕ) (z : ℤ) (k : ℕ) → get_or (replicate n z) k z ≡ z
-replicated zero z k = refl
-replicated (suc n) z zero = refl
-replicated (suc n) z (suc k) = replicated n z k
-
-pub same_default : {X : Type 0} (xs : List X) (k : ℕ) (a b : X) → k < length xs → get_or xs k a ≡ get_or xs k b
-same_default [] k a b below = absurd (omega arith)
-same_default (x ∷ xs) zero a b below = refl
-same_default (x ∷ xs) (suc k) a b below = same_default xs k a b (omega arith)
-
 -- 128 bits keep them as they are
 abbrev pub AreKept : List ℤ → Type 0
 AreKept leeways = (group : ℕ) → group < 32 → to_z w128 (of_z w128 (leeway_in leeways group)) ≡ leeway_in leeways group
 
 pub replicated_kept : AreKept (replicate 32 no_limit)
-replicated_kept group below = rw (replicated 32 no_limit group) refl
+replicated_kept group below = rw (get_or-replicate 32 group no_limit no_limit below) refl
 
 pub still_kept : (leeways : List ℤ) (at : ℕ) (now : ℤ) → at < length leeways → to_z w128 (of_z w128 now) ≡ now
     → AreKept leeways → AreKept (set leeways at now)
@@ -239,7 +230,7 @@ module _ (leeways : List ℤ) (left_out : ℕ → Bool) where
     pub tighter : left_out n ≡ false → leeway_in leeways n <ℤ least
         → IsTightestTo leeways left_out (n + 1) n (leeway_in leeways n)
     tighter outside less = record {
-      at_most = (let most = before.at_most in omega (arith, ints, less, most));
+      at_most = omega (arith, ints, less);
       its_own = λ _. (outside, refl);
       least_of = λ other below out. ⊎_elim
           (λ earlier. let le = before.least_of other earlier out in omega (arith, ints, less, le))
@@ -261,12 +252,12 @@ module _ (leeways : List ℤ) (left_out : ℕ → Bool) where
 
 -- ---- groups that are added to a cover
 
-added_last : (a b c : Bool) → (a || (b || c)) ≡ (b || (a || c))
+pub added_last : (a b c : Bool) → (a || (b || c)) ≡ (b || (a || c))
 added_last true true c = refl
 added_last true false c = refl
 added_last false b c = refl
 
-turned_test : (a b : ℕ) → (a == b) ≡ (b == a)
+pub turned_test : (a b : ℕ) → (a == b) ≡ (b == a)
 turned_test a b = by_test (a == b) (λ t. grind (arith, nat_tests)) (λ t. grind (arith, nat_tests))
 
 module _ (leeways : List ℤ) (cover : ℕ → Bool) where
@@ -291,7 +282,7 @@ module _ (leeways : List ℤ) (cover : ℕ → Bool) where
       once = before.once;
       others = before.others;
       least = before.least;
-      few = (let few = before.few in omega (arith, few));
+      few = omega arith;
       enough = inr unlimited;
     }
 
@@ -309,11 +300,10 @@ module _ (leeways : List ℤ) (cover : ℕ → Bool) where
           → leeway_in leeways a ≤ℤ leeway_in leeways other) group before.added
           (λ other below outside. tightest.least other below (left other outside))
           (λ k d within other below outside. before.least k d within other below (left other outside));
-      few = (let few = before.few in omega (arith, few));
+      few = omega arith;
       enough = ⊎_elim
           (λ same. inl (let is' : length before.added ≡ n = same in omega (arith, is')))
-          (λ unlimited. absurd (let beyond = unlimited group tightest.below tightest.outside in
-          let limited = tightest.limited in omega (arith, ints, beyond, limited)))
+          (λ unlimited. absurd (omega (arith, ints, unlimited group tightest.below tightest.outside)))
           before.enough;
     }
       where

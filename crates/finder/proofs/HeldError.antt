@@ -1,7 +1,8 @@
 -- Where nothing beyond the bound is let be, no course is beyond it.
 use Rattle.std.proofs.Common.{◌==◌}
+use Rattle.std.proofs.lemmas.List.{get_or_default}
 use Rattle.std.specs.Prelude.{nat_lt}
-use Rattle.finder.proofs.Common.{◌≡◌, ℕ, zero, suc, ◌+◌, ◌-◌, ◌<◌, ◌≤◌, ℤ, pos, neg_ℤ, ◌+ℤ◌, ◌-ℤ◌, ◌*ℤ◌, ◌≤ℤ◌, ◌<ℤ◌, Bool, true, false, not, ◌&&◌, ◌||◌, inl, inr, is_some, ◌⊎◌, ⊎_elim, Option, None, Some, List, [], ◌∷◌, length, get_or, refl, sym, ap, ◌∙◌, subst, arith, ◌↔◌, All, Any, IfNone, count_by, slice_index, AllPairs, int_min, list_any, clamps, ints, and_parts, lt-ltb, or_cases, nat_tests, All-cons, All-head, All-nil, All-tail, list_any-append, slice_get_within, RefutationData, ClaimData, IsLawful, max_bound, Exchange, low_mark, high_mark, Course, holds_false, are_different, IsCover, size_of, AreApart, HoldsOne, HoldsOneOr64, holds, numbers_below, AreHeld, AreLeeways, DoLet, HasFalse, HoldsFor, IsBounded, IsCandidate, IsHeld, IsHeldAtAll, IsMade, IsNarrowed, IsOff, IsRounded, greatest_of, leeway_in, mark_at, no_limit, turned, IsErrorOf64Bits, Side, Above, Below, by_test, not-true, lt_next_cases, ≤ℤ-from_equal, or_from, and_from, or-false}
+use Rattle.finder.proofs.Common.{◌≡◌, ℕ, zero, suc, ◌+◌, ◌-◌, ◌<◌, ◌≤◌, ℤ, pos, neg_ℤ, ◌+ℤ◌, ◌-ℤ◌, ◌*ℤ◌, ◌≤ℤ◌, ◌<ℤ◌, Bool, true, false, not, ◌&&◌, ◌||◌, inl, inr, ◌⊎◌, ⊎_elim, Option, None, Some, List, [], ◌∷◌, length, get_or, refl, sym, ap, ◌∙◌, subst, arith, ◌↔◌, All, Any, IfNone, count_by, slice_index, AllPairs, int_min, list_any, clamps, ints, and_parts, lt-ltb, or_cases, nat_tests, All-cons, All-head, All-nil, All-tail, list_any-append, slice_get_within, RefutationData, ClaimData, IsLawful, max_bound, Exchange, low_mark, high_mark, Course, holds_false, are_different, IsCover, size_of, AreApart, HoldsOne, HoldsOneOr64, holds, numbers_below, AreHeld, AreLeeways, DoLet, HasFalse, HoldsFor, IsBounded, IsCandidate, IsHeld, IsHeldAtAll, IsMade, IsNarrowed, IsOff, IsRounded, greatest_of, leeway_in, mark_at, no_limit, turned, IsErrorOf64Bits, Side, Above, Below, by_test, not-true, lt_next_cases, ≤ℤ-from_equal, or_from, and_from, or-false}
 use Rattle.pairing.specs.Exchange.{IsLawful as IsLawfulExchange}
 use Rattle.checker.specs.Course.{Fits}
 use Rattle.feasibility.specs.Conflicts.{ConflictData, group_count, HoldsNoLess as HoldsNoLessBy, IsCover as IsCoverBy}
@@ -17,30 +18,23 @@ use Rattle.feasibility.proofs.Covers.{listed_in_groups, server_is_true}
 use Rattle.feasibility.proofs.KeptMarks.{kept_are_compatible}
 use Rattle.feasibility.proofs.Scaling.{times-sub}
 use Rattle.finder.specs.declared.drift_refutation.Place.{Place}
-use Rattle.finder.proofs.GroupLeeway.{same_default}
+use Rattle.finder.proofs.Claim.{few_groups}
+use Rattle.finder.proofs.GroupLeeway.{added_last, turned_test}
 
 pub if_none : {A : Type 0} (o : Option A) (P : Type 0) → P → IfNone o P
 if_none None P p = p
 if_none (Some a) P p = tt
-
-pub none_left : {A : Type 0} (o : Option A) (P : Type 0) → is_some o ≡ false → IfNone o P → P
-none_left None P none p = p
-none_left (Some a) P none p = absurd cc
 
 -- ---- what a course lets be
 
 -- a moment at which the clock is off by so many ticks or more keeps such a mark
 off_above : (n : ℕ) (reading ticks place time : ℤ) → place ≡ reading *ℤ pos n → (ticks *ℤ pos n) ≤ℤ (place -ℤ time)
     → time ≤ℤ ((reading -ℤ ticks) *ℤ pos n)
-off_above n reading ticks place time shows off =
-    let difference = times-sub (reading -ℤ ticks) reading ticks n refl in
-    omega (arith, ints, difference)
+off_above n reading ticks place time shows off = omega (arith, ints, times-sub (reading -ℤ ticks) reading ticks n refl)
 
 off_below : (n : ℕ) (reading ticks place time : ℤ) → place ≡ reading *ℤ pos n → (place -ℤ time) ≤ℤ (ticks *ℤ pos n)
     → ((reading -ℤ ticks) *ℤ pos n) ≤ℤ time
-off_below n reading ticks place time shows off =
-    let difference = times-sub (reading -ℤ ticks) reading ticks n refl in
-    omega (arith, ints, difference)
+off_below n reading ticks place time shows off = omega (arith, ints, times-sub (reading -ℤ ticks) reading ticks n refl)
 
 module _ (claim : ClaimData) (lawful : IsLawful claim) (xs : List Exchange)
     (each : All (IsLawfulExchange (length claim.servers)) xs) (course : Course) (fits : Fits claim xs course) where
@@ -79,7 +73,7 @@ module _ (claim : ClaimData) (lawful : IsLawful claim) (xs : List Exchange)
   any_at q (suc n) some =
       elim (or_cases (list_any q (numbers_below n)) (q n || false)
       (sym (list_any-append q (numbers_below n) (n ∷ [])) ∙ some)) [
-        | inl before ↦ (let rest = any_at q n before in (rest.0, (let below = rest.1 in omega arith), rest.2))
+        | inl before ↦ (let rest = any_at q n before in (rest.0, omega arith, rest.2))
         | inr here ↦
             (n, omega arith, elim (or_cases (q n) false here) [ inl is ↦ is | inr none ↦ absurd cc ])
       ]
@@ -89,35 +83,19 @@ module _ (claim : ClaimData) (lawful : IsLawful claim) (xs : List Exchange)
       let found = any_at (λ server. (slice_index claim.groups server == group) && course.is_false server)
       (length claim.groups) is in
       let below = lawful.groups_in_range found.0 0 found.1 in
-      let same = lawful.group_for_each in
       let test = (and_parts (slice_index claim.groups found.0 == group) (course.is_false found.0) found.2).0 in
       let here : slice_index claim.groups found.0 ≡ group = grind (arith, nat_tests) in
       subst (λ (g : ℕ). g < length claim.groups) here (omega arith)
 
-  few_groups : length claim.groups ≤ 32
-  few_groups = let few = lawful.few_servers in let same = lawful.group_for_each in omega arith
-
-  pub false_below : (group : ℕ) → false_in group ≡ true → group < 32
-  false_below group is = let below = in_range group is in let few = few_groups in omega arith
-
   pub few_false : passing false_in ≤ claim.false_max
   few_false =
-      let below = passing_below false_in (length claim.groups) few_groups in
+      let below = passing_below false_in (length claim.groups) (few_groups claim lawful) in
       let within = passing_within false_in (λ k. false_in k && nat_lt k (length claim.groups))
       (λ k is. and_from (false_in k) (nat_lt k (length claim.groups)) is
       (lt-ltb k (length claim.groups) (in_range k is))) in
-      let few = fits.few_false in
       omega arith
 
 -- ---- too many groups let less be
-
-reordered : (c a r : Bool) → (c || (a || r)) ≡ (a || (c || r))
-reordered true true r = refl
-reordered true false r = refl
-reordered false a r = refl
-
-turned_test : (a b : ℕ) → (a == b) ≡ (b == a)
-turned_test a b = by_test (a == b) (λ s. grind (arith, nat_tests)) (λ s. grind (arith, nat_tests))
 
 any_of : (q : ℕ → Bool) (xs : List ℕ) → list_any q xs ≡ true
     → (k : ℕ) × (x : ℕ) × (k < length xs) × (q x ≡ true) × (get_or xs k x ≡ x)
@@ -127,7 +105,7 @@ any_of q (x ∷ xs) some =
       | inl here ↦ (0, x, omega arith, here, refl)
       | inr later ↦
           (let rest = any_of q xs later in
-          (suc rest.0, rest.1, (let below = rest.2 in omega arith), rest.3, rest.4))
+          (suc rest.0, rest.1, omega arith, rest.3, rest.4))
     ]
 
 -- ---- 64 bits
@@ -137,8 +115,8 @@ bits_of Above most low = record { not_below = omega (arith, ints, clamps); not_a
 bits_of Below most low = record { not_below = omega (arith, ints, clamps); not_above = omega (arith, ints, clamps) }
 
 bits_few : (side : Side) (ticks : ℤ) → IsErrorOf64Bits (turned side ticks) → ticks <ℤ no_limit
-bits_few Above ticks bits = let top = bits.not_above in omega (arith, ints, top)
-bits_few Below ticks bits = let bottom = bits.not_below in omega (arith, ints, bottom)
+bits_few Above ticks bits = omega (arith, ints)
+bits_few Below ticks bits = omega (arith, ints)
 
 few_of : (side : Side) (most : ℤ) → int_min most (greatest_of side) <ℤ no_limit
 few_of Above most = omega (arith, ints, clamps)
@@ -146,8 +124,8 @@ few_of Below most = omega (arith, ints, clamps)
 
 most_of : (side : Side) (most ticks : ℤ) → IsErrorOf64Bits (turned side ticks) → ticks ≤ℤ most
     → ticks ≤ℤ int_min most (greatest_of side)
-most_of Above most ticks bits le = let top = bits.not_above in omega (arith, ints, clamps, top, le)
-most_of Below most ticks bits le = let bottom = bits.not_below in omega (arith, ints, clamps, bottom, le)
+most_of Above most ticks bits le = omega (arith, ints, clamps, le)
+most_of Below most ticks bits le = omega (arith, ints, clamps, le)
 
 beyond_of : (side : Side) (bound most : ℤ) → bound <ℤ most → bound ≤ℤ pos max_bound
     → bound <ℤ int_min most (greatest_of side)
@@ -165,8 +143,7 @@ counts_added : (cover : ℕ → Bool) (added : List ℕ) → are_different added
     → All (λ a. a < 32) added
     → passing (λ k. cover k || list_any (λ a. a == k) added) ≡ passing cover + length added
 counts_added cover [] once others below =
-    let same = passing_same (λ k. cover k || false) cover (λ k. or-false (cover k)) in
-    omega arith
+    omega (arith, (passing_same (λ k. cover k || false) cover (λ k. or-false (cover k))))
 counts_added cover (a ∷ added) once others below =
     let parts = and_parts (not (list_any (λ b. b == a) added)) (are_different added) once in
     let rest = counts_added cover added parts.1 (All-tail (λ b. cover b ≡ false) a added others)
@@ -175,7 +152,7 @@ counts_added cover (a ∷ added) once others below =
     let both = passing_both (λ k. k == a) (λ k. cover k || list_any (λ b. b == k) added)
     (λ k. cover k || ((a == k) || list_any (λ b. b == k) added))
     (record {
-      join = λ k. reordered (cover k) (a == k) (list_any (λ b. b == k) added)
+      join = λ k. added_last (cover k) (a == k) (list_any (λ b. b == k) added)
           ∙ ap (λ t. t || (cover k || list_any (λ b. b == k) added)) (turned_test a k);
     })
     (λ k same.
@@ -199,8 +176,7 @@ module _ (claim : ClaimData) (lawful : IsLawful claim) (xs : List Exchange)
         → holds_false claim.groups course.is_false group ≡ true
     is_false group below small = by_test (holds_false claim.groups course.is_false group) (λ is. is)
         (λ outside.
-        let in_range = lawful.bound_in_range in
-        let more = (are.exact group below (claim.bound +ℤ pos 1) (omega (arith, ints, in_range))).1
+        let more = (are.exact group below (claim.bound +ℤ pos 1) (omega (arith, ints))).1
         (lets_be claim lawful xs each course fits side (pos reading) (claim.bound +ℤ pos 1) shows off group outside) in
         absurd (omega (arith, ints, more, small)))
 
@@ -218,28 +194,22 @@ module _ (claim : ClaimData) (lawful : IsLawful claim) (xs : List Exchange)
         (λ in_cover. all_false k in_cover)
         (λ in_added.
         let at = any_of (λ a. a == k) narrowed.added in_added in
-        let test = at.3 in
         let here : at.1 ≡ k = grind (arith, nat_tests) in
         subst (λ (n : ℕ). holds_false claim.groups course.is_false n ≡ true) here
         (is_false at.1 (subst (λ (n : ℕ). n < 32) at.4 (narrowed.below at.0 at.1 at.2))
         (let least = subst (λ (n : ℕ). (other : ℕ) → other < 32 → found other ≡ false
         → leeway_in leeways n ≤ℤ leeway_in leeways other) at.4 (narrowed.least at.0 at.1 at.2)
         bounded.0 bounded.1.below bounded.1.outside in
-        let small = bounded.2 in
-        omega (arith, ints, least, small))))
+        omega (arith, ints, least))))
         (or_cases (cover k) (list_any (λ a. a == k) narrowed.added) (sym (narrowed.join k) ∙ in_found)))
         (or_cases (k == bounded.0) (found k) is)
 
     pub too_many : ⊥
     unfolding one_more
     too_many =
-        let limited = bounded.1.limited in
-        let small = bounded.2 in
-        let in_range = lawful.bound_in_range in
         let as_many : length narrowed.added ≡ claim.false_max - count_by cover (numbers_below 32) = ⊎_elim
         (λ same. same)
-        (λ unlimited. absurd (let beyond = unlimited bounded.0 bounded.1.below bounded.1.outside in
-        omega (arith, ints, beyond, limited)))
+        (λ unlimited. absurd (omega (arith, ints, unlimited bounded.0 bounded.1.below bounded.1.outside)))
         narrowed.enough in
         let few = few_false claim lawful xs each course fits in
         let all = passing_within one_more (holds_false claim.groups course.is_false) all_are_false in
@@ -250,8 +220,7 @@ module _ (claim : ClaimData) (lawful : IsLawful claim) (xs : List Exchange)
         subst (λ (n : ℕ). found n ≡ false) (sym here) bounded.1.outside) in
         let counted = passing_same found (λ k. cover k || list_any (λ a. a == k) narrowed.added) narrowed.join in
         let added = counts_added cover narrowed.added narrowed.once narrowed.others narrowed.below in
-        let here = counts_here cover in
-        omega arith
+        omega (arith, counts_here cover)
 
   pub held_if_bounded : IsBounded claim.bound leeways found → HoldsFor claim xs reading side (HasFalse claim cover)
   held_if_bounded bounded course fits all_false shows off = too_many bounded course fits all_false shows off
@@ -268,21 +237,17 @@ module _ (claim : ClaimData) (lawful : IsLawful claim) (xs : List Exchange)
       liars = is.liars;
       ticks = ticks;
       error = is.error;
-      in_64_bits = subst IsErrorOf64Bits (sym is.error) (bits_of side is.most (let beyond = is.beyond in
-          let low = lawful.bound_not_negative in omega (arith, ints, beyond, low)));
+      in_64_bits = subst IsErrorOf64Bits (sym is.error) (bits_of side is.most (omega (arith, ints)));
       beyond_bound = beyond_of side claim.bound is.most is.beyond lawful.bound_in_range;
       let_be = λ group below outside.
           (are.exact group below ticks (few_of side is.most)).0
-          (let least = is.limit.least group below outside in
-          omega (arith, ints, clamps, least));
+          (omega (arith, ints, clamps, is.limit.least group below outside));
       greatest = λ more in_bits lets. most_of side is.most more in_bits (⊎_elim
-          (λ unlimited. let most = unlimited.1 in let few = bits_few side more in_bits in
-          omega (arith, ints, most, few))
+          (λ unlimited. omega (arith, ints, bits_few side more in_bits))
           (λ tight.
-          let most = tight.2 in
           let few = bits_few side more in_bits in
           let le = (are.exact tight.0 tight.1.below more few).1 (lets tight.0 tight.1.below tight.1.outside) in
-          omega (arith, ints, most, le))
+          omega (arith, ints, le))
           is.limit.met);
     }
 
@@ -318,7 +283,7 @@ module _ {X : Type 0} (IsTried : X → Type 0) (xs : List X) where
   one_more_tried n other within tried before k d below = ⊎_elim
       (λ earlier. before k d earlier)
       (λ same.
-      subst IsTried (same_default xs n other d within ∙ ap (λ (i : ℕ). get_or xs i d) (sym same)) tried)
+      subst IsTried (get_or_default xs n other d within ∙ ap (λ (i : ℕ). get_or xs i d) (sym same)) tried)
       (lt_next_cases k n below)
 
   pub all_tried : (n : ℕ) → length xs ≤ n → AreTriedTo n → All IsTried xs
@@ -361,7 +326,7 @@ either_all P Q [] all = inl (All-nil P)
 either_all P Q (x ∷ xs) all =
     elim (All-head (λ y. P y ⊎ Q y) x xs all) [
       | inl here ↦ ⊎_elim (λ rest. inl (All-cons P x xs here rest))
-          (λ some. inr (suc some.0, some.1, (let below = some.2 in omega arith), some.3, some.4))
+          (λ some. inr (suc some.0, some.1, omega arith, some.3, some.4))
           (either_all P Q xs (All-tail (λ y. P y ⊎ Q y) x xs all))
       | inr here ↦ inr (0, x, omega arith, refl, here)
     ]

@@ -1,12 +1,11 @@
 -- The hull over a stretch where the groups of a cover have no say.
-use Rattle.finder.proofs.Common.{◌≡◌, ℕ, zero, suc, ◌+◌, ◌<◌, ◌≤◌, ℤ, Bool, true, false, cond, not, List, [], ◌∷◌, ◌++◌, length, take, append-nil, get_or, refl, sym, ap, ◌∙◌, subst, arith, ints, clamps, slice_index, All-filter, filter, Any, max_drift_ppb, Hull, Unbounded, Empty, Bounded, Sample, ClaimData, IsPiece, Part, Stretch, AreNarrower, IsNarrower, numbers_below, best_entries, parts_named, piece_hull, stretch_over, HoldsWhole, AreSamplesOf, IsNoWider, NeedsAtMost, has_say, hull_without, EveryHull}
+use Rattle.finder.proofs.Common.{◌≡◌, ℕ, zero, suc, ◌+◌, ◌<◌, ◌≤◌, ℤ, Bool, true, false, cond, not, List, [], ◌∷◌, ◌++◌, length, take, append-nil, get_or, refl, sym, ap, ◌∙◌, subst, arith, ints, clamps, slice_index, All-filter, filter, Any, max_drift_ppb, Hull, Unbounded, Empty, Bounded, Sample, ClaimData, IsPiece, Part, Stretch, AreNarrower, IsNarrower, numbers_below, best_entries, parts_named, piece_hull, stretch_over, HoldsWhole, AreSamplesOf, IsNoWider, NeedsAtMost, has_say, hull_without}
 use Rattle.std.specs.Prelude.{count_by, ◌-◌}
 use Rattle.std.proofs.lemmas.List.Elements.{filter_more, filter_passes}
 use Rattle.sweep.specs.Table.{best_parts}
-use Rattle.finder.proofs.Best.{BestLaw}
 use Rattle.finder.proofs.Part.{parts_said}
 use Rattle.finder.proofs.GroupHull.{narrower_is_no_wider}
-use Rattle.finder.proofs.Narrow.{Laws, parts_narrow}
+use Rattle.finder.proofs.Narrow.{parts_narrow}
 
 -- ---- of the parts that pass a test on their servers each has a narrower one too
 
@@ -16,7 +15,7 @@ module _ (P : Part → Type 0) where
   kept_here false x xs passes holds = absurd cc
 
   kept_later : (b : Bool) (x : Part) (xs : List Part) → Any P xs → Any P (cond b (x ∷ xs) xs)
-  kept_later true x xs any = let within = any.2 in (suc any.0, any.1, omega arith, any.3, any.4)
+  kept_later true x xs any = (suc any.0, any.1, omega arith, any.3, any.4)
   kept_later false x xs any = any
 
   kept : (test : Part → Bool) (xs : List Part) (k : ℕ) (y : Part) → k < length xs → get_or xs k y ≡ y → P y
@@ -55,32 +54,28 @@ module _ (test : Part → Bool) (xs : List Part) (i : ℕ) (d : Part) (old : Lis
 
 -- ---- the hull
 
--- the law on it
-abbrev pub WithoutLaw : Type 0
-WithoutLaw = (samples : List Sample) (claim : ClaimData) (cover : ℕ → Bool) (outer inner : Stretch)
+pub no_wider_without : (samples : List Sample) (claim : ClaimData) (cover : ℕ → Bool) (outer inner : Stretch)
     → claim.drift_ppb ≤ max_drift_ppb → AreSamplesOf claim samples → IsPiece inner.begin inner.end
     → HoldsWhole outer inner
     → IsNoWider (hull_without samples claim cover outer) (hull_without samples claim cover inner)
-
-pub no_wider_without : Laws → EveryHull → WithoutLaw
 unfolding hull_without
-no_wider_without laws hulls samples claim cover outer inner rate are piece whole =
+no_wider_without samples claim cover outer inner rate are piece whole =
     let parts = parts_named samples claim outer (best_entries samples claim outer) in
     let next = parts_named samples claim inner (best_entries samples claim inner) in
-    narrower_is_no_wider hulls claim.groups (claim.false_max - count_by cover (numbers_below 32))
+    narrower_is_no_wider claim.groups (claim.false_max - count_by cover (numbers_below 32))
     (filter (has_say claim.groups cover) parts) (filter (has_say claim.groups cover) next)
     (narrower_kept (has_say claim.groups cover)
     (λ a b server. ap (λ (s : ℕ). not (cover (slice_index claim.groups s))) server) parts next
-    (parts_narrow laws samples claim outer inner rate are piece whole))
+    (parts_narrow samples claim outer inner rate are piece whole))
 
 -- the tables of servers say it too
-pub hull_said : (law : BestLaw) (samples : List Sample) (claim : ClaimData) (cover : ℕ → Bool) (p q a b : ℤ)
+pub hull_said : (samples : List Sample) (claim : ClaimData) (cover : ℕ → Bool) (p q a b : ℤ)
     (all parts : List Part) (left : ℕ) (hull : Hull) → a ≡ p → b ≡ q
     → all ≡ best_parts samples (length claim.servers) a b claim.drift_ppb
     → parts ≡ filter (has_say claim.groups cover) all → left ≡ claim.false_max - count_by cover (numbers_below 32)
     → hull ≡ piece_hull claim.groups left parts → hull ≡ hull_without samples claim cover (stretch_over p q)
 unfolding hull_without
-hull_said law samples claim cover p q a b all parts left hull begins ends are kept few is =
+hull_said samples claim cover p q a b all parts left hull begins ends are kept few is =
     is
     ∙ ap (λ (n : ℕ). piece_hull claim.groups n parts) few
     ∙ ap (piece_hull claim.groups (claim.false_max - count_by cover (numbers_below 32)))
@@ -88,13 +83,12 @@ hull_said law samples claim cover p q a b all parts left hull begins ends are ke
     ∙ ap (filter (has_say claim.groups cover)) (are
     ∙ ap (λ (x : ℤ). best_parts samples (length claim.servers) x b claim.drift_ppb) begins
     ∙ ap (λ (y : ℤ). best_parts samples (length claim.servers) p y claim.drift_ppb) ends
-    ∙ parts_said law samples claim p q))
+    ∙ parts_said samples claim p q))
 
 -- what is no wider needs no more
 pub needs_no_more : (most : ℕ) (outer inner : Hull) → IsNoWider outer inner → NeedsAtMost most outer
     → NeedsAtMost most inner
-needs_no_more most (Bounded lo hi) (Bounded lo' hi') within need =
-    let low = within.0 in let high = within.1 in omega (arith, ints, clamps, low, high, need)
+needs_no_more most (Bounded lo hi) (Bounded lo' hi') within need = omega (arith, ints, clamps, need)
 needs_no_more most (Bounded lo hi) Empty within need = omega arith
 needs_no_more most (Bounded lo hi) Unbounded within need = absurd within
 needs_no_more most Empty inner within need = subst (λ (h : Hull). NeedsAtMost most h) (sym within) (omega arith)

@@ -5,7 +5,7 @@ use Rattle.std.proofs.lemmas.List.Quantifiers.{all_pairs_push}
 use Rattle.std.proofs.lemmas.Map.Views.{any-filter_same}
 use Rattle.pairing.specs.Exchange.{IsLawful as IsLawfulExchange}
 use Rattle.finder.proofs.Group.{as_many_groups, no_more_groups}
-use Rattle.finder.proofs.ErrorRoom.{RoomLaw}
+use Rattle.checker.proofs.RefutationTests.{admits_from, admits_to}
 
 -- ---- the numbers that pass a test
 
@@ -98,7 +98,7 @@ module _ (allowance error : ℤ) where
 
 -- ---- a refutation by just the servers that refuse its error
 
-module _ (law : RoomLaw) (claim : ClaimData) (lawful : IsLawful claim) (xs : List Exchange)
+module _ (claim : ClaimData) (lawful : IsLawful claim) (xs : List Exchange)
     (each : All (IsLawfulExchange (length claim.servers)) xs) where
   abbrev refusing : ℤ → List ℕ
   refusing error = filter (refuses claim.reading xs error) (numbers_below (length claim.servers))
@@ -108,13 +108,12 @@ module _ (law : RoomLaw) (claim : ClaimData) (lawful : IsLawful claim) (xs : Lis
   few_named error possible =
       let fewer = no_more_groups claim.groups (is_liar (refusing error)) (refuses claim.reading xs error)
       (λ server below. named_pass (refuses claim.reading xs error) (length claim.servers) server) in
-      let most = leb-true _ _ possible in
-      omega (arith, fewer, most)
+      omega (arith, fewer, leb-true _ _ possible)
 
   others_admit : (error : ℤ) → All
       (λ x. is_liar (refusing error) x.server ≡ false → Admits claim.reading error x) xs
   others_admit error k d within not_named = by_test (admits claim.reading error (get_or xs k d))
-      (λ e. (law claim.reading error (get_or xs k d)).0 e)
+      (λ e. admits_from claim.reading error (get_or xs k d) e)
       (λ e.
       let refused = refused_at claim.reading error xs k d within e in
       let named = pass_named (refuses claim.reading xs error) (length claim.servers) (get_or xs k d).server
@@ -124,8 +123,6 @@ module _ (law : RoomLaw) (claim : ClaimData) (lawful : IsLawful claim) (xs : Lis
   pub refuted_at : (error : ℤ) → claim.bound <ℤ pos (unsigned_abs error) → is_possible claim xs error ≡ true
       → IsRefuted claim xs (refutation_at claim xs error)
   refuted_at error beyond possible =
-      let begins = lawful.span_begins in
-      let forward = lawful.span_forward in
       record {
         against = record {
           beyond_bound = beyond;
@@ -145,14 +142,14 @@ module _ (law : RoomLaw) (claim : ClaimData) (lawful : IsLawful claim) (xs : Lis
       let one = refused_by_one claim.reading other.error xs server refused in
       let x = one.1 in
       let parts = and_parts (x.server == server) (not (admits claim.reading other.error x)) one.4 in
-      let same : x.server ≡ server = (let e = parts.0 in grind (arith, nat_tests)) in
+      let same : x.server ≡ server = grind (arith, nat_tests) in
       by_test (is_liar other.liars server) (λ e. e) (λ e.
       let there : is_liar other.liars x.server ≡ false = ap (is_liar other.liars) same ∙ e in
       let at = one.3 in
       let free : is_liar other.liars (get_or xs one.0 x).server ≡ false = rw at there in
       let room : Admits claim.reading other.error x = rw at at (refuted.admits one.0 x one.2 free) in
       absurd (not_both (admits claim.reading other.error x)
-      ((law claim.reading other.error x).1 room) parts.1))
+      (admits_to claim.reading other.error x room) parts.1))
     where
       not_both : (b : Bool) → b ≡ true → not b ≡ true → ⊥
       not_both true e f = absurd cc
@@ -162,5 +159,4 @@ module _ (law : RoomLaw) (claim : ClaimData) (lawful : IsLawful claim) (xs : Lis
   possible_of other refuted =
       let fewer = no_more_groups claim.groups (refuses claim.reading xs other.error) (is_liar other.liars)
       (λ server below. named_by other refuted server) in
-      let most = refuted.against.few_false in
-      le-leb _ _ (omega (arith, fewer, most))
+      le-leb _ _ (omega (arith, fewer))

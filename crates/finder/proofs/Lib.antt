@@ -1,6 +1,7 @@
 mod Common
 pub mod Claim
 pub mod List
+pub mod Known
 pub mod Best
 pub mod SpanPieces
 pub mod TablePieces

@@ -1,6 +1,6 @@
 -- Where the longest piece ends, by halving; and the longest pieces, one after another.
 use Rattle.finder.proofs.Common.{◌≡◌, ℕ, zero, suc, ◌+◌, ◌-◌, ◌<◌, ◌≤◌, ◌^◌, ℤ, pos, ◌+ℤ◌, ◌≤ℤ◌, ◌<ℤ◌, unsigned_abs, true, false, true≢false, List, [], ◌∷◌, ◌++◌, length, take, vec_len, length-append, Vec, Global, get_or, Some, refl, sym, ap, ◌∙◌, subst, arith, to_z, of_z, Fits, w64, int_min, ints, clamps, w128, T, take_more, non_neg, yes_non_neg, PieceData, max_pieces, ClaimData, IsLawful, Sample, IsPiece, ArePieces, IsPieceAt, best_entries, AreLongest, IsLongest, end_after, next_tick, piece_over, pieces_over, shows, stretch_over, AreSamplesOf, by_test, w128_keeps, first_kept, last_kept}
-use Rattle.finder.proofs.FewestPieces.{InSpan, Laws, end_in_span, longest_forward, piece_to, shown_before}
+use Rattle.finder.proofs.FewestPieces.{InSpan, end_in_span, longest_forward, piece_to, shown_before}
 use Rattle.finder.proofs.Verdict.{from_zero_kept}
 
 -- ---- ticks as 128 bits hold them
@@ -10,10 +10,7 @@ tick_kept n z below is = ap (λ (x : ℤ). to_z w128 (of_z w128 x)) is ∙ w128_
 
 pub last_is : (claim : ClaimData) → IsLawful claim
     → pos (unsigned_abs (to_z w128 (of_z w128 claim.last))) ≡ claim.last
-last_is claim lawful =
-    let begins = lawful.span_begins in
-    let forward = lawful.span_forward in
-    rw (last_kept claim lawful) (from_zero_kept claim.last (omega (arith, ints)))
+last_is claim lawful = rw (last_kept claim lawful) (from_zero_kept claim.last (omega (arith, ints)))
 
 -- ---- halving
 
@@ -29,7 +26,7 @@ pub next_not_before : (begin next : ℕ) (last : ℤ) → pos begin ≤ℤ last 
     → begin ≤ next
 next_not_before begin next last within is = omega (arith, ints, clamps)
 
-module _ (laws : Laws) (samples : List Sample) (claim : ClaimData) (lawful : IsLawful claim)
+module _ (samples : List Sample) (claim : ClaimData) (lawful : IsLawful claim)
     (are : AreSamplesOf claim samples) (begin next : ℕ) (from : pos begin ≤ℤ claim.last)
     (next_is : pos next ≡ next_tick samples claim (pos begin)) where
   in_span : InSpan claim (pos begin)
@@ -37,32 +34,17 @@ module _ (laws : Laws) (samples : List Sample) (claim : ClaimData) (lawful : IsL
 
   pub halved_first : (high : ℕ) → pos high ≡ claim.last → shows samples claim (pos begin) (pos next) ≡ true
       → IsHalved samples claim begin next next high
-  halved_first high is shown = record {
-    some = omega arith;
-    in_order = omega (arith, ints, clamps);
-    within = omega (arith, ints);
-    shown = shown;
-    no_longer = λ r beyond within. absurd (omega (arith, ints));
-  }
+  halved_first high is shown = grind (arith, ints, clamps)
 
   pub halved_up : (low high middle : ℕ) → IsHalved samples claim begin next low high → low ≤ middle → middle ≤ high
       → shows samples claim (pos begin) (pos middle) ≡ true → IsHalved samples claim begin next middle high
-  halved_up low high middle is from_low to_high shown =
-      let some = is.some in
-      record {
-        some = omega arith;
-        in_order = to_high;
-        within = is.within;
-        shown = shown;
-        no_longer = is.no_longer;
-      }
+  halved_up low high middle is from_low to_high shown = grind arith
 
   pub halved_down : (low high middle : ℕ) → IsHalved samples claim begin next low high → low < middle → middle ≤ high
       → shows samples claim (pos begin) (pos next) ≡ true
       → shows samples claim (pos begin) (pos middle) ≡ false → IsHalved samples claim begin next low (middle - 1)
   halved_down low high middle is from_low to_high least not_shown =
       let some = is.some in
-      let top = is.within in
       let least_shown : shows samples claim (pos begin) (next_tick samples claim (pos begin)) ≡ true =
       subst (λ (z : ℤ). shows samples claim (pos begin) z ≡ true) next_is least in
       let up : next ≤ middle = omega arith in
@@ -74,7 +56,7 @@ module _ (laws : Laws) (samples : List Sample) (claim : ClaimData) (lawful : IsL
         within = omega (arith, ints);
         shown = is.shown;
         no_longer = λ r beyond within. by_test (shows samples claim (pos begin) r)
-            (λ shown. absurd (true≢false (sym (shown_before laws samples claim lawful are (pos begin) (pos middle) r
+            (λ shown. absurd (true≢false (sym (shown_before samples claim lawful are (pos begin) (pos middle) r
             in_span after (omega (arith, ints)) within least_shown shown) ∙ not_shown)))
             (λ fails. fails);
       }
@@ -83,9 +65,6 @@ module _ (laws : Laws) (samples : List Sample) (claim : ClaimData) (lawful : IsL
       → shows samples claim (pos begin) (pos next) ≡ true
       → IsLongest samples claim (pos begin) (pos low)
   halved_end low high is met least =
-      let some = is.some in
-      let order = is.in_order in
-      let top = is.within in
       let up : pos next ≤ℤ pos low = omega (arith, ints) in
       record {
         some_tick = subst (λ (z : ℤ). z ≤ℤ pos low) next_is up;
@@ -149,17 +128,10 @@ module _ (samples : List Sample) (claim : ClaimData) where
 
 -- an end that is a Unix tick, as it is cast
 pub end_kept : (p q : ℤ) → IsPiece p q → to_z w128 (of_z w128 q) ≡ q
-end_kept p q is =
-    let from_zero = is.from_zero in
-    let in_order = is.in_order in
-    let in_range = is.in_range in
-    w128_keeps q (omega (arith, ints))
+end_kept p q is = w128_keeps q (omega (arith, ints))
 
 pub fits_64 : (p q : ℤ) → IsPiece p q → T (non_neg q) × Fits w64 (unsigned_abs q)
 fits_64 p q is =
-    let from_zero = is.from_zero in
-    let in_order = is.in_order in
-    let in_range = is.in_range in
     let from : pos 0 ≤ℤ q = omega (arith, ints) in
     (yes_non_neg from, record { fits = omega (arith, ints) })
 
@@ -185,22 +157,22 @@ one_piece a b p q is e f =
     let ends : b ≡ q = cc in
     subst (λ (x : ℤ). IsPiece x q) begins (subst (λ (y : ℤ). IsPiece a y) ends is)
 
-module _ (laws : Laws) (samples : List Sample) (claim : ClaimData) (lawful : IsLawful claim)
+module _ (samples : List Sample) (claim : ClaimData) (lawful : IsLawful claim)
     (are : AreSamplesOf claim samples) where
   piece_of_longest : (p q : ℤ) → InSpan claim p → IsLongest samples claim p q → IsPiece p q
   piece_of_longest p q is long =
-      piece_to laws samples claim lawful are p q is (longest_forward laws samples claim lawful are p q is long)
+      piece_to samples claim lawful are p q is (longest_forward samples claim lawful are p q is long)
       long.in_span
 
   pub are_pieces : (p : ℤ) (earlier : List ℤ) → InSpan claim p → AreLongest samples claim p earlier
       → IsLongest samples claim (end_after p earlier) claim.last → ArePieces p (earlier ++ claim.last ∷ [])
   are_pieces p [] is longest last zero a b at =
       one_piece p claim.last a b (piece_of_longest p claim.last is last) at.begins at.ends_at
-  are_pieces p [] is longest last (suc k) a b at = absurd (let none = at.ends_at in cc)
+  are_pieces p [] is longest last (suc k) a b at = absurd cc
   are_pieces p (q ∷ earlier) is longest last zero a b at =
       one_piece p q a b (piece_of_longest p q is longest.0) at.begins at.ends_at
   are_pieces p (q ∷ earlier) is longest last (suc k) a b at =
-      are_pieces q earlier (end_in_span laws samples claim lawful are p q is longest.0) longest.2 last k a b
+      are_pieces q earlier (end_in_span samples claim lawful are p q is longest.0) longest.2 last k a b
       (record { begins = at.begins; ends_at = at.ends_at })
 
 -- ---- how many pieces there are, by the length of their list
@@ -221,8 +193,7 @@ module _ (ends : Ends) (count : ℕ) (is : count ≡ vec_len ends) where
   one_longer items z below pushed =
       let same = length_is in
       let more : length items ≡ length (ends.items ++ z ∷ []) = ap length pushed in
-      let one = length-append ends.items (z ∷ []) in
-      omega arith
+      omega (arith, length-append ends.items (z ∷ []))
 
   pub all_taken : max_pieces ≤ count → length ends.items ≤ max_pieces → length ends.items ≡ max_pieces
   all_taken past few = let same = length_is in omega arith

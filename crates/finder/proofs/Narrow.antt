@@ -1,17 +1,13 @@
 -- What the best entries of a piece show, if others show something of a stretch that has the whole of it.
-use Rattle.finder.proofs.Common.{◌≡◌, ℕ, zero, suc, ◌+◌, ◌<◌, ◌≤◌, ℤ, ◌≤ℤ◌, true, ◌⊎◌, inl, inr, ⊎_elim, get_or, List, [], ◌∷◌, length, Option, Some, None, Result, Ok, Err, refl, sym, subst, arith, All, Any, slice_get, cons_option, range_with_len, cases_lt, ints, ClaimData, max_drift_ppb, Empty, IsLawfulSample, billion, Sample, is_inside, piece_hull, part_of, IsPiece, moved_low, moved_high, Part, Stretch, IsNarrower, AreNarrower, IsOfSamples, parts_after, hull_fault, parts_fault, Why, best_over, best_entries, best_hull, part_named, parts_named, HoldsWhole, AreSamplesOf, IsNoWider, All-slice_get, EveryHull}
+use Rattle.finder.proofs.Common.{◌≡◌, ℕ, zero, suc, ◌+◌, ◌<◌, ◌≤◌, true, ◌⊎◌, inl, inr, ⊎_elim, get_or, List, [], ◌∷◌, length, Option, Some, None, Result, Ok, Err, refl, sym, subst, arith, Any, slice_get, cons_option, range_with_len, cases_lt, ints, ClaimData, max_drift_ppb, Empty, IsLawfulSample, Sample, is_inside, part_of, IsPiece, Part, Stretch, IsNarrower, AreNarrower, IsOfSamples, parts_after, parts_fault, Why, best_over, best_entries, best_hull, part_named, parts_named, HoldsWhole, AreSamplesOf, IsNoWider, All-slice_get}
 use Rattle.std.specs.Prelude.{filter_map}
-use Rattle.finder.proofs.Best.{BestLaw, best_of_is, best_of_none}
+use Rattle.intersection.proofs.EndPoints.{IsHull-hull_of}
+use Rattle.span_cover.proofs.PieceDistance.{moved_high-narrower, moved_low-narrower}
+use Rattle.checker.proofs.Narrow.{empty_or_inside, of_samples}
+use Rattle.finder.proofs.Best.{best_of_is, best_of_none}
+use Rattle.finder.proofs.Known.{grows}
 use Rattle.finder.proofs.GroupHull.{narrower_is_no_wider}
 use Rattle.finder.proofs.Verdict.{entries_accepted, passes_inside}
-
--- the law on it
-abbrev pub NarrowLaw : Type 0
-NarrowLaw = (samples : List Sample) (claim : ClaimData) (outer inner : Stretch) (entries : List (ℕ × ℕ))
-    → claim.drift_ppb ≤ max_drift_ppb → AreSamplesOf claim samples → IsPiece inner.begin inner.end
-    → HoldsWhole outer inner
-    → parts_fault claim (parts_after samples outer claim.drift_ppb [] entries) ≡ None
-    → (best_hull samples claim inner ≡ Empty) ⊎ (is_inside claim.bound (best_hull samples claim inner) ≡ true)
 
 any_here : (P : Part → Type 0) (part : Part) (parts : List Part) → P part → Any P (part ∷ parts)
 any_here P part parts holds = (0, part, omega arith, refl, holds)
@@ -19,22 +15,9 @@ any_here P part parts holds = (0, part, omega arith, refl, holds)
 any_later : (P : Part → Type 0) (first : Option Part) (parts : List Part) → Any P parts
     → Any P (cons_option first parts)
 any_later P None parts any = any
-any_later P (Some first) parts any = let within = any.2 in (suc any.0, any.1, omega arith, any.3, any.4)
+any_later P (Some first) parts any = (suc any.0, any.1, omega arith, any.3, any.4)
 
--- laws of the crates below
-pub record Laws : Type 0 where
-  pub best : BestLaw
-  pub low : (ppb : ℕ) (sample : Sample) (p q inner outer : ℤ) → ppb < billion → sample.low_from ≤ℤ sample.low_to
-      → p ≤ℤ inner → inner ≤ℤ outer → outer ≤ℤ q → moved_low sample p q ppb ≤ℤ moved_low sample inner outer ppb
-  pub high : (ppb : ℕ) (sample : Sample) (p q inner outer : ℤ) → ppb < billion → sample.high_from ≤ℤ sample.high_to
-      → p ≤ℤ inner → inner ≤ℤ outer → outer ≤ℤ q → moved_high sample inner outer ppb ≤ℤ moved_high sample p q ppb
-  pub said : (samples : List Sample) (stretch : Stretch) (ppb : ℕ) (entries : List (ℕ × ℕ)) (parts : List Part)
-      → parts_after samples stretch ppb [] entries ≡ Ok parts → All (IsOfSamples samples stretch ppb) parts
-  pub narrow : (groups : List ℕ) (false_max : ℕ) (bound : ℤ) (parts next : List Part) → AreNarrower parts next
-      → hull_fault bound (piece_hull groups false_max parts) ≡ None
-      → (hull_fault bound (piece_hull groups false_max next) ≡ None) ⊎ (piece_hull groups false_max next ≡ Empty)
-
-module _ (laws : Laws) (samples : List Sample) (claim : ClaimData) (outer inner : Stretch)
+module _ (samples : List Sample) (claim : ClaimData) (outer inner : Stretch)
     (rate : claim.drift_ppb ≤ max_drift_ppb) (are : AreSamplesOf claim samples)
     (piece : IsPiece inner.begin inner.end) (whole : HoldsWhole outer inner)
   where
@@ -81,15 +64,15 @@ module _ (laws : Laws) (samples : List Sample) (claim : ClaimData) (outer inner 
         let ppb = claim.drift_ppb in
         let low = said.low in
         let high = said.high in
-        let best = best_of_is laws.best samples low.server inner.begin inner.end ppb entry is in
+        let best = best_of_is samples low.server inner.begin inner.end ppb entry is in
         let low_sample = All-slice_get IsLawfulSample samples said.low_number low are.lawful said.low_is in
         let high_sample = All-slice_get IsLawfulSample samples said.high_number high are.lawful said.high_is in
         let within = All-slice_get (λ sample. sample.server < length claim.servers) samples said.low_number low
         are.listed said.low_is in
         let forward = piece.in_order in
-        let low_in = laws.low ppb low outer.begin outer.end inner.begin inner.end (omega arith)
+        let low_in = moved_low-narrower grows ppb low outer.begin outer.end inner.begin inner.end (omega arith)
         low_sample.low_window_in_order whole.0 forward whole.1 in
-        let high_in = laws.high ppb high outer.begin outer.end inner.begin inner.end (omega arith)
+        let high_in = moved_high-narrower grows ppb high outer.begin outer.end inner.begin inner.end (omega arith)
         high_sample.high_window_in_order whole.0 forward whole.1 in
         let most = best.0.greatest said.low_number low said.low_is refl in
         let least = best.1.greatest said.high_number high said.high_is (sym said.one_server) in
@@ -108,7 +91,7 @@ module _ (laws : Laws) (samples : List Sample) (claim : ClaimData) (outer inner 
     pub better_at : (part : Part) (said : IsOfSamples samples outer claim.drift_ppb part) (o : Option (ℕ × ℕ))
         → best_over samples claim inner said.low.server ≡ o → Any (IsNarrower part) best_parts
     better_at part said None is =
-        let none = best_of_none laws.best samples said.low.server inner.begin inner.end claim.drift_ppb is in
+        let none = best_of_none samples said.low.server inner.begin inner.end claim.drift_ppb is in
         absurd (none said.low_number said.low said.low_is refl)
     better_at part said (Some entry) is = better_of part said entry is
 
@@ -118,41 +101,41 @@ module _ (laws : Laws) (samples : List Sample) (claim : ClaimData) (outer inner 
     unfolding best_hull
     narrower entries (Err why) is passes = absurd cc
     narrower entries (Ok parts) is passes =
-        let said = laws.said samples outer claim.drift_ppb entries parts is in
+        let said = of_samples samples outer claim.drift_ppb entries parts is in
         ⊎_elim
         (λ inside. inr (passes_inside claim.bound _ inside))
         (λ empty. inl empty)
-        (laws.narrow claim.groups claim.false_max claim.bound parts best_parts
+        (empty_or_inside IsHull-hull_of claim.groups claim.false_max claim.bound parts best_parts
         (λ k d within. better_at (get_or parts k d) (said k d within) _ refl) passes)
 
-pub shows_as_much : Laws → NarrowLaw
-shows_as_much laws samples claim outer inner entries rate are piece whole passes =
-    narrower laws samples claim outer inner rate are piece whole entries _ refl passes
+pub shows_as_much : (samples : List Sample) (claim : ClaimData) (outer inner : Stretch) (entries : List (ℕ × ℕ))
+    → claim.drift_ppb ≤ max_drift_ppb → AreSamplesOf claim samples → IsPiece inner.begin inner.end
+    → HoldsWhole outer inner
+    → parts_fault claim (parts_after samples outer claim.drift_ppb [] entries) ≡ None
+    → (best_hull samples claim inner ≡ Empty) ⊎ (is_inside claim.bound (best_hull samples claim inner) ≡ true)
+shows_as_much samples claim outer inner entries rate are piece whole passes =
+    narrower samples claim outer inner rate are piece whole entries _ refl passes
 
 -- ---- two pieces, one inside the other, with the best entries of each
 
--- the law on their hulls
-abbrev pub WithinLaw : Type 0
-WithinLaw = (samples : List Sample) (claim : ClaimData) (outer inner : Stretch) → claim.drift_ppb ≤ max_drift_ppb
-    → AreSamplesOf claim samples → IsPiece inner.begin inner.end → HoldsWhole outer inner
-    → IsNoWider (best_hull samples claim outer) (best_hull samples claim inner)
-
 -- each part of the longer piece has a narrower one in the other
-pub parts_narrow : (laws : Laws) (samples : List Sample) (claim : ClaimData) (outer inner : Stretch)
+pub parts_narrow : (samples : List Sample) (claim : ClaimData) (outer inner : Stretch)
     → claim.drift_ppb ≤ max_drift_ppb → AreSamplesOf claim samples → IsPiece inner.begin inner.end
     → HoldsWhole outer inner → AreNarrower (parts_named samples claim outer (best_entries samples claim outer))
     (parts_named samples claim inner (best_entries samples claim inner))
-parts_narrow laws samples claim outer inner rate are piece whole =
+parts_narrow samples claim outer inner rate are piece whole =
     let entries = best_entries samples claim outer in
     let parts = parts_named samples claim outer entries in
-    let said = laws.said samples outer claim.drift_ppb entries parts (entries_accepted laws.best samples claim outer) in
-    λ k d within. better_at laws samples claim outer inner rate are piece whole (get_or parts k d) (said k d within) _
+    let said = of_samples samples outer claim.drift_ppb entries parts (entries_accepted samples claim outer) in
+    λ k d within. better_at samples claim outer inner rate are piece whole (get_or parts k d) (said k d within) _
     refl
 
-pub no_wider_within : Laws → EveryHull → WithinLaw
+pub no_wider_within : (samples : List Sample) (claim : ClaimData) (outer inner : Stretch)
+    → claim.drift_ppb ≤ max_drift_ppb → AreSamplesOf claim samples → IsPiece inner.begin inner.end
+    → HoldsWhole outer inner → IsNoWider (best_hull samples claim outer) (best_hull samples claim inner)
 unfolding best_hull
-no_wider_within laws hulls samples claim outer inner rate are piece whole =
-    narrower_is_no_wider hulls claim.groups claim.false_max
+no_wider_within samples claim outer inner rate are piece whole =
+    narrower_is_no_wider claim.groups claim.false_max
     (parts_named samples claim outer (best_entries samples claim outer))
     (parts_named samples claim inner (best_entries samples claim inner))
-    (parts_narrow laws samples claim outer inner rate are piece whole)
+    (parts_narrow samples claim outer inner rate are piece whole)

@@ -1,5 +1,6 @@
 -- The nearest error that few enough groups refuse.
-use Rattle.finder.proofs.Common.{◌≡◌, ◌⊎◌, inl, inr, ℕ, zero, suc, ◌+◌, ◌<◌, ◌≤◌, ℤ, pos, ◌+ℤ◌, ◌≤ℤ◌, ◌<ℤ◌, int_lt, true, false, true≢false, ◌||◌, List, length, refl, sym, ap, ◌∙◌, ⊎_elim, arith, add-one, cases_lt, ints, ClaimData, Interval, room_at, refused_by, possible_by, IsFirstBeyond, by_test, leb-true, le-leb}
+use Rattle.finder.proofs.Common.{◌≡◌, ◌⊎◌, inl, inr, ℕ, zero, suc, ◌+◌, ◌<◌, ◌≤◌, ℤ, pos, ◌+ℤ◌, ◌≤ℤ◌, ◌<ℤ◌, int_lt, true, false, true≢false, List, length, refl, sym, ap, ◌∙◌, ⊎_elim, arith, add-one, cases_lt, ints, ClaimData, Interval, room_at, refused_by, possible_by, IsFirstBeyond, by_test, leb-true, le-leb}
+use Rattle.finder.proofs.ErrorRoom.{is_inside, not_left_out}
 use Rattle.finder.proofs.Group.{no_more_groups}
 
 pub int_cases : (a b : ℤ) → (a <ℤ b) ⊎ (b ≤ℤ a)
@@ -29,8 +30,6 @@ module _ (rooms : List Interval) where
   }
   candidate (suc n) start error le =
       let before = candidate n start error le in
-      let from = before.from in
-      let to = before.to in
       rw (← add-one) (⊎_elim
       (λ above. same_one n start error before (λ le. absurd (omega (arith, ints))))
       (λ not_above. ⊎_elim
@@ -43,7 +42,7 @@ module _ (rooms : List Interval) where
           → (before.number ≡ start) ⊎ ((server : ℕ) × (server < n + 1) × (before.number ≡ (room_at rooms server).lo))
       which_of n start error before = ⊎_elim
           (λ is. inl is)
-          (λ w. inr (w.0, (let below = w.1 in omega arith), w.2))
+          (λ w. inr (w.0, omega arith, w.2))
           before.which
 
       same_one : (n : ℕ) (start error : ℤ) (before : Candidate n start error)
@@ -78,25 +77,12 @@ module _ (rooms : List Interval) where
   refused_up : (start error : ℤ) (c : Candidate 32 start error) (server : ℕ) → server < 32
       → refused_by rooms c.number server ≡ true → refused_by rooms error server ≡ true
   refused_up start error c server below refused =
-      let to = c.to in
       by_test (refused_by rooms error server) (λ e. e) (λ e.
-      let inside = not_refused (room_at rooms server).lo (room_at rooms server).hi error e in
+      let inside = not_left_out (room_at rooms server).lo (room_at rooms server).hi error e in
       let low = inside.0 in
-      let high = inside.1 in
       let le = c.greatest server below low in
       absurd (true≢false (sym refused
-      ∙ not_refused_to (room_at rooms server).lo (room_at rooms server).hi c.number le (omega (arith, ints)))))
-    where
-      not_refused : (l h e : ℤ) → (int_lt e l || int_lt h e) ≡ false → (l ≤ℤ e) × (e ≤ℤ h)
-      not_refused l h e is = by_test (int_lt e l)
-          (λ a. absurd (let b : true ≡ false = rw a at is in cc))
-          (λ a. ((grind (arith, ints)), (let b : int_lt h e ≡ false = rw a at is in grind (arith, ints))))
-
-      not_refused_to : (l h e : ℤ) → l ≤ℤ e → e ≤ℤ h → (int_lt e l || int_lt h e) ≡ false
-      not_refused_to l h e p q =
-          let a : int_lt e l ≡ false = grind (arith, ints) in
-          let b : int_lt h e ≡ false = grind (arith, ints) in
-          rw (a, b) refl
+      ∙ is_inside (room_at rooms server).lo (room_at rooms server).hi c.number le (omega (arith, ints)))))
 
   -- the first that was found of the first n low ends and the limit's successor
   pub record SoFar (claim : ClaimData) (limit : ℤ) (n : ℕ) (first : ℤ) : Type 0 where
@@ -123,8 +109,6 @@ module _ (rooms : List Interval) where
       none_before other above possible =
           let c = candidate 32 (claim.bound +ℤ pos 1) other (omega (arith, ints)) in
           let at = candidate_possible (claim.bound +ℤ pos 1) other c possible in
-          let from = c.from in
-          let to = c.to in
           ⊎_elim
           (λ is. absurd (true≢false (sym at ∙ ap (possible_by rooms claim) is ∙ next_fails)))
           (λ w.
@@ -144,20 +128,10 @@ module _ (rooms : List Interval) where
     pub next_is_nearest : (limit : ℤ) → claim.bound <ℤ limit
         → possible_by rooms claim (claim.bound +ℤ pos 1) ≡ true
         → IsFirstBeyond (possible_by rooms claim) claim.bound limit (claim.bound +ℤ pos 1)
-    next_is_nearest limit beyond possible = record {
-      beyond = omega (arith, ints);
-      within = omega (arith, ints);
-      passes = possible;
-      others_fail = λ other above below. absurd (omega (arith, ints));
-    }
+    next_is_nearest limit beyond possible = grind (arith, ints)
 
     pub nothing_so_far : (limit : ℤ) → claim.bound <ℤ limit → SoFar claim limit 0 (limit +ℤ pos 1)
-    nothing_so_far limit beyond = record {
-      beyond = omega (arith, ints);
-      within = omega (arith, ints);
-      passes = λ le. absurd (omega (arith, ints));
-      least = λ server below. absurd (omega arith);
-    }
+    nothing_so_far limit beyond = grind (arith, ints)
 
     module _ (limit : ℤ) (n : ℕ) (first : ℤ) (so_far : SoFar claim limit n first) where
       pub taken : (error : ℤ) → error ≡ (room_at rooms n).lo → claim.bound <ℤ error → error <ℤ first

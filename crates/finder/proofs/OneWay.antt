@@ -28,7 +28,7 @@ greatest test first (suc n) = by_test (test (suc n))
     let rest = greatest test first n in
     record {
       number = rest.number;
-      within = (let within = rest.within in omega (arith, within));
+      within = omega arith;
       passes = rest.passes;
       others_fail = λ k more to. ⊎_elim
           (λ earlier. rest.others_fail k more (omega (arith, earlier)))
@@ -164,9 +164,7 @@ module _ (samples : List Sample) (claim : ClaimData) where
 
   -- a longest piece that ends before the span isn't the one that ends with it
   no_end : (p r : ℤ) → IsLongest samples claim p claim.last → IsLongest samples claim p r → r <ℤ claim.last → ⊥
-  no_end p r last long before =
-      let same = same_end p claim.last r last long in
-      omega (arith, ints, same, before)
+  no_end p r last long before = omega (arith, ints, same_end p claim.last r last long, before)
 
   moved : (q r : ℤ) (ends : List ℤ) → q ≡ r → AreLongest samples claim r ends → AreLongest samples claim q ends
   moved q r ends same are = subst (λ (z : ℤ). AreLongest samples claim z ends) (sym same) are
@@ -211,16 +209,12 @@ module _ (samples : List Sample) (claim : ClaimData) where
 
   pub never_carried_and_too_long : IsCarried samples claim → ¬ (IsTooLong samples claim)
   never_carried_and_too_long (certificate, is) long =
-      let few = is.few in
-      let as_many = long.as_many in
-      end_or_more claim.first is.earlier long.earlier is.longest is.last long.longest (omega (arith, few, as_many))
+      end_or_more claim.first is.earlier long.earlier is.longest is.last long.longest (omega arith)
 
   pub never_stuck_and_too_long : GetStuck samples claim → ¬ (IsTooLong samples claim)
   never_stuck_and_too_long (begin, end, hull, stuck) long =
-      let few = stuck.few in
-      let as_many = long.as_many in
       stuck_or_more claim.first stuck.earlier long.earlier stuck.longest (fails_at stuck) long.longest
-      (omega (arith, few, as_many))
+      (omega arith)
 
   -- ---- and each in only one way
 

@@ -1,19 +1,20 @@
 -- What is found with other bounds.
-use Rattle.finder.proofs.Common.{◌≡◌, ℕ, ◌<◌, ◌≤◌, pos, not, List, Option, Some, None, Ok, Err, refl, sym, ap, ◌∙◌, ⊎_elim, arith, cases_lt, ticks_down, max_pieces, ClaimData, Sample, is_inside, best_hull, EnvelopeData, IsInside, IsLeast, IsCertified, IsNotCertified, envelope_of, envelope_to, least_of, with_bound, hull_at, passes, first_failing, found_without, found_of, count_of, piece_count_of, LeastBound, Holds, NoneHolds, not-false}
+use Rattle.finder.proofs.Common.{◌≡◌, ℕ, ◌<◌, ◌≤◌, pos, not, List, Option, Some, None, Ok, Err, refl, sym, ap, ◌∙◌, ⊎_elim, arith, cases_lt, ticks_down, max_pieces, ClaimData, Sample, is_inside, best_hull, EnvelopeData, IsInside, IsLeast, IsCertified, IsNotCertified, envelope_of, envelope_to, least_of, with_bound, hull_at, passes, first_failing, found_without, found_of, count_of, stretch_at, Stretch, piece_count_of, LeastBound, Holds, NoneHolds, not-false}
 use Rattle.finder.proofs.Answer.{found_of_few}
-use Rattle.finder.proofs.Bound.{Roundings, least_is_least, none_inside, wider}
+use Rattle.finder.proofs.Bound.{least_is_least, none_inside, wider}
 use Rattle.finder.proofs.EnvelopePieces.{envelope_of_few, envelope_of_many}
 use Rattle.finder.proofs.List.{find_none, find_is_none}
 
-module _ (samples : List Sample) (claim : ClaimData) (step m : ℕ) where
-  -- the bound plays no part in the hulls
-  same_hull : (k : ℕ) → hull_at samples (with_bound claim m) step k ≡ hull_at samples claim step k
-  unfolding best_hull
-  same_hull k = refl
+-- the bound plays no part in the hulls
+pub same_hull : (samples : List Sample) (claim : ClaimData) (m : ℕ) (stretch : Stretch)
+    → best_hull samples (with_bound claim m) stretch ≡ best_hull samples claim stretch
+unfolding best_hull
+same_hull samples claim m stretch = refl
 
+module _ (samples : List Sample) (claim : ClaimData) (step m : ℕ) where
   passes_is : (k : ℕ) → passes samples (with_bound claim m) step k
       ≡ is_inside (pos (ticks_down m)) (hull_at samples claim step k)
-  passes_is k = ap (is_inside (pos (ticks_down m))) (same_hull k)
+  passes_is k = ap (is_inside (pos (ticks_down m))) (same_hull samples claim m (stretch_at claim step k))
 
   carried : count_of claim step ≤ max_pieces
       → ((k : ℕ) → k < count_of claim step → IsInside m (hull_at samples claim step k))
@@ -73,20 +74,20 @@ module _ (samples : List Sample) (claim : ClaimData) (step : ℕ) where
       record { few = few; is = ap (λ (e : EnvelopeData). e.least) same })
       (cases_lt max_pieces (count_of claim step))
 
-  module _ (roundings : Roundings) (envelope : EnvelopeData) (found : envelope_of samples claim step ≡ Ok envelope)
+  module _ (envelope : EnvelopeData) (found : envelope_of samples claim step ≡ Ok envelope)
     where
       pub least_is : (least : LeastBound) → envelope.least ≡ least
           → IsLeast (hull_at samples claim step) (count_of claim step) least
       least_is least e =
           rw (← e, ← (says envelope found).is)
-          (least_is_least roundings (hull_at samples claim step) (count_of claim step) some_piece)
+          (least_is_least (hull_at samples claim step) (count_of claim step) some_piece)
 
       pub holds : (n k m : ℕ) → envelope.least ≡ Holds n k → n ≤ m
           → IsCertified (found_of samples (with_bound claim m) step)
       holds n k m e le =
           let least = (least_is (Holds n k) e).0 in
           carried samples claim step m (says envelope found).few
-          (λ j below. wider roundings n m (hull_at samples claim step j) le (least.all_inside j below))
+          (λ j below. wider n m (hull_at samples claim step j) le (least.all_inside j below))
 
       pub no_lesser : (n k m : ℕ) → envelope.least ≡ Holds n k → m < n
           → IsNotCertified (found_of samples (with_bound claim m) step)

@@ -1,7 +1,7 @@
 -- What the tables of servers say of a piece is what its best entries say.
 use Rattle.finder.proofs.Common.{◌≡◌, ℕ, ◌<◌, ℤ, List, [], ◌∷◌, length, Option, Some, None, refl, sym, ap, ◌∙◌, All, filter_map, cons_option, ClaimData, servers_of, Hull, Sample, piece_hull, piece_interval_of, Part, best_over, best_entries, best_hull, part_named, parts_named, stretch_over, AreSamplesOf}
 use Rattle.sweep.specs.Table.{best_part, best_parts, said_by}
-use Rattle.finder.proofs.Best.{BestLaw, best_of_is}
+use Rattle.finder.proofs.Best.{best_of_is}
 use Rattle.finder.proofs.EntryList.{listed_parts}
 
 -- what g gives of what h gives, in one step
@@ -17,12 +17,12 @@ through {X} {Y} {Z} h g k none some (x ∷ xs) = step (through h g k none some x
     step rest (Some y) e =
         ap (cons_option (g y)) rest ∙ ap (λ (z : Option Z). cons_option z (filter_map k xs)) (some x y e)
 
-module _ (law : BestLaw) (samples : List Sample) (claim : ClaimData) (p q : ℤ) where
+module _ (samples : List Sample) (claim : ClaimData) (p q : ℤ) where
   -- the entry of a server says what its table says
   said : (server : ℕ) (entry : ℕ × ℕ) → best_over samples claim (stretch_over p q) server ≡ Some entry
       → part_named samples claim (stretch_over p q) entry ≡ best_part samples p q claim.drift_ppb server
   said server entry e =
-      let best = best_of_is law samples server p q claim.drift_ppb entry e in
+      let best = best_of_is samples server p q claim.drift_ppb entry e in
       rw (e, best.0.stands, best.1.stands)
       (ap (λ (n : ℕ). Some (said_by n (piece_interval_of best.0.sample best.1.sample p q claim.drift_ppb)))
       best.0.of_server)

@@ -2,7 +2,6 @@
 use Rattle.std.proofs.Common.{append-nil}
 use Rattle.std.specs.Prelude.{filter_map}
 use Rattle.finder.proofs.Common.{zero, suc, ◌≡◌, ◌∙◌, ℕ, ℤ, ◌+◌, ◌<◌, ◌≤◌, ◌++◌, List, [], ◌∷◌, length, take, Option, Some, None, refl, sym, ap, subst, add-one, arith, length-append, slice_get, All, cons_option, range_with_len, take_more, filter_map-append, All-push, get_or_from_slice_get, slice_get_within, Sample, Gathered, Gathering, Part, numbers_below, piece_hull, ClaimData, servers_of, best_entries, best_hull, parts_named, stretch_over, best_part, best_parts, range_with_len_more}
-use Rattle.finder.proofs.Best.{BestLaw}
 use Rattle.finder.proofs.Part.{parts_said}
 
 -- one sample more was taken
@@ -64,14 +63,16 @@ numbers_are (suc n) =
     ap (λ (ks : List ℕ). ks ++ n ∷ []) (numbers_are n) ∙ sym (range_with_len_more 0 n n (omega arith)) in
     subst (λ (m : ℕ). numbers_below n ++ n ∷ [] ≡ range_with_len 0 m) (add-one n) one
 
-module _ (law : BestLaw) (samples : List Sample) (claim : ClaimData) (tick : ℤ) where
+module _ (samples : List Sample) (claim : ClaimData) (tick : ℤ) where
   pub parts_of_entries : best_parts samples claim tick
       ≡ parts_named samples claim (stretch_over tick tick) (best_entries samples claim (stretch_over tick tick))
   parts_of_entries =
       ap (filter_map (best_part samples claim.drift_ppb tick)) (numbers_are (length claim.servers))
-      ∙ parts_said law samples claim tick tick
+      ∙ parts_said samples claim tick tick
 
   pub hull_of_entries : piece_hull claim.groups claim.false_max (best_parts samples claim tick)
       ≡ best_hull samples claim (stretch_over tick tick)
   unfolding best_hull
   hull_of_entries = ap (piece_hull claim.groups claim.false_max) parts_of_entries
+
+pub ruleset of_entries = (parts_of_entries, hull_of_entries)

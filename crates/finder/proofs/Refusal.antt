@@ -1,9 +1,9 @@
 -- What it says that a piece fails: no certificate with a piece over it is accepted.
-use Rattle.finder.proofs.Common.{◌≡◌, ◌≢◌, ℕ, zero, suc, ◌+◌, ℤ, pos, Bool, true, false, true≢false, cond, ⊎_elim, List, [], ◌∷◌, ◌++◌, length, Option, Some, None, refl, sym, ap, ◌∙◌, subst, arith, slice_get, IsSomeAnd, slice_get_within, PieceData, CertificateData, ClaimData, IsLawful, Hull, Empty, Sample, is_inside, Stretch, begin_of, stretches_from, stretches_of, HoldsError, IsContradicted, IsVerdictOn, parts_after, parts_fault, piece_fault, verdict_of, PassBelow, Yes, Cut, best_hull, piece_at, pieces_from, IsFirstFailing, stretch_at, HoldsWhole, NoneIsAcceptedOver, AreSamplesOf}
-use Rattle.finder.proofs.Best.{BestLaw}
-use Rattle.finder.proofs.Narrow.{NarrowLaw}
+use Rattle.finder.proofs.Common.{◌≡◌, ◌≢◌, ℕ, zero, suc, ℤ, pos, Bool, true, false, true≢false, cond, ⊎_elim, List, [], ◌∷◌, Option, Some, None, refl, sym, ap, ◌∙◌, subst, slice_get, IsSomeAnd, PieceData, ClaimData, IsLawful, Hull, Empty, Sample, is_inside, Stretch, begin_of, stretches_from, HoldsError, IsContradicted, IsInHull, parts_after, parts_fault, piece_fault, Cut, IsFirstFailing, stretch_at, HoldsWhole, NoneIsAcceptedOver, AreSamplesOf}
+use Rattle.checker.proofs.PieceVerdict.{each_passes}
+use Rattle.finder.proofs.Narrow.{shows_as_much}
 use Rattle.finder.proofs.SpanPieces.{piece_of_claim}
-use Rattle.finder.proofs.Verdict.{contradicts_at, stretch_is_at}
+use Rattle.finder.proofs.Verdict.{best_held}
 
 -- ---- what a yes says about a piece
 
@@ -44,19 +44,7 @@ pub some_and : (P : Stretch → Type 0) (o : Option Stretch) → IsSomeAnd o P �
 some_and P None h = absurd h
 some_and P (Some s) h = (s, refl, h)
 
--- what is known of the best samples and of verdicts
-pub record Laws : Type 0 where
-  pub best : BestLaw
-  pub narrow : NarrowLaw
-  pub each : (samples : List Sample) (claim : ClaimData) (certificate : CertificateData)
-      → verdict_of samples claim certificate ≡ Yes
-      → PassBelow samples claim certificate (length certificate.pieces)
-  pub verdicts : (claim : ClaimData) (samples : List Sample) (certificate : CertificateData) → IsLawful claim
-      → AreSamplesOf claim samples → IsVerdictOn claim samples certificate (verdict_of samples claim certificate)
-  pub held : (claim : ClaimData) (samples : List Sample) (stretch : Stretch) → IsLawful claim
-      → AreSamplesOf claim samples → HoldsError claim samples stretch (best_hull samples claim stretch)
-
-module _ (laws : Laws) (samples : List Sample) (claim : ClaimData) (step : ℕ) (lawful : IsLawful claim)
+module _ (samples : List Sample) (claim : ClaimData) (step : ℕ) (lawful : IsLawful claim)
     (are : AreSamplesOf claim samples) (k : ℕ) (hull : Hull) (failing : IsFirstFailing samples claim step k hull)
   where
     pub none_accepted : hull ≢ Empty → NoneIsAcceptedOver samples claim (stretch_at claim step k)
@@ -64,25 +52,16 @@ module _ (laws : Laws) (samples : List Sample) (claim : ClaimData) (step : ℕ) 
         let inner = stretch_at claim step k in
         let outer = some_and (λ outer. HoldsWhole outer inner) _ has.1 in
         let shown = pass_each samples claim claim.first certificate.pieces
-        (λ k piece is. laws.each samples claim certificate accepted k piece
-        (slice_get_within certificate.pieces k piece is) is)
-        has.0 outer.0 outer.1 in
+        (each_passes samples claim 0 claim.first certificate.pieces accepted) has.0 outer.0 outer.1 in
         ⊎_elim
         (λ empty. some (failing.its_hull ∙ empty))
         (λ inside. true≢false (sym inside ∙ ap (is_inside claim.bound) (sym failing.its_hull) ∙ failing.fails))
-        (laws.narrow samples claim outer.0 inner shown.entries lawful.drift_in_range are
+        (shows_as_much samples claim outer.0 inner shown.entries lawful.drift_in_range are
         (piece_of_claim claim lawful step k) outer.2 shown.passes)
 
+    pub held : HoldsError claim samples (stretch_at claim step k) hull
+    held = rw failing.its_hull (best_held claim samples (stretch_at claim step k) lawful are)
+
     pub contradicted : hull ≡ Empty → IsContradicted claim samples (stretch_at claim step k)
-    contradicted empty =
-        let certificate : CertificateData =
-        record { pieces = pieces_from samples claim step 0 k ++ piece_at samples claim step k ∷ [] } in
-        let verdict = contradicts_at laws.best samples claim lawful step k failing.others_pass
-        (sym failing.its_hull ∙ empty) in
-        let same : 0 + k ≡ k = omega arith in
-        let at : slice_get (stretches_of claim certificate) k ≡ Some (stretch_at claim step k) =
-        subst (λ (m : ℕ). slice_get (stretches_from claim.first
-        (pieces_from samples claim step 0 k ++ piece_at samples claim step m ∷ [])) k ≡ Some (stretch_at claim step m))
-        same (stretch_is_at laws.best samples claim lawful step k 0 claim.first refl) in
-        subst (λ (o : Option Stretch). IsSomeAnd o (IsContradicted claim samples)) at
-        ((laws.verdicts claim samples certificate lawful are).contradiction k verdict)
+    contradicted empty xs course made fits observed =
+        subst (IsInHull course) empty (held xs course made fits observed)

@@ -4,8 +4,9 @@ use Rattle.std.specs.Option.{option_or}
 use Rattle.pairing.specs.Exchange.{IsLawful as IsLawfulExchange}
 use Rattle.finder.proofs.Liar.{possible_of, refuted_at, same_passing_test}
 use Rattle.finder.proofs.List.{find_is_first, find_is_none}
+use Rattle.finder.proofs.GroupLeeway.{negated}
 use Rattle.finder.proofs.Nearest.{int_cases}
-use Rattle.finder.proofs.ErrorRoom.{RoomLaw}
+use Rattle.finder.proofs.RefutationSearch.{after_is}
 
 -- ---- what the nearest number is
 
@@ -13,25 +14,21 @@ module _ (test : ℤ → Bool) (bound limit : ℤ) where
   abbrev place : ℤ → ℕ
   place number = unsigned_abs (number -ℤ bound) - 1
 
-  at_place : (number : ℤ) → bound <ℤ number → after bound (place number) ≡ number
-  at_place number beyond = omega (arith, ints)
-
   nearest_at : (o : Option ℕ)
       → find (λ k. test (after bound k)) (range_with_len 0 (unsigned_abs (limit -ℤ bound))) ≡ o
       → bound ≤ℤ limit → IsNearest test bound limit (option_map (after bound) o)
   nearest_at None is some = λ other above le.
-      sym (ap test (at_place other above))
+      sym (ap test (after_is test bound limit other above))
       ∙ find_is_none (λ k. test (after bound k)) 0 (unsigned_abs (limit -ℤ bound)) is (place other) (omega arith)
       (omega (arith, ints))
   nearest_at (Some n) is some =
       let found = find_is_first (λ k. test (after bound k)) 0 (unsigned_abs (limit -ℤ bound)) n is in
-      let to = found.to in
       record {
         beyond = omega (arith, ints);
         within = omega (arith, ints);
         passes = found.passes;
         others_fail = λ other above below.
-            sym (ap test (at_place other above))
+            sym (ap test (after_is test bound limit other above))
             ∙ found.others_fail (place other) (omega arith) (omega (arith, ints));
       }
 
@@ -40,7 +37,7 @@ module _ (test : ℤ → Bool) (bound limit : ℤ) where
 
 -- ---- what is found
 
-module _ (law : RoomLaw) (claim : ClaimData) (lawful : IsLawful claim) (xs : List Exchange)
+module _ (claim : ClaimData) (lawful : IsLawful claim) (xs : List Exchange)
     (each : All (IsLawfulExchange (length claim.servers)) xs) where
   abbrev above : ℤ → Bool
   above error = is_possible claim xs error
@@ -55,19 +52,16 @@ module _ (law : RoomLaw) (claim : ClaimData) (lawful : IsLawful claim) (xs : Lis
   down = nearest below claim.bound least_error_below
 
   some_above : claim.bound ≤ℤ greatest_error
-  some_above = let to = lawful.bound_in_range in omega (arith, ints)
+  some_above = omega (arith, ints)
 
   some_below : claim.bound ≤ℤ least_error_below
-  some_below = let to = lawful.bound_in_range in omega (arith, ints)
-
-  negated : (z : ℤ) → neg_ℤ (neg_ℤ z) ≡ z
-  negated z = omega (arith, ints)
+  some_below = omega (arith, ints)
 
   beyond_above : (error : ℤ) → claim.bound <ℤ error → claim.bound <ℤ pos (unsigned_abs error)
-  beyond_above error h = let from = lawful.bound_not_negative in omega (arith, ints)
+  beyond_above error h = omega (arith, ints)
 
   beyond_below : (number : ℤ) → claim.bound <ℤ number → claim.bound <ℤ pos (unsigned_abs (neg_ℤ number))
-  beyond_below number h = let from = lawful.bound_not_negative in omega (arith, ints)
+  beyond_below number h = omega (arith, ints)
 
   -- no error above the bound, or none below it on the other side, is that of a refutation
   abbrev NoneAbove : Type 0
@@ -80,12 +74,11 @@ module _ (law : RoomLaw) (claim : ClaimData) (lawful : IsLawful claim) (xs : Lis
   found_above : (error : ℤ) → IsFirstBeyond above claim.bound greatest_error error
       → IsNearestRefutation claim xs (refutation_at claim xs error)
   found_above error is =
-      let from = lawful.bound_not_negative in
       let beyond = is.beyond in
       record {
-        accepted = refuted_at law claim lawful xs each error (beyond_above error beyond) is.passes;
+        accepted = refuted_at claim lawful xs each error (beyond_above error beyond) is.passes;
         least_above = λ over other refuted other_over. ⊎_elim
-            (λ less. absurd (true≢false (sym (possible_of law claim lawful xs each other refuted)
+            (λ less. absurd (true≢false (sym (possible_of claim lawful xs each other refuted)
             ∙ is.others_fail other.error other_over less)))
             (λ le. le)
             (int_cases other.error error);
@@ -98,21 +91,19 @@ module _ (law : RoomLaw) (claim : ClaimData) (lawful : IsLawful claim) (xs : Lis
   found_below : NoneAbove → (number : ℤ) → IsFirstBeyond below claim.bound least_error_below number
       → IsNearestRefutation claim xs (refutation_at claim xs (neg_ℤ number))
   found_below none number is =
-      let from = lawful.bound_not_negative in
       let beyond = is.beyond in
       record {
-        accepted = refuted_at law claim lawful xs each (neg_ℤ number) (beyond_below number beyond) is.passes;
+        accepted = refuted_at claim lawful xs each (neg_ℤ number) (beyond_below number beyond) is.passes;
         least_above = λ over. absurd (omega (arith, ints));
         none_above = λ under other of_64_bits refuted. ⊎_elim
-            (λ over. absurd (true≢false (sym (possible_of law claim lawful xs each other refuted)
+            (λ over. absurd (true≢false (sym (possible_of claim lawful xs each other refuted)
             ∙ none other.error over of_64_bits.not_above)))
             (λ not_over. not_over)
             (int_cases claim.bound other.error);
         liars = refl;
         reading = refl;
         greatest_below = λ under other of_64_bits refuted.
-            let possible = possible_of law claim lawful xs each other refuted in
-            let outside = refuted.against.beyond_bound in
+            let possible = possible_of claim lawful xs each other refuted in
             let top = of_64_bits.not_above in
             ⊎_elim
             (λ over. absurd (true≢false (sym possible ∙ none other.error over top)))
@@ -127,10 +118,8 @@ module _ (law : RoomLaw) (claim : ClaimData) (lawful : IsLawful claim) (xs : Lis
 
   none_found : NoneAbove → NoneBelow → NoneIsRefuted claim xs
   none_found no_more no_less other of_64_bits refuted =
-      let possible = possible_of law claim lawful xs each other refuted in
-      let outside = refuted.against.beyond_bound in
+      let possible = possible_of claim lawful xs each other refuted in
       let top = of_64_bits.not_above in
-      let bottom = of_64_bits.not_below in
       ⊎_elim
       (λ over. true≢false (sym possible ∙ no_more other.error over top))
       (λ not_over. true≢false (sym possible
@@ -169,12 +158,9 @@ module _ (law : RoomLaw) (claim : ClaimData) (lawful : IsLawful claim) (xs : Lis
       → ◌≡◌ {A = RefutationData} (record { error = found; liars = liars; reading = reading })
       (refutation_at claim xs found)
   refutation_is rooms are found in_range liars reading a b =
-      let bottom = in_range.not_below in
-      let top = in_range.not_above in
       let near : unsigned_abs found ≤ 2 ^ 64 = omega (arith, ints) in
-      let few = lawful.few_servers in
       let same = a ∙ same_passing_test (refused_by rooms found) (refuses claim.reading xs found) (length claim.servers)
-      (λ server within. (are server (omega (arith, within, few))).leaves_out_refused found near) in
+      (λ server within. (are server (omega (arith, within))).leaves_out_refused found near) in
       let make : List ℕ → ℕ → RefutationData = λ l r. record { error = found; liars = l; reading = r } in
       ap (λ (l : List ℕ). make l reading) same
       ∙ ap (make (filter (refuses claim.reading xs found) (numbers_below (length claim.servers)))) b

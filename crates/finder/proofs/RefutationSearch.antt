@@ -7,13 +7,12 @@ use Rattle.finder.proofs.List.{find_first, find_none}
 -- ---- the nearest number as a value
 
 module _ (test : ℤ → Bool) (bound limit : ℤ) where
-  after_is : (number : ℤ) → bound <ℤ number → after bound (unsigned_abs (number -ℤ bound) - 1) ≡ number
+  pub after_is : (number : ℤ) → bound <ℤ number → after bound (unsigned_abs (number -ℤ bound) - 1) ≡ number
   after_is number beyond = omega (arith, ints)
 
   first_is : (number : ℤ) → IsFirstBeyond test bound limit number → nearest test bound limit ≡ Some number
   first_is number is =
       let beyond = is.beyond in
-      let within = is.within in
       let n : ℕ = unsigned_abs (number -ℤ bound) - 1 in
       let found : find (λ k. test (after bound k)) (range_with_len 0 (unsigned_abs (limit -ℤ bound))) ≡ Some n =
       find_first (λ k. test (after bound k)) 0 (unsigned_abs (limit -ℤ bound)) n (omega arith) (omega (arith, ints))
@@ -72,7 +71,7 @@ module _ (claim : ClaimData) (lawful : IsLawful claim) (rooms : List Interval) (
     (same : (error : ℤ) → IsNear error → possible_by rooms claim error ≡ test error) (limit : ℤ)
     (in_range : limit ≤ℤ pos (2 ^ 63)) where
   near : (error : ℤ) → claim.bound <ℤ error → error ≤ℤ limit → IsNear error
-  near error above le = let not_below = lawful.bound_not_negative in omega (arith, ints)
+  near error above le = omega (arith, ints)
 
   pub found_is : (number : ℤ) → IsFirstBeyond (possible_by rooms claim) claim.bound limit number
       → nearest test claim.bound limit ≡ Some number

@@ -1,5 +1,5 @@
 -- What settles a claim.
-use Rattle.finder.proofs.Common.{◌≡◌, ℕ, ◌<◌, ◌≤◌, ℤ, pos, ◌*ℤ◌, ◌≤ℤ◌, true, false, true≢false, List, [], ◌∷◌, Ok, refl, sym, ◌∙◌, subst, to_z, of_z, Fits, w64, unsigned_abs, arith, T, non_neg, w128, ◌↔◌, All, IsTrue, ints, clamps, ClaimData, IsLawful, Exchange, CertificateData, RefutationData, Certificate, Hull, Sample, IsPiece, Course, IsObservedIn, samples_of, verdict_of, Yes, HasSmallCover, IsCover, SomeCourse, AreLongest, IsStuck, end_after, FindsFewest, AreHeld, NoneIsRefuted}
+use Rattle.finder.proofs.Common.{◌≡◌, ℕ, ◌<◌, ◌≤◌, ℤ, pos, ◌*ℤ◌, ◌≤ℤ◌, true, false, true≢false, List, [], ◌∷◌, Ok, refl, sym, ◌∙◌, subst, to_z, of_z, Fits, w64, unsigned_abs, arith, rules, T, non_neg, w128, ◌↔◌, All, IsTrue, ints, clamps, ClaimData, IsLawful, Exchange, CertificateData, RefutationData, Certificate, Hull, Sample, IsPiece, Course, IsObservedIn, samples_of, verdict_of, Yes, HasSmallCover, IsCover, SomeCourse, AreLongest, IsStuck, end_after, FindsFewest, AreHeld, NoneIsRefuted}
 use Rattle.std.specs.Prelude.{Bool, length}
 use Rattle.pairing.specs.Exchange.{IsLawful as IsLawfulExchange}
 use Rattle.certificate.specs.Certificate.{data_of as certificate_data}
@@ -13,7 +13,9 @@ use Rattle.checker.specs.Traceability.{IsWithin}
 use Rattle.feasibility.specs.LeastCovers.{AreLeastCovers}
 use Rattle.feasibility.specs.declared.groups.Groups.{Groups}
 use Rattle.finder.specs.declared.neediest.Neediest.{Neediest}
-use Rattle.finder.proofs.Common.{Bool, ◌+◌, pos, holds, holds_false, HasFalse, IsBoundless, IsNeediest, NoneNeedsMore, need_of, tick_without}
+use Rattle.finder.proofs.Common.{Bool, ◌+◌, pos, holds, holds_false, IsBoundless, IsNeediest, NoneNeedsMore, need_of, tick_without}
+use Rattle.checker.proofs.Exchange.{are_samples}
+use Rattle.finder.proofs.CoverHull.{within_most}
 use Rattle.finder.proofs.GapSearch.{more_enough}
 use Rattle.finder.proofs.HeldError.{AreTriedTo, all_tried, held_one, one_more_tried}
 use Rattle.finder.specs.Settlement.{IsContestedBy, IsFitted, IsFittedByNone, IsHeard, IsLeftOpen, IsShownBy, IsUnheard, NoneIsBeyond}
@@ -24,35 +26,17 @@ use Rattle.finder.proofs.LongestPiece.{end_kept, fits_64}
 
 -- an exchange of a claim with so many servers is one of a claim with as many as may be
 pub of_most_servers : (servers : ℕ) (x : Exchange) → servers ≤ 32 → IsLawfulExchange servers x → IsLawfulExchange 32 x
-of_most_servers servers x few h =
-    let listed = h.listed in
-    record {
-      listed = omega (arith, listed);
-      t1_low = h.t1_low;
-      t1_high = h.t1_high;
-      t1_ordered = h.t1_ordered;
-      t4_low = h.t4_low;
-      t4_high = h.t4_high;
-      t4_ordered = h.t4_ordered;
-      t2 = h.t2;
-      t3 = h.t3;
-      distance = h.distance;
-      distance_not_negative = h.distance_not_negative;
-    }
+of_most_servers servers x few h = let listed : x.server < 32 = omega arith in search rules
 
 module _ (claim : ClaimData) (lawful : IsLawful claim) (samples : List Sample) where
   -- a stretch of the span is a piece
   pub piece_within : (begin end : ℤ) → claim.first ≤ℤ begin → begin ≤ℤ end → end ≤ℤ claim.last → IsPiece begin end
-  piece_within begin end from forward to =
-      let begins = lawful.span_begins in
-      let ends = lawful.span_ends in
-      record { from_zero = omega (arith, ints); in_order = forward; in_range = omega (arith, ints) }
+  piece_within begin end from forward to = omega (arith, ints)
 
   in_span_after : (p : ℤ) (earlier : List ℤ) → claim.first ≤ℤ p → p ≤ℤ claim.last → AreLongest samples claim p earlier
       → (claim.first ≤ℤ end_after p earlier) × (end_after p earlier ≤ℤ claim.last)
   in_span_after p [] from to longest = (from, to)
   in_span_after p (q ∷ earlier) from to longest =
-      let some = longest.0.some_tick in
       in_span_after q earlier (omega (arith, ints, clamps)) longest.0.in_span longest.2
 
   -- and the tick where the longest pieces stop, whose ends 128 bits hold
@@ -81,8 +65,6 @@ module _ (claim : ClaimData) (lawful : IsLawful claim) (samples : List Sample) w
   pub stuck_within : (begin end : ℤ) (hull : Hull) → IsStuck samples claim begin end hull → IsTickWithin begin end
   stuck_within begin end hull stuck =
       let forward = lawful.span_forward in
-      let begins = stuck.begins in
-      let ends = stuck.ends in
       let (from, to) = in_span_after claim.first stuck.earlier (omega (arith, ints)) forward stuck.longest in
       tick_within begin end (omega (arith, ints)) (omega (arith, ints, clamps)) (omega (arith, ints, clamps))
 
@@ -131,23 +113,12 @@ module _ (claim : ClaimData) (xs : List Exchange) where
   pub shown_by : (certificate : Certificate) → IsFitted claim xs
       → FindsFewest (samples_of xs claim) claim (Ok (found.Certificate certificate))
       → IsShownBy claim xs (certificate_data certificate)
-  shown_by certificate courses finds = record {
-    courses = courses;
-    longest = finds.exact;
-    accepted = finds.accepted;
-    fewest = finds.fewest;
-    few = finds.few;
-  }
+  shown_by certificate courses finds = search rules
 
   -- a refutation that stands
   pub contested_by : (refutation : RefutationData) → IsHeard claim xs → SettlesWithDrift claim xs refutation true
       → IsContestedBy claim xs refutation
-  contested_by refutation is_heard settles = record {
-    heard = is_heard;
-    accepted = settles.exact.0 refl;
-    course = settles.course refl;
-    none_accepted = settles.no_yes refl;
-  }
+  contested_by refutation is_heard settles = grind arith
 
   -- the reading at which a course is observed lies in the tick that begins there
   pub observed : (begin end : ℤ) (course : Course) → begin ≤ℤ end
@@ -203,22 +174,23 @@ module _ (samples : List Sample) (claim : ClaimData) (covers : List Groups) wher
       (λ k d below. grown (holds (get_or covers k d)) b all with'.0 (before k d below))
 
 module _ (claim : ClaimData) (xs : List Exchange) (covers : List Groups) (least : AreLeastCovers claim xs covers)
-    (cover_of : (course : Course) → FitsExchanges claim xs course → IsCover claim xs (holds_false claim.groups course.is_false))
-    (law : (cover : ℕ → Bool) (most : ℕ) (course : Course)
-    → NoneNeedsMore (samples_of xs claim) claim cover most → FitsExchanges claim xs course → HasFalse claim cover course
-    → IsObservedIn course claim.first claim.last → IsWithin course (pos most))
+    (cover_of : (course : Course) → FitsExchanges claim xs course
+    → IsCover claim xs (holds_false claim.groups course.is_false))
+    (lawful : IsLawful claim) (each : All (IsLawfulExchange (length claim.servers)) xs)
   where
-    pub none_beyond : (n : ℕ) (old new : Option ℕ) → length covers ≤ n → NeedNoMore (samples_of xs claim) claim covers n old
+    pub none_beyond : (n : ℕ) (old new : Option ℕ) → length covers ≤ n
+        → NeedNoMore (samples_of xs claim) claim covers n old
         → IfSome new (λ found. (length covers < 64) × (old ≡ Some found)) → IfSome new (NoneIsBeyond claim xs)
     none_beyond n old None past tried is = tt
-    none_beyond n None (Some most) past tried is = absurd (let same = is.1 in cc)
+    none_beyond n None (Some most) past tried is = absurd cc
     none_beyond n (Some all) (Some most) past tried is = λ course fits observed.
         let false_in : ℕ → Bool = holds_false claim.groups course.is_false in
-        let same : all ≡ most = (let both = is.1 in cc) in
+        let same : all ≡ most = cc in
         ⊎_elim
         (λ one.
         let held = held_one (λ cover. NoneNeedsMore (samples_of xs claim) claim (holds cover) all) covers false_in
         (all_tried (λ cover. NoneNeedsMore (samples_of xs claim) claim (holds cover) all) covers n past tried) one in
-        subst (λ (m : ℕ). IsWithin course (pos m)) same (law (holds held.0) all course held.1 fits held.2 observed))
-        (λ many. absurd (let few = is.0 in omega (arith, few, many)))
+        subst (λ (m : ℕ). IsWithin course (pos m)) same (within_most claim lawful xs each
+        (are_samples xs claim lawful each) (holds held.0) course fits held.2 all held.1 observed))
+        (λ many. absurd (omega (arith, many)))
         (least.all_or_64 false_in (cover_of course fits) fits.few_false)

@@ -1,5 +1,7 @@
 -- The pieces of a span.
 use Rattle.finder.proofs.Common.{◌≡◌, ℕ, zero, suc, ◌+◌, ◌-◌, ◌*◌, ◌/◌, ◌%◌, ◌<◌, ◌≤◌, min, max, ◌^◌, ℤ, pos, ◌+ℤ◌, ◌-ℤ◌, ◌≤ℤ◌, ◌<ℤ◌, nat_lt, true, false, unsigned_abs, List, [], ◌∷◌, ◌++◌, sym, ap, ◌∙◌, ⊎_elim, arith, to_z, of_z, Fits, w32, w64, w128, mul-le-mul_right, cases_lt, nat_tests, div_ceil_times, ints, clamps, map-range_with_len_more, div-mul-add, div_ceil, non_neg, yes_non_neg, T, max_pieces, ClaimData, IsLawful, IsCeiling, ceiling_of, ticks_per_second, IsPiece, piece_end_of, Stretch, IsPieceCount, piece_count_of, piece_begin_of, ends_of, stretch_at, w128_keeps, first_kept, last_kept}
+use Rattle.era_unfold.proofs.Rounding.{IsCeiling-ceiling_of}
+use Rattle.finder.proofs.Claim.{length_fits}
 
 -- a quotient that is rounded up by its remainder
 pub div_ceil-ceiling_of : (n d : ℕ) → 0 < d → div_ceil n d ≡ ceiling_of n d
@@ -37,13 +39,7 @@ module _ (first last : ℤ) (in_order : first ≤ℤ last) (step : ℕ) where
   pub each_is_piece : pos 0 ≤ℤ first → last <ℤ pos (2 ^ 64) → (k : ℕ)
       → IsPiece (piece_begin_of first last step k) (piece_end_of first last step k)
   each_is_piece from_zero in_range k =
-      let begin = begin_from_first k in
-      let end = end_to_last k in
-      record {
-        from_zero = omega (arith, ints);
-        in_order = begin_before_end k;
-        in_range = omega (arith, ints);
-      }
+      omega (arith, ints, begin_from_first k, end_to_last k, begin_before_end k)
 
 -- ---- the count
 
@@ -62,7 +58,6 @@ module _ (first last : ℤ) (step c : ℕ) (in_order : first ≤ℤ last)
     (is : IsCeiling (unsigned_abs (last -ℤ first)) (step * ticks_per_second) c) where
   far_enough : last ≤ℤ (first +ℤ pos (max 1 c * step * ticks_per_second))
   far_enough =
-      let whole = is.not_below in
       let more : c * (step * ticks_per_second) ≤ max 1 c * (step * ticks_per_second) =
       mul-le-mul_right (step * ticks_per_second) (omega arith) in
       omega (arith, ints)
@@ -80,16 +75,16 @@ module _ (first last : ℤ) (step c : ℕ) (in_order : first ≤ℤ last)
     first_to_end = λ k before. earlier first last step k (not_yet k before);
   }
 
-pub IsPieceCount-piece_count_of : ((n d : ℕ) → 0 < d → IsCeiling n d (ceiling_of n d)) → (first last : ℤ) (step : ℕ)
-    → first ≤ℤ last → 0 < step → IsPieceCount first last step (piece_count_of first last step)
+pub IsPieceCount-piece_count_of : (first last : ℤ) (step : ℕ) → first ≤ℤ last → 0 < step
+    → IsPieceCount first last step (piece_count_of first last step)
 unfolding piece_count_of
-IsPieceCount-piece_count_of ceilings first last step in_order some =
-    count_is first last step _ in_order (ceilings _ (step * ticks_per_second) (omega arith))
+IsPieceCount-piece_count_of first last step in_order some =
+    count_is first last step _ in_order (IsCeiling-ceiling_of _ (step * ticks_per_second) (omega arith))
 
 -- the numbers from which the code computes the count
 module _ (step from : ℕ) (same : from ≡ step) where
   pub ticks_fit : Fits w32 step → Fits w128 (from * ticks_per_second)
-  ticks_fit fits = let small = fits.fits in record { fits = omega arith }
+  ticks_fit fits = record { fits = omega arith }
 
   pub some_ticks : 0 < step → 0 < from * ticks_per_second
   some_ticks some = omega arith
@@ -146,9 +141,7 @@ module _ (claim : ClaimData) (lawful : IsLawful claim) (step k : ℕ) where
   pub end_kept : (end : ℤ) → end ≡ piece_end_of claim.first claim.last step k
       → to_z w128 (of_z w128 end) ≡ piece_end_of claim.first claim.last step k
   end_kept end is =
-      let begins = lawful.span_begins in
       let forward = lawful.span_forward in
-      let ends = lawful.span_ends in
       let from_first = end_from_first claim.first claim.last forward step k in
       let to_last = end_to_last claim.first claim.last forward step k in
       ap (λ (z : ℤ). to_z w128 (of_z w128 z)) is
@@ -165,8 +158,6 @@ module _ (claim : ClaimData) (lawful : IsLawful claim) (step k : ℕ) where
       → T (non_neg end) × Fits w64 (unsigned_abs end)
   end_fits end is =
       let piece = piece_of_claim in
-      let from_zero = piece.from_zero in
-      let in_order = piece.in_order in
       let in_range = piece.in_range in
       let from : pos 0 ≤ℤ end = rw is (omega (arith, ints)) in
       let to : end <ℤ pos (2 ^ 64) = rw is in_range in
@@ -184,3 +175,5 @@ pub stretch_is : (claim : ClaimData) (step k : ℕ) (begin end : ℤ) → begin 
 stretch_is claim step k begin end a b =
     let make : ℤ → ℤ → Stretch = λ x y. record { begin = x; end = y } in
     ap (λ (x : ℤ). make x end) a ∙ ap (λ (y : ℤ). make (piece_begin_of claim.first claim.last step k) y) b
+
+pub ruleset counting = (length_fits, ticks_fit, some_ticks)

@@ -88,3 +88,5 @@ pub best_tables : (k : ℕ) (list tables : List Table) (best : List (ℕ × ℕ)
     → filter_map (λ table. slice_get table.items k) tables ≡ best
     → filter_map (λ table. slice_get table.items k) list ≡ best
 best_tables k list tables best same is = rw same is
+
+pub ruleset read_tables = (few_tables, long_tables, best_tables)

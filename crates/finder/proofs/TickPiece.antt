@@ -1,13 +1,6 @@
 -- The piece that holds a tick.
 use Rattle.finder.proofs.Common.{◌≡◌, ℕ, zero, suc, ◌+◌, ◌-◌, ◌*◌, ◌/◌, ◌<◌, ◌≤◌, ℤ, pos, ◌+ℤ◌, ◌-ℤ◌, ◌≤ℤ◌, unsigned_abs, List, ap, ◌∙◌, ⊎_elim, arith, mul-le-mul_right, cases_lt, ints, clamps, ticks_per_second, ClaimData, IsLawful, Sample, piece_end_of, HoldsTick, IsTick, piece_holding, next_tick, IsPieceCount, count_of, piece_begin_of}
-
--- a quotient, by its bounds
-record Quotient (n d k : ℕ) : Type 0 where
-  pub from : k * d ≤ n
-  pub to : n < (k + 1) * d
-
-quotient : (n d : ℕ) → 0 < d → Quotient n d (n / d)
-quotient n d some = record { from = omega arith; to = omega arith }
+use Rattle.finder.proofs.Finer.{quotient}
 
 module _ (samples : List Sample) (claim : ClaimData) (lawful : IsLawful claim) (step : ℕ) (some : 0 < step)
     (counts : IsPieceCount claim.first claim.last step (count_of claim step)) (p : ℤ) (tick : IsTick claim p) where
@@ -18,7 +11,7 @@ module _ (samples : List Sample) (claim : ClaimData) (lawful : IsLawful claim) (
   distance = unsigned_abs (p -ℤ claim.first)
 
   away : p ≡ (claim.first +ℤ pos distance)
-  away = let from = tick.from_first in omega (arith, ints)
+  away = omega (arith, ints)
 
   begins_before : (k : ℕ) → k * length ≤ distance → piece_begin_of claim.first claim.last step k ≤ℤ p
   begins_before zero from = tick.from_first
@@ -43,7 +36,6 @@ module _ (samples : List Sample) (claim : ClaimData) (lawful : IsLawful claim) (
       (λ less. less)
       (λ le. absurd (
       let is = away in
-      let all = counts.ends_with_span in
       let one = counts.some in
       let whole : count_of claim step - 1 + 1 ≡ count_of claim step = omega arith in
       let same : (count_of claim step - 1 + 1) * step * ticks_per_second ≡ count_of claim step * length =
@@ -61,6 +53,6 @@ module _ (samples : List Sample) (claim : ClaimData) (lawful : IsLawful claim) (
   held_whole =
       let some_length : 0 < length = omega arith in
       let parts = quotient distance length some_length in (
-        of_span (distance / length) parts.from,
-        (begins_before (distance / length) parts.from, ends_after (distance / length) parts.to),
+        of_span (distance / length) parts.0,
+        (begins_before (distance / length) parts.0, ends_after (distance / length) parts.1),
       )

@@ -1,7 +1,10 @@
 -- What the checker says about pieces with the best samples.
-use Rattle.finder.proofs.Common.{◌≡◌, ℕ, zero, suc, ◌+◌, ◌-◌, ◌<◌, ◌≤◌, ℤ, pos, ◌≤ℤ◌, int_lt, nat_lt, unsigned_abs, Bool, true, false, cond, not, ◌&&◌, ◌||◌, List, [], ◌∷◌, ◌++◌, length, Option, Some, None, Result, Ok, refl, sym, ap, ◌∙◌, subst, arith, append_assoc, add-one, add-zero, slice_get, ◌==◌, list_any, filter_map, cons_option, range_with_len, int_eq, cond-true, cond-false, nat_tests, ints, append-nil, list_any-append, PieceData, ClaimData, IsLawful, Hull, Unbounded, Empty, Bounded, Sample, piece_end_of, stretches_from, part_of, part_from, parts_after, unless_refused, hull_fault, parts_fault, piece_fault, verdict_after, verdict_from, Part, Stretch, Verdict, Yes, No, Why, Cut, Contradiction, Exceeds, Uncovered, is_inside, best_over, best_entries, best_hull, part_between, parts_named, piece_at, pieces_from, hull_at, passes, IsPieceCount, piece_begin_of, stretch_at}
-use Rattle.finder.proofs.Best.{BestLaw, best_of_is}
-use Rattle.finder.proofs.SpanPieces.{begin_before_end, end_to_last, piece_of_claim, stretch_is}
+use Rattle.finder.proofs.Common.{◌≡◌, ℕ, zero, suc, ◌+◌, ◌-◌, ◌<◌, ◌≤◌, ℤ, pos, ◌≤ℤ◌, int_lt, nat_lt, unsigned_abs, Bool, true, false, cond, not, ◌&&◌, ◌||◌, List, [], ◌∷◌, ◌++◌, length, Option, Some, None, Result, Ok, refl, sym, ap, ◌∙◌, subst, arith, append_assoc, add-one, add-zero, slice_get, ◌==◌, list_any, filter_map, cons_option, range_with_len, int_eq, cond-true, cond-false, nat_tests, ints, append-nil, list_any-append, PieceData, ClaimData, IsLawful, Hull, Unbounded, Empty, Bounded, Sample, piece_end_of, part_of, part_from, parts_after, unless_refused, hull_fault, parts_fault, piece_fault, verdict_after, verdict_from, Part, Stretch, Verdict, Yes, No, Why, Cut, Exceeds, Uncovered, is_inside, best_over, best_entries, best_hull, part_between, parts_named, piece_at, pieces_from, hull_at, passes, IsPieceCount, piece_begin_of, stretch_at, AreSamplesOf, HoldsError}
+use Rattle.finder.proofs.Best.{best_of_is}
+use Rattle.finder.proofs.Known.{hull_laws}
+use Rattle.checker.proofs.Hull.{capture_holds}
+use Rattle.checker.proofs.Narrow.{of_samples}
+use Rattle.finder.proofs.SpanPieces.{begin_before_end, end_to_last, piece_of_claim}
 
 -- ---- the entries are accepted
 
@@ -15,7 +18,7 @@ same_test a b s e f = grind (arith, nat_tests)
 other_test : (a s server : ℕ) → a ≡ s → s + 1 ≤ server → (a == server) ≡ false
 other_test a s server e later = grind (arith, nat_tests)
 
-module _ (law : BestLaw) (samples : List Sample) (claim : ClaimData) (stretch : Stretch) where
+module _ (samples : List Sample) (claim : ClaimData) (stretch : Stretch) where
   abbrev after : List Part → List (ℕ × ℕ) → Result (List Part) Why
   after earlier entries = parts_after samples stretch claim.drift_ppb earlier entries
 
@@ -59,7 +62,7 @@ module _ (law : BestLaw) (samples : List Sample) (claim : ClaimData) (stretch : 
   unfolding Accepted
   one_accepted s n None is rest earlier new = rest earlier (λ server later. new server (omega arith))
   one_accepted s n (Some entry) is rest earlier new =
-      let best = best_of_is law samples s stretch.begin stretch.end claim.drift_ppb entry is in
+      let best = best_of_is samples s stretch.begin stretch.end claim.drift_ppb entry is in
       let low = best.0.sample in
       let high = best.1.sample in
       let part = part_of low high stretch claim.drift_ppb in
@@ -106,6 +109,16 @@ passes_inside bound (Bounded lo hi) e =
       | false ↦ λ e. absurd cc
     ] e
 
+-- the error lies in their hull
+pub best_held : (claim : ClaimData) (samples : List Sample) (stretch : Stretch) → IsLawful claim
+    → AreSamplesOf claim samples → HoldsError claim samples stretch (best_hull samples claim stretch)
+unfolding best_hull
+best_held claim samples stretch lawful are =
+    let entries = best_entries samples claim stretch in
+    let parts = parts_named samples claim stretch entries in
+    capture_holds hull_laws claim samples lawful are stretch parts
+    (of_samples samples stretch claim.drift_ppb entries parts (entries_accepted samples claim stretch))
+
 -- ---- piece by piece
 
 pub not_less : (a b : ℤ) → b ≤ℤ a → int_lt a b ≡ false
@@ -114,13 +127,11 @@ not_less a b le = grind (arith, ints)
 pub from_zero_kept : (z : ℤ) → pos 0 ≤ℤ z → pos (unsigned_abs z) ≡ z
 from_zero_kept z le = omega (arith, ints)
 
-module _ (law : BestLaw) (samples : List Sample) (claim : ClaimData) (lawful : IsLawful claim) (step : ℕ) where
+module _ (samples : List Sample) (claim : ClaimData) (lawful : IsLawful claim) (step : ℕ) where
   end_number : (k : ℕ) → pos (unsigned_abs (piece_end_of claim.first claim.last step k))
       ≡ piece_end_of claim.first claim.last step k
   end_number k =
       let piece = piece_of_claim claim lawful step k in
-      let from_zero = piece.from_zero in
-      let in_order = piece.in_order in
       from_zero_kept (piece_end_of claim.first claim.last step k) (omega (arith, ints))
 
   fault_at : (k : ℕ) (end : ℤ) → end ≡ piece_end_of claim.first claim.last step k
@@ -134,10 +145,10 @@ module _ (law : BestLaw) (samples : List Sample) (claim : ClaimData) (lawful : I
       let forward = begin_before_end claim.first claim.last lawful.span_forward step k in
       let within = end_to_last claim.first claim.last lawful.span_forward step k in
       rw (is, not_less _ begin forward, not_less claim.last _ within)
-      (entries_fault law samples claim (stretch_at claim step k))
+      (entries_fault samples claim (stretch_at claim step k))
 
   -- the checker tests the hull of the piece
-  pub fault_is : (k : ℕ) → piece_fault samples claim (piece_begin_of claim.first claim.last step k)
+  fault_is : (k : ℕ) → piece_fault samples claim (piece_begin_of claim.first claim.last step k)
       (piece_at samples claim step k)
       ≡ hull_fault claim.bound (hull_at samples claim step k)
   fault_is k = fault_at k _ (end_number k)
@@ -149,25 +160,22 @@ module _ (law : BestLaw) (samples : List Sample) (claim : ClaimData) (lawful : I
   verdict_at k pieces = verdict_from samples claim k (piece_begin_of claim.first claim.last step k) pieces
 
   -- pieces that pass are passed over
-  pub passed_over : (n j : ℕ) (rest : List PieceData)
-      → ((k : ℕ) → j ≤ k → k < j + n → passes samples claim step k ≡ true)
-      → verdict_from samples claim j (piece_begin_of claim.first claim.last step j)
-      (pieces_from samples claim step j n ++ rest)
-      ≡ verdict_from samples claim (j + n) (piece_begin_of claim.first claim.last step (j + n)) rest
-  passed_over zero j rest pass = ap (λ (k : ℕ). verdict_at k rest) (sym (add-zero j))
-  passed_over (suc n) j rest pass =
+  passed_over : (n j : ℕ) → ((k : ℕ) → j ≤ k → k < j + n → passes samples claim step k ≡ true)
+      → verdict_at j (pieces_from samples claim step j n) ≡ verdict_at (j + n) []
+  passed_over zero j pass = ap (λ (k : ℕ). verdict_at k []) (sym (add-zero j))
+  passed_over (suc n) j pass =
       let none : piece_fault samples claim (piece_begin_of claim.first claim.last step j)
       (piece_at samples claim step j)
       ≡ None =
       fault_is j ∙ inside_passes claim.bound (hull_at samples claim step j) (pass j (omega arith) (omega arith)) in
       let begin = end_number j ∙ sym (next_begin j) in
       let same : j + 1 + n ≡ j + suc n = omega arith in
-      let others = pieces_from samples claim step (j + 1) n ++ rest in
+      let others = pieces_from samples claim step (j + 1) n in
       ap (λ (f : Option Why). verdict_after f j (verdict_from samples claim (j + 1)
       (pos (unsigned_abs (piece_end_of claim.first claim.last step j))) others)) none
       ∙ ap (λ (z : ℤ). verdict_from samples claim (j + 1) z others) begin
-      ∙ passed_over n (j + 1) rest (λ k from to. pass k (omega arith) (omega arith))
-      ∙ ap (λ (k : ℕ). verdict_at k rest) same
+      ∙ passed_over n (j + 1) (λ k from to. pass k (omega arith) (omega arith))
+      ∙ ap (λ (k : ℕ). verdict_at k []) same
 
   begin_last : (n : ℕ) → 0 < n → piece_end_of claim.first claim.last step (n - 1) ≡ claim.last
       → piece_begin_of claim.first claim.last step n ≡ claim.last
@@ -184,39 +192,9 @@ module _ (law : BestLaw) (samples : List Sample) (claim : ClaimData) (lawful : I
   all_accepted n is pass =
       let zero_n : 0 + n ≡ n = omega arith in
       let last = begin_last n is.some is.ends_with_span in
-      ap (verdict_from samples claim 0 claim.first) (sym (append-nil (pieces_from samples claim step 0 n)))
-      ∙ passed_over n 0 [] (λ k from to. pass k (omega arith))
+      passed_over n 0 (λ k from to. pass k (omega arith))
       ∙ ap (λ (k : ℕ). verdict_at k []) zero_n
       ∙ cond-true (nat_lt 0 n && int_eq (piece_begin_of claim.first claim.last step n) claim.last) Yes (No n Uncovered)
       (covered n _ is.some last)
 
-  -- the pieces up to one with an empty hull contradict themselves there
-  pub contradicts_at : (k : ℕ) → ((j : ℕ) → j < k → passes samples claim step j ≡ true)
-      → hull_at samples claim step k ≡ Empty
-      → verdict_from samples claim 0 claim.first
-      (pieces_from samples claim step 0 k ++ piece_at samples claim step k ∷ [])
-      ≡ No k Contradiction
-  contradicts_at k pass empty =
-      let zero_k : 0 + k ≡ k = omega arith in
-      let last = piece_at samples claim step k ∷ [] in
-      passed_over k 0 last (λ j from to. pass j (omega arith))
-      ∙ ap (λ (j : ℕ). verdict_at j last) zero_k
-      ∙ ap (λ (f : Option Why). verdict_after f k
-      (verdict_from samples claim (k + 1) (pos (unsigned_abs (piece_end_of claim.first claim.last step k))) []))
-      (fault_is k ∙ ap (hull_fault claim.bound) empty)
-
-  -- piece n after those from number j on
-  pub stretch_is_at : (n j : ℕ) (z : ℤ) → z ≡ piece_begin_of claim.first claim.last step j
-      → slice_get (stretches_from z (pieces_from samples claim step j n ++ piece_at samples claim step (j + n) ∷ [])) n
-      ≡ Some (stretch_at claim step (j + n))
-  stretch_is_at zero j z is =
-      let same : j + 0 ≡ j = omega arith in
-      let begin = is ∙ ap (piece_begin_of claim.first claim.last step) (sym same) in
-      ap Some (stretch_is claim step (j + 0) z _ begin (end_number (j + 0)))
-  stretch_is_at (suc n) j z is =
-      let same : j + 1 + n ≡ j + suc n = omega arith in
-      let begin = end_number j ∙ sym (next_begin j) in
-      subst (λ (k : ℕ). slice_get (stretches_from (pos (unsigned_abs (piece_end_of claim.first claim.last step j)))
-      (pieces_from samples claim step (j + 1) n ++ piece_at samples claim step k ∷ [])) n
-      ≡ Some (stretch_at claim step k))
-      same (stretch_is_at n (j + 1) _ begin)
+pub ruleset accepted_entries = (entries_accepted, entries_fault)

@@ -12,20 +12,14 @@ ghost use Rattle.finder.specs.Reach.{AreTablesFor, IsTabled};
 ghost use Rattle.checker.specs.Samples.{AreSamplesOf};
 
 use crate::guess::likely_least;
-use crate::laws::{
-    best_entries_show_as_much, best_hulls_hold_the_error, pieces_within_have_no_wider_hulls,
-};
 use crate::longest::tables_for;
 use crate::neediest::likely_bound;
 use crate::reach::{Reach, longest_ends};
 use crate::trial::trial;
-use checker::laws::{pieces_give_the_verdict, wider_bounds_hold_too};
 use claim_file::Claim;
-use era_unfold::laws::{more_nanoseconds_have_no_fewer_ticks, nanoseconds_lie_between_their_ticks};
 use era_unfold::{TICKS_PER_SECOND, ns_down};
 use feasibility::Groups;
 use sample_interval::SampleSource;
-use span_cover::laws::best_samples_are_the_first_best;
 use std::alloc::{AllocError, Global};
 use sweep::BestTable;
 
@@ -80,14 +74,6 @@ fn least_bound_by(
     ensures { (samples : List TheSample) → AreTablesFor samples (claim_data claim.now) tables.now →
         FindsLeastBound samples (claim_data claim.now) result }
 {
-    best_samples_are_the_first_best();
-    best_entries_show_as_much();
-    pieces_within_have_no_wider_hulls();
-    pieces_give_the_verdict();
-    best_hulls_hold_the_error();
-    wider_bounds_hold_too();
-    nanoseconds_lie_between_their_ticks();
-    more_nanoseconds_have_no_fewer_ticks();
     let widest = try_bound(alloc, tables, claim, MOST_BOUND_NS)?;
     if widest.is_some() {
         return Ok(None);
@@ -123,11 +109,6 @@ fn try_bound(
         MatchOption stop (IsCarried samples (with_bound (claim_data claim.now) bound_ns))
         (λ tick. StopsAt samples (with_bound (claim_data claim.now) bound_ns) (pos tick))) }
 {
-    best_samples_are_the_first_best();
-    best_entries_show_as_much();
-    pieces_within_have_no_wider_hulls();
-    pieces_give_the_verdict();
-    best_hulls_hold_the_error();
     let claim = claim_with(alloc, claim, bound_ns)?;
     match longest_ends(alloc, tables, &claim)? {
         Reach::End(_) => Ok(None),
@@ -141,7 +122,6 @@ pub(crate) fn claim_with(alloc: Global, claim: &Claim, bound_ns: u64) -> Result<
     requires in_range { bound_ns ≤ max_bound_ns }
     ensures { IfOk result (λ other. claim_data other ≡ with_bound (claim_data claim.now) bound_ns) }
 {
-    nanoseconds_lie_between_their_ticks();
     Ok(Claim {
         client: claim.client,
         servers: Vec::from_slice(alloc, claim.servers.as_slice())?,

@@ -63,35 +63,16 @@ pub fn find_refutation_with_drift<X: ToExchange>(
         (ArePlacesHeld (claim_data claim.now) (map X.shown exchanges.now) places.now)) }
 {
     let conflicts = conflicts_of(alloc, exchanges, claim)?;
-    Ok(find_by_conflicts(exchanges, claim, &conflicts, places))
-}
-
-/// The same, by what [`feasibility::conflicts_of`] makes of the same exchanges. It takes no memory.
-fn find_by_conflicts<X: ToExchange>(
-    exchanges: &[X],
-    claim: &Claim,
-    conflicts: &Conflicts,
-    places: &[Place],
-) -> Option<Refutation>
-    requires exchanges { All (IsLawfulExchange (length claim.now.servers.items))
-        (map X.shown exchanges.now) }
-    requires groups { (data_of conflicts.now).groups ≡ length claim.now.groups.items }
-    requires table { IsConflictTable (claim_data claim.now) (map X.shown exchanges.now)
-        (data_of conflicts.now).is_broken (data_of conflicts.now).is_edge }
-    ensures settles { IfSome result (λ found. SettlesWithDrift
-        (claim_data claim.now) (map X.shown exchanges.now) (refutation_data found) true) }
-    ensures held { IfNone result
-        (ArePlacesHeld (claim_data claim.now) (map X.shown exchanges.now) places.now) }
-{
     for place in places {
-        if let Some(found) = find_at(exchanges, claim, conflicts, *place) {
-            return Some(found);
+        if let Some(found) = find_at(exchanges, claim, &conflicts, *place) {
+            return Ok(Some(found));
         }
     }
-    None
+    Ok(None)
 }
 
-/// The same with these groups taken for false, at each of these readings.
+/// A refutation with these groups taken for false, at one of these readings, if one is found. It
+/// takes no memory.
 pub(crate) fn find_with_cover<X: ToExchange>(
     exchanges: &[X],
     claim: &Claim,

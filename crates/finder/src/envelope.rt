@@ -9,7 +9,6 @@ ghost use Rattle.finder.specs.Piece.{IsStep};
 ghost use Rattle.checker.specs.Samples.{AreSamplesOf};
 
 use crate::fault::FindFault;
-use crate::laws::{last_piece_ends_with_the_span, least_bound_is_the_least};
 use crate::least::LeastBound;
 use crate::piece::piece_count;
 use crate::piece_hull::{PieceHull, piece_hull_at};
@@ -17,8 +16,6 @@ use crate::table::tables;
 use certificate::MAX_PIECES;
 use claim_file::Claim;
 use sample_interval::SampleSource;
-use sample_interval::kinds::Sample;
-use span_cover::laws::best_samples_are_the_first_best;
 use std::alloc::{AllocError, Global};
 
 /// How far off a clock may have been, piece by piece, and the least bound that holds throughout.
@@ -33,27 +30,13 @@ pub struct Envelope {
 /// The envelope of a claim, in pieces of `step_s` seconds, from 1 to 86,400. The claim's bound
 /// is ignored.
 ///
-/// The samples are those of all exchanges, in their order, at most 1,000,000. Each piece has one
-/// entry for each server that has a sample, in the order of the servers: the samples that make its
-/// interval there narrowest, the first among ties.
+/// The samples are those of all exchanges, in their order, at most 1,000,000, from any source. Each
+/// piece has one entry for each server that has a sample, in the order of the servers: the samples
+/// that make its interval there narrowest, the first among ties.
 ///
 /// `TooManyPieces` comes exactly if the span has over 100,000 pieces, before any memory is taken,
 /// and `Memory` if none is left.
-pub fn find_envelope(
-    alloc: Global,
-    samples: &[Sample],
-    claim: &Claim,
-    step_s: u32,
-) -> Result<Envelope, FindFault>
-    requires samples { AreSamplesOf (claim_data claim.now) samples.now }
-    requires few { length samples.now ≤ most_exchanges }
-    requires step { IsStep step_s }
-    ensures { FindsEnvelope samples.now (claim_data claim.now) step_s result }
-{
-    find_envelope_over(alloc, samples, claim, step_s)
-}
-
-/// `find_envelope` over samples from any source, which need not be a list.
+#[tactic(auto, using(crate::proofs::EnvelopePieces::envelope_faults))]
 pub fn find_envelope_over<S: SampleSource>(
     alloc: Global,
     samples: S,
@@ -65,8 +48,6 @@ pub fn find_envelope_over<S: SampleSource>(
     requires step { IsStep step_s }
     ensures { FindsEnvelope (S.samples samples) (claim_data claim.now) step_s result }
 {
-    last_piece_ends_with_the_span();
-    least_bound_is_the_least();
     let count = piece_count(claim, step_s);
     if count > MAX_PIECES as u64 {
         return Err(FindFault::TooManyPieces);
@@ -76,6 +57,7 @@ pub fn find_envelope_over<S: SampleSource>(
 }
 
 /// The envelope of the first `count` pieces.
+#[tactic(auto, using(crate::proofs::TablePieces::read_tables))]
 fn envelope_to<S: SampleSource>(
     alloc: Global,
     samples: S,
@@ -89,7 +71,6 @@ fn envelope_to<S: SampleSource>(
         data_of found ≡ envelope_to (S.samples samples) (claim_data claim.now) step_s count) }
     ensures lawful { IfOk result (IsLawfulEnvelope (length (S.samples samples))) }
 {
-    best_samples_are_the_first_best();
     let tables = tables(alloc, samples, claim, step_s, count)?;
     let mut pieces = Vec::with_capacity(alloc, count as usize)?;
     let mut least = LeastBound::of_none();

@@ -12,19 +12,13 @@ ghost use Rattle.checker.specs.Samples.{AreSamplesOf};
 
 use crate::entry::entries_at;
 use crate::fault::FindFault;
-use crate::laws::{
-    best_entries_show_as_much, best_hulls_hold_the_error, pieces_within_have_no_wider_hulls,
-};
 use crate::longest::tables_for;
 use crate::reach::{Reach, longest_ends};
 use crate::table::tables_over;
 use certificate::{Certificate, Piece};
-use checker::laws::pieces_give_the_verdict;
 use claim_file::Claim;
 use intersection::kinds::Hull;
 use sample_interval::SampleSource;
-use sample_interval::kinds::Sample;
-use span_cover::laws::best_samples_are_the_first_best;
 use std::alloc::{AllocError, Global};
 use sweep::BestTable;
 
@@ -48,19 +42,10 @@ pub enum Fewest {
 /// Looks for a certificate of a claim with as few pieces as can be. Each piece is as long as the
 /// bound allows, and has the best entries, as those of [`find`](crate::find) have.
 ///
-/// The samples are those of all exchanges, in their order, at most 1,000,000.
+/// The samples are those of all exchanges, in their order, at most 1,000,000, from any source.
 ///
 /// `TooManyPieces` comes if 100,000 pieces don't reach the span's end, and `Memory` if none is
 /// left.
-pub fn find_fewest(alloc: Global, samples: &[Sample], claim: &Claim) -> Result<Fewest, FindFault>
-    requires samples { AreSamplesOf (claim_data claim.now) samples.now }
-    requires few { length samples.now ≤ most_exchanges }
-    ensures { FindsFewest samples.now (claim_data claim.now) result }
-{
-    find_fewest_over(alloc, samples, claim)
-}
-
-/// `find_fewest` over samples from any source, which need not be a list.
 pub fn find_fewest_over<S: SampleSource>(
     alloc: Global,
     samples: S,
@@ -87,11 +72,6 @@ pub(crate) fn fewest_by<S: SampleSource>(
     requires tables { AreTablesFor (S.samples samples) (claim_data claim.now) tables.now }
     ensures { FindsFewest (S.samples samples) (claim_data claim.now) result }
 {
-    best_samples_are_the_first_best();
-    best_entries_show_as_much();
-    pieces_within_have_no_wider_hulls();
-    pieces_give_the_verdict();
-    best_hulls_hold_the_error();
     match longest_ends(alloc, tables, claim)? {
         Reach::End(ends) => {
             let found = certificate_over(alloc, samples, claim, ends.as_slice())?;

@@ -9,20 +9,15 @@ ghost use Rattle.finder.specs.Piece.{IsStep, count_of};
 ghost use Rattle.checker.specs.Samples.{AreSamplesOf};
 
 use crate::fault::FindFault;
-use crate::laws::{
-    best_entries_show_as_much, best_hulls_hold_the_error, last_piece_ends_with_the_span,
-};
 use crate::piece::piece_count;
 use crate::piece_hull::{PieceHull, piece_hull_at};
 use crate::table::tables;
 use certificate::{Certificate, MAX_PIECES, Piece};
-use checker::laws::{pieces_give_the_verdict, verdicts_are_traceable};
 use claim_file::Claim;
 use intersection::kinds::Hull;
 use sample_interval::SampleSource;
 use sample_interval::kinds::Sample;
 use span_cover::is_inside;
-use span_cover::laws::best_samples_are_the_first_best;
 use std::alloc::{AllocError, Global};
 
 /// A certificate, or why there is none.
@@ -62,6 +57,7 @@ pub fn find(
 }
 
 /// `find` over samples from any source, which need not be a list.
+#[tactic(auto, using(crate::proofs::Answer::found_faults))]
 pub fn find_over<S: SampleSource>(
     alloc: Global,
     samples: S,
@@ -73,12 +69,6 @@ pub fn find_over<S: SampleSource>(
     requires step { IsStep step_s }
     ensures { Finds (S.samples samples) (claim_data claim.now) step_s result }
 {
-    last_piece_ends_with_the_span();
-    best_samples_are_the_first_best();
-    best_entries_show_as_much();
-    pieces_give_the_verdict();
-    verdicts_are_traceable();
-    best_hulls_hold_the_error();
     let count = piece_count(claim, step_s);
     if count > MAX_PIECES as u64 {
         return Err(FindFault::TooManyPieces);
@@ -88,6 +78,7 @@ pub fn find_over<S: SampleSource>(
 }
 
 /// The pieces up to the first that fails.
+#[tactic(auto, using(crate::proofs::TablePieces::read_tables))]
 fn find_pieces<S: SampleSource>(
     alloc: Global,
     samples: S,

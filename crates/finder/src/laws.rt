@@ -28,23 +28,7 @@ ghost use Rattle.checker.specs.Samples.{AreSamplesOf};
 ghost use Rattle.finder.specs.TickParts.{best_parts};
 ghost use Rattle.finder.specs.declared.least.LeastBound.{LeastBound};
 
-use checker::laws::{
-    few_groups_leave_the_error_out, hulls_hold_the_error, narrower_parts_narrow,
-    parts_are_of_samples, pieces_give_the_verdict,
-};
-use era_unfold::laws::{
-    nanoseconds_lie_between_their_ticks, ratios_are_rounded_as_little_as_can_be,
-};
-use feasibility::laws::some_course_is_observed_at_any_reading;
 use intersection::kinds::Hull;
-use intersection::laws::{every_list_has_a_hull, whole_points_are_fine_enough};
-use sample_interval::laws::{
-    drift_shows_on_the_clock_itself, error_at_the_reply_is_no_more, error_at_the_request_is_no_less,
-};
-use span_cover::laws::{
-    best_samples_are_the_first_best, error_lies_in_the_interval_of_the_piece,
-    piece_inside_another_is_narrower,
-};
 
 /// The samples of exchanges keep their limits if the exchanges do, are of servers of the claim, and
 /// are as many.
@@ -59,11 +43,10 @@ pub fn samples_of_exchanges_keep_limits()
 pub fn last_piece_ends_with_the_span()
     ensures { (first last : ℤ) (step : ℕ) → first ≤ℤ last → 0 < step →
         IsPieceCount first last step (piece_count_of first last step) }
-{
-    ratios_are_rounded_as_little_as_can_be();
-}
+{}
 
 /// A verdict refuses none of the best entries of a piece, and the hull that it tests is theirs.
+#[tactic(auto, using(crate::proofs::Verdict::accepted_entries))]
 pub fn best_entries_are_accepted()
     ensures parts { (samples : List Sample) (claim : ClaimData) (stretch : Stretch) →
         let entries = best_entries samples claim stretch in
@@ -73,12 +56,11 @@ pub fn best_entries_are_accepted()
         let entries = best_entries samples claim stretch in
         parts_fault claim (parts_after samples stretch claim.drift_ppb [] entries)
         ≡ hull_fault claim.bound (best_hull samples claim stretch) }
-{
-    best_samples_are_the_first_best();
-}
+{}
 
 /// What each server says at a tick is what the best entries say of the piece that begins and ends
 /// there, and the hull over it is that piece's.
+#[tactic(auto, using(crate::proofs::PartList::of_entries))]
 pub fn ticks_are_pieces_of_one_reading()
     ensures parts { (samples : List Sample) (claim : ClaimData) (tick : ℤ) →
         let stretch = stretch_over tick tick in
@@ -87,25 +69,21 @@ pub fn ticks_are_pieces_of_one_reading()
     ensures hull { (samples : List Sample) (claim : ClaimData) (tick : ℤ) →
         piece_hull claim.groups claim.false_max (best_parts samples claim tick)
         ≡ best_hull samples claim (stretch_over tick tick) }
-{
-    best_samples_are_the_first_best();
-}
+{}
 
 /// In every course of events that fits, the error of the client's clock lies in the hull of a
 /// piece's best entries at every moment whose reading lies in the piece, inside a bound or not.
+#[tactic(auto, using(crate::proofs::Verdict::best_held))]
 pub fn best_hulls_hold_the_error()
     ensures { (claim : ClaimData) (samples : List Sample) (stretch : Stretch) → IsLawful claim →
         AreSamplesOf claim samples →
         HoldsError claim samples stretch (best_hull samples claim stretch) }
-{
-    best_entries_are_accepted();
-    parts_are_of_samples();
-    hulls_hold_the_error();
-}
+{}
 
 /// The best entries of a piece show as much as any entries of a stretch that has the whole of it:
 /// if those pass the tests of a verdict, then the hull of these lies inside the bound too, or is
 /// empty.
+#[tactic(auto, using(crate::proofs::Narrow::shows_as_much))]
 pub fn best_entries_show_as_much()
     ensures { (samples : List Sample) (claim : ClaimData) (outer inner : Stretch)
         (entries : List (ℕ × ℕ)) → claim.drift_ppb ≤ max_drift_ppb → AreSamplesOf claim samples →
@@ -113,44 +91,29 @@ pub fn best_entries_show_as_much()
         parts_fault claim (parts_after samples outer claim.drift_ppb [] entries) ≡ None →
         (best_hull samples claim inner ≡ Hull.Empty)
         ⊎ (is_inside claim.bound (best_hull samples claim inner) ≡ true) }
-{
-    best_samples_are_the_first_best();
-    piece_inside_another_is_narrower();
-    parts_are_of_samples();
-    narrower_parts_narrow();
-}
+{}
 
 /// A piece inside another has no wider a hull by the best entries of each: where neither is empty,
 /// its ends lie inside the other's; and if the hull of the longer piece is empty, so is its own. So
 /// if the hull over one tick isn't empty, no longer piece with that tick has an empty one, and from
 /// tick to tick the ends only move outwards.
+#[tactic(auto, using(crate::proofs::Narrow::no_wider_within))]
 pub fn pieces_within_have_no_wider_hulls()
     ensures { (samples : List Sample) (claim : ClaimData) (outer inner : Stretch) →
         claim.drift_ppb ≤ max_drift_ppb → AreSamplesOf claim samples →
         IsPiece inner.begin inner.end → HoldsWhole outer inner →
         IsNoWider (best_hull samples claim outer) (best_hull samples claim inner) }
-{
-    best_samples_are_the_first_best();
-    piece_inside_another_is_narrower();
-    parts_are_of_samples();
-    narrower_parts_narrow();
-    every_list_has_a_hull();
-}
+{}
 
 /// And so it is where the groups of a cover have no say.
+#[tactic(auto, using(crate::proofs::HullWithout::no_wider_without))]
 pub fn pieces_within_have_no_wider_hulls_without_groups()
     ensures { (samples : List Sample) (claim : ClaimData) (cover : ℕ → Bool)
         (outer inner : Stretch) → claim.drift_ppb ≤ max_drift_ppb → AreSamplesOf claim samples →
         IsPiece inner.begin inner.end → HoldsWhole outer inner →
         IsNoWider (hull_without samples claim cover outer)
         (hull_without samples claim cover inner) }
-{
-    best_samples_are_the_first_best();
-    piece_inside_another_is_narrower();
-    parts_are_of_samples();
-    narrower_parts_narrow();
-    every_list_has_a_hull();
-}
+{}
 
 /// If no tick of the span needs more than so many ticks of bound where the groups of a cover have
 /// no say, then the clock is off by no more whenever it shows a reading of the span, in every course
@@ -161,48 +124,28 @@ pub fn neediest_ticks_bound_the_error()
         NoneNeedsMore (samples_of xs claim) claim cover most →
         Fits claim xs course → HasFalse claim cover course →
         IsObservedIn course claim.first claim.last → IsWithin course (pos most) }
-{
-    best_samples_are_the_first_best();
-    piece_inside_another_is_narrower();
-    parts_are_of_samples();
-    narrower_parts_narrow();
-    samples_of_exchanges_keep_limits();
-    few_groups_leave_the_error_out();
-    drift_shows_on_the_clock_itself();
-    error_at_the_request_is_no_less();
-    error_at_the_reply_is_no_more();
-    error_lies_in_the_interval_of_the_piece();
-    whole_points_are_fine_enough();
-    every_list_has_a_hull();
-}
+{}
 
 /// However an accepted certificate cuts the span, none of its pieces ends after the longest piece
 /// of the same number.
+#[tactic(auto, using(crate::proofs::Beyond::ends_no_later))]
 pub fn accepted_pieces_end_no_later()
     ensures { (samples : List Sample) (claim : ClaimData) (ends : List ℤ)
         (other : CertificateData) (k : ℕ) (end : ℤ) (piece : PieceData) → IsLawful claim →
         AreSamplesOf claim samples → AreLongest samples claim claim.first ends →
         verdict_of samples claim other ≡ Verdict.Yes → slice_get ends k ≡ Some end →
         slice_get other.pieces k ≡ Some piece → pos piece.upto ≤ℤ end }
-{
-    best_samples_are_the_first_best();
-    best_entries_show_as_much();
-    pieces_within_have_no_wider_hulls();
-    pieces_give_the_verdict();
-    best_hulls_hold_the_error();
-}
+{}
 
 /// The least bound of hulls is the least inside which all of them lie, with the first piece that
 /// needs it; and no other answer is.
+#[tactic(auto, using(crate::proofs::Bound::least_is_least, crate::proofs::Bound::least_is_one))]
 pub fn least_bound_is_the_least()
     ensures is { (hulls : ℕ → Hull) (count : ℕ) → 0 < count →
         IsLeast hulls count (least_of hulls count) }
     ensures no_other { (hulls : ℕ → Hull) (count : ℕ) (a b : LeastBound) →
         IsLeast hulls count a → IsLeast hulls count b → a ≡ b }
-{
-    ratios_are_rounded_as_little_as_can_be();
-    nanoseconds_lie_between_their_ticks();
-}
+{}
 
 /// The least bound of an envelope is the least that `find` carries with the same samples, claim and
 /// step: with that bound or a wider one it gives a certificate, and with a lesser one none. If no
@@ -220,10 +163,7 @@ pub fn find_carries_the_least_bound()
         (envelope : EnvelopeData) → envelope_of samples claim step ≡ Ok envelope →
         envelope.least ≡ LeastBound.NoneHolds k →
         IsNotCertified (found_of samples (with_bound claim m) step) }
-{
-    ratios_are_rounded_as_little_as_can_be();
-    nanoseconds_lie_between_their_ticks();
-}
+{}
 
 /// Pieces that are cut finer need no wider bound. And if no bound holds over them, though one does
 /// over the others, then the samples contradict each other in the first such piece.
@@ -238,12 +178,7 @@ pub fn finer_pieces_need_no_wider_bound()
         0 < step → 0 < times → envelope_of samples claim (step * times) ≡ Ok coarse →
         coarse.least ≡ LeastBound.Holds n j → envelope_of samples claim step ≡ Ok fine →
         fine.least ≡ LeastBound.NoneHolds k → hull_at samples claim step k ≡ Hull.Empty }
-{
-    best_samples_are_the_first_best();
-    best_entries_show_as_much();
-    ratios_are_rounded_as_little_as_can_be();
-    nanoseconds_lie_between_their_ticks();
-}
+{}
 
 /// If some course of events fits the exchanges, their samples contradict each other at no tick: in
 /// each of them the clock can be read.
@@ -251,11 +186,7 @@ pub fn courses_leave_no_hull_empty()
     ensures { (claim : ClaimData) (xs : List Exchange) → IsLawful claim →
         All (IsLawfulExchange (length claim.servers)) xs → SomeCourse claim xs →
         IsNeverEmpty (samples_of xs claim) claim }
-{
-    best_hulls_hold_the_error();
-    some_course_is_observed_at_any_reading();
-    samples_of_exchanges_keep_limits();
-}
+{}
 
 /// The longest pieces end in one of three ways, and in no two of them: they are the certificate of
 /// fewest pieces, they get stuck at a tick, or as many as a certificate may have don't reach the
@@ -282,6 +213,4 @@ pub fn pieces_hold_their_ticks()
         0 < step → IsTick claim p →
         (piece_holding claim step p < count_of claim step)
         × HoldsTick samples claim step (piece_holding claim step p) p }
-{
-    last_piece_ends_with_the_span();
-}
+{}

@@ -83,6 +83,7 @@ pub(crate) fn reach_of(lo: i128, hi: i128) -> u128
 /// The least number of nanoseconds that has no fewer ticks, even if they are rounded down.
 ///
 /// Whole seconds are counted apart, so that no product is out of range.
+#[tactic(auto, using(crate::proofs::Bound::sum_is_ceiling))]
 pub(crate) fn nanoseconds_of(ticks: u128) -> u128
     requires { ticks ≤ 2 ^ 127 }
     ensures value { result ≡ nanoseconds_of ticks }

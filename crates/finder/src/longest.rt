@@ -11,16 +11,11 @@ ghost use Rattle.finder.specs.Fewest.{FailsAt, IsLongest, shows, stretch_over};
 ghost use Rattle.finder.specs.Reach.{AreTablesFor, IsTabled};
 ghost use Rattle.checker.specs.Samples.{AreSamplesOf};
 
-use crate::laws::{
-    best_entries_show_as_much, best_hulls_hold_the_error, pieces_within_have_no_wider_hulls,
-};
 use crate::likely::likely_length;
 use crate::trial::trial;
-use checker::laws::pieces_give_the_verdict;
 use claim_file::Claim;
 use intersection::kinds::Hull;
 use sample_interval::SampleSource;
-use span_cover::laws::best_samples_are_the_first_best;
 use span_cover::{is_inside, piece_hull};
 use std::alloc::{AllocError, Global};
 use sweep::{BestTable, Places, parts_near, tables_of};
@@ -55,7 +50,6 @@ pub(crate) fn hull_over(
     ensures { (samples : List Sample) → AreTablesFor samples (data_of claim.now) tables.now →
         result ≡ best_hull samples (data_of claim.now) (stretch_over (pos begin) (pos end)) }
 {
-    best_samples_are_the_first_best();
     let parts = parts_near(
         tables,
         places,
@@ -201,11 +195,6 @@ fn longest_end(
     ensures { (samples : List Sample) → AreTablesFor samples (data_of claim.now) tables.now →
         IsLongest samples (data_of claim.now) (pos begin) (pos result) }
 {
-    best_samples_are_the_first_best();
-    best_entries_show_as_much();
-    pieces_within_have_no_wider_hulls();
-    pieces_give_the_verdict();
-    best_hulls_hold_the_error();
     let mut low = next;
     let mut high = claim.last as u64;
     while low < high {

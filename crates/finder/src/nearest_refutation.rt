@@ -11,7 +11,6 @@ ghost use Rattle.finder.specs.NearestRefutation.{nearest_error, nearest_refutati
 
 use crate::room::{is_possible, mirrored, refusing, rooms_of};
 use certificate::Refutation;
-use checker::laws::test_is_passed_where_room_is_left;
 use claim_file::Claim;
 use intersection::kinds::Interval;
 use pairing::ToExchange;
@@ -26,6 +25,7 @@ pub(crate) const LEAST_ERROR_BELOW: i128 = 1 << 63;
 /// none, the one with the greatest error below it on the other side. It names just the servers that
 /// have an exchange with no room for that error, in their order, and the first reading of the span.
 /// It takes no memory, and looks once at each exchange.
+#[tactic(auto, using(std::proofs::lemmas::Int::ints))]
 pub fn find_refutation<X: ToExchange>(exchanges: &[X], claim: &Claim) -> Option<Refutation>
     requires exchanges { All (IsLawfulExchange (length claim.now.servers.items))
         (map X.shown exchanges.now) }
@@ -38,7 +38,6 @@ pub fn find_refutation<X: ToExchange>(exchanges: &[X], claim: &Claim) -> Option<
     ensures none { IsNone result
         → NoneIsRefuted (claim_data claim.now) (map X.shown exchanges.now) }
 {
-    test_is_passed_where_room_is_left();
     let rooms = rooms_of(exchanges, claim.reading);
     let error = nearest_error(&rooms, claim)?;
     Some(Refutation {

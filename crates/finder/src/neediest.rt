@@ -18,7 +18,6 @@ ghost use Rattle.finder.specs.Reach.{IsTabled, OfTables};
 ghost use Rattle.sample_interval.specs.Widening.{IsRate};
 
 use crate::carried::MOST_BOUND_NS;
-use crate::laws::pieces_within_have_no_wider_hulls_without_groups;
 use crate::least::{nanoseconds_of, reach_of};
 use crate::leeway::group_of;
 use crate::longest::tick_after;
@@ -27,7 +26,6 @@ use claim_file::Claim;
 use feasibility::Groups;
 use intersection::kinds::Hull;
 use sample_interval::PARTS;
-use span_cover::laws::best_samples_are_the_first_best;
 use span_cover::{Part, piece_hull};
 use std::alloc::{AllocError, Global};
 use sweep::{BestTable, Places, parts_near};
@@ -263,7 +261,6 @@ fn may_need_more(
         (p : ℤ) → IsWithin gap p → NeedsAtMost best.ticks
         (tick_without samples (claim_data claim.now) (holds cover) p)) }
 {
-    pieces_within_have_no_wider_hulls_without_groups();
     if gap.reach() <= 1 {
         return false;
     }
@@ -336,7 +333,6 @@ fn hull_without(
         spec.hull_without samples (claim_data claim.now) (holds cover)
         (stretch_over (pos begin) (pos end))) }
 {
-    best_samples_are_the_first_best();
     let all = parts_near(
         tables,
         places,

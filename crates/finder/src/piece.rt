@@ -11,6 +11,7 @@ use std::alloc::{AllocError, Global};
 
 /// How many pieces the span has that is cut every `step_s` seconds: the last is the first that ends
 /// with the span.
+#[tactic(auto, using(crate::proofs::SpanPieces::counting))]
 pub(crate) fn piece_count(claim: &Claim, step_s: u32) -> u64
     requires step { 0 < step_s }
     ensures { result ≡ count_of (data_of claim.now) step_s }
@@ -22,6 +23,7 @@ pub(crate) fn piece_count(claim: &Claim, step_s: u32) -> u64
 
 /// The ends of the first `count` pieces of the span from `first` to `last`, which are Unix ticks,
 /// from 0 to below 2^64.
+#[tactic(auto, using(std::proofs::lemmas::Int::ints))]
 pub(crate) fn piece_ends(
     alloc: Global,
     first: i128,

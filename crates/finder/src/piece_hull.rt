@@ -16,7 +16,6 @@ use claim_file::Claim;
 use intersection::kinds::Hull;
 use sample_interval::SampleSource;
 use span_cover::Stretch;
-use span_cover::laws::best_samples_are_the_first_best;
 
 /// A piece of a span, and what the samples say about the clock's error there.
 #[derive(Debug, Drop)]
@@ -47,7 +46,6 @@ pub(crate) fn piece_hull_at<S: SampleSource>(
     ensures { piece_data result
         ≡ piece_hull_at (S.samples samples) (claim_data claim.now) step_s number }
 {
-    best_samples_are_the_first_best();
     let stretch = stretch_at(claim, step_s, number);
     let entries = entries_at(tables, number as usize);
     let hull = hull_of(samples, claim, stretch, &entries);

@@ -11,7 +11,6 @@ ghost use Rattle.finder.specs.Room.{AreMirrored, AreRooms, IsNear, possible_by, 
 
 use arrayvec::ArrayVec;
 use checker::false_group_count;
-use checker::laws::test_is_passed_where_room_is_left;
 use claim_file::Claim;
 use intersection::kinds::Interval;
 use intersection::meet;
@@ -44,6 +43,7 @@ pub(crate) fn rooms_of<X: ToExchange>(exchanges: &[X], allowance: i128) -> [Inte
 
 /// The errors for which an exchange leaves room.
 #[inline(always)]
+#[tactic(auto, using(std::proofs::lemmas::Int::ints, std::proofs::lemmas::Int::clamps))]
 fn room_of(exchange: &Exchange, allowance: i128) -> Interval
     requires exchange { IsOfSomeClaim exchange.now }
     requires from_zero { pos 0 ≤ℤ allowance }
@@ -53,7 +53,6 @@ fn room_of(exchange: &Exchange, allowance: i128) -> Interval
     ensures low { unsigned_abs result.lo ≤ 2 ^ 80 }
     ensures high { unsigned_abs result.hi ≤ 2 ^ 80 }
 {
-    test_is_passed_where_room_is_left();
     let request = difference(exchange.t1_low, allowance);
     let reply = sum(exchange.t4_high, allowance);
     let earliest_receipt = difference(exchange.t2, exchange.distance);

@@ -21,7 +21,6 @@ ghost use Rattle.pairing.specs.Exchange.{IsLawful as IsLawfulExchange, most_exch
 use crate::drift_refutation::find_with_cover;
 use crate::fault::FindFault;
 use crate::fewest::{Fewest, fewest_by};
-use crate::laws::{neediest_ticks_bound_the_error, samples_of_exchanges_keep_limits};
 use crate::longest::{tables_for, tick_after};
 use crate::nearest_refutation::find_refutation;
 use crate::neediest::{most_with, neediest_tick, splits_for};
@@ -86,7 +85,6 @@ pub fn exchange_samples<'a, X: ToExchange>(
     ensures as_many { length (samples_of (map X.shown exchanges.now) (claim_data claim.now))
         ≡ length exchanges.now }
 {
-    samples_of_exchanges_keep_limits();
     ExchangeSamples {
         exchanges,
         reading: claim.reading,
@@ -140,7 +138,6 @@ fn refutation_of<X: ToExchange>(
     ensures { IfOk result (IsSearched (claim_data claim.now) (map X.shown exchanges.now)
         readings.now) }
 {
-    neediest_ticks_bound_the_error();
     tables_settle_covers();
     false_groups_are_a_cover();
     refutations_without_drift_stand();

@@ -13,12 +13,12 @@ ghost use Rattle.finder.specs.Piece.{stretch_at};
 use crate::piece::piece_ends;
 use claim_file::Claim;
 use sample_interval::SampleSource;
-use span_cover::laws::first_best_of_both_ends_are_the_best;
 use std::alloc::{AllocError, Global};
 use sweep::{best_of_pieces, servers_of};
 
 /// For each server that has a sample, in the order of the servers, its best samples in each of the
 /// first `count` pieces.
+#[tactic(auto, using(std::proofs::lemmas::Int::ints))]
 pub(crate) fn tables<S: SampleSource>(
     alloc: Global,
     samples: S,
@@ -60,7 +60,6 @@ pub(crate) fn tables_over<S: SampleSource>(
         filter_map (λ table. slice_get table.items k) tables.items
         ≡ best_entries (S.samples samples) (data_of claim.now) (stretch_over p q)) }
 {
-    first_best_of_both_ends_are_the_best();
     let servers = servers_of(alloc, samples)?;
     let mut tables = Vec::new(alloc);
     for server in 0..claim.servers.len() {

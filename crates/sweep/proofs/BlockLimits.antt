@@ -39,7 +39,7 @@ module _ (queue : List Arrival) (n width : ℕ) (limits : List ℕ) (are : AreLi
   one_later b height old = record {
     turn = old.turn;
     arrival = old.arrival;
-    before = let before = old.before in omega arith;
+    before = omega arith;
     stands = old.stands;
     in_block = old.in_block;
     is = old.is;
@@ -95,20 +95,31 @@ module _ (queue : List Arrival) (n width : ℕ) (limits : List ℕ) (are : AreLi
 
 -- ---- what has come
 
+module _ (queue : List Arrival) (place n height : ℕ) (upto : AreUpto queue place n) where
+  pub has_come : (index : ℕ) (reached : IsReached queue place height index) → reached.turn < n
+  has_come index reached = ⊎_elim
+      (λ less. less)
+      (λ le. absurd (omega (arith, upto.beyond reached.turn reached.arrival le reached.stands)))
+      (cases_lt reached.turn n)
+
+  pub reached_by : (turn : ℕ) (a : Arrival) → turn < n → slice_get queue turn ≡ Some a → height ≤ a.height →
+      IsReached queue place height a.index
+  reached_by turn a before stands no_lower = record {
+    turn = turn;
+    arrival = a;
+    stands = stands;
+    of_index = refl;
+    no_later = upto.upto turn a before stands;
+    no_lower = no_lower;
+  }
+
 module _ (queue : List Arrival) (place height width n : ℕ) (limits : List ℕ) (upto : AreUpto queue place n)
     (are : AreLimitsOf queue n width limits) where
   -- a height that is reached is below the limit of its block
   pub below_limit : (index : ℕ) → IsReached queue place height index → height < get_or limits (index / width) 0
   below_limit index reached =
-      let come : reached.turn < n = ⊎_elim
-      (λ less. less)
-      (λ le.
-      let late = upto.beyond reached.turn reached.arrival le reached.stands in
-      let no_later = reached.no_later in
-      absurd (omega arith))
-      (cases_lt reached.turn n) in
-      let above = are.above reached.turn reached.arrival come reached.stands in
-      let no_lower = reached.no_lower in
+      let above = are.above reached.turn reached.arrival (has_come queue place n height upto index reached)
+      reached.stands in
       subst (λ (i : ℕ). height < get_or limits (i / width) 0) reached.of_index (omega arith)
 
   -- and what is below a limit is reached in the block
@@ -118,14 +129,7 @@ module _ (queue : List Arrival) (place height width n : ℕ) (limits : List ℕ)
       (λ none. absurd (omega arith))
       (λ one. (
         one.arrival.index,
-        record {
-          turn = one.turn;
-          arrival = one.arrival;
-          stands = one.stands;
-          of_index = refl;
-          no_later = upto.upto one.turn one.arrival one.before one.stands;
-          no_lower = let is = one.is in omega arith;
-        },
+        reached_by queue place n height upto one.turn one.arrival one.before one.stands (omega arith),
         one.in_block,
       ))
       (are.of_one block)
@@ -148,7 +152,6 @@ module _ (queue : List Arrival) (place height width n : ℕ) (limits : List ℕ)
               let split = div-div-eq-div-mul other width 128 in
               let least = is.first other reached in
               let from : 128 * wide ≤ other / width = omega arith in
-              let low = at.0 in
               ⊎_elim
               (λ less. (found (other / width) from less (below_limit other reached)).0)
               (λ le. omega arith)

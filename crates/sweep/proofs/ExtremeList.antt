@@ -5,13 +5,7 @@ use Rattle.sweep.proofs.List.{pushed_cases, slice_get-front, slice_get-last}
 
 lawful_end : (value start stop : ℤ) (extreme : Extreme) → unsigned_abs value ≤ 2 ^ 72 → unsigned_abs start ≤ 2 ^ 72 →
     start ≤ℤ stop → unsigned_abs stop ≤ 2 ^ 72 → IsEndAt value start stop extreme → IsLawfulExtreme extreme
-lawful_end value start stop extreme a b c d is = record {
-  least_end = omega (arith, ints, is.end);
-  greatest_end = omega (arith, ints, is.end);
-  begins = omega (arith, ints, is.from);
-  in_order = omega (arith, ints, is.from, is.to);
-  ends = omega (arith, ints, is.to);
-}
+lawful_end value start stop extreme a b c d is = omega (arith, ints)
 
 lawful_extreme : (side : Side) (sample : Sample) (extreme : Extreme) → IsLawfulSample sample →
     IsExtremeOf side sample extreme →
@@ -81,11 +75,11 @@ module _ (side : Side) (samples : List Sample) (server n : ℕ) (extremes : List
   pub ExtremesSoFar-other : (sample : Sample) → slice_get samples n ≡ Some sample → sample.server ≢ server →
       ExtremesSoFar side samples server (n + 1) extremes
   ExtremesSoFar-other sample here other = record {
-    few = let few = so_far.few in omega arith;
+    few = omega arith;
     within = let inside = slice_get_within samples n sample here in omega arith;
     each = λ index extreme is.
         let known = so_far.each index extreme is in
-        (known.0, let less = known.1 in omega arith);
+        (known.0, omega arith);
     all = all;
     rising = so_far.rising;
   }
@@ -124,7 +118,7 @@ module _ (side : Side) (samples : List Sample) (server n : ℕ) (extremes : List
       each : (index : ℕ) (b : Extreme) → slice_get (extremes ++ extreme ∷ []) index ≡ Some b →
           IsOfServer side samples server b × (b.number < n + 1)
       each index b at = ⊎_elim
-          (λ old. let known = so_far.each index b old in (known.0, let less = known.1 in omega arith))
+          (λ old. let known = so_far.each index b old in (known.0, omega arith))
           (λ new. subst (λ (x : Extreme). IsOfServer side samples server x × (x.number < n + 1)) (sym new.1)
           (own, omega (arith, number)))
           (pushed_cases extremes extreme b index at)

@@ -2,6 +2,7 @@
 use Rattle.sweep.proofs.Common.{◌≡◌, ℕ, ◌+◌, ◌-◌, ◌/◌, ◌<◌, ◌≤◌, ◌^◌, max, ℤ, pos, ◌+ℤ◌, ◌-ℤ◌, ◌≤ℤ◌, neg_ℤ, List, length, map, Option, Some, None, MatchOption, refl, sym, ◌∙◌, ap, subst, arith, inl, inr, ⊎_elim, slice_get, All, option_map, cases_lt, ints, le-div, div-mul-le_self, Side, Low, High, IsRate, IsWidening, widening, billion, Sample, HasNoSample, IsFirstBest, IsBestLow, IsBestHigh, best_of, merit, moved_low, moved_high, Part, IsLawfulExtreme, AreExtremesOf, mirrored_extreme, IsEarlyLevel, IsStretchOf, IsLawfulStretch, mirrored_stretch, IsLevelOver, best_part, said_by, IsAtLeast, distance, Extreme, UnsignedStretch}
 use Rattle.intersection.specs.declared.kinds.Interval.{Interval}
 use Rattle.span_cover.specs.Gathering.{best_interval, interval_between}
+use Rattle.span_cover.proofs.BestSample.{best_numbers}
 use Rattle.sweep.proofs.ExtremeList.{some_sample}
 use Rattle.sweep.proofs.Merit.{merit_is, known}
 use Rattle.sweep.proofs.Reach.{reaches_either, either_reaches, some_reaches}
@@ -74,8 +75,7 @@ level_of_best : (x y : ℤ) (end wide best_end best_wide level : ℕ) → x +ℤ
     (best_wide ≤ best_end → best_end - best_wide ≤ level) → y +ℤ pos (2 ^ 75) ≡ pos level
 level_of_best x y end wide best_end best_wide level a b reached no_more most =
     let under : best_wide ≤ best_end = omega (arith, ints) in
-    let top = most under in
-    omega (arith, ints)
+    omega (arith, ints, most under)
 
 module _ (side : Side) (samples : List Sample) (server : ℕ) (extremes : List Extreme)
     (are : AreExtremesOf side samples server extremes) where
@@ -99,12 +99,6 @@ module _ (side : Side) (samples : List Sample) (server : ℕ) (extremes : List E
 
 -- ---- the part of a table
 
--- what the definition gives are the best samples, and it gives none only if there is no sample
-abbrev pub BestLaw : Type 0
-BestLaw = (samples : List Sample) (server : ℕ) (p q : ℤ) (ppb : ℕ) →
-    MatchOption (best_of samples server p q ppb) (HasNoSample samples server)
-    (λ best. IsBestLow samples server p q ppb best.0 × IsBestHigh samples server p q ppb best.1)
-
 from_zero_low : (merit : ℤ) (level : ℕ) (lo : ℤ) → merit +ℤ pos (2 ^ 75) ≡ pos level → lo ≡ pos level -ℤ pos (2 ^ 75) →
     merit ≡ lo
 from_zero_low merit level lo counted is = omega (arith, ints)
@@ -113,7 +107,7 @@ from_zero_high : (high : ℤ) (level : ℕ) (hi : ℤ) → neg_ℤ high +ℤ pos
     hi ≡ neg_ℤ (pos level -ℤ pos (2 ^ 75)) → high ≡ hi
 from_zero_high high level hi counted is = omega (arith, ints)
 
-module _ (law : BestLaw) (samples : List Sample) (server : ℕ) (p q : ℤ) (ppb : ℕ) (stretch : UnsignedStretch)
+module _ (samples : List Sample) (server : ℕ) (p q : ℤ) (ppb : ℕ) (stretch : UnsignedStretch)
     (at : IsStretchOf p q stretch) (s : IsLawfulStretch stretch) where
   module _ (low high : ℕ) (interval : Interval) (lo : interval.lo ≡ pos low -ℤ pos (2 ^ 75))
       (hi : interval.hi ≡ neg_ℤ (pos high -ℤ pos (2 ^ 75))) where
@@ -142,7 +136,7 @@ module _ (law : BestLaw) (samples : List Sample) (server : ℕ) (p q : ℤ) (ppb
       chosen (Some best) is both = rw is (between best both.0 both.1)
 
       pub interval_is : best_interval samples server p q ppb ≡ Some interval
-      interval_is = chosen (best_of samples server p q ppb) refl (law samples server p q ppb)
+      interval_is = chosen (best_of samples server p q ppb) refl (best_numbers samples server p q ppb)
 
 -- the part that the levels give
 pub part_is : (samples : List Sample) (p q : ℤ) (ppb server : ℕ) (part : Part) → part.server ≡ server →

@@ -18,18 +18,14 @@ pub record MaximaSoFar (queue : List Arrival) (n : ℕ) (maxima : List PrefixMax
   pub rise : MaximaRise maxima
 
 pub MaximaSoFar-none : (queue : List Arrival) → MaximaSoFar queue 0 []
-MaximaSoFar-none queue = record {
-  each = λ i maximum is. absurd cc;
-  all = λ k a less is. absurd (omega arith);
-  rise = λ i j a b le at_i at_j. absurd cc;
-}
+MaximaSoFar-none queue = grind arith
 
 one_later : (queue : List Arrival) (n : ℕ) (maximum : PrefixMaximum) → IsFromArrival queue n maximum →
     IsFromArrival queue (n + 1) maximum
 one_later queue n maximum is = record {
   turn = is.turn;
   arrival = is.arrival;
-  before = let before = is.before in omega arith;
+  before = omega arith;
   stands = is.stands;
   place = is.place;
   height = is.height;
@@ -39,10 +35,7 @@ module _ (ppb : ℕ) (extremes : List Extreme) (queue : List Arrival) (are : IsQ
   module _ (n : ℕ) (maxima : List PrefixMaximum) (so_far : MaximaSoFar queue n maxima) (a : Arrival)
       (here : slice_get queue n ≡ Some a) where
     no_later : (maximum : PrefixMaximum) → IsFromArrival queue n maximum → maximum.place ≤ a.at
-    no_later maximum is =
-        let before = is.before in
-        let order = are.in_order is.turn n is.arrival a (omega arith) is.stands here in
-        omega (arith, is.place)
+    no_later maximum is = omega (arith, is.place, are.in_order is.turn n is.arrival a (omega arith) is.stands here)
 
     -- an arrival that isn't higher than the last maximum
     pub MaximaSoFar-kept : (last : PrefixMaximum) → slice_get maxima (length maxima - 1) ≡ Some last →
@@ -117,7 +110,6 @@ module _ (ppb : ℕ) (extremes : List Extreme) (queue : List Arrival) (are : IsQ
             let last = slice_get-below maxima (length maxima - 1) (omega arith) in
             let lower = so_far.rise i (length maxima - 1) x last.0 (omega arith) at last.1 in
             let less = above last.0 last.1 in
-            let low = lower.1 in
             let early = no_later x (so_far.each i x at) in
             (omega (arith, place), omega (arith, height_is))
 
@@ -174,7 +166,6 @@ module _ (ppb : ℕ) (extremes : List Extreme) (maxima : List PrefixMaximum) (ar
         let first = slice_get-below maxima 0 (omega arith) in
         let order = (are.rise 0 top.index first.0 top.maximum (omega arith) first.1 top.stands).0 in
         let after = beyond first.0 first.1 in
-        let later = top.no_later in
         absurd (omega arith);
   }
 
@@ -189,7 +180,7 @@ module _ (ppb : ℕ) (extremes : List Extreme) (maxima : List PrefixMaximum) (ar
           index = own.index;
           extreme = own.extreme;
           stands = own.stands;
-          no_later = let is = own.place in omega arith;
+          no_later = omega arith;
           height = own.height;
         });
     no_lower = no_lower;
@@ -199,7 +190,6 @@ module _ (ppb : ℕ) (extremes : List Extreme) (maxima : List PrefixMaximum) (ar
           extreme.from + extreme.to ≤ place → height ppb extreme ≤ last.height
       no_lower index extreme is before =
           let top = are.all index extreme is in
-          let later = top.no_later in
           let lower = top.no_lower in
           ⊎_elim
           (λ inside.
@@ -237,7 +227,6 @@ module _ (ppb : ℕ) (slow : IsRate ppb) (extremes : List Extreme) (stretch : Un
           early = one.no_later;
           at_least =
               let least : 1 * (billion - ppb) ≤ level * (billion - ppb) = mul-le-mul_right (billion - ppb) positive in
-              let same = one.height in
               omega arith;
         },
       ))
@@ -251,7 +240,6 @@ module _ (ppb : ℕ) (slow : IsRate ppb) (extremes : List Extreme) (stretch : Un
     reached = reached level level_is;
     highest = λ index other there.
         let lower = is.no_lower index there.extreme there.stands there.early in
-        let enough = there.at_least in
         subst (λ (l : ℕ). other ≤ l) (sym level_is)
         (le-div other (greatest - ppb * stretch.end) (billion - ppb) (omega arith) (omega arith));
   }

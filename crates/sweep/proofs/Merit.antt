@@ -32,18 +32,12 @@ merit_is High p q ppb sample extreme stretch is b at s =
 no_more : (x y : ℤ) (end wide best_end best_wide level : ℕ) → x +ℤ pos (2 ^ 75) ≡ pos end -ℤ pos wide →
     y +ℤ pos (2 ^ 75) ≡ pos best_end -ℤ pos best_wide → level + best_wide ≤ best_end →
     (wide ≤ end → end - wide ≤ level) → x ≤ℤ y
-no_more x y end wide best_end best_wide level a b reached most = ⊎_elim
-    (λ less. omega (arith, ints))
-    (λ le. let under = most le in omega (arith, ints))
-    (cases_lt end wide)
+no_more x y end wide best_end best_wide level a b reached most = grind (arith, ints)
 
 less : (x y : ℤ) (end wide best_end best_wide level : ℕ) → x +ℤ pos (2 ^ 75) ≡ pos end -ℤ pos wide →
     y +ℤ pos (2 ^ 75) ≡ pos best_end -ℤ pos best_wide → level + best_wide ≤ best_end →
     (level + wide ≤ end → ⊥) → x <ℤ y
-less x y end wide best_end best_wide level a b reached short = ⊎_elim
-    (λ below. omega (arith, ints))
-    (λ le. absurd (short le))
-    (cases_lt end (level + wide))
+less x y end wide best_end best_wide level a b reached short = grind (arith, ints)
 
 module _ (side : Side) (samples : List Sample) (server : ℕ) (extremes : List Extreme)
     (are : AreExtremesOf side samples server extremes) (p q : ℤ) (ppb : ℕ) (stretch : UnsignedStretch)
@@ -115,8 +109,7 @@ module _ (side : Side) (samples : List Sample) (server : ℕ) (extremes : List E
             is.top.index ≤ index → ⊥
         not_before i index b stands number_is before behind = ⊎_elim
             (λ later.
-            let higher = are.rising is.top.index index is.extreme b later is.stands stands in
-            omega (arith, number_is, is.number))
+            omega (arith, number_is, is.number, are.rising is.top.index index is.extreme b later is.stands stands))
             (λ le.
             let here : index ≡ is.top.index = omega arith in
             let same : b ≡ is.extreme =

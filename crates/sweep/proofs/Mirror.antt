@@ -3,21 +3,11 @@ use Rattle.sweep.proofs.Common.{◌≡◌, ℕ, ◌+◌, ◌-◌, ◌≤◌, ◌
 use Rattle.sweep.proofs.List.{map_at, at_map, at_reverse, reverse_at}
 
 pub lawful-mirrored_extreme : (extreme : Extreme) → IsLawfulExtreme extreme → IsLawfulExtreme (mirrored_extreme extreme)
-lawful-mirrored_extreme extreme is = record {
-  least_end = is.least_end;
-  greatest_end = is.greatest_end;
-  begins = omega (arith, is.ends);
-  in_order = omega (arith, is.in_order);
-  ends = omega (arith, is.begins);
-}
+lawful-mirrored_extreme extreme is = omega arith
 
 pub lawful-mirrored_stretch : (stretch : UnsignedStretch) → IsLawfulStretch stretch
     → IsLawfulStretch (mirrored_stretch stretch)
-lawful-mirrored_stretch stretch is = record {
-  begins = omega (arith, is.ends);
-  in_order = omega (arith, is.in_order);
-  ends = omega (arith, is.begins);
-}
+lawful-mirrored_stretch stretch is = omega arith
 
 pub lawful-mirrored_stretches : (stretches : List UnsignedStretch) → All IsLawfulStretch stretches →
     All IsLawfulStretch (reverse (map mirrored_stretch stretches))

@@ -1,5 +1,6 @@
 -- The highest level that is reached over each stretch, and the first index that reaches it.
-use Rattle.sweep.proofs.Common.{◌≡◌, ℕ, ◌+◌, ◌-◌, ◌*◌, ◌<◌, ◌≤◌, List, Option, Some, max, refl, arith, subst, sym, ◌∙◌, ap, inl, inr, ⊎_elim, slice_get, cases_lt, same_Some, mul-le-mul_right, div-one, IsRate, billion, IsReached, IsFirstBlock, AreUpto, IsLead, IsWantedBelow, Reaches, IsQueueOf, IsTopOf, IsEarlyAtLeast, AreEarlyTops, AreTopsOver, height, height_for, Lead, Wanted, Extreme, Arrival, Top, UnsignedStretch}
+use Rattle.sweep.proofs.Common.{◌≡◌, ℕ, ◌+◌, ◌-◌, ◌*◌, ◌<◌, ◌≤◌, List, Option, Some, max, arith, subst, sym, ◌∙◌, ap, inl, inr, ⊎_elim, slice_get, cases_lt, same_Some, mul-le-mul_right, div-one, IsRate, billion, IsReached, IsFirstBlock, AreUpto, IsLead, IsWantedBelow, Reaches, IsQueueOf, IsTopOf, IsEarlyAtLeast, AreEarlyTops, AreTopsOver, height, height_for, Lead, Wanted, Extreme, Arrival, Top, UnsignedStretch}
+use Rattle.sweep.proofs.BlockLimits.{has_come, reached_by}
 use Rattle.sweep.proofs.TopOrder.{same_top}
 
 module _ (ppb : ℕ) (extremes : List Extreme) (queue : List Arrival) (is_queue : IsQueueOf ppb extremes queue)
@@ -8,8 +9,6 @@ module _ (ppb : ℕ) (extremes : List Extreme) (queue : List Arrival) (is_queue 
       IsEarlyAtLeast ppb extremes stretch index level
   reached_early reached =
       let of = is_queue.each reached.turn reached.arrival reached.stands in
-      let no_later = reached.no_later in
-      let no_lower = reached.no_lower in
       record {
         extreme = of.extreme;
         stands = ap (slice_get extremes) (sym reached.of_index) ∙ of.stands;
@@ -27,8 +26,6 @@ module _ (ppb : ℕ) (extremes : List Extreme) (queue : List Arrival) (is_queue 
       same_Some of.extreme is.extreme (sym of.stands ∙ ap (slice_get extremes) there.3 ∙ is.stands) in
       let at_is : a.at ≡ is.extreme.from + is.extreme.to = of.at ∙ ap (λ (b : Extreme). b.from + b.to) one in
       let height_is : a.height ≡ height ppb is.extreme = of.height ∙ ap (height ppb) one in
-      let early = is.early in
-      let enough = is.at_least in
       record {
         turn = there.0;
         arrival = a;
@@ -42,19 +39,10 @@ module _ (ppb : ℕ) (extremes : List Extreme) (queue : List Arrival) (is_queue 
 
 module _ (ppb : ℕ) (slow : IsRate ppb) (queue : List Arrival) (stretch : UnsignedStretch) (n : ℕ) (lead : Lead)
     (upto : AreUpto queue (stretch.begin + stretch.end) n) (leads : IsLead queue n lead) where
-  come : (height index : ℕ) (reached : IsReached queue (stretch.begin + stretch.end) height index) → reached.turn < n
-  come height index reached = ⊎_elim
-      (λ less. less)
-      (λ le.
-      let late = upto.beyond reached.turn reached.arrival le reached.stands in
-      let no_later = reached.no_later in
-      absurd (omega arith))
-      (cases_lt reached.turn n)
-
   below : (height index : ℕ) → IsReached queue (stretch.begin + stretch.end) height index → height < lead.limit
   below height index reached =
-      let above = leads.above reached.turn reached.arrival (come height index reached) reached.stands in
-      let no_lower = reached.no_lower in
+      let above = leads.above reached.turn reached.arrival
+      (has_come queue (stretch.begin + stretch.end) n height upto index reached) reached.stands in
       omega arith
 
   -- whatever is below the limit is reached
@@ -64,14 +52,8 @@ module _ (ppb : ℕ) (slow : IsRate ppb) (queue : List Arrival) (stretch : Unsig
       (λ none. absurd (omega arith))
       (λ one. (
         one.arrival.index,
-        record {
-          turn = one.turn;
-          arrival = one.arrival;
-          stands = one.stands;
-          of_index = refl;
-          no_later = upto.upto one.turn one.arrival one.before one.stands;
-          no_lower = let is = one.is in omega arith;
-        },
+        reached_by queue (stretch.begin + stretch.end) n height upto one.turn one.arrival one.before one.stands
+            (omega arith),
       ))
       leads.of_one
 
@@ -79,7 +61,6 @@ module _ (ppb : ℕ) (slow : IsRate ppb) (queue : List Arrival) (stretch : Unsig
       IsFirstBlock queue (stretch.begin + stretch.end) wanted.height 1 index →
       IsTopOf (Reaches ppb queue stretch) (Some (record { level = wanted.level; index = index }))
   top_some wanted is index block =
-      let over = is.highest in
       record {
         reached =
             subst (λ (h : ℕ). IsReached queue (stretch.begin + stretch.end) h index) is.height
@@ -115,8 +96,6 @@ module _ (queue : List Arrival) (n : ℕ) (lead new : Lead) (leads : IsLead queu
   IsLead-more = ⊎_elim
       (λ less.
       let is = higher less in
-      let limit = is.0 in
-      let second = is.2 in
       record {
         above = λ turn x before stands. ⊎_elim
             (λ old. let under = leads.above turn x old stands in omega arith)
@@ -138,8 +117,6 @@ module _ (queue : List Arrival) (n : ℕ) (lead new : Lead) (leads : IsLead queu
       })
       (λ stays.
       let is = no_higher stays in
-      let limit = is.0 in
-      let second = is.2 in
       record {
         above = λ turn x before stands. ⊎_elim
             (λ old. let under = leads.above turn x old stands in omega arith)
@@ -150,7 +127,7 @@ module _ (queue : List Arrival) (n : ℕ) (lead new : Lead) (leads : IsLead queu
             (λ one. inr (record {
               turn = one.turn;
               arrival = one.arrival;
-              before = let before = one.before in omega arith;
+              before = omega arith;
               stands = one.stands;
               index = one.index ∙ sym is.1;
               is = is.0 ∙ one.is;
@@ -158,8 +135,7 @@ module _ (queue : List Arrival) (n : ℕ) (lead new : Lead) (leads : IsLead queu
             leads.of_one;
         others = λ turn x before stands apart. ⊎_elim
             (λ old.
-            let under = leads.others turn x old stands (λ same. apart (same ∙ sym is.1)) in
-            omega arith)
+            omega (arith, (leads.others turn x old stands (λ same. apart (same ∙ sym is.1)))))
             (λ le. subst (λ (y : Arrival). y.height < new.second) (last turn x stands (omega arith)) (omega arith))
             (cases_lt turn n);
       })

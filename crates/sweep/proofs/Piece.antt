@@ -1,14 +1,9 @@
 -- The best samples of each piece.
-use Rattle.sweep.proofs.Common.{◌≡◌, ℕ, ℤ, List, Some, arith, get_or, subst, sym, ◌∙◌, slice_get-get_or, slice_get_within, Sample, IsBestLow, IsBestHigh, best_of, AreExtremesOf, AreBestOfPieces, ArePairsOf, AreStretchesOf, IsLawfulStretch, AreTopNumbers, Extreme, Low, High, UnsignedStretch, All-slice_get}
+use Rattle.sweep.proofs.Common.{◌≡◌, ℕ, ℤ, List, arith, get_or, subst, sym, ◌∙◌, slice_get-get_or, slice_get_within, Sample, AreExtremesOf, AreBestOfPieces, ArePairsOf, AreStretchesOf, IsLawfulStretch, AreTopNumbers, Extreme, Low, High, UnsignedStretch, All-slice_get}
+use Rattle.span_cover.proofs.BestSample.{best_of-best}
 use Rattle.sweep.proofs.Merit.{IsFirstBest-top}
 
--- whoever has the first best for both ends has the best samples: a law of the crate below
-abbrev pub BestLaw : Type 0
-BestLaw = (samples : List Sample) (server : ℕ) (p q : ℤ) (ppb low high : ℕ) →
-    IsBestLow samples server p q ppb low → IsBestHigh samples server p q ppb high →
-    best_of samples server p q ppb ≡ Some (low, high)
-
-module _ (law : BestLaw) (samples : List Sample) (server : ℕ) (first : ℤ) (ends : List ℤ) (ppb : ℕ)
+module _ (samples : List Sample) (server : ℕ) (first : ℤ) (ends : List ℤ) (ppb : ℕ)
     (lows highs : List Extreme) (are_low : AreExtremesOf Low samples server lows)
     (are_high : AreExtremesOf High samples server highs) (stretches : List UnsignedStretch)
     (are_stretches : AreStretchesOf first ends stretches) where
@@ -29,7 +24,7 @@ module _ (law : BestLaw) (samples : List Sample) (server : ℕ) (first : ℤ) (e
         let high : ℕ = get_or high_numbers k 0 in
         let high_at = slice_get-get_or high_numbers k 0 (omega (arith, are_stretches.as_many, high_tops.as_many)) in
         pairs.each k low high low_at high_at
-        ∙ sym (law samples server p q ppb low high
+        ∙ sym (best_of-best samples server p q ppb low high
         (IsFirstBest-top Low samples server lows are_low p q ppb stretch is_stretch lawful low
         (low_tops.each k stretch low here low_at))
         (IsFirstBest-top High samples server highs are_high p q ppb stretch is_stretch lawful high

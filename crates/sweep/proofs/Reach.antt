@@ -22,8 +22,7 @@ module _ (scale rate distance from to end level wide : ℕ) (apart : distance + 
       let below : level ≤ end = le_of_mul-le-mul_left {k = scale} (omega arith) positive in
       let rest : end ≡ level + (end - level) = omega arith in
       let split : scale * end ≡ scale * level + (end - level) * scale = ap (λ (e : ℕ). scale * e) rest ∙ omega arith in
-      let least = ceiling.least (end - level) (omega arith) in
-      omega arith
+      omega (arith, ceiling.least (end - level) (omega arith))
 
 module _ (widens : (ppb distance : ℕ) → ppb < billion → IsWidening ppb distance (widening ppb distance)) (ppb : ℕ)
     (slow : IsRate ppb) where

@@ -20,11 +20,7 @@ piece_here first ends n begin pieces fits end_fits begins within =
 
 pub lawful_stretch : (p q : ℤ) (stretch : UnsignedStretch) → IsPiece p q → IsStretchOf p q stretch
     → IsLawfulStretch stretch
-lawful_stretch p q stretch piece is = record {
-  begins = omega (arith, ints, piece.from_zero, is.begin);
-  in_order = omega (arith, ints, piece.in_order, is.begin, is.end);
-  ends = omega (arith, ints, piece.in_range, is.end);
-}
+lawful_stretch p q stretch piece is = omega (arith, ints)
 
 -- the stretches of the pieces below number n, of which the next begins here
 pub record StretchesSoFar (first : ℤ) (ends : List ℤ) (n : ℕ) (begin : ℤ) (stretches : List UnsignedStretch)

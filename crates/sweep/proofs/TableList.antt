@@ -1,5 +1,6 @@
 -- The tables of servers, and what they give one after another.
-use Rattle.sweep.proofs.Common.{◌≡◌, ℕ, zero, suc, ◌+◌, ◌<◌, Bool, true, false, ℤ, List, [], ◌∷◌, ◌++◌, length, map, take, get_or, Option, Some, None, refl, sym, ◌∙◌, ap, arith, cond, nat_eq, true≢false, slice_get, filter, filter_map, cons_option, range_with_len, nat_tests, append-nil, take_more, map-append, filter-append, filter_map-append, slice_get-get_or, Sample, HasNoSample, best_of, Part, AreTablesOf, IsTableOf, best_part, best_parts, has_sample, Extreme, BestTable, or_right, eq-eqb, range_with_len_more}
+use Rattle.sweep.proofs.Common.{◌≡◌, ℕ, zero, suc, ◌+◌, ◌<◌, Bool, true, false, ℤ, List, [], ◌∷◌, ◌++◌, length, map, take, get_or, Option, Some, None, refl, sym, ◌∙◌, ap, arith, cond, nat_eq, true≢false, slice_get, filter, filter_map, cons_option, range_with_len, nat_tests, append-nil, take_more, map-append, filter-append, filter_map-append, slice_get-get_or, Sample, HasNoSample, Part, AreTablesOf, IsTableOf, best_part, best_parts, has_sample, Extreme, BestTable, or_right, eq-eqb, range_with_len_more}
+use Rattle.span_cover.proofs.BestSample.{best_of-none}
 
 -- ---- whether a server has a sample
 
@@ -86,16 +87,15 @@ module _ (f : ℕ → Option Part) where
       step rest true e = ap (cons_option (f n)) rest
       step rest false e = rest ∙ ap (λ o. cons_option o (filter_map f ns)) (sym (none n e))
 
-pub parts_are : ((samples : List Sample) (server : ℕ) (p q : ℤ) (ppb : ℕ) → HasNoSample samples server →
-    best_of samples server p q ppb ≡ None) → (samples : List Sample) (count : ℕ) (p q : ℤ) (ppb : ℕ)
-    (tables : List BestTable) → AreTablesOf samples count ppb tables →
+pub parts_are : (samples : List Sample) (count : ℕ) (p q : ℤ) (ppb : ℕ) (tables : List BestTable) →
+    AreTablesOf samples count ppb tables →
     filter_map (λ table. best_part samples p q ppb table.server) tables ≡ best_parts samples count p q ppb
-parts_are law samples count p q ppb tables are =
+parts_are samples count p q ppb tables are =
     of_servers (best_part samples p q ppb) tables
     ∙ ap (filter_map (best_part samples p q ppb)) are.servers
     ∙ of_passed (best_part samples p q ppb) (has_sample samples) none (range_with_len 0 count)
   where
     none : (n : ℕ) → has_sample samples n ≡ false → best_part samples p q ppb n ≡ None
     none n fails =
-        rw (law samples n p q ppb
+        rw (best_of-none samples n p q ppb
         (λ i s is of. true≢false (sym (one_has samples n i s is of) ∙ fails))) refl

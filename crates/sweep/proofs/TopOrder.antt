@@ -37,9 +37,7 @@ module _ (first second : ℕ → ℕ → Type 0) where
         (λ reaches.
         let under = b.highest index one.level reaches in
         let same : one.level ≡ other.level = omega arith in
-        let later = b.first index (subst (second index) same reaches) in
-        let before = no_later same in
-        omega arith);
+        omega (arith, no_later same, b.first index (subst (second index) same reaches)));
   }
 
   other_wins : (one other : Top) → IsTop first one → IsTop second other →
@@ -53,9 +51,7 @@ module _ (first second : ℕ → ℕ → Type 0) where
         (λ reaches.
         let under = a.highest index other.level reaches in
         let same : one.level ≡ other.level = omega arith in
-        let later = a.first index (subst (first index) (sym same) reaches) in
-        let before = no_later same in
-        omega arith)
+        omega (arith, no_later same, a.first index (subst (first index) (sym same) reaches)))
         (λ reaches. b.first index reaches);
   }
 

@@ -8,7 +8,7 @@
 ghost use Rattle.std.specs.Prelude.{◌≡◌, ◌≤◌, ◌^◌, length};
 ghost use Rattle.sample_interval.specs.Widening.{IsRate};
 
-use crate::places::{Near, Places};
+use crate::places::{Near, Places, trial};
 use crate::prefix_maximum::{PrefixMaximum, count_upto};
 use crate::table::{BestTable, Maxima};
 use crate::tick::{from_origin, mirrored_tick};
@@ -92,19 +92,12 @@ fn duration_of(maxima: &Maxima, near: &mut Near, begin: u128, level: u128, drift
         .unwrap_or(u64::MAX)
 }
 
-/// How many of the maxima are lower than a height, looked for from `near` on by steps that double.
+/// How many of the maxima are lower than a height, looked for from `near` on.
 fn count_below(maxima: &[PrefixMaximum], height: u128, near: usize) -> usize {
     let mut low = 0;
     let mut high = maxima.len();
     while low < high {
-        let half = (high - low) / 2;
-        let middle = if near < low {
-            low + (low - near).min(half)
-        } else if near < high {
-            near
-        } else {
-            high - 1 - (near - high).min(half)
-        };
+        let middle = trial(low, high, near);
         if maxima[middle].height < height {
             low = middle + 1;
         } else {

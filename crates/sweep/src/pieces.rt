@@ -10,7 +10,6 @@ use crate::choice::top_numbers;
 use crate::extreme::extremes_of;
 use crate::unsigned_stretch::stretches_of;
 use sample_interval::SampleSource;
-use span_cover::laws::first_best_of_both_ends_are_the_best;
 use std::alloc::{AllocError, Global};
 
 /// The best samples of a server for each of the consecutive pieces that end at `ends`, the first of
@@ -39,7 +38,6 @@ pub fn best_of_pieces<S: SampleSource>(
     ensures best { IfOk result (λ found. IfSome found (λ chosen.
         AreBestOfPieces (S.samples samples) server first ends.now drift_ppb chosen.items)) }
 {
-    first_best_of_both_ends_are_the_best();
     let (lows, highs) = extremes_of(alloc, samples, servers, server)?;
     if lows.is_empty() {
         return Ok(None);

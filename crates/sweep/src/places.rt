@@ -1,4 +1,6 @@
-//! Where look-ups in the tables ended.
+//! Where look-ups in the tables ended, and where the next one goes.
+
+ghost use Rattle.std.specs.Prelude.{◌<◌, ◌≤◌};
 
 /// Where the last look-ups ended in the maxima of one kind of end.
 #[derive(Clone, Copy, Default, PartialEq, Eq)]
@@ -24,4 +26,22 @@ pub struct NearTable {
 #[derive(Clone, Copy, Default)]
 pub struct Places {
     pub near: [NearTable; 32],
+}
+
+/// The index to try next of those from `low` to below `high`: `near` first, then what lies beside
+/// it, and then twice as far each time, but no further than halfway. So it takes at most twice as
+/// many turns as a search that halves.
+pub fn trial(low: usize, high: usize, near: usize) -> usize
+    requires { low < high }
+    ensures from_low { low ≤ result }
+    ensures below_high { result < high }
+{
+    let half = (high - low) / 2;
+    if near < low {
+        low + (low - near - 1).min(half)
+    } else if near < high {
+        near
+    } else {
+        high - 1 - (near - high).min(half)
+    }
 }

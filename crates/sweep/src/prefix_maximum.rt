@@ -9,6 +9,7 @@ ghost use Rattle.sweep.specs.UnsignedStretch.{IsLawfulStretch};
 ghost use Rattle.sweep.specs.declared.extreme.Extreme.{Extreme as TheExtreme};
 
 use crate::extreme::Extreme;
+use crate::places::trial;
 use crate::queue::queue_of;
 use crate::unsigned_stretch::UnsignedStretch;
 use std::alloc::{AllocError, Global};
@@ -60,35 +61,14 @@ fn is_higher(height: u128, maxima: &[PrefixMaximum]) -> bool
     maxima.is_empty() || maxima[maxima.len() - 1].height < height
 }
 
-/// Indices between which the count of the maxima that come no later than a place lies. They are
-/// looked for from `near` on, by steps that double; all are taken if there are fewer maxima.
-fn bracket(maxima: &[PrefixMaximum], place: u128, near: usize) -> (usize, usize)
-    ensures { IsBracket maxima.now place result.0 result.1 }
-{
-    if maxima.len() < near {
-        return (0, maxima.len());
-    }
-    let mut low = near;
-    let mut high = near;
-    while high < maxima.len() && maxima[high].place <= place {
-        low = high + 1;
-        high = low + low.abs_diff(near).min(maxima.len() - low);
-    }
-    'back: while 0 < low && place < maxima[low - 1].place {
-        high = low - 1;
-        low = high.saturating_sub(high.abs_diff(near));
-    }
-    (low, high)
-}
-
-/// How many of the maxima come no later than a place. It's looked for from `near` on, and in at
-/// most twice the steps of a search among all.
+/// How many of the maxima come no later than a place, looked for from `near` on.
 pub fn count_upto(maxima: &[PrefixMaximum], place: u128, near: usize) -> usize
     ensures { IsBracket maxima.now place result result }
 {
-    let (mut low, mut high) = bracket(maxima, place, near);
+    let mut low = 0;
+    let mut high = maxima.len();
     while low < high {
-        let middle = low + (high - low) / 2;
+        let middle = trial(low, high, near);
         if maxima[middle].place <= place {
             low = middle + 1;
         } else {

@@ -24,7 +24,6 @@ use intersection::kinds::Interval;
 use sample_interval::laws::widening_is_one_number;
 use sample_interval::{PARTS, SampleSource};
 use span_cover::Part;
-use span_cover::laws::{best_samples_are_the_first_best, first_best_of_both_ends_are_the_best};
 use std::alloc::{AllocError, Global};
 
 /// The maxima of extremes, and of the same with time running backwards.
@@ -171,7 +170,6 @@ fn part_over(
     ensures { (samples : List Sample) → IsTableOf samples drift_ppb table.now →
         best_part samples begin end drift_ppb table.now.server ≡ Some result }
 {
-    best_samples_are_the_first_best();
     let stretch = UnsignedStretch {
         begin: from_origin(begin),
         end: from_origin(end),
@@ -219,7 +217,6 @@ pub fn parts_near(
         AreTablesOf samples count drift_ppb tables.now →
         result.items ≡ best_parts samples count begin end drift_ppb }
 {
-    first_best_of_both_ends_are_the_best();
     let mut parts = ArrayVec::new();
     for (index, table) in tables.iter().enumerate() {
         let near = &mut places.near[index];

@@ -7,14 +7,13 @@ invariant_of-result c =
     let claim = data_of c.args.claim.now in
     let lawful = c.args.claim.now.lawful in
     let ticks = c.ns_down.ensures.ticks in
-    let small = c.ns_down.ensures.in_range in
-    let other = lawful_with c.nanoseconds_lie_between_their_ticks.ensures.down claim _ c.requires.in_range lawful in
+    let other = lawful_with claim _ c.requires.in_range lawful in
     record {
       lawful = rw (
         first_kept claim lawful,
         last_kept claim lawful,
         reading_kept claim lawful,
-        w128_keeps c.ns_down.result (omega (arith, ints, ticks, small)),
+        w128_keeps c.ns_down.result (omega (arith, ints, ticks)),
         c.in_ok-from_slice.ensures.items ∙ c.as_slice.ensures.value,
         c.in_ok-from_slice-2.ensures.items ∙ c.as_slice-2.ensures.value,
         ticks,
@@ -26,12 +25,11 @@ returns c =
     let claim = data_of c.args.claim.now in
     let lawful = c.args.claim.now.lawful in
     let ticks = c.ns_down.ensures.ticks in
-    let small = c.ns_down.ensures.in_range in
     rw (
       first_kept claim lawful,
       last_kept claim lawful,
       reading_kept claim lawful,
-      w128_keeps c.ns_down.result (omega (arith, ints, ticks, small)),
+      w128_keeps c.ns_down.result (omega (arith, ints, ticks)),
       c.in_ok-from_slice.ensures.items ∙ c.as_slice.ensures.value,
       c.in_ok-from_slice-2.ensures.items ∙ c.as_slice-2.ensures.value,
       ticks,

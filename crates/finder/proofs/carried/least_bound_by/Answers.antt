@@ -6,22 +6,8 @@ pub returns : goal.returns
 returns c samples tabled =
     let claim = data_of c.args.claim.now in
     let l = c.loop-least in
-    let order = l.invariant.in_order in
-    let met = c.loop-least-test.false in
     let same : l.least ≡ l.bound_ns = omega arith in
-    finds_least (record {
-      fewest = record {
-        best = c.best_samples_are_the_first_best.ensures;
-        narrow = c.best_entries_show_as_much.ensures;
-        within = c.pieces_within_have_no_wider_hulls.ensures;
-        each = c.pieces_give_the_verdict.ensures.each;
-        covers = c.pieces_give_the_verdict.ensures.covers;
-        held = c.best_hulls_hold_the_error.ensures;
-      };
-      wider = c.wider_bounds_hold_too.ensures;
-      down = c.nanoseconds_lie_between_their_ticks.ensures.down;
-      more = c.more_nanoseconds_have_no_fewer_ticks.ensures.down;
-    }) samples claim c.args.claim.now.lawful tabled.of_claim (record { bound_ns = l.bound_ns; tick = l.tick })
+    finds_least samples claim c.args.claim.now.lawful tabled.of_claim (record { bound_ns = l.bound_ns; tick = l.tick })
     l.invariant.small (l.invariant.carried samples tabled)
     (subst (λ (n : ℕ). IsFirst samples claim n (pos l.tick)) same (l.invariant.first samples tabled))
     (none_of _ _ c.in_ok-widest.widest (sym c.is_some.ensures ∙ c.if-is_some.false)

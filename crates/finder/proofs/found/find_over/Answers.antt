@@ -1,28 +1,13 @@
 use Rattle.claim_file.specs.Claim.{data_of as claim_data}
-use Rattle.finder.proofs.Answer.{found_few, found_many, found_without_memory}
+use Rattle.finder.proofs.Answer.{found_few}
+use Rattle.finder.proofs.SpanPieces.{IsPieceCount-piece_count_of}
 use Rattle.finder.proofs.found.find_over.Goals as goal
-
-pub returns-then-count : goal.returns-then-count
-returns-then-count g c =
-    found_many (g.S.SampleSource.samples c.args.samples) (claim_data c.args.claim.now) c.args.step_s
-    (rw c.piece_count-count.ensures at c.if-count.true)
-
-pub returns-in_err-found : goal.returns-in_err-found
-returns-in_err-found g c =
-    found_without_memory (g.S.SampleSource.samples c.args.samples) (claim_data c.args.claim.now) c.args.step_s
-    (rw c.piece_count-count.ensures at c.if-count.false) c.from_residual.result c.from_residual.ensures.1
 
 pub returns : goal.returns
 returns g c =
     let claim = claim_data c.args.claim.now in
     let step = c.args.step_s in
-    let counted = c.last_piece_ends_with_the_span.ensures claim.first claim.last step
-    c.args.claim.now.lawful.span_forward c.requires.step.some in
-    found_few (g.S.SampleSource.samples c.args.samples) claim step (record {
-      best = c.best_samples_are_the_first_best.ensures;
-      narrow = c.best_entries_show_as_much.ensures;
-      each = c.pieces_give_the_verdict.ensures.each;
-      verdicts = c.verdicts_are_traceable.ensures;
-      held = c.best_hulls_hold_the_error.ensures;
-    }) c.args.claim.now.lawful c.requires.samples counted (rw c.piece_count-count.ensures at c.if-count.false)
-    c.in_ok-found.found c.in_ok-found.ensures
+    let counted = IsPieceCount-piece_count_of claim.first claim.last step c.args.claim.now.lawful.span_forward
+    c.requires.step.some in
+    found_few (g.S.SampleSource.samples c.args.samples) claim step c.args.claim.now.lawful c.requires.samples counted
+    (rw c.piece_count-count.ensures at c.if-count.false) c.in_ok-found.found c.in_ok-found.ensures

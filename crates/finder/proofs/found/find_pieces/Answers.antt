@@ -1,32 +1,7 @@
-use Rattle.finder.proofs.Common.{◌≡◌, ◌<◌, map, false, true, sym, ap, ◌∙◌, falls, arith, map-append, piece_data, data_of as claim_data, is_inside, PieceHullData, count_of, bound_kept}
+use Rattle.finder.proofs.Common.{◌≡◌, ◌<◌, map, false, true, sym, ap, ◌∙◌, arith, map-append, piece_data, data_of as claim_data, is_inside, PieceHullData, count_of, bound_kept}
 use Rattle.finder.proofs.Finding.{found_all, found_failing, passed_more, pieces_more}
 use Rattle.finder.proofs.SpanPieces.{end_fits, end_kept}
-use Rattle.finder.proofs.TablePieces.{best_tables, few_tables, long_tables}
 use Rattle.finder.proofs.found.find_pieces.Goals as goal
-
-pub tables-requires-clause-samples : goal.tables-requires-clause-samples
-tables-requires-clause-samples g c = c.requires.samples.lawful
-
-pub tables-requires-clause-few : goal.tables-requires-clause-few
-tables-requires-clause-few g c = c.requires.few
-
-pub piece_hull_at-entries-requires-clause-samples : goal.piece_hull_at-entries-requires-clause-samples
-piece_hull_at-entries-requires-clause-samples g c = c.requires.samples
-
-pub piece_hull_at-entries-requires-clause-few : goal.piece_hull_at-entries-requires-clause-few
-piece_hull_at-entries-requires-clause-few g c =
-    few_tables _ c.as_slice.result.now c.in_ok-tables.tables.items c.as_slice.ensures.value c.in_ok-tables.ensures.few
-    c.args.claim.now.lawful.few_servers
-
-pub piece_hull_at-entries-requires-clause-long : goal.piece_hull_at-entries-requires-clause-long
-piece_hull_at-entries-requires-clause-long g c =
-    long_tables c.loop-number.number c.args.count c.as_slice.result.now c.in_ok-tables.tables.items
-    c.as_slice.ensures.value c.loop-number-test.true c.in_ok-tables.ensures.long
-
-pub piece_hull_at-entries-requires-clause-best : goal.piece_hull_at-entries-requires-clause-best
-piece_hull_at-entries-requires-clause-best g c =
-    best_tables c.loop-number.number c.as_slice.result.now c.in_ok-tables.tables.items _ c.as_slice.ensures.value
-    (c.in_ok-tables.ensures.best c.loop-number.number c.loop-number-test.true)
 
 pub returns-then-not-is_inside : goal.returns-then-not-is_inside
 returns-then-not-is_inside g c =
@@ -64,15 +39,9 @@ loop-number-preserved g c =
           (ap (λ (p : PieceHullData). is_inside claim.bound p.hull) (sym piece) ∙ inside);
     }
 
-pub loop-number-smaller : goal.loop-number-smaller
-loop-number-smaller g c = falls _ _ c.loop-number-test.true
-
 pub returns : goal.returns
 returns g c =
     let claim = claim_data c.args.claim.now in
-    let up = c.loop-number-test.false in
-    let to = c.loop-number.auto.number-end in
-    let counted = c.requires.count in
     let all : c.loop-number.number ≡ count_of claim c.args.step_s = omega arith in
     found_all (g.S.SampleSource.samples c.args.samples) claim c.args.step_s _ (rw all at c.loop-number.invariant.pieces)
     (rw all at c.loop-number.invariant.passed)

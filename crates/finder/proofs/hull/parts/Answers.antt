@@ -1,4 +1,4 @@
-use Rattle.finder.proofs.Common.{◌<◌, ◌≤◌, length, get_or, ap, ◌∙◌, falls, arith, common_steps, take_all, data_of, IsLawfulSample, part_named, parts_named, All-slice_get}
+use Rattle.finder.proofs.Common.{◌<◌, ◌≤◌, length, get_or, ap, ◌∙◌, arith, common_steps, take_all, data_of, IsLawfulSample, part_named, parts_named, All-slice_get}
 use Rattle.finder.proofs.EntryList.{listed_parts, part_computed}
 use Rattle.finder.proofs.List.{filter_map_more}
 use Rattle.finder.proofs.hull.parts.Goals as goal
@@ -27,12 +27,6 @@ part_of-requires-clause-high g c =
     All-slice_get IsLawfulSample (g.S.SampleSource.samples c.args.samples) _ _ c.requires.samples.lawful
     c.sample_at-high.ensures
 
-pub part_of-requires-clause-stretch : goal.part_of-requires-clause-stretch
-part_of-requires-clause-stretch g c = c.requires.stretch
-
-pub part_of-requires-clause-rate : goal.part_of-requires-clause-rate
-part_of-requires-clause-rate g c = c.args.claim.now.lawful.drift_in_range
-
 pub loop-entry-preserved : goal.loop-entry-preserved
 loop-entry-preserved g c =
     let same = c.as_slice-entry-items.ensures.value in
@@ -51,9 +45,6 @@ loop-entry-preserved g c =
           c.push.ensures.items;
       fits = grind (arith, common_steps);
     }
-
-pub loop-entry-smaller : goal.loop-entry-smaller
-loop-entry-smaller g c = falls _ _ c.loop-entry-test.true
 
 pub returns-clause-exact : goal.returns-clause-exact
 returns-clause-exact g c =

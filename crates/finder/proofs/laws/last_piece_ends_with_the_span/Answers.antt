@@ -2,4 +2,4 @@ use Rattle.finder.proofs.SpanPieces.{IsPieceCount-piece_count_of}
 use Rattle.finder.proofs.laws.last_piece_ends_with_the_span.Goals as goal
 
 pub returns : goal.returns
-returns c = IsPieceCount-piece_count_of c.ratios_are_rounded_as_little_as_can_be.ensures.up
+returns c = IsPieceCount-piece_count_of

@@ -1,6 +1,7 @@
 use Rattle.finder.proofs.Common.{◌≡◌, ℕ, ◌+◌, ◌<◌, ℤ, pos, ◌≤ℤ◌, length, map, get_or, set, refl, sym, ap, ap₂, ◌∙◌, subst, to_z, of_z, arith, length-set, int_min, ◌↔◌, to_z-of_z, w128, data_of as claim_data, group_of, AreCompatible, AreLeeways, Lets, leeway_in, mark_at, no_limit, turned, reading_kept}
 use Rattle.finder.proofs.CompactExchange.{lawful_of, stands_at}
-use Rattle.finder.proofs.GroupLeeway.{none_yet, one_more_leeway, replicated, replicated_kept, same_default, still_kept}
+use Rattle.std.proofs.lemmas.List.{get_or_default, get_or-replicate}
+use Rattle.finder.proofs.GroupLeeway.{none_yet, one_more_leeway, replicated_kept, still_kept}
 use Rattle.finder.proofs.leeway.leeways_at.Goals as goal
 
 pub mark_of-mark-requires-clause-exchange : goal.mark_of-mark-requires-clause-exchange
@@ -21,7 +22,7 @@ loop-held-init g c = record {
   count = refl;
   kept = replicated_kept;
   so_far = none_yet (claim_data c.args.claim.now) (map g.X.ToExchange.shown c.args.exchanges.now) c.args.side
-      (pos c.args.reading) _ (λ group below. replicated 32 no_limit group);
+      (pos c.args.reading) _ (λ group below. get_or-replicate 32 group no_limit no_limit below);
 }
 
 pub loop-held-preserved : goal.loop-held-preserved
@@ -51,7 +52,7 @@ loop-held-preserved g c =
     (λ le. lets.0 (under.0 le), λ holds. under.1 (lets.1 holds))) in
     let old : to_z w128 (of_z w128 (get_or leeways c.from-group.result (pos 0)))
     ≡ leeway_in leeways (group_of claim x) =
-    ap (λ (z : ℤ). to_z w128 (of_z w128 z)) (same_default leeways c.from-group.result (pos 0) no_limit
+    ap (λ (z : ℤ). to_z w128 (of_z w128 z)) (get_or_default leeways c.from-group.result (pos 0) no_limit
     (omega (arith, all, group, below)) ∙ ap (leeway_in leeways) group)
     ∙ c.loop-held.invariant.kept (group_of claim x) below in
     let now = to_z-of_z w128 c.min.result (record { sfits = c.min.type_inv }) in

@@ -5,10 +5,6 @@ use Rattle.finder.proofs.leeway.most_under.Goals.{then-reading-mark, else-readin
 
 pub returns : goal.returns
 returns c error =
-    let in_place = c.requires.mark.place in
-    let in_error = c.requires.mark.error in
-    let in_reading = c.requires.reading in
-    let small = c.change.ensures.range in
     let distance = c.unsigned_abs-distance.ensures.value
     ∙ ap unsigned_abs (w128_keeps_difference c.args.mark.place c.args.reading (omega arith) (omega arith)) in
     let change : to_z w128 c.change.result ≡ pos c.change.result = search rules in

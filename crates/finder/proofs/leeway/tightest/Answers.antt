@@ -1,5 +1,6 @@
 use Rattle.finder.proofs.Common.{◌≡◌, true≢false, pos, get_or, length, rules, sym, ap, ◌∙◌, to_z, of_z, arith, w128, ints, holds, leeway_in, no_limit}
-use Rattle.finder.proofs.GroupLeeway.{no_tighter, same_default, tighter}
+use Rattle.std.proofs.lemmas.List.{get_or_default}
+use Rattle.finder.proofs.GroupLeeway.{no_tighter, tighter}
 use Rattle.finder.proofs.leeway.tightest.Goals as goal
 use Rattle.finder.proofs.leeway.tightest.Goals.{then-not-contains+then-most-least, else-not-contains, else-not-contains-via-then-not-contains+else-most-least, else-not-contains-via-else-not-contains}
 
@@ -15,7 +16,7 @@ loop-group-preserved c =
     let from = c.from.ensures in
     let below = c.loop-group-test.true in
     let here : to_z w128 (of_z w128 (get_or leeways c.from.result (pos 0))) ≡ leeway_in leeways n =
-    fits ∙ same_default leeways c.from.result (pos 0) no_limit (omega (arith, all, from, below))
+    fits ∙ get_or_default leeways c.from.result (pos 0) no_limit (omega (arith, all, from, below))
     ∙ ap (leeway_in leeways) from in
     elim c.if-not-contains.branch [
       | then-not-contains+then-most-least w ↦
@@ -28,10 +29,8 @@ loop-group-preserved c =
                 (sym c.contains.ensures.exact ∙ w.if-not-contains.true) (grind (arith, ints)));
           }
       | else-not-contains w ↦
-          let tightest = w.tightest-is in
-          let within = c.loop-group.invariant.below in
           record {
-            below = omega (arith, tightest, within);
+            below = omega arith;
             so_far = rw (w.tightest-is, w.least-is) (no_tighter leeways left_out n c.loop-group.tightest _ before
                 (λ outside. elim w.else-not-contains.branch [
                   | else-not-contains-via-then-not-contains+else-most-least w' ↦

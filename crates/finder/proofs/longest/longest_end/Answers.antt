@@ -4,51 +4,25 @@ use Rattle.finder.proofs.longest.longest_end.Goals as goal
 
 pub loop-low-init : goal.loop-low-init
 loop-low-init c samples tabled =
-    halved_first (record {
-      best = c.best_samples_are_the_first_best.ensures;
-      narrow = c.best_entries_show_as_much.ensures;
-      within = c.pieces_within_have_no_wider_hulls.ensures;
-      each = c.pieces_give_the_verdict.ensures.each;
-      covers = c.pieces_give_the_verdict.ensures.covers;
-      held = c.best_hulls_hold_the_error.ensures;
-    }) samples (data_of c.args.claim.now) c.args.claim.now.lawful tabled.of_claim
+    halved_first samples (data_of c.args.claim.now) c.args.claim.now.lawful tabled.of_claim
     c.args.begin c.args.next c.requires.in_span c.requires.next _
     (last_is (data_of c.args.claim.now) c.args.claim.now.lawful) (c.requires.shown samples tabled)
 
 pub is_shown-requires-clause-in_order : goal.is_shown-requires-clause-in_order
 is_shown-requires-clause-in_order c =
     let first = next_not_before c.args.begin c.args.next c.args.claim.now.last c.requires.in_span c.requires.next in
-    let halved = c.loop-low.invariant c.requires.tables.0 c.requires.tables.1 in
-    let some = halved.some in
-    let order = halved.in_order in
-    omega arith
+    omega (arith, c.loop-low.invariant c.requires.tables.0 c.requires.tables.1)
 
 pub loop-low-preserved-then-is_shown : goal.loop-low-preserved-then-is_shown
 loop-low-preserved-then-is_shown c samples tabled =
-    let below = c.loop-low-test.true in
-    halved_up (record {
-      best = c.best_samples_are_the_first_best.ensures;
-      narrow = c.best_entries_show_as_much.ensures;
-      within = c.pieces_within_have_no_wider_hulls.ensures;
-      each = c.pieces_give_the_verdict.ensures.each;
-      covers = c.pieces_give_the_verdict.ensures.covers;
-      held = c.best_hulls_hold_the_error.ensures;
-    }) samples (data_of c.args.claim.now) c.args.claim.now.lawful tabled.of_claim
+    halved_up samples (data_of c.args.claim.now) c.args.claim.now.lawful tabled.of_claim
     c.args.begin c.args.next c.requires.in_span c.requires.next c.loop-low.low c.loop-low.high _
     (c.loop-low.invariant samples tabled) (omega arith) (omega arith)
     (sym (c.is_shown.ensures samples tabled) ∙ c.if-is_shown.true)
 
 pub loop-low-preserved : goal.loop-low-preserved
 loop-low-preserved c samples tabled =
-    let below = c.loop-low-test.true in
-    halved_down (record {
-      best = c.best_samples_are_the_first_best.ensures;
-      narrow = c.best_entries_show_as_much.ensures;
-      within = c.pieces_within_have_no_wider_hulls.ensures;
-      each = c.pieces_give_the_verdict.ensures.each;
-      covers = c.pieces_give_the_verdict.ensures.covers;
-      held = c.best_hulls_hold_the_error.ensures;
-    }) samples (data_of c.args.claim.now) c.args.claim.now.lawful tabled.of_claim
+    halved_down samples (data_of c.args.claim.now) c.args.claim.now.lawful tabled.of_claim
     c.args.begin c.args.next c.requires.in_span c.requires.next c.loop-low.low c.loop-low.high
     (c.trial-middle.result + 1)
     (c.loop-low.invariant samples tabled) (omega arith) (omega arith) (c.requires.shown samples tabled)
@@ -56,13 +30,6 @@ loop-low-preserved c samples tabled =
 
 pub returns : goal.returns
 returns c samples tabled =
-    halved_end (record {
-      best = c.best_samples_are_the_first_best.ensures;
-      narrow = c.best_entries_show_as_much.ensures;
-      within = c.pieces_within_have_no_wider_hulls.ensures;
-      each = c.pieces_give_the_verdict.ensures.each;
-      covers = c.pieces_give_the_verdict.ensures.covers;
-      held = c.best_hulls_hold_the_error.ensures;
-    }) samples (data_of c.args.claim.now) c.args.claim.now.lawful tabled.of_claim
+    halved_end samples (data_of c.args.claim.now) c.args.claim.now.lawful tabled.of_claim
     c.args.begin c.args.next c.requires.in_span c.requires.next c.loop-low.low c.loop-low.high
     (c.loop-low.invariant samples tabled) c.loop-low-test.false (c.requires.shown samples tabled)

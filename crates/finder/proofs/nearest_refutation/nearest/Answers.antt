@@ -7,8 +7,6 @@ use Rattle.finder.proofs.nearest_refutation.nearest.Goals.{Else-is_possible, the
 next_kept : (claim : ClaimData) → IsLawful claim
     → to_z w128 (of_z w128 (claim.bound +ℤ pos 1)) ≡ claim.bound +ℤ pos 1
 next_kept claim lawful =
-    let not_below = lawful.bound_not_negative in
-    let not_above = lawful.bound_in_range in
     w128_keeps (claim.bound +ℤ pos 1) (omega (arith, ints))
 
 pub returns-then-is_possible : goal.returns-then-is_possible
@@ -24,9 +22,7 @@ returns-then-is_possible c =
 pub loop-server-init : goal.loop-server-init
 loop-server-init c =
     let claim = claim_data c.args.claim.now in
-    let not_below = c.args.claim.now.lawful.bound_not_negative in
     let beyond = c.requires.beyond in
-    let in_range = c.requires.in_range in
     let limit = to_z-of_z w128 c.args.limit c.ranges.limit in
     let after = w128_keeps (c.args.limit +ℤ pos 1) (omega (arith, ints)) in
     rw (limit, after) (nothing_so_far c.args.rooms.now claim (few_groups claim c.args.claim.now.lawful) c.args.limit
@@ -76,8 +72,6 @@ returns-then-first-limit c =
     let few = few_groups claim c.args.claim.now.lawful in
     let limit = to_z-of_z w128 c.args.limit c.ranges.limit in
     let within = rw limit at c.if-first-limit.true in
-    let up = c.loop-server-test.false in
-    let to = c.loop-server.auto.server-end in
     let all : c.loop-server.server ≡ 32 = omega arith in
     first_is_nearest c.args.rooms.now claim few c.args.limit _ (rw (limit, all) at c.loop-server.invariant)
     (fails (goal.at.returns-then-first-limit c).Else-is_possible) (grind (arith, ints))
@@ -88,8 +82,6 @@ returns-else-first-limit c =
     let few = few_groups claim c.args.claim.now.lawful in
     let limit = to_z-of_z w128 c.args.limit c.ranges.limit in
     let outside = rw limit at c.if-first-limit.false in
-    let up = c.loop-server-test.false in
-    let to = c.loop-server.auto.server-end in
     let all : c.loop-server.server ≡ 32 = omega arith in
     none_is_nearest c.args.rooms.now claim few c.args.limit _ (rw (limit, all) at c.loop-server.invariant)
     (fails (goal.at.returns-else-first-limit c).Else-is_possible) (grind (arith, ints))

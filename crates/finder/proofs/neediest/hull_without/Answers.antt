@@ -4,9 +4,6 @@ use Rattle.finder.proofs.LongestPiece.{tick_kept}
 use Rattle.finder.proofs.Part.{listed_said}
 use Rattle.finder.proofs.neediest.hull_without.Goals as goal
 
-pub parts_near-all-requires-clause-few : goal.parts_near-all-requires-clause-few
-parts_near-all-requires-clause-few c = c.requires.tables.1.few
-
 pub parts_without-parts-requires-clause-listed : goal.parts_without-parts-requires-clause-listed
 parts_without-parts-requires-clause-listed c =
     let claim = data_of c.args.claim.now in
@@ -17,7 +14,7 @@ parts_without-parts-requires-clause-listed c =
       c.args.claim.now.lawful.group_for_each,
       c.parts_near-all.ensures samples (length claim.servers) tabled.are,
     )
-    (listed_said c.best_samples_are_the_first_best.ensures samples claim _ _ tabled.of_claim)
+    (listed_said samples claim _ _ tabled.of_claim)
 
 pub piece_hull-requires-clause-listed : goal.piece_hull-requires-clause-listed
 piece_hull-requires-clause-listed c =
@@ -33,13 +30,13 @@ piece_hull-requires-clause-listed c =
       c.parts_near-all.ensures samples (length claim.servers) tabled.are,
     )
     (All-filter (has_say claim.groups (holds c.args.cover)) (λ part. part.server < length claim.servers) _
-    (listed_said c.best_samples_are_the_first_best.ensures samples claim _ _ tabled.of_claim))
+    (listed_said samples claim _ _ tabled.of_claim))
 
 pub returns : goal.returns
 returns c = record {
   exact = λ samples tabled.
       (let claim = data_of c.args.claim.now in
-      hull_said c.best_samples_are_the_first_best.ensures samples claim (holds c.args.cover) _ _ _ _
+      hull_said samples claim (holds c.args.cover) _ _ _ _
       c.parts_near-all.result.items c.as_slice-2.result.now c.saturating_sub-false_max.result _
       (tick_kept c.args.begin c.from.result c.ranges.begin.fits c.from.ensures)
       (tick_kept c.args.end c.from-2.result c.ranges.end.fits c.from-2.ensures)

@@ -1,8 +1,8 @@
 use Rattle.finder.proofs.Common.{◌≡◌, pos, List, [], ◌∷◌, ◌++◌, Some, nat_tests, sym, ap, ◌∙◌, subst, arith, ints, All-nil, All-push, data_of, holds, IsGap, gap_between}
 use Rattle.std.proofs.lemmas.List.Elements.{All-pop}
 use Rattle.finder.specs.declared.neediest.Gap.{Gap}
-use Rattle.finder.proofs.GapSearch.{AreLeft, boundless_at, first_is, first_left, half_gaps, left_behind, left_split, none_left, one_seen, seen_at}
-use Rattle.finder.proofs.LongestPiece.{last_is}
+use Rattle.finder.proofs.GapSearch.{AreLeft, boundless_at, first_left, half_gaps, left_behind, left_split, none_left, one_seen, seen_at}
+use Rattle.finder.proofs.LongestPiece.{first_is, last_is}
 use Rattle.finder.proofs.neediest.neediest_tick.Goals as goal
 use Rattle.finder.proofs.neediest.neediest_tick.Goals.{then-may_need_more+in-Some-tick_need-2+in_ok-push-2+in_ok-push-3, else-may_need_more}
 
@@ -64,20 +64,14 @@ pub tick_need-requires-then-may_need_more-clause-in_span : goal.tick_need-requir
 tick_need-requires-then-may_need_more-clause-in_span c =
     let gap = (All-pop (IsGap (data_of c.args.claim.now)) c.loop.left.items c.pop.new.self.items
     (Some c.in-Some-pop.gap) c.in-Some-pop.ensures.items c.loop.invariant.gaps).1 in
-    let last = gap.to_last in
-    let to = c.middle-middle.ensures.to_last in
-    omega (arith, ints, last, to)
+    omega (arith, ints)
 
 pub returns-in_default-tick_need-2 : goal.returns-in_default-tick_need-2
 returns-in_default-tick_need-2 c samples tabled =
     let gap = (All-pop (IsGap (data_of c.args.claim.now)) c.loop.left.items c.pop.new.self.items
     (Some c.in-Some-pop.gap) c.in-Some-pop.ensures.items c.loop.invariant.gaps).1 in
-    let first = gap.from_first in
-    let last = gap.to_last in
-    let from = c.middle-middle.ensures.from_first in
-    let to = c.middle-middle.ensures.to_last in
     boundless_at samples (data_of c.args.claim.now) (holds c.args.cover) c.middle-middle.result
-    (omega (arith, ints, first, from)) (omega (arith, ints, last, to))
+    (omega (arith, ints)) (omega (arith, ints))
     (c.in_default-tick_need-2.ensures.need samples tabled)
 
 pub loop-preserved : goal.loop-preserved
@@ -91,15 +85,11 @@ loop-preserved c =
     elim c.if-may_need_more.branch [
       | then-may_need_more+in-Some-tick_need-2+in_ok-push-2+in_ok-push-3 w ↦
           (let tick = w.in-Some-tick_need-2.tick in
-          let from = w.middle-middle.ensures.from_first in
-          let to = w.middle-middle.ensures.to_last in
-          let first = gaps.1.from_first in
-          let last = gaps.1.to_last in
           let at = w.in-Some-tick_need-2.ensures.begin in
           let later = w.halves.result.0 in
           let next = w.halves.result.1 in
-          let halves = half_gaps claim gap tick later next w.halves.ensures gaps.1 (omega (arith, at, from))
-          (omega (arith, at, to)) in
+          let halves = half_gaps claim gap tick later next w.halves.ensures gaps.1 (omega (arith, at))
+          (omega (arith, at)) in
           let pushed : w.push-then-may_need_more-2.new.self.items ≡ (rest ++ later ∷ []) ++ next ∷ [] =
           w.in_ok-push-3.ensures.items ∙ ap (λ (gaps : List Gap). gaps ++ next ∷ []) w.in_ok-push-2.ensures.items in
           rw (w.left-is, w.best-is) (record {
@@ -107,8 +97,8 @@ loop-preserved c =
                 (All-push (IsGap claim) rest later gaps.0 halves.0) halves.1);
             known = λ samples tabled.
                 (let known = c.loop.invariant.known samples tabled in
-                let seen = seen_at samples claim cover w.middle-middle.result tick at (omega (arith, ints, first, from))
-                (omega (arith, ints, last, to)) (w.in-Some-tick_need-2.ensures.need samples tabled) in
+                let seen = seen_at samples claim cover w.middle-middle.result tick at (omega (arith, ints))
+                (omega (arith, ints)) (w.in-Some-tick_need-2.ensures.need samples tabled) in
                 let needier = w.needier-best-then-may_need_more in (
                   one_seen samples claim cover c.loop.best tick needier.result needier.ensures.one known.0 seen,
                   subst (AreLeft samples claim cover needier.result.ticks) (sym pushed)
@@ -130,7 +120,6 @@ loop-preserved c =
 pub returns : goal.returns
 returns c samples tabled =
     let known = c.loop.invariant.known samples tabled in
-    let e = c.is_empty.ensures in
     record {
       in_span = known.0.in_span;
       need = known.0.need;

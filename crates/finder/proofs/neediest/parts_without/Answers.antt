@@ -5,9 +5,6 @@ use Rattle.finder.proofs.neediest.parts_without.Goals.{then-not-contains, else-n
 
 pub push-requires : goal.push-requires
 push-requires c =
-    let fits = c.loop-part.invariant.fits in
-    let few = c.requires.few in
-    let within = c.loop-part-test.true in
     let room : length c.loop-part.parts.items < 32 = omega arith in
     (omega arith, room)
 
@@ -21,12 +18,12 @@ loop-part-preserved c =
         so_far = one_more_kept test c.args.all.now index _ c.loop-part.parts.items c.loop-part.invariant.so_far
             c.loop-part-test.true w.push.new.self.items
             (is ∙ ap not (sym c.contains.ensures.exact ∙ w.if-not-contains.true)) w.push.ensures.items;
-        fits = (let fits = c.loop-part.invariant.fits in grind (arith, common_steps));
+        fits = grind (arith, common_steps);
       })
       | else-not-contains w ↦ rw w.parts-is (record {
         so_far = one_passed_over test c.args.all.now index _ c.loop-part.parts.items c.loop-part.invariant.so_far
             c.loop-part-test.true (is ∙ ap not (sym c.contains.ensures.exact ∙ w.if-not-contains.false));
-        fits = (let fits = c.loop-part.invariant.fits in omega arith);
+        fits = omega arith;
       })
     ]
 

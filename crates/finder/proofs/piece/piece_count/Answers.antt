@@ -1,21 +1,12 @@
 use Rattle.finder.proofs.Common.{ap, subst, sym, ◌<◌, ◌^◌, ℕ, unsigned_abs, data_of}
-use Rattle.finder.proofs.Claim.{length_kept, length_fits, length_below, length_from_zero, length_fits_unsigned}
-use Rattle.finder.proofs.SpanPieces.{count_from, count_fits, some_ticks, ticks_fit}
+use Rattle.finder.proofs.Claim.{length_kept, length_below, length_from_zero, length_fits_unsigned}
+use Rattle.finder.proofs.SpanPieces.{count_from, count_fits, some_ticks}
 use Rattle.finder.proofs.piece.piece_count.Goals as goal
-
-pub overflow_mul-step : goal.overflow_mul-step
-overflow_mul-step c = ticks_fit c.args.step_s c.from-step.result c.from-step.ensures c.ranges.step_s
-
-pub overflow_sub-length : goal.overflow_sub-length
-overflow_sub-length c = length_fits (data_of c.args.claim.now) c.args.claim.now.lawful
 
 pub overflow_cast-length : goal.overflow_cast-length
 overflow_cast-length c =
     let claim = data_of c.args.claim.now in
     (length_from_zero claim c.args.claim.now.lawful, length_fits_unsigned claim c.args.claim.now.lawful)
-
-pub div_ceil-requires : goal.div_ceil-requires
-div_ceil-requires c = some_ticks c.args.step_s c.from-step.result c.from-step.ensures c.requires.step
 
 pub overflow_cast-result : goal.overflow_cast-result
 overflow_cast-result c =

@@ -1,16 +1,6 @@
-use Rattle.finder.proofs.Common.{rules, falls, le_antisymm, ◌≡◌, [], ◌∷◌, ◌++◌, to_z, of_z, w128, to_z-of_z}
+use Rattle.finder.proofs.Common.{rules, le_antisymm, ◌≡◌, [], ◌∷◌, ◌++◌, to_z, of_z, w128, to_z-of_z}
 use Rattle.finder.proofs.SpanPieces.{ends_more}
 use Rattle.finder.proofs.piece.piece_ends.Goals as goal
-
-pub piece_end-requires-clause-from_zero : goal.piece_end-requires-clause-from_zero
-piece_end-requires-clause-from_zero c = rw (to_z-of_z w128 c.args.first c.ranges.first) c.requires.from_zero
-
-pub piece_end-requires-clause-in_order : goal.piece_end-requires-clause-in_order
-piece_end-requires-clause-in_order c =
-    rw (to_z-of_z w128 c.args.first c.ranges.first, to_z-of_z w128 c.args.last c.ranges.last) c.requires.in_order
-
-pub piece_end-requires-clause-in_range : goal.piece_end-requires-clause-in_range
-piece_end-requires-clause-in_range c = rw (to_z-of_z w128 c.args.last c.ranges.last) c.requires.in_range
 
 pub loop-number-preserved : goal.loop-number-preserved
 loop-number-preserved c =
@@ -20,9 +10,6 @@ loop-number-preserved c =
     c.loop-number.number c.loop-number.ends.items c.push.new.self.items c.piece_end.result _
     c.loop-number.invariant c.piece_end.ensures
     (to_z-of_z w128 c.piece_end.result (record { sfits = c.piece_end.type_inv })) pushed
-
-pub loop-number-smaller : goal.loop-number-smaller
-loop-number-smaller c = falls _ _ c.loop-number-test.true
 
 pub returns : goal.returns
 returns c =

@@ -14,7 +14,6 @@ returns c =
     elim c.if-number-eq0.branch [
       | then-number-eq0 w ↦ w.begin-is ∙ first_kept claim lawful ∙ ap begin_of (sym w.if-number-eq0.true)
       | else-number-eq0 w ↦
-          let later = w.if-number-eq0.false in
           w.begin-is
           ∙ end_computed claim lawful step (number - 1) w.piece_end-begin.result w.piece_end-begin.ensures
           ∙ sym (begin_later claim.first claim.last step number (number - 1) (omega arith))

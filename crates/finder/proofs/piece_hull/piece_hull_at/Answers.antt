@@ -13,7 +13,7 @@ pub hull_of-hull-requires-clause-named : goal.hull_of-hull-requires-clause-named
 hull_of-hull-requires-clause-named g c =
     let claim = claim_data c.args.claim.now in
     rw (c.entries_at-entries.ensures ∙ c.requires.best)
-    (entries_there c.best_samples_are_the_first_best.ensures (g.S.SampleSource.samples c.args.samples) claim
+    (entries_there (g.S.SampleSource.samples c.args.samples) claim
     (stretch_at claim c.args.step_s c.args.number))
 
 pub returns : goal.returns

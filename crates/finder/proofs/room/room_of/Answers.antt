@@ -1,5 +1,5 @@
-use Rattle.std.proofs.Common.{neg_ℤ, pos, ◌^◌}
-use Rattle.finder.proofs.ErrorRoom.{Computed, time_small, allowance_small, kept_small, end_small, request_kept, reply_kept, receipt_kept, answer_kept, earlier_kept, later_kept, after_kept, before_kept, low_kept, high_kept, room_is, no_room_backward, no_room_early}
+use Rattle.std.proofs.Common.{arith, neg_ℤ, pos, ◌^◌}
+use Rattle.finder.proofs.ErrorRoom.{Computed, request_kept, reply_kept, receipt_kept, answer_kept, earlier_kept, later_kept, after_kept, before_kept, low_kept, high_kept, room_is, no_room_backward, no_room_early, in_bits}
 use Rattle.finder.proofs.room.room_of.Goals as goal
 use Rattle.finder.proofs.room.room_of.Goals.{After-sum-latest_answer, then-reply-request-via-then-reply-request, then-reply-request-via-else-reply-request+then-latest_answer-earliest_receipt}
 
@@ -29,83 +29,14 @@ returns-then-reply-request-clause-room c error near =
     let answer = answer_kept x c.args.allowance first in
     elim c.then-reply-request.branch [
       | then-reply-request-via-then-reply-request w ↦
-          no_room_backward c.test_is_passed_where_room_is_left.ensures c.args.allowance error x
+          no_room_backward c.args.allowance error x
           (rw (request.kept, reply.kept) at w.if-reply-request.true) near
           (neg_ℤ (pos (2 ^ 80)))
       | then-reply-request-via-else-reply-request+then-latest_answer-earliest_receipt w ↦
-          no_room_early c.test_is_passed_where_room_is_left.ensures c.args.allowance error x
+          no_room_early c.args.allowance error x
           (rw (receipt.kept, answer.kept) at w.if-latest_answer-earliest_receipt.true) near
           (neg_ℤ (pos (2 ^ 80)))
     ]
-
-pub difference-request-requires-clause-a : goal.difference-request-requires-clause-a
-difference-request-requires-clause-a c = (time_small _ c.requires.exchange.lawful.t1_low).in_difference
-
-pub difference-request-requires-clause-b : goal.difference-request-requires-clause-b
-difference-request-requires-clause-b c =
-    (allowance_small _ c.requires.from_zero c.requires.at_most_a_second).in_difference
-
-pub sum-reply-requires-clause-a : goal.sum-reply-requires-clause-a
-sum-reply-requires-clause-a c = (time_small _ c.requires.exchange.lawful.t4_high).in_sum
-
-pub sum-reply-requires-clause-b : goal.sum-reply-requires-clause-b
-sum-reply-requires-clause-b c = (allowance_small _ c.requires.from_zero c.requires.at_most_a_second).in_sum
-
-pub difference-earliest_receipt-requires-clause-a : goal.difference-earliest_receipt-requires-clause-a
-difference-earliest_receipt-requires-clause-a c = (time_small _ c.requires.exchange.lawful.t2).in_difference
-
-pub difference-earliest_receipt-requires-clause-b : goal.difference-earliest_receipt-requires-clause-b
-difference-earliest_receipt-requires-clause-b c = (time_small _ c.requires.exchange.lawful.distance).in_difference
-
-pub sum-latest_answer-requires-clause-a : goal.sum-latest_answer-requires-clause-a
-sum-latest_answer-requires-clause-a c = (time_small _ c.requires.exchange.lawful.t3).in_sum
-
-pub sum-latest_answer-requires-clause-b : goal.sum-latest_answer-requires-clause-b
-sum-latest_answer-requires-clause-b c = (time_small _ c.requires.exchange.lawful.distance).in_sum
-
-pub sum-requires-clause-a : goal.sum-requires-clause-a
-sum-requires-clause-a c =
-    let first = computed (goal.at.sum-requires-clause-a c).After-sum-latest_answer in
-    (kept_small _ _ (earlier_kept c.args.exchange.now c.args.allowance first c.min-earlier.result
-    c.min-earlier.ensures.value)).in_sum
-
-pub sum-requires-clause-b : goal.sum-requires-clause-b
-sum-requires-clause-b c = (time_small _ c.requires.exchange.lawful.distance).in_sum
-
-pub difference-requires-clause-a : goal.difference-requires-clause-a
-difference-requires-clause-a c =
-    let first = computed (goal.at.difference-requires-clause-a c).After-sum-latest_answer in
-    (kept_small _ _ (request_kept c.args.exchange.now c.args.allowance first)).in_difference
-
-pub difference-requires-clause-b : goal.difference-requires-clause-b
-difference-requires-clause-b c =
-    let x = c.args.exchange.now in
-    let first = computed (goal.at.difference-requires-clause-b c).After-sum-latest_answer in
-    let earlier = earlier_kept x c.args.allowance first c.min-earlier.result c.min-earlier.ensures.value in
-    (kept_small _ _ (after_kept x c.args.allowance first c.min-earlier.result c.sum.result earlier.kept
-    c.sum.ensures.value)).in_difference
-
-pub difference-requires-2-clause-a : goal.difference-requires-2-clause-a
-difference-requires-2-clause-a c =
-    let first = computed (goal.at.difference-requires-2-clause-a c).After-sum-latest_answer in
-    (kept_small _ _ (later_kept c.args.exchange.now c.args.allowance first c.max-later.result
-    c.max-later.ensures.value)).in_difference
-
-pub difference-requires-2-clause-b : goal.difference-requires-2-clause-b
-difference-requires-2-clause-b c = (time_small _ c.requires.exchange.lawful.distance).in_difference
-
-pub difference-requires-3-clause-a : goal.difference-requires-3-clause-a
-difference-requires-3-clause-a c =
-    let first = computed (goal.at.difference-requires-3-clause-a c).After-sum-latest_answer in
-    (kept_small _ _ (reply_kept c.args.exchange.now c.args.allowance first)).in_difference
-
-pub difference-requires-3-clause-b : goal.difference-requires-3-clause-b
-difference-requires-3-clause-b c =
-    let x = c.args.exchange.now in
-    let first = computed (goal.at.difference-requires-3-clause-b c).After-sum-latest_answer in
-    let later = later_kept x c.args.allowance first c.max-later.result c.max-later.ensures.value in
-    (kept_small _ _ (before_kept x c.args.allowance first c.max-later.result c.difference-2.result later.kept
-    c.difference-2.ensures.value)).in_difference
 
 pub returns-clause-room : goal.returns-clause-room
 returns-clause-room c error near =
@@ -125,12 +56,32 @@ returns-clause-room c error near =
     c.difference.ensures.value in
     let high = high_kept x c.args.allowance first c.difference-2.result c.difference-3.result before
     c.difference-3.ensures.value in
-    rw (low, high) (room_is c.test_is_passed_where_room_is_left.ensures c.args.allowance error x
+    rw (low, high) (room_is c.args.allowance error x
     (rw (request.kept, reply.kept) at c.if-reply-request.false)
     (rw (receipt.kept, answer.kept) at c.if-latest_answer-earliest_receipt.false))
 
-pub returns-clause-low : goal.returns-clause-low
-returns-clause-low c = end_small c.difference.result c.difference.ensures.in_range
+pub sum-requires-clause-a : goal.sum-requires-clause-a
+sum-requires-clause-a c =
+    let first = computed (goal.at.sum-requires-clause-a c).After-sum-latest_answer in
+    in_bits _ _ (earlier_kept c.args.exchange.now c.args.allowance first c.min-earlier.result
+    c.min-earlier.ensures.value)
 
-pub returns-clause-high : goal.returns-clause-high
-returns-clause-high c = end_small c.difference-3.result c.difference-3.ensures.in_range
+pub difference-requires-2-clause-a : goal.difference-requires-2-clause-a
+difference-requires-2-clause-a c =
+    let first = computed (goal.at.difference-requires-2-clause-a c).After-sum-latest_answer in
+    omega (
+      arith,
+      in_bits _ _ (later_kept c.args.exchange.now c.args.allowance first c.max-later.result
+          c.max-later.ensures.value),
+    )
+
+pub difference-requires-3-clause-b : goal.difference-requires-3-clause-b
+difference-requires-3-clause-b c =
+    let x = c.args.exchange.now in
+    let first = computed (goal.at.difference-requires-3-clause-b c).After-sum-latest_answer in
+    let later = later_kept x c.args.allowance first c.max-later.result c.max-later.ensures.value in
+    omega (
+      arith,
+      in_bits _ _ (before_kept x c.args.allowance first c.max-later.result c.difference-2.result later.kept
+          c.difference-2.ensures.value),
+    )

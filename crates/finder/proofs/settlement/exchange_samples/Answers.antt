@@ -1,4 +1,5 @@
 use Rattle.finder.proofs.Common.{length, map, data_of as claim_data, reading_kept}
+use Rattle.checker.proofs.Exchange.{are_samples}
 use Rattle.finder.proofs.SettlementAnswer.{of_most_servers}
 use Rattle.finder.proofs.settlement.exchange_samples.Goals as goal
 
@@ -14,5 +15,5 @@ invariant_of-result g c =
 
 pub returns-clause-of_claim : goal.returns-clause-of_claim
 returns-clause-of_claim g c =
-    c.samples_of_exchanges_keep_limits.ensures.of_claim (claim_data c.args.claim.now)
-    (map g.X.ToExchange.shown c.args.exchanges.now) c.args.claim.now.lawful c.requires.exchanges
+    are_samples (map g.X.ToExchange.shown c.args.exchanges.now) (claim_data c.args.claim.now) c.args.claim.now.lawful
+    c.requires.exchanges

@@ -57,8 +57,7 @@ returns-in-None g c =
           (subst (All held) same (all_tried held c.as_slice-covers.result.now c.loop-cover.cover-index
           c.loop-cover-test.false c.loop-cover.invariant.held)),
       none_beyond claim xs c.as_slice-covers.result.now (subst (AreLeastCovers claim xs) (sym same) least) cover_of
-          (λ cover most course none fits false' observed. c.neediest_ticks_bound_the_error.ensures claim xs cover most
-          course c.args.claim.now.lawful c.requires.exchanges none fits false' observed)
+          c.args.claim.now.lawful c.requires.exchanges
           c.loop-cover.cover-index c.loop-cover.most c.if_all.result c.loop-cover-test.false
           c.loop-cover.invariant.needs c.if_all.ensures,
     )

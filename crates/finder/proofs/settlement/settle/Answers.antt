@@ -23,7 +23,6 @@ pub returns-then-groups-claim : goal.returns-then-groups-claim
 returns-then-groups-claim g c =
     let claim = claim_data c.args.claim.now in
     let xs = map g.X.ToExchange.shown c.args.exchanges.now in
-    let test = c.if-groups-claim.true in
     let few : c.groups_heard-groups.result ≤ c.args.claim.now.false_max = omega arith in
     record {
       settled = unheard claim xs c.requires.exchanges c.args.claim.now.lawful

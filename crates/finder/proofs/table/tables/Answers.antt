@@ -1,16 +1,6 @@
 use Rattle.finder.proofs.Common.{data_of, piece_begin_of, piece_end_of, first_kept, last_kept}
-use Rattle.finder.proofs.Claim.{first_from_zero, last_in_range, span_in_order}
 use Rattle.finder.proofs.TablePieces.{are_pieces_of, as_many_long, piece_of}
 use Rattle.finder.proofs.table.tables.Goals as goal
-
-pub piece_ends-requires-clause-from_zero : goal.piece_ends-requires-clause-from_zero
-piece_ends-requires-clause-from_zero g c = first_from_zero (data_of c.args.claim.now) c.args.claim.now.lawful
-
-pub piece_ends-requires-clause-in_order : goal.piece_ends-requires-clause-in_order
-piece_ends-requires-clause-in_order g c = span_in_order (data_of c.args.claim.now) c.args.claim.now.lawful
-
-pub piece_ends-requires-clause-in_range : goal.piece_ends-requires-clause-in_range
-piece_ends-requires-clause-in_range g c = last_in_range (data_of c.args.claim.now) c.args.claim.now.lawful
 
 pub tables_over-requires-clause-pieces : goal.tables_over-requires-clause-pieces
 tables_over-requires-clause-pieces g c =

@@ -1,5 +1,6 @@
-use Rattle.finder.proofs.Common.{ℕ, ℤ, ◌≤◌, length, ap, subst, le_trans, falls, ◌∙◌, arith, rules, ◌≡◌, [], ◌∷◌, ◌++◌, slice_get, filter_map, range_with_len, common_steps, to_z-of_z, All-push, w128, data_of, best_over, stretch_over}
+use Rattle.finder.proofs.Common.{ℕ, ℤ, ◌≤◌, length, ap, subst, le_trans, ◌∙◌, arith, rules, ◌≡◌, [], ◌∷◌, ◌++◌, slice_get, filter_map, range_with_len, common_steps, to_z-of_z, All-push, w128, data_of, best_over, stretch_over}
 use Rattle.finder.proofs.Claim.{server_fits}
+use Rattle.span_cover.proofs.BestSample.{best_of-none}
 use Rattle.finder.proofs.List.{without}
 use Rattle.finder.proofs.TablePieces.{table_more}
 use Rattle.finder.proofs.table.tables_over.Goals as goal
@@ -10,20 +11,11 @@ overflow_cast-server g c =
     server_fits (data_of c.args.claim.now) c.args.claim.now.lawful c.loop-server.server c.len-server-end.result
     c.loop-server-test.true (c.len-server-end.ensures ∙ c.args.claim.now.servers.ok.0)
 
-pub best_of_pieces-requires-clause-samples : goal.best_of_pieces-requires-clause-samples
-best_of_pieces-requires-clause-samples g c = c.requires.samples
-
-pub best_of_pieces-requires-clause-few : goal.best_of_pieces-requires-clause-few
-best_of_pieces-requires-clause-few g c = c.requires.few
-
 pub best_of_pieces-requires-clause-servers : goal.best_of_pieces-requires-clause-servers
 best_of_pieces-requires-clause-servers g c = c.as_slice.ensures.value ∙ c.in_ok-servers.ensures
 
 pub best_of_pieces-requires-clause-pieces : goal.best_of_pieces-requires-clause-pieces
 best_of_pieces-requires-clause-pieces g c = rw (to_z-of_z w128 c.args.first c.ranges.first) c.requires.pieces
-
-pub best_of_pieces-requires-clause-rate : goal.best_of_pieces-requires-clause-rate
-best_of_pieces-requires-clause-rate g c = c.args.claim.now.lawful.drift_in_range
 
 pub loop-server-preserved : goal.loop-server-preserved
 loop-server-preserved g c =
@@ -52,13 +44,10 @@ loop-server-preserved g c =
             long = rw w.tables-is c.loop-server.invariant.long;
             best = λ k p q is. rw w.tables-is
                 (without (over p q) server _ (c.loop-server.invariant.best k p q is)
-                (c.first_best_of_both_ends_are_the_best.ensures.none (g.S.SampleSource.samples c.args.samples)
+                (best_of-none (g.S.SampleSource.samples c.args.samples)
                 server p q claim.drift_ppb none));
           }
     ]
-
-pub loop-server-smaller : goal.loop-server-smaller
-loop-server-smaller g c = falls _ _ c.loop-server-test.true
 
 pub returns-clause-few : goal.returns-clause-few
 returns-clause-few g c =
@@ -66,14 +55,10 @@ returns-clause-few g c =
     (c.len-server-end.ensures ∙ c.args.claim.now.servers.ok.0)
     (le_trans c.loop-server.invariant.few c.loop-server.auto.server-end)
 
-pub returns-clause-long : goal.returns-clause-long
-returns-clause-long g c = c.loop-server.invariant.long
-
 pub returns-clause-best : goal.returns-clause-best
 returns-clause-best g c k p q is =
     let claim = data_of c.args.claim.now in
     let over = best_over (g.S.SampleSource.samples c.args.samples) claim (stretch_over p q) in
-    let some = c.loop-server-test.false in
     let all : c.loop-server.server ≡ length claim.servers = grind (arith, common_steps) in
     c.loop-server.invariant.best k p q (rw (to_z-of_z w128 c.args.first c.ranges.first) is)
     ∙ ap (λ (n : ℕ). filter_map over (range_with_len 0 n)) all

@@ -38,9 +38,7 @@ returns-else-queue-next-clause-upto c =
       within = c.loop-next.invariant.within;
       upto = c.loop-next.invariant.upto;
       beyond = λ i x le at.
-          let late = c.if-queue-next.false in
-          let order = c.requires.in_order next i b x le here at in
-          omega arith;
+          omega (arith, c.requires.in_order next i b x le here at);
     }
 
 pub returns-after-loop-next-clause-upto : goal.returns-after-loop-next-clause-upto
@@ -49,6 +47,5 @@ returns-after-loop-next-clause-upto c = record {
   upto = c.loop-next.invariant.upto;
   beyond = λ i x le at.
       let within = slice_get_within c.args.queue.now i x at in
-      let end = c.loop-next-test.false in
       absurd (omega arith);
 }

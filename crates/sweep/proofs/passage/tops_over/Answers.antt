@@ -14,7 +14,7 @@ loop-k-init c = record {
 
 pub lead_upto-next-requires-clause-upto : goal.lead_upto-next-requires-clause-upto
 lead_upto-next-requires-clause-upto c i a less at =
-    c.loop-k.invariant.upto i a c.loop-k.k _ less at (let same = c.loop-k.k in omega arith)
+    c.loop-k.invariant.upto i a c.loop-k.k _ less at (omega arith)
     (slice_get-get_or c.args.stretches.now c.loop-k.k _ c.loop-k-test.true)
 
 pub loop-k-preserved : goal.loop-k-preserved
@@ -36,9 +36,7 @@ loop-k-preserved c =
       within = upto.within;
       leads = c.lead_upto-next.ensures.leads;
       upto = λ i a j other less at le there.
-          let now = upto.upto i a less at in
-          let later = c.requires.in_order k j stretch other (omega arith) here there in
-          omega arith;
+          omega (arith, c.requires.in_order k j stretch other (omega arith) here there, upto.upto i a less at);
       taken = c.top_over-top.ensures.taken;
       are = c.top_over-top.ensures.are;
     }

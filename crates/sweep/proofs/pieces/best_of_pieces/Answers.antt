@@ -46,8 +46,7 @@ returns-clause-none g c = (
 
 pub returns-clause-best : goal.returns-clause-best
 returns-clause-best g c =
-    AreBestOfPieces-tops c.first_best_of_both_ends_are_the_best.ensures.some
-    (g.S.SampleSource.samples c.args.samples) c.args.server
+    AreBestOfPieces-tops (g.S.SampleSource.samples c.args.samples) c.args.server
     c.args.first c.args.ends.now c.args.drift_ppb c.in_ok-lows.lows.items c.in_ok-lows.highs.items
     c.in_ok-lows.ensures.lows c.in_ok-lows.ensures.highs c.in_ok-stretches.stretches.items
     (subst (λ (first : ℤ). AreStretchesOf first c.args.ends.now c.in_ok-stretches.stretches.items)

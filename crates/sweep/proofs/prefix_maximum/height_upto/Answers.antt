@@ -11,8 +11,6 @@ returns-then-count-eq0 c ppb extremes are =
 pub returns : goal.returns
 returns c ppb extremes are =
     let count = c.count_upto-count.result in
-    let within = c.count_upto-count.ensures.within in
-    let some = c.if-count-eq0.false in
     let last = slice_get-get_or c.args.maxima.now (count - 1) (record { place = 0; height = 0 }) (omega arith) in
     IsHeightUpto-last ppb extremes c.args.maxima.now are c.args.place count _ (omega arith) last
     (c.count_upto-count.ensures.upto _ (omega arith) last) c.count_upto-count.ensures.beyond

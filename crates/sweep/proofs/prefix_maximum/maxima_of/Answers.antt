@@ -14,9 +14,6 @@ loop-turn-preserved c =
     let turn = c.loop-turn.turn in
     let maxima = c.loop-turn.maxima.items in
     let arrival = c.index-arrival.result.now in
-    let long = c.in_ok-queue.queue.ok.0 in
-    let test = c.loop-turn-test.true in
-    let end = c.len-turn-end.ensures in
     let within : turn < length queue = omega arith in
     let here : slice_get queue turn ≡ Some arrival =
     slice_get-get_or queue turn arrival within ∙ ap Some (sym c.index-arrival.ensures) in
@@ -41,9 +38,6 @@ loop-turn-preserved c =
 
 pub returns : goal.returns
 returns c =
-    let long = c.in_ok-queue.queue.ok.0 in
-    let test = c.loop-turn-test.false in
-    let end = c.len-turn-end.ensures in
     AreMaximaOf-all c.args.drift_ppb (seen c.args.backwards c.args.extremes.now) c.in_ok-queue.queue.items
     c.in_ok-queue.ensures c.loop-turn.turn
     c.loop-turn.maxima.items (omega arith) c.loop-turn.invariant

@@ -12,7 +12,6 @@ returns-clause-level c extremes are lawful some =
     let turned : make c.mirrored_tick.result c.mirrored_tick-2.result ≡ mirrored_stretch c.args.stretch =
     ap (λ (b : ℕ). make b c.mirrored_tick-2.result) c.mirrored_tick.ensures
     ∙ ap (λ (e : ℕ). make (mirrored_stretch c.args.stretch).begin e) c.mirrored_tick-2.ensures in
-    let slow = c.requires.rate in
     IsLevelOver-higher c.widening_is_one_number.ensures.is ppb c.requires.rate extremes c.args.stretch
     lawful c.requires.stretch some (early / m) (late / m)
     (c.early_rise-early.ensures extremes

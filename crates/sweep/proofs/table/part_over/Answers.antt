@@ -16,7 +16,7 @@ returns c samples is =
     } in
     let part : Part = record { server = server; interval = c.interval_between.result } in
     part_is samples c.args.begin c.args.end c.args.drift_ppb server part refl
-    (interval_is c.best_samples_are_the_first_best.ensures samples server c.args.begin c.args.end c.args.drift_ppb
+    (interval_is samples server c.args.begin c.args.end c.args.drift_ppb
     stretch at (lawful_stretch c.args.begin c.args.end stretch c.requires.piece at) c.level_over-low.result
     c.level_over-high.result c.interval_between.result c.interval_between.ensures.lo c.interval_between.ensures.hi
     is.lows.extremes is.highs.extremes is.lows.are is.highs.are is.lows.some

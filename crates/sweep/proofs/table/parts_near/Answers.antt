@@ -32,6 +32,6 @@ returns c samples count are =
     c.loop-index.invariant.so_far samples are.each
     ∙ ap (filter_map (λ (t : BestTable). best_part samples begin end ppb t.server))
     (take_all c.loop-index.index tables c.loop-index-test.false)
-    ∙ parts_are c.first_best_of_both_ends_are_the_best.ensures.none samples count begin end ppb tables are
+    ∙ parts_are samples count begin end ppb tables are
     ∙ ap (λ (x : ℤ). best_parts samples count x end ppb) (to_z-of_z w128 c.args.begin c.ranges.begin)
     ∙ ap (λ (y : ℤ). best_parts samples count c.args.begin y ppb) (to_z-of_z w128 c.args.end c.ranges.end)

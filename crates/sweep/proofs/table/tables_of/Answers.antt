@@ -38,8 +38,6 @@ loop-server-preserved g c =
 pub returns-clause-are : goal.returns-clause-are
 returns-clause-are g c =
     let samples = g.S.SampleSource.samples c.args.samples in
-    let past = c.loop-server-test.false in
-    let upto = c.loop-server.auto.server-end in
     let all : c.loop-server.server ≡ c.args.count = omega arith in
     subst (λ (n : ℕ). AreTablesOf samples n c.args.drift_ppb c.loop-server.tables.items) all
     (record { each = c.loop-server.invariant.each; servers = c.loop-server.invariant.servers })

@@ -1,6 +1,6 @@
 use Rattle.finder.proofs.Common.{map, data_of as claim_data}
 use Rattle.finder.proofs.HeldError.{IsHeldPlace, all_tried, one_more_tried}
-use Rattle.finder.proofs.drift_refutation.find_by_conflicts.Goals as goal
+use Rattle.finder.proofs.drift_refutation.find_refutation_with_drift.Goals as goal
 
 pub loop-place-preserved : goal.loop-place-preserved
 loop-place-preserved g c =

@@ -1,6 +1,6 @@
 use Rattle.finder.proofs.Common.{map, data_of as claim_data}
 use Rattle.finder.proofs.HeldError.{AreTriedTo, IsHeldPlace}
-use Rattle.finder.proofs.drift_refutation.find_by_conflicts.Given as goal
+use Rattle.finder.proofs.drift_refutation.find_refutation_with_drift.Given as goal
 
 abbrev pub invariant-loop-place : goal.invariant-loop-place
 invariant-loop-place g l =
