@@ -21,7 +21,8 @@ and more are the scripts in tests/tools, which make inputs. Below a command stan
     FILE (file)      instead of a stream's lines: they are those of this file
     PATTERN (re)     instead of a stream's lines: all of them match this regular expression, for words that aren't fixed
 
-So `2> PATTERN (re)` is a pattern for standard error. Where nothing stands, nothing is printed. A blank line of the
+So `2> PATTERN (re)` is a pattern for standard error. `ntpaudit VERSION logic LOGIC` stands for the line that tells a
+person of the program. Where nothing stands, nothing is printed. A blank line of the
 transcript counts as nothing, so an empty line of output needs a file or a pattern. What stands in a case before its
 first command is for the reader.
 """
@@ -73,6 +74,7 @@ class Trial:
         with transcript.folder() as place:
             answers = transcript.typed([command for command, _ in case], place, PATH=path)
             for (command, shown), (status, out, err) in zip(case, answers):
+                out = re.sub(rb"(?m)^ntpaudit \S+ logic [0-9a-f]{16}$", b"ntpaudit VERSION logic LOGIC", out)
                 out_lines, error_lines, status_wanted = transcript.parts(shown)
                 out_wanted, err_wanted = wanted_of(out_lines, out, place), wanted_of(error_lines, err, place)
                 self.wanted.append((command, (status_wanted, out_wanted, err_wanted)))

@@ -5,12 +5,14 @@ tests/second/columns.py says how the fields of a table are shown, and this file 
 - a reference identifier is its one to four letters, before zero bytes alone, or else an address
 - a record's time and the ends of a tick have nanoseconds, unless it is a whole second
 - a certificate or a refutation is told of, with what the claim says
+- `check`, `refute` and `settle` name their inputs, the sums that these are held to, and the program's version
 
 Nothing here is shared with the program.
 """
 import json
 import re
-from collections.abc import Sequence
+import unicodedata
+from collections.abc import Mapping, Sequence
 from pathlib import Path
 
 from tests.second.claims import Claim, Refutation, read_claim
@@ -141,8 +143,8 @@ def wider(least: str, claim: Claim) -> list[str]:
     return [] if amount == "none" else [f"wider by {milliseconds(int(amount) - claim['bound_ns'])} ms"]
 
 
-def check(lines: list[str], fits: bool) -> list[str]:
-    """Before the verdict a person is told whether any course fits."""
+def check(lines: list[str], fits: bool, about: Sequence[str]) -> list[str]:
+    """Before the verdict a person is told whether any course fits, and of the inputs."""
     shown = []
     for row in lines:
         f = row.split(" ")
@@ -153,12 +155,50 @@ def check(lines: list[str], fits: bool) -> list[str]:
         elif f[:2] == ["advice", "reference"]:
             row = f"advice reference {reference(f[2])}"
         shown.append(row)
-    return [*shown[:-1], "a course fits" if fits else "no course fits: see settle", shown[-1]]
+    return [*shown[:-1], "a course fits" if fits else "no course fits: see settle", *about, shown[-1]]
 
 
-def of(words: Sequence[str], text: bytes, fits: bool = True) -> bytes:
+# ---- the inputs
+
+
+INPUTS = {"check": ("claim", "capture", "certificate"), "refute": ("claim", "capture", "refutation"),
+          "settle": ("claim", "capture")}
+"""The commands that name their inputs to a person, and these in the order of the command line."""
+
+TURNING = "\u061c\u200e\u200f\u202a\u202b\u202c\u202d\u202e\u2066\u2067\u2068\u2069"
+"""The characters that turn the direction of others (Unicode's Bidi_Control)."""
+
+
+def escaped(name: str) -> str:
+    """A name, with what a terminal obeys as its number."""
+    return "".join(f"\\u{{{ord(c):x}}}" if unicodedata.category(c) == "Cc" or c in TURNING else c for c in name)
+
+
+def about(words: Sequence[str], version: bytes, sums: Mapping[str, str] = {}) -> list[str]:
+    """What is said of the inputs that these words name, with the sums that they are held to by their names, and of the
+    program, which says this of its version."""
+    inputs = zip(INPUTS.get(words[0], ()), words[1:])
+    lines = [f"{what} {escaped(name)}: {f'SHA-256 {sums[name]}' if name in sums else 'not held to a sum'}"
+             for what, name in inputs]
+    return [*lines, re.sub(r"[()]", "", version.decode().rstrip())] if lines else []
+
+
+ABOUT = "(the inputs, and the program)"
+"""A line that stands for these in what is compared without them."""
+
+
+def without_about(text: bytes) -> bytes:
+    """What a command prints with `--human`, with the one line in place of these."""
+    return re.sub(rb"(?m)^claim .*\ncapture .*\n((certificate|refutation) .*\n)?ntpaudit \S+ logic [0-9a-f]{16}\n",
+                  f"{ABOUT}\n".encode(), text)
+
+
+# ---- all of them
+
+
+def of(words: Sequence[str], text: bytes, fits: bool = True, about: Sequence[str] = (ABOUT,)) -> bytes:
     """What a command prints with `--human`, of its words and what it prints without. `fits` says whether any course
-    fits the whole capture."""
+    fits the whole capture, and `about` what is said of the inputs."""
     command, lines = words[0], text.decode().splitlines()
     if command in ("samples", "at") and lines:
         lines = {"samples": samples, "at": at}[command](lines)
@@ -167,7 +207,7 @@ def of(words: Sequence[str], text: bytes, fits: bool = True) -> bytes:
     elif command == "find" and lines:
         lines = find(lines, read_claim(words[1]), words[words.index("--step") + 1] if "--step" in words else "64")
     elif command == "refute" and lines:
-        lines = refute(lines, read_claim(words[1]), json.loads(Path(words[3]).read_text()))
+        lines = [*refute(lines, read_claim(words[1]), json.loads(Path(words[3]).read_text())), *about]
     elif command == "check" and lines:
-        lines = check(lines, fits)
+        lines = check(lines, fits, about)
     return "".join(f"{row}\n" for row in lines).encode()

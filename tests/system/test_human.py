@@ -8,12 +8,14 @@ compared byte for byte
 - for 1,024 random ranges: with ends below zero, at whole nanoseconds, and one tick beside them
 - for each day from 1970 to 2106, and for random times of a day
 - for 300 random refutations: with errors at a bound, one tick beside it, and as far as errors go
+- for inputs with names that a terminal would obey, with sums and without
 
 Each range that is shown is also held to the range in ticks, each time to its second, and each error to its ticks and to
 the bound. Fault lines have to be the same with the option and without, and so has each status. What `settle` tells is
 compared by tests/system/test_settle.py, and what is said on standard error of numbers that look like a slip of the pen
 by tests/second/slips.py.
 """
+import hashlib
 import json
 import random
 import re
@@ -23,12 +25,13 @@ from datetime import datetime, timedelta, timezone
 from pathlib import Path
 
 from tests.support import DATA, ROOT, Ran, check, files_in, program, run
-from tests.second import exchanges, marks, shown, slips
+from tests.second import exchanges, marks, shown, slips, sum_form
 from tests.second.claims import Claim, read_claim
 from tests.second.columns import MOMENT, PIECE, SAMPLE, TICKS, ends_shown, read
-from tests.second.commands import CAPTURE, CERTIFICATE, CLAIM, COMMANDS, PLAIN, TIME, variants
+from tests.second.commands import CAPTURE, CERTIFICATE, CLAIM, COMMANDS, PLAIN, REFUTATION, TIME, variants
 
 PROGRAM = program()
+VERSION = run([PROGRAM, "--version"])[1]
 CAPTURE_OF = ROOT / "tests" / "tools" / "capture_of"
 EPOCH = datetime(1970, 1, 1, tzinfo=timezone.utc)
 SERVERS = 32
@@ -43,7 +46,9 @@ def compare(name: str, words: Words, flag: str = "--human") -> tuple[str, Ran, R
     """Runs a command with the option and without, and gives what it is to be compared with, and what both printed."""
     status, plain, error = run([PROGRAM, *words])
     seen = run([PROGRAM, *words, flag])
-    text = shown.of([str(word) for word in words], plain, words[0] != "check" or not plain or does_fit(*words[1:3]))
+    called = [str(word) for word in words]
+    fits = words[0] != "check" or not plain or does_fit(*words[1:3])
+    text = shown.of(called, plain, fits, shown.about(called, VERSION))
     return name, seen, (status, text, slips_of(words, status) or error), plain
 
 
@@ -133,6 +138,24 @@ def test_other_texts(folder: Path) -> None:
             check(f"{command.title} of {what}", run=(told[:2], (status, text)), status=(status in (2, 4), True),
                   line=(told[2][:len(line)], line), words=(told[2][len(line):].decode(), re.compile(
                       rf"  {re.escape(str(wrong))}: .+\n  .+\n").fullmatch))
+
+
+def test_inputs(folder: Path) -> None:
+    """Each input is named as it is typed, with the sum that it is held to."""
+    names = "./claim, 5 ms.json", "\\ \u202ef\x1b[1m\n\x7f.pcap", "é\u0085\u2069.json"
+    for command, second in (("check", CERTIFICATE), ("refute", REFUTATION), ("settle", None)):
+        files = dict(zip(names, filter(None, (CLAIM, CAPTURE, second))))
+        for name, file in files.items():
+            (folder / name).write_bytes(file.read_bytes())
+        sums = {name: hashlib.sha256(file.read_bytes()).hexdigest() for name, file in files.items()}
+        text = b"".join(sum_form.line_of(name.encode(), sum_.upper().encode()) for name, sum_ in sums.items())
+        words = [command, *files]
+        for held in (dict[str, str](), sums):
+            how = ["--sums", "/dev/stdin"] if held else []
+            status, told, _ = run([PROGRAM, *words, "--human", *how], text, cwd=folder)
+            about = "".join(f"{line}\n" for line in shown.about(words, VERSION, held))
+            check(f"{command} {' '.join(how)}", status=(status, lambda status: status in (0, 1)), lines=(
+                told.decode().removesuffix("verdict yes\n"), lambda told: told.endswith(f"\n{about}")))
 
 
 def test_option() -> None:

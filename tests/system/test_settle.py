@@ -71,6 +71,7 @@ class Capture:
         samples = self.read(claim, "samples").decode().splitlines()[:-1] if kind == "no evidence" else []
         lines = shown.settle(text.decode().splitlines(), read_claim(claim), self.times, least,
                              {read(SAMPLE, sample)["SERVER"] for sample in samples})
+        lines += shown.about(["settle", str(claim), str(self.file)], VERSION)
         return "".join(f"{row}\n" for row in lines).encode()
 
 
@@ -180,6 +181,7 @@ def try_lone_place(name: str, exchanges: families.Exchanges, claim: Claim) -> No
 
 
 PROGRAM = program()
+VERSION = run([PROGRAM, "--version"])[1]
 
 
 def test_answers() -> None:

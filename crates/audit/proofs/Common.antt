@@ -22,6 +22,7 @@ pub use Rattle.std.specs.Option.{option_and_then, option_map}
 pub use Rattle.std.specs.Prelude.{All, AllPairs, Contains, IfErr, IfOk, IfSome, IsNone, IsOk, IsSome, IsSomeAnd}
 pub use Rattle.std.specs.Prelude.{MatchResult, filter, filter_map, if◌then◌else◌, is_some, nat_lt, slice_get}
 pub use Rattle.std.specs.Prelude.{slice_index, unwrap_or}
+pub use Rattle.audit_text.specs.CheckReport.{about_told}
 pub use Rattle.audit_text.specs.SampleLine.{sample_line}
 unfoldable pub use Rattle.audit_text.specs.Samples.{samples_text}
 pub use Rattle.byte_stream.specs.Bytes.{IsBytes}

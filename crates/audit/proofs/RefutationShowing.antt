@@ -1,5 +1,5 @@
 -- What it shows whether a refutation stands.
-use Rattle.audit.proofs.Common.{Bool, true, false, refl, sym, true≢false, AllPairs, RefutationData, SameRequest, SettlesWithDrift, Outcome, Yes, No, CourseContests, ShowsContested, EvidenceData, ShowsOf, GiveRefutation, IsContestedOf, IsSettledFor, IsUncontestedOf, refute, refuted_outcome, refutation_said, refutation_second}
+use Rattle.audit.proofs.Common.{Bool, List, ℕ, true, false, refl, sym, true≢false, AllPairs, RefutationData, SameRequest, SettlesWithDrift, Outcome, Yes, No, CourseContests, ShowsContested, EvidenceData, ShowsOf, GiveRefutation, IsContestedOf, IsSettledFor, IsUncontestedOf, refute, refuted_outcome, refutation_said, refutation_second}
 use Rattle.checker.specs.Settlement.{Settles}
 use Rattle.audit.proofs.Excess.{standing_beyond}
 use Rattle.audit.proofs.Showing.{of_inputs, refutation_is}
@@ -32,10 +32,10 @@ module _ (refutation : RefutationData) (e : EvidenceData) (agree : AllPairs Same
   }
 
 -- the bytes of any inputs that say the refutation and give the evidence show the same
-pub refutation_shown : CourseContests → (drift : Bool) (refutation : RefutationData) (e : EvidenceData)
+pub refutation_shown : CourseContests → (drift : Bool) (about : List ℕ) (refutation : RefutationData) (e : EvidenceData)
     (outcome : Outcome) → IsSettledFor drift refutation e outcome →
-    ShowsOf (refute drift) refutation_second (refutation_said refutation) e outcome
-refutation_shown contested drift refutation e Yes h claim second capture are = record {
+    ShowsOf (refute drift about) refutation_second (refutation_said refutation) e outcome
+refutation_shown contested drift about refutation e Yes h claim second capture are = record {
   stands = of_inputs e (GiveRefutation (IsContestedOf drift) second.remaining) (λ b f is. record {
     refutation = refutation;
     refutation_is = refutation_is refutation second.remaining are.second_is;
@@ -45,7 +45,7 @@ refutation_shown contested drift refutation e Yes h claim second capture are = r
       contested b f e.claim e.collection bytes is.claim_is is.collection_is (standing_beyond drift refutation e h))
       claim second capture are;
 }
-refutation_shown contested drift refutation e No h claim second capture are =
+refutation_shown contested drift about refutation e No h claim second capture are =
     of_inputs e (GiveRefutation (IsUncontestedOf drift) second.remaining) (λ b f is. record {
       refutation = refutation;
       refutation_is = refutation_is refutation second.remaining are.second_is;

@@ -1,13 +1,13 @@
 -- The text of a settled claim, on the least bound where it names that.
-use Rattle.audit.proofs.Common.{◌≡◌, Bool, true, false, List, ℕ, [], Option, Some, None, Result, Ok, Err, refl, IfOk, IsSome, is_some, unwrap_or, SettledData, LeastCarried, Style, whole_text, EvidenceData, answer_on, is_on_least, names_least, nanoseconds_in, report_of, settled_answer, settled_outcome, text_for}
+use Rattle.audit.proofs.Common.{◌≡◌, ◌++◌, Bool, true, false, List, ℕ, [], Option, Some, None, Result, Ok, Err, refl, IfOk, IsSome, is_some, unwrap_or, SettledData, LeastCarried, Style, whole_text, EvidenceData, answer_on, is_on_least, names_least, nanoseconds_in, report_of, settled_answer, settled_outcome, text_for}
 use Rattle.finder.specs.Settlement as settles
 use Rattle.line_writer.specs.declared.field.Style.TheVariants as styles
 
 -- the report on a text that is known
-pub report_is : (settled : SettledData) (known : Option (List ℕ)) → IsSome known →
-    report_of settled known ≡ whole_text (unwrap_or known []) (settled_outcome settled)
-report_is settled (Some text) is = refl
-report_is settled None is = absurd cc
+pub report_is : (settled : SettledData) (about : List ℕ) (known : Option (List ℕ)) → IsSome known →
+    report_of settled about known ≡ whole_text (unwrap_or known [] ++ about) (settled_outcome settled)
+report_is settled about (Some text) is = refl
+report_is settled about None is = absurd cc
 
 pub items_known : {T E : Type 0} (text : Result T E) (items : T → List ℕ) (known : Option (List ℕ)) →
     IfOk text (λ t. known ≡ Some (items t)) → IfOk text (λ t. items t ≡ unwrap_or known [])

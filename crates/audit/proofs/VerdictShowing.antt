@@ -1,5 +1,5 @@
 -- What a verdict shows.
-use Rattle.audit.proofs.Common.{◌≡◌, Bool, Some, refl, sym, ap, subst, CertificateData, IsVerdictOn, IsBytes, Outcome, Yes, No, HasVerdict, IsDenied, IsTracedByPieces, IsTracedTo, check, outcome_of, EvidenceData, samples_in, ShowsOf, OfClaimAndCapture, IsShown, ShowsHeadline, GivesNanoseconds, certificate_said, certificate_second}
+use Rattle.audit.proofs.Common.{◌≡◌, Bool, List, ℕ, Some, refl, sym, ap, subst, CertificateData, IsVerdictOn, IsBytes, Outcome, Yes, No, HasVerdict, IsDenied, IsTracedByPieces, IsTracedTo, check, outcome_of, EvidenceData, samples_in, ShowsOf, OfClaimAndCapture, IsShown, ShowsHeadline, GivesNanoseconds, certificate_said, certificate_second}
 use Rattle.checker.specs.declared.verdict.Verdict.{Verdict}
 use Rattle.checker.specs.declared.verdict.Verdict.TheVariants as verdicts
 use Rattle.line_writer.specs.declared.field.Style.{Style}
@@ -35,9 +35,9 @@ module _ (certificate : CertificateData) (e : EvidenceData) where
   verdict_shows verdict outcome is settled = subst (HasVerdict certificate e) (sym is) (shown verdict settled)
 
   -- the bytes of any inputs that say the certificate and give the evidence show the same
-  pub verdict_shown : GivesNanoseconds → ShowsHeadline → (outcome : Outcome) → HasVerdict certificate e outcome →
-      ShowsOf check certificate_second (certificate_said certificate) e outcome
-  verdict_shown nanoseconds headline Yes h claim second capture are = record {
+  pub verdict_shown : (about : List ℕ) → GivesNanoseconds → ShowsHeadline → (outcome : Outcome) → HasVerdict certificate e outcome →
+      ShowsOf (check about) certificate_second (certificate_said certificate) e outcome
+  verdict_shown about nanoseconds headline Yes h claim second capture are = record {
     whole = of_inputs e IsTracedTo (λ b f is. traced_to nanoseconds b f e is certificate h) claim second capture are;
     shown = of_inputs e (λ b f. IsBytes f → IsShown b f)
         (λ b f is bytes. headline b f e.claim e.collection certificate bytes is.claim_is is.collection_is h.verdict_is)
@@ -52,7 +52,7 @@ module _ (certificate : CertificateData) (e : EvidenceData) where
           within = pieces_traced nanoseconds b f e is certificate h;
         }) claim second capture are) second.remaining are.second_is;
   }
-  verdict_shown nanoseconds headline No h claim second capture are =
+  verdict_shown about nanoseconds headline No h claim second capture are =
       of_certificate_bytes certificate (λ s. OfClaimAndCapture claim capture (λ b. IsDenied b s))
       (λ s read. of_inputs e (λ b. IsDenied b s) (λ b f is. record {
         certificate = certificate;

@@ -62,12 +62,14 @@ fits_told Plain found = Some None
 fits_told style None = None
 fits_told style (Some fits) = Some (Some fits)
 
--- the report of `check` on a certificate, a claim and the exchanges of a capture
-abbrev pub check_report : Style → CertificateData → EvidenceData → Option (Option Bool) → Report
-check_report style certificate e (Some fits) =
-    whole_text (check_text style e.claim e.collection (findings_on certificate e fits))
+-- the report of `check` on a certificate, a claim and the exchanges of a capture, with what stands
+-- about the inputs
+abbrev pub check_report :
+    Style → List ℕ → CertificateData → EvidenceData → Option (Option Bool) → Report
+check_report style about certificate e (Some fits) =
+    whole_text (check_text style e.claim e.collection (findings_on certificate e fits) about)
     (outcome_of (verdict_on certificate e))
-check_report style certificate e None = refused Memory
+check_report style about certificate e None = refused Memory
 
 -- what was found of whether any course fits
 abbrev pub fit_finding : Option Bool → Finding
@@ -160,14 +162,14 @@ ShowsVerdict claim second capture outcomes.Yes = IsTraced claim second capture
 ShowsVerdict claim second capture outcomes.No = IsNotTraced claim second capture
 
 -- the report on a certificate; nothing else is checked
-abbrev pub report_on : Style → Finding → SecondData → EvidenceData → Report
-report_on style finding (certificate_said certificate) e =
-    check_report style certificate e (fits_told style finding.fits)
-report_on style finding said e = refused Memory
+abbrev pub report_on : Style → List ℕ → Finding → SecondData → EvidenceData → Report
+report_on style about finding (certificate_said certificate) e =
+    check_report style about certificate e (fits_told style finding.fits)
+report_on style about finding said e = refused Memory
 
--- does a certificate show the claim?
-abbrev pub check : QuestionData
-check = record {
-  report = λ style finding said e. report_on style finding said e;
+-- does a certificate show the claim? A person is told this about the inputs.
+abbrev pub check : List ℕ → QuestionData
+check about = record {
+  report = λ style finding said e. report_on style about finding said e;
   Shows = ShowsVerdict;
 }

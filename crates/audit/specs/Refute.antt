@@ -1,5 +1,5 @@
 -- The report of `refute`, and what its outcome says.
-use Rattle.std.specs.Prelude.{◌≡◌, ℕ, List, codes, Bool, true, false, Option, IfSome, Ok}
+use Rattle.std.specs.Prelude.{◌≡◌, ℕ, List, ◌++◌, codes, Bool, true, false, Option, IfSome, Ok}
 use Rattle.byte_stream.specs.State.{FeedState}
 use Rattle.certificate.specs.Certificate.{CertificateData}
 use Rattle.certificate.specs.Refutation.{RefutationData}
@@ -18,6 +18,7 @@ use Rattle.report.specs.Reports.{Report, refused, whole_text}
 use Rattle.line_writer.specs.declared.field.Style.{Style}
 use Rattle.line_writer.specs.declared.field.Style.TheVariants.{Plain}
 use Rattle.audit_text.specs.Answer.{refutation_answer}
+use Rattle.audit_text.specs.CheckReport.{about_told}
 use Rattle.audit_text.specs.Refutation.{refuted_text}
 use Rattle.audit.specs.Check.{verdict_on}
 use Rattle.audit.specs.Contested.{ShowsContested}
@@ -47,10 +48,11 @@ judged_text Plain claim refutation stands = refuted_text stands
 judged_text style claim refutation stands =
     refutation_answer (refuted_word stands) claim refutation
 
--- the report of `refute` on a refutation, a claim and the exchanges of a capture
-abbrev pub refute_report : Style → Bool → RefutationData → EvidenceData → Report
-refute_report style drift refutation e =
-    whole_text (judged_text style e.claim refutation (stands_on drift refutation e))
+-- the report of `refute` on a refutation, a claim and the exchanges of a capture, with what stands
+-- about the inputs
+abbrev pub refute_report : Style → Bool → List ℕ → RefutationData → EvidenceData → Report
+refute_report style drift about refutation e = whole_text
+    (judged_text style e.claim refutation (stands_on drift refutation e) ++ about_told style about)
     (refuted_outcome (stands_on drift refutation e))
 
 -- the refutation is accepted
@@ -113,13 +115,15 @@ ShowsRefutation drift claim second capture Yes = IsContested drift claim second 
 ShowsRefutation drift claim second capture No = IsUncontested drift claim second capture
 
 -- the report on a refutation; nothing else is judged
-abbrev pub report_on : Style → Bool → SecondData → EvidenceData → Report
-report_on style drift (refutation_said refutation) e = refute_report style drift refutation e
-report_on style drift said e = refused Memory
+abbrev pub report_on : Style → Bool → List ℕ → SecondData → EvidenceData → Report
+report_on style drift about (refutation_said refutation) e =
+    refute_report style drift about refutation e
+report_on style drift about said e = refused Memory
 
--- does a refutation stand against the claim, and may the clock's error drift?
-abbrev pub refute : Bool → QuestionData
-refute drift = record {
-  report = λ style finding said e. report_on style drift said e;
+-- does a refutation stand against the claim, and may the clock's error drift? A person is told this
+-- about the inputs.
+abbrev pub refute : Bool → List ℕ → QuestionData
+refute drift about = record {
+  report = λ style finding said e. report_on style drift about said e;
   Shows = ShowsRefutation drift;
 }

@@ -1,5 +1,5 @@
 -- What is asked of a claim and a capture alone, without a second input.
-use Rattle.std.specs.Prelude.{◌≡◌, Option, Some, None, IsSomeAnd}
+use Rattle.std.specs.Prelude.{◌≡◌, [], Option, Some, None, IsSomeAnd}
 use Rattle.finder.specs.Found.{data_of}
 use Rattle.line_writer.specs.declared.field.Style.{Style}
 use Rattle.audit.specs.At.{at}
@@ -34,11 +34,11 @@ IsFoundFor (requests.Envelope asked) style e found =
     IsSomeAnd found.envelope (IsEnvelopeFor asked e) × (found.settlement ≡ None)
 IsFoundFor request style e found = Unit {0}
 
--- the question of a request
+-- the question of a request, of which nothing is told about the inputs
 abbrev pub question_of : Request → QuestionData
 question_of requests.Samples = samples
 question_of (requests.At asked) = at asked.unix_second
-question_of requests.Settle = settle
+question_of requests.Settle = settle []
 question_of (requests.Find asked) = find asked.step.seconds
 question_of requests.FindRefutation = find_refutation
 question_of (requests.Envelope asked) = envelope asked

@@ -20,6 +20,7 @@ use Rattle.report.specs.Reports.{Report, refused, whole_text}
 use Rattle.line_writer.specs.declared.field.Style.{Style}
 use Rattle.line_writer.specs.declared.field.Style.TheVariants.{Plain, Human}
 use Rattle.audit_text.specs.Answer.{evidence_answer, open_answer, refutation_answer, shown_answer}
+use Rattle.audit_text.specs.CheckReport.{about_told}
 use Rattle.audit_text.specs.Settlement.{conflicts_text, evidence_text, open_text}
 use Rattle.audit.specs.Check.{ArePiecesTraced, HasVerdictYes, IsTracedTo}
 use Rattle.audit.specs.Contested.{ShowsContested}
@@ -97,16 +98,17 @@ abbrev pub settled_outcome : SettledData → Outcome
 settled_outcome (shown certificate) = Yes
 settled_outcome settled = No
 
--- the report on a text, and on none
-abbrev pub report_of : SettledData → Option (List ℕ) → Report
-report_of settled (Some text) = whole_text text (settled_outcome settled)
-report_of settled None = refused (find_run_fault_of Memory)
+-- the report on a text with what stands about the inputs, and on none
+abbrev pub report_of : SettledData → List ℕ → Option (List ℕ) → Report
+report_of settled about (Some text) = whole_text (text ++ about) (settled_outcome settled)
+report_of settled about None = refused (find_run_fault_of Memory)
 
 -- the report of `settle` on what settles the claim, or why it isn't known
-abbrev pub settle_report : Style → Finding → EvidenceData → Result SettledData FindFault → Report
-settle_report style finding e (Ok settled) =
-    report_of settled (text_for style e finding.least settled)
-settle_report style finding e (Err fault) = refused (find_run_fault_of fault)
+abbrev pub settle_report :
+    Style → List ℕ → Finding → EvidenceData → Result SettledData FindFault → Report
+settle_report style about finding e (Ok settled) =
+    report_of settled (about_told style about) (text_for style e finding.least settled)
+settle_report style about finding e (Err fault) = refused (find_run_fault_of fault)
 
 -- what the report is on
 abbrev pub finding_of : Settlement → Finding
@@ -163,9 +165,10 @@ pub record IsSettledBy (outcome : Outcome) (claim capture : List ℕ) : Type 0 w
 abbrev pub IsSettled : Outcome → FeedState → FeedState → Type 0
 IsSettled outcome claim capture = OfClaimAndCapture claim capture (IsSettledBy outcome)
 
--- is the claim shown, refuted, fitted by no course, without evidence, or does it stay open?
-abbrev pub settle : QuestionData
-settle = record {
-  report = λ style finding said e. settle_report style finding e finding.settled;
+-- is the claim shown, refuted, fitted by no course, without evidence, or does it stay open? A person
+-- is told this about the inputs.
+abbrev pub settle : List ℕ → QuestionData
+settle about = record {
+  report = λ style finding said e. settle_report style about finding e finding.settled;
   Shows = λ claim second capture outcome. IsSettled outcome claim capture;
 }

@@ -1,7 +1,7 @@
 //! The engines of some commands: one question, asked for a program, with std's hasher of a fixed
 //! key. And the engine of `check` with what its exit status says.
 
-ghost use Rattle.std.specs.Prelude.{◌≡◌, ◌≤◌, Ok, IfOk, true, false};
+ghost use Rattle.std.specs.Prelude.{◌≡◌, ◌≤◌, [], Ok, IfOk, true, false};
 ghost use Rattle.byte_stream.specs.State.{IsWritable};
 ghost use Rattle.finder.specs.Piece.{IsStep};
 ghost use Rattle.report.specs.Run.{no_feed, run_state};
@@ -42,7 +42,7 @@ pub fn answer_check<C: Feed, T: Feed, F: Feed, S: Sink, E: Sink, H: BuildHasher 
     requires run { MayRun (run_state (C.state claim.old) (T.state certificate.old)
         (F.state capture) (S.state to.old.out)) }
     requires err { IsWritable (E.state to.old.err) }
-    ensures answers { AnswersFor (asked_of check certificate_second style)
+    ensures answers { AnswersFor (asked_of (check []) certificate_second style)
         (run_state (C.state claim.old) (T.state certificate.old)
         (F.state capture) (S.state to.old.out))
         (run_state (C.state claim.new) (T.state certificate.new)
@@ -51,10 +51,11 @@ pub fn answer_check<C: Feed, T: Feed, F: Feed, S: Sink, E: Sink, H: BuildHasher 
         (E.state to.old.err) (E.state to.new.err) result.1 }
     ensures traceable { result.1.code ≡ 0 →
         IsTraced (C.state claim.old) (T.state certificate.old) (F.state capture) }
-    ensures shows { ShowsAt result.1.code check
+    ensures shows { ShowsAt result.1.code (check [])
         (C.state claim.old) (T.state certificate.old) (F.state capture) }
 {
-    answer(alloc, Check, style, claim, certificate, capture, to, hasher)
+    let asked = Check { about: &[] };
+    answer(alloc, asked, style, claim, certificate, capture, to, hasher)
 }
 
 /// A hasher of a fixed key.
@@ -116,7 +117,7 @@ pub fn run_check<C: Feed, F: Feed, T: Feed, S: Sink>(
 ) -> (F, Result<Outcome, RunFault>)
     requires { MayRun (run_state
         (C.state claim.old) (T.state certificate.old) (F.state capture) (S.state out.old)) }
-    ensures runs { RunsFor (plainly check certificate_second) (run_state
+    ensures runs { RunsFor (plainly (check []) certificate_second) (run_state
         (C.state claim.old) (T.state certificate.old) (F.state capture) (S.state out.old))
         (run_state
         (C.state claim.new) (T.state certificate.new) (F.state result.0) (S.state out.new))
@@ -126,7 +127,7 @@ pub fn run_check<C: Feed, F: Feed, T: Feed, S: Sink>(
     ensures not_traced { result.1 ≡ Ok Outcome.No →
         IsNotTraced (C.state claim.old) (T.state certificate.old) (F.state capture) }
 {
-    let (asked, style, fixed) = (Check, Style::Plain, fixed_hasher());
+    let (asked, style, fixed) = (Check { about: &[] }, Style::Plain, fixed_hasher());
     run(alloc, asked, style, claim, certificate, capture, out, fixed)
 }
 
@@ -143,7 +144,7 @@ pub fn run_refute<C: Feed, F: Feed, T: Feed, S: Sink>(
 ) -> (F, Result<Outcome, RunFault>)
     requires { MayRun (run_state
         (C.state claim.old) (T.state refutation.old) (F.state capture) (S.state out.old)) }
-    ensures runs { RunsFor (plainly (refute false) refutation_second) (run_state
+    ensures runs { RunsFor (plainly (refute false []) refutation_second) (run_state
         (C.state claim.old) (T.state refutation.old) (F.state capture) (S.state out.old))
         (run_state
         (C.state claim.new) (T.state refutation.new) (F.state result.0) (S.state out.new))
@@ -153,7 +154,11 @@ pub fn run_refute<C: Feed, F: Feed, T: Feed, S: Sink>(
     ensures uncontested { result.1 ≡ Ok Outcome.No →
         IsUncontested false (C.state claim.old) (T.state refutation.old) (F.state capture) }
 {
-    let (asked, style, fixed) = (Refute { drift: false }, Style::Plain, fixed_hasher());
+    let asked = Refute {
+        drift: false,
+        about: &[],
+    };
+    let (style, fixed) = (Style::Plain, fixed_hasher());
     run(alloc, asked, style, claim, refutation, capture, out, fixed)
 }
 

@@ -38,5 +38,5 @@ pub use commands::{answer_check, run_at, run_check, run_find, run_refute, run_sa
 pub use engine::{Outputs, answer, run, run_twice};
 pub use evidence::Evidence;
 pub use line_writer::Style;
-pub use question::{At, Check, Find, Question, Refute, Request, RequestFinding};
+pub use question::{At, Check, Find, Question, Refute, Request, RequestFinding, Settle};
 pub use second::{SecondInput, SecondSource};

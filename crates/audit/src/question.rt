@@ -29,7 +29,8 @@ pub use crate::question::check::Check;
 use crate::question::envelope::EnvelopeFinding;
 pub use crate::question::find::Find;
 pub use crate::question::refute::Refute;
-use crate::question::settle::{Settle, Settlement};
+pub use crate::question::settle::Settle;
+use crate::question::settle::Settlement;
 use crate::second::SecondInput;
 use audit_text::Envelope;
 use byte_stream::Sink;
@@ -102,7 +103,8 @@ pub enum Request {
     Samples,
     /// What does each server say about the clock at a moment?
     At(At),
-    /// Is the claim shown, refuted, fitted by no course of events, or does it stay open?
+    /// Is the claim shown, refuted, fitted by no course of events, or does it stay open? Nothing is
+    /// told about the inputs.
     Settle,
     /// Is there a certificate with pieces of one length?
     Find(Find),
@@ -155,8 +157,9 @@ impl Question for Request {
         evidence: &Evidence,
     ) -> Result<RequestFinding, RunFault> {
         let none = RequestFinding::none();
+        let unnamed = Settle { about: &[] };
         match self {
-            Request::Settle => match Settle.find(alloc, style, second, evidence) {
+            Request::Settle => match unnamed.find(alloc, style, second, evidence) {
                 Ok(found) => Ok(RequestFinding {
                     settlement: Some(found),
                     ..none
@@ -190,11 +193,12 @@ impl Question for Request {
         found: &RequestFinding,
         out: &mut S,
     ) -> Result<Outcome, RunFault> {
+        let unnamed = Settle { about: &[] };
         match self {
             Request::Samples => samples::tell(alloc, style, evidence, out),
             Request::At(asked) => at::tell(alloc, asked, style, evidence, out),
             Request::Settle => match &found.settlement {
-                Some(found) => Settle.tell(alloc, style, second, evidence, found, out),
+                Some(found) => unnamed.tell(alloc, style, second, evidence, found, out),
                 None => unreachable!(),
             },
             Request::Find(find) => match &found.search {

@@ -1,12 +1,15 @@
 //! A text that is made whole, on its way out.
 
-ghost use Rattle.std.specs.Prelude.{◌≡◌, MatchResult, IfOk, IfErr, List, ℕ, Ok, Err};
+ghost use Rattle.std.specs.Prelude.{◌≡◌, ◌++◌, MatchResult, IfOk, IfErr, List, ℕ, Ok, Err};
+ghost use Rattle.audit_text.specs.CheckReport.{about_told};
 ghost use Rattle.byte_stream.specs.State.{IsWritable};
 ghost use Rattle.report.specs.Publication.{IsUnwritten};
 ghost use Rattle.report.specs.Reports.{whole_text};
 ghost use Rattle.audit.specs.Report.{IsOfMaking, PublishesWhole};
 
+use audit_text::add_about;
 use byte_stream::Sink;
+use line_writer::Style;
 use report::{Made, Outcome, RunFault, publish};
 use std::alloc::AllocError;
 
@@ -23,6 +26,20 @@ fn made_whole(text: Result<Vec<u8>, AllocError>, outcome: Outcome) -> Result<Mad
         Ok(text) => Ok(Made { text, outcome }),
         Err(AllocError) => Err(RunFault::Memory),
     }
+}
+
+/// A text that was made whole, and behind it what stands about the inputs of a run.
+pub(crate) fn with_about(
+    text: Result<Vec<u8>, AllocError>,
+    style: Style,
+    about: &[u8],
+) -> Result<Vec<u8>, AllocError>
+    ensures { (expected : List ℕ) → IfOk text (λ t. t.items ≡ expected) →
+        IfOk result (λ t. t.items ≡ expected ++ about_told style about.now) }
+{
+    let mut text = text?;
+    add_about(&mut text, style, about)?;
+    Ok(text)
 }
 
 /// Writes a text that was made whole, or nothing if it wasn't for want of memory, and finishes the

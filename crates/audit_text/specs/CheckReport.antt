@@ -4,6 +4,7 @@ use Rattle.std.specs.Prelude.{List, [], ◌∷◌, ◌++◌, length, codes}
 use Rattle.line_writer.specs.Field.{FieldData, line_of, Word, Named, Second, Nanoseconds, Billionths}
 use Rattle.line_writer.specs.Field.{Address, Reference, Nothing}
 use Rattle.line_writer.specs.declared.field.Style.{Style}
+use Rattle.line_writer.specs.declared.field.Style.TheVariants.{Plain}
 use Rattle.claim_file.specs.Claim.{ClaimData}
 use Rattle.pairing.specs.Pairing.{Collection}
 use Rattle.checker.specs.declared.verdict.Verdict.{Verdict}
@@ -78,11 +79,16 @@ verdict_line style Yes = line_of style (Word (codes "verdict yes") ∷ [])
 verdict_line style (No piece why) = line_of style (
     Word (codes "verdict no") ∷ Named (codes "piece") piece ∷ Word (why_word why) ∷ [])
 
+-- what stands about the inputs of a run, for a person alone
+abbrev pub about_told : Style → List ℕ → List ℕ
+about_told Plain about = []
+about_told style about = about
+
 -- the whole text
-unfoldable pub check_text : Style → ClaimData → Collection → Findings → List ℕ
-check_text style claim collection findings =
+unfoldable pub check_text : Style → ClaimData → Collection → Findings → List ℕ → List ℕ
+check_text style claim collection findings about =
     client_line style claim findings.groups ++ span_line style claim ++
     counts_line collection.counts (length collection.exchanges) ++
     sources_advice style findings.sources ++ reference_advice style findings.reference ++
     pieces_line style findings.pieces ++ fits_line style findings.fits ++
-    verdict_line style findings.verdict
+    about_told style about ++ verdict_line style findings.verdict

@@ -6,7 +6,7 @@ ghost use Rattle.claim_file.specs.Claim.{data_of};
 ghost use Rattle.pairing.specs.Exchange.{most_exchanges};
 ghost use Rattle.pairing.specs.Compact.{compact_data};
 ghost use Rattle.audit_text.specs.CheckReport as spec;
-ghost use Rattle.audit_text.specs.CheckReport.{client_line, fits_line, groups_field, pieces_line};
+ghost use Rattle.audit_text.specs.CheckReport.{about_told, client_line, fits_line, groups_field, pieces_line};
 ghost use Rattle.audit_text.specs.CheckReport.{reference_advice, sources_advice, span_line, verdict_line};
 ghost use Rattle.audit_text.specs.CheckReport.{why_word};
 
@@ -142,6 +142,16 @@ fn add_fits(text: &mut Vec<u8>, style: Style, fits: Option<bool>) -> Result<(), 
     }
 }
 
+/// Adds what stands about the inputs of a run, for a person alone.
+pub fn add_about(text: &mut Vec<u8>, style: Style, about: &[u8]) -> Result<(), AllocError>
+    ensures { IfOk result (λ _. text.new.items ≡ text.old.items ++ about_told style about.now) }
+{
+    match style {
+        Style::Plain => Ok(()),
+        _ => text.extend_from_slice(about),
+    }
+}
+
 /// The word for a reason.
 fn why_word(why: &Why) -> &'static str
     ensures { result.now ≡ why_word why.now }
@@ -178,7 +188,7 @@ fn add_verdict(text: &mut Vec<u8>, style: Style, verdict: &Verdict) -> Result<()
 }
 
 /// The text of `check`: what is claimed, what became of the capture's records, what is advised, for
-/// a person whether any course fits, and the verdict on a certificate.
+/// a person whether any course fits and `about` the inputs, and the verdict on a certificate.
 #[tactic(auto, unfolding(crate::specs::CheckReport::check_text))]
 pub fn check_text(
     alloc: Global,
@@ -186,10 +196,11 @@ pub fn check_text(
     claim: &Claim,
     held: &CompactCollection,
     findings: &Findings,
+    about: &[u8],
 ) -> Result<Vec<u8>, AllocError>
     requires few { length held.now.exchanges.items ≤ most_exchanges }
     ensures { IfOk result (λ text. text.items ≡
-        spec.check_text style (data_of claim.now) (compact_data held.now) findings.now) }
+        spec.check_text style (data_of claim.now) (compact_data held.now) findings.now about.now) }
 {
     let mut text = Vec::new(alloc);
     add_client(&mut text, style, claim, findings.groups)?;
@@ -199,6 +210,7 @@ pub fn check_text(
     add_reference_advice(&mut text, style, findings.reference)?;
     add_pieces(&mut text, style, findings.pieces)?;
     add_fits(&mut text, style, findings.fits)?;
+    add_about(&mut text, style, about)?;
     add_verdict(&mut text, style, &findings.verdict)?;
     Ok(text)
 }

@@ -44,7 +44,7 @@ mod step;
 mod table;
 
 pub use answer::{evidence_answer, found_answer, open_answer, refutation_answer, shown_answer};
-pub use check_report::{Findings, check_text};
+pub use check_report::{Findings, add_about, check_text};
 pub use counts_line::write_counts_line;
 pub use envelope::{Envelope, PLAIN_ENVELOPE, envelope_text};
 pub use least_line::LeastLine;

@@ -103,12 +103,12 @@ IsAsking request rows invocation = ⊥
 -- what a command with a second input judges, and which of its operands that input is
 abbrev pub IsJudgement : Text → List Row → Judgement → Type 0
 IsJudgement name rows judgements.Check = name ≡ codes "check"
-IsJudgement name rows (judgements.Refute refute) =
-    (name ≡ codes "refute") × IsFlag (codes "drift") rows refute.drift
+IsJudgement name rows (judgements.Refute drift) =
+    (name ≡ codes "refute") × IsFlag (codes "drift") rows drift
 
 abbrev pub second_operand : Judgement → Text
 second_operand judgements.Check = codes "CERTIFICATE"
-second_operand (judgements.Refute refute) = codes "REFUTATION"
+second_operand (judgements.Refute drift) = codes "REFUTATION"
 
 -- what a command with these rows calls for
 abbrev pub IsCalled : Text → List Row → Invocation → Type 0

@@ -19,7 +19,7 @@ mod samples;
 mod settle;
 
 use clap::{ArgMatches, Command};
-use program::Invocation;
+use program::{Invocation, VERSION};
 use std::alloc::{AllocError, Global};
 
 const HELP: &str = "\
@@ -36,7 +36,7 @@ fn bare<'a>(alloc: Global) -> Command<'a>
     ensures { IsProgram (table.program_of []) result }
 {
     Command::new(alloc, "ntpaudit")
-        .version("0.9.1 (logic dac8208d650f15bf)")
+        .version(VERSION)
         .about("What a packet capture of NTP shows about a clock")
         .after_help(HELP)
         .subcommand_required(true)

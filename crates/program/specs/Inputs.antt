@@ -1,6 +1,5 @@
 -- What the inputs of a run say of themselves.
-use Rattle.std.specs.Prelude.{ℕ, List, Option}
-use Rattle.std.specs.Option.{option_map}
+use Rattle.std.specs.Prelude.{ℕ, List}
 use Rattle.byte_stream.specs.State.{FeedState, SinkState}
 use Rattle.report.specs.Run.{RunState, run_state}
 use Rattle.summed_inputs.specs.Holding.{Feeds, feeds}

@@ -1,3 +1,4 @@
+pub mod About
 pub mod Asked
 pub mod Drafted
 pub mod Files

@@ -1,19 +1,21 @@
 -- How a run ends over inputs that were opened.
-use Rattle.std.specs.Prelude.{◌≡◌, ℕ, List, [], Option, Some, None, IfSome, Err}
+use Rattle.std.specs.Prelude.{◌≡◌, ◌⊎◌, ℕ, Bool, true, List, [], Option, Some, None, IfSome, Err}
 use Rattle.byte_stream.specs.Fault.{CountsFault}
 use Rattle.byte_stream.specs.State.{FeedState, SinkState}
 use Rattle.report.specs.Input.{IsInputFault, ReadsWhole, read_failed}
-use Rattle.report.specs.Conclusion.{Concludes, IsConcluded, conclusion_of}
+use Rattle.report.specs.Conclusion.{Concludes, conclusion_of}
 use Rattle.report.specs.declared.conclusion.Conclusion.{Conclusion}
 use Rattle.report.specs.declared.fault.Input.TheVariants.{Sums}
 use Rattle.report.specs.declared.fault.Outcome.{Outcome}
 use Rattle.report.specs.declared.fault.RunFault.{RunFault}
+use Rattle.report.specs.declared.fault.RunFault.TheVariants.{Memory}
 use Rattle.audit.specs.Question.{AskedData}
 use Rattle.audit.specs.Run.{AnswersFor, ShowsAt}
 use Rattle.summed_inputs.specs.Answer.{JudgesBySums}
 use Rattle.summed_inputs.specs.Holding.{Feeds, limit_of}
 use Rattle.summed_inputs.specs.InputBytes.{InputBytesData, data_of}
 use Rattle.program.specs.Inputs.{SumNames, run_over, sum_names, sums_of}
+use Rattle.program.specs.Invocation.{Asking}
 use Rattle.program.specs.Opening.{Place, Places}
 use Rattle.program.specs.declared.response.Summed.{Summed}
 
@@ -33,24 +35,51 @@ pub record IsAnswered (asked : AskedData) (feeds : Feeds) (sink sink' err err' :
       feeds.second after.second feeds.capture after.capture err err' conclusion
   pub shows : ShowsAt conclusion.code asked.question feeds.claim feeds.second feeds.capture
 
--- The file of sums can't be read: that is told, and nothing else is done. It is too big, its device
--- failed, which is counted, or memory was refused.
-pub record IsUnread (sums : FeedState) (sink sink' err err' : SinkState)
-    (conclusion : Conclusion) : Type 0 where
-  pub after : FeedState
-  pub fault : RunFault
-  pub fault_is : IsInputFault Sums fault
-  pub unread : IfSome sums.remaining (λ bytes. ReadsWhole bytes (limit_of Sums) (Err fault))
-  pub counts_fault : CountsFault (read_failed {X = Outcome} (Err fault)) sums.faults after.faults
-  pub untouched : sink' ≡ sink
-  pub concludes : Concludes (Err fault) err err'
-  pub conclusion_is : conclusion ≡ conclusion_of (Err fault)
-
 -- The file of sums was read whole, and its device didn't fail.
 pub record IsRead (sums : FeedState) (text : List ℕ) : Type 0 where
   pub after : FeedState
   pub whole : IfSome sums.remaining (λ bytes. text ≡ bytes)
   pub unfailed : after.faults ≡ sums.faults
+
+-- the same, if there is one
+abbrev pub AreRead : Option FeedState → Option (List ℕ) → Type 0
+AreRead None text = text ≡ None
+AreRead (Some file) None = ⊥
+AreRead (Some file) (Some text) = IsRead file text
+
+-- It can't be read: it is too big, its device failed, which is counted, or memory was refused.
+pub record IsUnreadable (file : FeedState) (fault : RunFault) : Type 0 where
+  pub after : FeedState
+  pub fault_is : IsInputFault Sums fault
+  pub unread : IfSome file.remaining (λ bytes. ReadsWhole bytes (limit_of Sums) (Err fault))
+  pub counts_fault : CountsFault (read_failed {X = Outcome} (Err fault)) file.faults after.faults
+
+abbrev pub IsUnread : Option FeedState → RunFault → Type 0
+IsUnread None fault = ⊥
+IsUnread (Some file) fault = IsUnreadable file fault
+
+-- The lines about the inputs, which are to be made, can't be: memory was refused.
+pub record AreUnmade (makes_lines : Bool) (sums : Option FeedState) (fault : RunFault)
+    : Type 0 where
+  pub to_be_made : makes_lines ≡ true
+  pub fault_is : fault ≡ Memory
+  pub text : Option (List ℕ)
+  pub read : AreRead sums text
+
+-- why a run is given up before the question is asked
+abbrev pub IsUnready : Bool → Option FeedState → RunFault → Type 0
+IsUnready makes_lines sums fault = IsUnread sums fault ⊎ AreUnmade makes_lines sums fault
+
+-- It is given up: that is told, and nothing else is done.
+pub record IsGivenUp (makes_lines : Bool) (sums : Option FeedState)
+    (sink sink' err err' : SinkState) (summed : Option Summed) (conclusion : Conclusion)
+    : Type 0 where
+  pub fault : RunFault
+  pub why : IsUnready makes_lines sums fault
+  pub untouched : sink' ≡ sink
+  pub concludes : Concludes (Err fault) err err'
+  pub conclusion_is : conclusion ≡ conclusion_of (Err fault)
+  pub unsummed : summed ≡ None
 
 -- What was read of the inputs is judged by the text of a file of sums, which has them by these
 -- names.
@@ -61,22 +90,28 @@ pub record IsJudgedBy (asked : AskedData) (names : SumNames) (feeds : Feeds) (te
   pub judges : JudgesBySums asked (sums_of names text) (run_over feeds sink) (run_over after sink')
       err err' read conclusion
 
--- The answer to a question by a file of sums: that can't be read, or what was read of it and of
--- the inputs is handed back, and judged.
-abbrev pub AnswersBySums : AskedData → SumNames → Feeds → FeedState → SinkState → SinkState
+-- The answer to a question, by the text of a file of sums if there is one: then what was read of it
+-- and of the inputs is handed back, and judged.
+abbrev pub AnswersBy : AskedData → SumNames → Feeds → Option (List ℕ) → SinkState → SinkState
     → SinkState → SinkState → Option Summed → Conclusion → Type 0
-AnswersBySums asked names feeds sums sink sink' err err' None conclusion =
-    IsUnread sums sink sink' err err' conclusion
-AnswersBySums asked names feeds sums sink sink' err err' (Some summed) conclusion =
-    IsRead sums summed.text.items
-    × IsJudgedBy asked names feeds summed.text.items sink sink' err err' (data_of summed.read)
-    conclusion
+AnswersBy asked names feeds None sink sink' err err' summed conclusion =
+    IsAnswered asked feeds sink sink' err err' conclusion × (summed ≡ None)
+AnswersBy asked names feeds (Some text) sink sink' err err' None conclusion = ⊥
+AnswersBy asked names feeds (Some text) sink sink' err err' (Some summed) conclusion =
+    (summed.text.items ≡ text)
+    × IsJudgedBy asked names feeds text sink sink' err err' (data_of summed.read) conclusion
+
+-- The file of sums was read, if there is one, and what is asked on its text is answered.
+pub record IsAsked (asking : Asking) (names : SumNames) (feeds : Feeds) (sums : Option FeedState)
+    (sink sink' err err' : SinkState) (summed : Option Summed) (conclusion : Conclusion)
+    : Type 0 where
+  pub text : Option (List ℕ)
+  pub read : AreRead sums text
+  pub answers : AnswersBy (asking.by text) names feeds text sink sink' err err' summed conclusion
 
 -- the answer to a question, by a file of sums if there is one
-pub record Responds (asked : AskedData) (names : SumNames) (feeds : Feeds)
-    (sums : Option FeedState) (sink sink' err err' : SinkState) (summed : Option Summed)
-    (conclusion : Conclusion) : Type 0 where
-  pub alone : sums ≡ None → IsAnswered asked feeds sink sink' err err' conclusion
-  pub unsummed : sums ≡ None → summed ≡ None
-  pub by_sums : IfSome sums (λ file.
-      AnswersBySums asked names feeds file sink sink' err err' summed conclusion)
+abbrev pub Responds : Asking → SumNames → Feeds → Option FeedState → SinkState → SinkState
+    → SinkState → SinkState → Option Summed → Conclusion → Type 0
+Responds asking names feeds sums sink sink' err err' summed conclusion =
+    IsAsked asking names feeds sums sink sink' err err' summed conclusion
+    ⊎ IsGivenUp asking.makes_lines sums sink sink' err err' summed conclusion

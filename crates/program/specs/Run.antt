@@ -17,7 +17,7 @@ use Rattle.audit.specs.Question.{AskedData}
 use Rattle.summed_inputs.specs.Holding.{Feeds}
 use Rattle.program.specs.Drafted.{IsDraftedOver}
 use Rattle.program.specs.Files.{IsFeedOf}
-use Rattle.program.specs.Invocation.{judged_of, judged_places, listed_name, places_of, requested}
+use Rattle.program.specs.Invocation.{Asking, judged_of, judged_places, listed_name, places_of, requested}
 use Rattle.program.specs.Invocation.{second_of}
 use Rattle.program.specs.Opening.{AreOpened, Places, order_of, place}
 use Rattle.program.specs.Response.{Responds, names_of}
@@ -48,22 +48,23 @@ Lists path before after conclusion =
 
 -- All inputs were opened, and the question was answered on them. If they are held to sums, what
 -- was read of them is handed back.
-pub record IsAnsweredOver (asked : AskedData) (places : Places) (before after : World)
+pub record IsAnsweredOver (asking : Asking) (places : Places) (before after : World)
     (summed : Option Summed) (conclusion : Conclusion) : Type 0 where
   pub feeds : Feeds
   pub sums : Option FeedState
   pub are_opened : AreOpened before.files places after.files.opened feeds sums
   pub undrafted : after.files.drafts ≡ before.files.drafts
-  pub responds : Responds asked (names_of places) feeds sums before.out after.out
+  pub responds : Responds asking (names_of places) feeds sums before.out after.out
       before.err after.err summed conclusion
 
 -- the answer to a question
-abbrev pub AnswersOver : AskedData → Places → World → World → Option Summed → Conclusion → Type 0
-AnswersOver asked places before after summed conclusion =
+abbrev pub AnswersOver : Asking → Places → World → World → Option Summed → Conclusion → Type 0
+AnswersOver asking places before after summed conclusion =
     (IsUnopened (order_of places) before after conclusion × (summed ≡ None))
-    ⊎ IsAnsweredOver asked places before after summed conclusion
+    ⊎ IsAnsweredOver asking places before after summed conclusion
 
--- the same of a question whose text for a program goes into the file of this path
+-- the same of a question whose text for a program goes into the file of this path, whose inputs
+-- aren't held to sums
 abbrev pub DraftsOver : AskedData → Places → List ℕ → World → World → Option Hindrance
     → Conclusion → Type 0
 DraftsOver asked places path before after hindrance conclusion =
@@ -71,12 +72,12 @@ DraftsOver asked places path before after hindrance conclusion =
     ⊎ IsDraftedOver asked places path before after hindrance conclusion
 
 -- the one or the other
-abbrev pub AnswersTo : Option (String Global) → AskedData → Places → World → World
+abbrev pub AnswersTo : Option (String Global) → Asking → Places → World → World
     → Option Hindrance → Option Summed → Conclusion → Type 0
-AnswersTo None asked places before after hindrance summed conclusion =
-    AnswersOver asked places before after summed conclusion × (hindrance ≡ None)
-AnswersTo (Some file) asked places before after hindrance summed conclusion =
-    DraftsOver asked places (string_bytes file) before after hindrance conclusion
+AnswersTo None asking places before after hindrance summed conclusion =
+    AnswersOver asking places before after summed conclusion × (hindrance ≡ None)
+AnswersTo (Some file) asking places before after hindrance summed conclusion =
+    DraftsOver (asking.by None) places (string_bytes file) before after hindrance conclusion
     × (summed ≡ None)
 
 -- No file was opened or put into its place, and nothing written on the output.
@@ -94,10 +95,10 @@ abbrev pub Says : Invocation → World → World → Response → Type 0
 Says (calls.List listed) before after response =
     Lists (listed_name listed) before after response.conclusion × IsBare response
 Says (calls.Ask request paths) before after response = AnswersTo paths.output
-    (requested request paths.style) (places_of paths) before after
+    (requested request paths) (places_of paths) before after
     response.hindrance response.summed response.conclusion
 Says (calls.Judge judgement paths) before after response =
-    AnswersOver (judged_of judgement paths.evidence.style)
+    AnswersOver (judged_of judgement paths)
     (judged_places (second_of judgement) paths) before after response.summed response.conclusion
     × (response.hindrance ≡ None)
 Says (calls.Show text) before after response = (after.files ≡ before.files)

@@ -1,6 +1,6 @@
 //! The answer to a question whose text for a program goes into a draft.
 
-ghost use Rattle.std.specs.Prelude.{◌≡◌};
+ghost use Rattle.std.specs.Prelude.{◌≡◌, Err, None};
 ghost use Rattle.byte_stream.specs.State.{IsReadable, IsWritable};
 ghost use Rattle.report.specs.Run.{no_feed};
 ghost use Rattle.audit.specs.Question.{asked_of};
@@ -17,7 +17,8 @@ use crate::files::Files;
 use crate::hindrance::Hindrance;
 use crate::inputs::Inputs;
 use crate::invocation::Paths;
-use audit::{Question, Request, Style, run, run_twice};
+use crate::told::{called, told};
+use audit::{Question, Request, Settle, Style, run, run_twice};
 use byte_stream::Sink;
 use fault_words::Obstacle;
 use report::{Outcome, RunFault};
@@ -87,6 +88,16 @@ fn hindered(hindrance: Hindrance) -> Written
     }
 }
 
+/// An answer for which memory was refused before any draft was made.
+fn unmade() -> Written
+    ensures { result ≡ record { answer = Err RunFault.Memory; hindrance = None } }
+{
+    Written {
+        answer: Err(RunFault::Memory),
+        hindrance: None,
+    }
+}
+
 /// What hindered a draft from being written whose sink has failed so often, if that is the fault.
 fn hindrance_of(fault: &RunFault, faults: u64) -> Option<Hindrance>
     ensures { result ≡ spec.hindrance_of fault.now faults }
@@ -99,10 +110,16 @@ fn hindrance_of(fault: &RunFault, faults: u64) -> Option<Hindrance>
 
 /// Answers a question in a file of this path, and on `out` too if it's a person who asks. Where the
 /// answer is a fault the file is left as it was.
-pub(crate) fn write_file<Fs: Files, N: NamedFeed + Drop, S: Sink, H: BuildHasher + Copy + Drop>(
+fn write_file<
+    Fs: Files,
+    Q: Question<Second = ()>,
+    N: NamedFeed + Drop,
+    S: Sink,
+    H: BuildHasher + Copy + Drop,
+>(
     alloc: Global,
     files: &mut Fs,
-    request: Request,
+    question: Q,
     paths: &Paths,
     path: &str,
     inputs: Inputs<N, ()>,
@@ -113,26 +130,21 @@ pub(crate) fn write_file<Fs: Files, N: NamedFeed + Drop, S: Sink, H: BuildHasher
     requires claim { IsReadable (N.state inputs.claim) }
     requires capture { IsReadable (N.state inputs.capture) }
     requires out { IsWritable (S.state out.old) }
-    ensures drafts { DraftsOn (requested request paths.now.style)
+    ensures drafts { DraftsOn (asked_of (Q.asks question) no_second paths.now.style)
         (feeds_of N.state (λ none. no_feed) inputs) path.now (S.state out.old) (S.state out.new)
         (Fs.state files.old).drafts (Fs.state files.new).drafts result }
     ensures kept { (Fs.state files.new).opened ≡ (Fs.state files.old).opened }
 {
     let part = match format!(in alloc; "{path}.part") {
         Ok(part) => part,
-        Err(AllocError) => {
-            return Written {
-                answer: Err(RunFault::Memory),
-                hindrance: None,
-            };
-        }
+        Err(AllocError) => return unmade(),
     };
     let mut sink = match files.create(path, part.as_str(), paths) {
         Ok(sink) => sink,
         Err(hindrance) => return hindered(hindrance),
     };
     let style = paths.style;
-    let answer = draft(alloc, request, style, inputs, &mut sink, out, hasher);
+    let answer = draft(alloc, question, style, inputs, &mut sink, out, hasher);
     match answer {
         Ok(_) => match files.place(sink, part.as_str(), path) {
             Ok(()) => Written {
@@ -146,5 +158,40 @@ pub(crate) fn write_file<Fs: Files, N: NamedFeed + Drop, S: Sink, H: BuildHasher
             let hindrance = hindrance_of(&fault, sink.faults());
             Written { answer, hindrance }
         }
+    }
+}
+
+/// Answers a request in a file of this path, as `write_file` does. A person is told about the
+/// inputs, which aren't held to sums.
+pub(crate) fn write_request<Fs: Files, N: NamedFeed + Drop, S: Sink, H: BuildHasher + Copy + Drop>(
+    alloc: Global,
+    files: &mut Fs,
+    request: Request,
+    paths: &Paths,
+    path: &str,
+    inputs: Inputs<N, ()>,
+    out: &mut S,
+    hasher: H,
+) -> Written
+    requires files { MayDraft (Fs.state files.old).drafts }
+    requires claim { IsReadable (N.state inputs.claim) }
+    requires capture { IsReadable (N.state inputs.capture) }
+    requires out { IsWritable (S.state out.old) }
+    ensures drafts { DraftsOn ((requested request paths.now).by None)
+        (feeds_of N.state (λ none. no_feed) inputs) path.now (S.state out.old) (S.state out.new)
+        (Fs.state files.old).drafts (Fs.state files.new).drafts result }
+    ensures kept { (Fs.state files.new).opened ≡ (Fs.state files.old).opened }
+{
+    match request {
+        Request::Settle => match told(alloc, paths.style, &called(paths), &None) {
+            Ok(about) => {
+                let question = Settle {
+                    about: about.as_slice(),
+                };
+                write_file(alloc, files, question, paths, path, inputs, out, hasher)
+            }
+            Err(AllocError) => unmade(),
+        },
+        _ => write_file(alloc, files, request, paths, path, inputs, out, hasher),
     }
 }

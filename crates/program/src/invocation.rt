@@ -3,7 +3,7 @@
 ghost use Rattle.std.specs.Prelude.{◌≡◌, [], IfOk, option_map, string_bytes, unwrap_or};
 ghost use Rattle.program.specs.Invocation.{IsRefusal, listed_name, second_of};
 
-use audit::{Refute, Request, Style};
+use audit::{Request, Style};
 use report::Input;
 use std::alloc::{AllocError, Global};
 
@@ -70,8 +70,11 @@ pub struct JudgedPaths {
 pub enum Judgement {
     /// Check a certificate.
     Check,
-    /// Check a refutation.
-    Refute(Refute),
+    /// Check a refutation, whose error may drift or never changes.
+    Refute {
+        /// Whether it may drift.
+        drift: bool,
+    },
 }
 
 impl Judgement {
@@ -81,7 +84,7 @@ impl Judgement {
     {
         match self {
             Judgement::Check => Input::Certificate,
-            Judgement::Refute(_) => Input::Refutation,
+            Judgement::Refute { .. } => Input::Refutation,
         }
     }
 }

@@ -10,13 +10,14 @@
 //!
 //! ```text
 //! match open_judged(files, judgement.second(), paths) {
-//!     Ok(opened) => judge(alloc, judgement, paths.evidence.style, opened, to, hasher),
+//!     Ok(opened) => judge(alloc, judgement, paths, opened, to, hasher),
 //!     Err(fault) => (None, conclude(&Err(fault), &mut to.err)),
 //! }
 //! ```
 
 #![tactic(auto)]
 
+mod about;
 mod asked;
 mod drafted;
 mod files;
@@ -27,7 +28,9 @@ mod named;
 mod response;
 mod run;
 mod table;
+mod told;
 
+pub use about::VERSION;
 pub use asked::Asked;
 pub use files::{Files, OpenFault};
 pub use hindrance::Hindrance;

@@ -1,20 +1,24 @@
 //! The answer to a question over inputs that were opened.
 
-ghost use Rattle.std.specs.Prelude.{IfSome, option_map};
+ghost use Rattle.std.specs.Prelude.{◌≡◌, [], IfErr, IfOk, IfSome, map, option_map};
 ghost use Rattle.byte_stream.specs.State.{IsReadable, IsWritable};
+ghost use Rattle.report.specs.Run.{no_feed};
 ghost use Rattle.audit.specs.Run.{MayRun};
 ghost use Rattle.audit.specs.Question.{asked_of};
 ghost use Rattle.summed_inputs.specs.InputBytes.{data_of};
 ghost use Rattle.program.specs.Inputs.{feeds_of, names_in, run_over};
-ghost use Rattle.program.specs.Invocation.{judged_of};
-ghost use Rattle.program.specs.Response.{AnswersBySums, IsAnswered, IsJudgedBy, Responds};
+ghost use Rattle.program.specs.About.{data_of as called_data};
+ghost use Rattle.program.specs.Invocation.{is_human, judged_of, requested, told_of};
+ghost use Rattle.program.specs.Response.{AnswersBy, AreRead, IsUnready, IsUnread, Responds};
 
+use crate::about::Called;
 use crate::inputs::{Inputs, Opened};
-use crate::invocation::Judgement;
-use audit::{Check, Outputs, Question, Style, answer};
+use crate::invocation::{JudgedPaths, Judgement, Paths};
+use crate::told::{called, called_too, told};
+use audit::{Check, Outputs, Question, Refute, Request, Settle, Style, answer};
 use byte_stream::Sink;
-use report::{Conclusion, Input, conclude, read_input};
-use std::alloc::Global;
+use report::{Conclusion, Input, RunFault, conclude, read_input};
+use std::alloc::{AllocError, Global};
 use std::hash::BuildHasher;
 use summed_inputs::{InputBytes, MAX_SUMS, NamedFeed, SummedSource, answer_by_sums};
 
@@ -27,8 +31,9 @@ pub struct Summed {
     pub read: InputBytes,
 }
 
-/// Answers a question, and returns the conclusion.
-fn answer_alone<
+/// Answers a question. If there is the text of a file of sums, each input is held to its line there,
+/// under its name, and what was read is returned. Beside it stands the conclusion.
+fn answer_by<
     Q: Question,
     N: NamedFeed + Drop,
     T: SummedSource<Q::Second> + Drop,
@@ -39,136 +44,126 @@ fn answer_alone<
     alloc: Global,
     question: Q,
     style: Style,
+    text: Option<Vec<u8>>,
     inputs: Inputs<N, T>,
     to: &mut Outputs<S, E>,
     hasher: H,
-) -> Conclusion
+) -> (Option<Summed>, Conclusion)
     requires run { MayRun (run_over (feeds_of N.state T.state inputs) (S.state to.old.out)) }
     requires err { IsWritable (E.state to.old.err) }
-    ensures { IsAnswered (asked_of (Q.asks question) Q.Second.kind style)
-        (feeds_of N.state T.state inputs) (S.state to.old.out) (S.state to.new.out)
-        (E.state to.old.err) (E.state to.new.err) result }
-{
-    let Inputs {
-        mut claim,
-        mut second,
-        capture,
-    } = inputs;
-    let (claim, second) = (&mut claim, &mut second);
-    answer(alloc, question, style, claim, second, capture, to, hasher).1
-}
-
-/// Answers a question, with each input held to its line in the text of a file of sums, under its
-/// name. Returns what was read, and the conclusion.
-fn answer_by_text<
-    Q: Question,
-    N: NamedFeed + Drop,
-    T: SummedSource<Q::Second> + Drop,
-    S: Sink,
-    E: Sink,
-    H: BuildHasher + Drop,
->(
-    alloc: Global,
-    question: Q,
-    style: Style,
-    text: &[u8],
-    inputs: Inputs<N, T>,
-    to: &mut Outputs<S, E>,
-    hasher: H,
-) -> (InputBytes, Conclusion)
-    requires run { MayRun (run_over (feeds_of N.state T.state inputs) (S.state to.old.out)) }
-    requires err { IsWritable (E.state to.old.err) }
-    ensures { IsJudgedBy (asked_of (Q.asks question) Q.Second.kind style)
-        (names_in N.named T.named inputs) (feeds_of N.state T.state inputs) text.now
-        (S.state to.old.out) (S.state to.new.out)
-        (E.state to.old.err) (E.state to.new.err) (data_of result.0) result.1 }
+    ensures { AnswersBy (asked_of (Q.asks question) Q.Second.kind style)
+        (names_in N.named T.named inputs) (feeds_of N.state T.state inputs)
+        (option_map (λ t. t.items) text) (S.state to.old.out) (S.state to.new.out)
+        (E.state to.old.err) (E.state to.new.err) result.0 result.1 }
 {
     let Inputs {
         mut claim,
         mut second,
         mut capture,
     } = inputs;
-    let (claim, second, capture) = (&mut claim, &mut second, &mut capture);
-    answer_by_sums(
-        alloc, question, style, text, claim, second, capture, to, hasher,
-    )
-}
-
-/// The same, by a file of sums, which is read before any other.
-fn answer_by_file<
-    Q: Question,
-    N: NamedFeed + Drop,
-    T: SummedSource<Q::Second> + Drop,
-    S: Sink,
-    E: Sink,
-    H: BuildHasher + Drop,
->(
-    alloc: Global,
-    question: Q,
-    style: Style,
-    inputs: Inputs<N, T>,
-    mut sums: N,
-    to: &mut Outputs<S, E>,
-    hasher: H,
-) -> (Option<Summed>, Conclusion)
-    requires run { MayRun (run_over (feeds_of N.state T.state inputs) (S.state to.old.out)) }
-    requires err { IsWritable (E.state to.old.err) }
-    requires sums { IsReadable (N.state sums) }
-    ensures { AnswersBySums (asked_of (Q.asks question) Q.Second.kind style)
-        (names_in N.named T.named inputs) (feeds_of N.state T.state inputs) (N.state sums)
-        (S.state to.old.out) (S.state to.new.out)
-        (E.state to.old.err) (E.state to.new.err) result.0 result.1 }
-{
-    match read_input(alloc, &mut sums, Input::Sums, MAX_SUMS) {
-        Ok(text) => {
-            let (read, conclusion) = answer_by_text(
-                alloc,
-                question,
-                style,
-                text.as_slice(),
-                inputs,
-                to,
-                hasher,
+    let (claim, second) = (&mut claim, &mut second);
+    match text {
+        Some(text) => {
+            let (sums, capture) = (text.as_slice(), &mut capture);
+            let (read, conclusion) = answer_by_sums(
+                alloc, question, style, sums, claim, second, capture, to, hasher,
             );
             (Some(Summed { text, read }), conclusion)
         }
-        Err(fault) => (None, conclude(&Err(fault), &mut to.err)),
+        None => {
+            let (_, conclusion) = answer(
+                alloc, question, style, claim, second, capture, to, hasher,
+            );
+            (None, conclusion)
+        }
     }
 }
 
-/// Answers a question, by a file of sums if there is one. Returns what was read then, and the
-/// conclusion.
-pub(crate) fn ask<
-    Q: Question,
-    N: NamedFeed + Drop,
-    T: SummedSource<Q::Second> + Drop,
-    S: Sink,
-    E: Sink,
-    H: BuildHasher + Drop,
->(
+/// Reads the text of a file of sums, if there is one.
+fn read_sums<N: NamedFeed + Drop>(
     alloc: Global,
-    question: Q,
+    sums: Option<N>,
+) -> Result<Option<Vec<u8>>, RunFault>
+    requires { IfSome sums (λ file. IsReadable (N.state file)) }
+    ensures read { IfOk result (λ text. AreRead (option_map N.state sums)
+        (option_map (λ t. t.items) text)) }
+    ensures fault { IfErr result (IsUnread (option_map N.state sums)) }
+{
+    match sums {
+        Some(mut file) => match read_input(alloc, &mut file, Input::Sums, MAX_SUMS) {
+            Ok(text) => Ok(Some(text)),
+            Err(fault) => Err(fault),
+        },
+        None => Ok(None),
+    }
+}
+
+/// The text of a file of sums, if there is one, and what is told about the inputs that it has.
+#[derive(Drop)]
+struct Prepared {
+    /// The text.
+    text: Option<Vec<u8>>,
+    /// What is told.
+    about: Vec<u8>,
+}
+
+/// Makes what is told in this style about these inputs, once the file of sums is read.
+fn prepare<N: NamedFeed + Drop>(
+    alloc: Global,
     style: Style,
-    opened: Opened<N, T>,
+    inputs: &[Called<'_>],
+    sums: Option<N>,
+) -> Result<Prepared, RunFault>
+    requires { IfSome sums (λ file. IsReadable (N.state file)) }
+    ensures read { IfOk result (λ p. AreRead (option_map N.state sums)
+        (option_map (λ t. t.items) p.text)) }
+    ensures about { IfOk result (λ p. p.about.items
+        ≡ told_of style (map called_data inputs.now) (option_map (λ t. t.items) p.text)) }
+    ensures fault { IfErr result (IsUnready (is_human style) (option_map N.state sums)) }
+{
+    match read_sums(alloc, sums) {
+        Ok(text) => match told(alloc, style, inputs, &text) {
+            Ok(about) => Ok(Prepared { text, about }),
+            Err(AllocError) => Err(RunFault::Memory),
+        },
+        Err(fault) => Err(fault),
+    }
+}
+
+/// Answers a request, by a file of sums if there is one. Returns what was read then, and the
+/// conclusion.
+pub(crate) fn ask<N: NamedFeed + Drop, S: Sink, E: Sink, H: BuildHasher + Drop>(
+    alloc: Global,
+    request: Request,
+    paths: &Paths,
+    opened: Opened<N, ()>,
     to: &mut Outputs<S, E>,
     hasher: H,
 ) -> (Option<Summed>, Conclusion)
-    requires run { MayRun (run_over (feeds_of N.state T.state opened.inputs)
+    requires run { MayRun (run_over (feeds_of N.state (λ none. no_feed) opened.inputs)
         (S.state to.old.out)) }
     requires err { IsWritable (E.state to.old.err) }
     requires sums { IfSome opened.sums (λ file. IsReadable (N.state file)) }
-    ensures responds { Responds (asked_of (Q.asks question) Q.Second.kind style)
-        (names_in N.named T.named opened.inputs) (feeds_of N.state T.state opened.inputs)
+    ensures responds { Responds (requested request paths.now)
+        (names_in N.named (λ none. []) opened.inputs)
+        (feeds_of N.state (λ none. no_feed) opened.inputs)
         (option_map N.state opened.sums) (S.state to.old.out) (S.state to.new.out)
         (E.state to.old.err) (E.state to.new.err) result.0 result.1 }
 {
     let Opened { inputs, sums } = opened;
-    match sums {
-        Some(sums) => answer_by_file(alloc, question, style, inputs, sums, to, hasher),
-        None => (
-            None,
-            answer_alone(alloc, question, style, inputs, to, hasher),
-        ),
+    let style = paths.style;
+    match request {
+        Request::Settle => match prepare(alloc, style, &called(paths), sums) {
+            Ok(Prepared { text, about }) => {
+                let about = about.as_slice();
+                answer_by(alloc, Settle { about }, style, text, inputs, to, hasher)
+            }
+            Err(fault) => (None, conclude(&Err(fault), &mut to.err)),
+        },
+        _ => match read_sums(alloc, sums) {
+            Ok(text) => answer_by(alloc, request, style, text, inputs, to, hasher),
+            Err(fault) => (None, conclude(&Err(fault), &mut to.err)),
+        },
     }
 }
 
@@ -177,7 +172,7 @@ pub(crate) fn ask<
 pub(crate) fn judge<N: NamedFeed + Drop, S: Sink, E: Sink, H: BuildHasher + Drop>(
     alloc: Global,
     judgement: Judgement,
-    style: Style,
+    paths: &JudgedPaths,
     opened: Opened<N, N>,
     to: &mut Outputs<S, E>,
     hasher: H,
@@ -186,13 +181,26 @@ pub(crate) fn judge<N: NamedFeed + Drop, S: Sink, E: Sink, H: BuildHasher + Drop
         (S.state to.old.out)) }
     requires err { IsWritable (E.state to.old.err) }
     requires sums { IfSome opened.sums (λ file. IsReadable (N.state file)) }
-    ensures responds { Responds (judged_of judgement style)
+    ensures responds { Responds (judged_of judgement paths.now)
         (names_in N.named N.named opened.inputs) (feeds_of N.state N.state opened.inputs)
         (option_map N.state opened.sums) (S.state to.old.out) (S.state to.new.out)
         (E.state to.old.err) (E.state to.new.err) result.0 result.1 }
 {
-    match judgement {
-        Judgement::Check => ask(alloc, Check, style, opened, to, hasher),
-        Judgement::Refute(refute) => ask(alloc, refute, style, opened, to, hasher),
+    let Opened { inputs, sums } = opened;
+    let style = paths.evidence.style;
+    match prepare(alloc, style, &called_too(judgement.second(), paths), sums) {
+        Ok(Prepared { text, about }) => {
+            let about = about.as_slice();
+            match judgement {
+                Judgement::Check => {
+                    answer_by(alloc, Check { about }, style, text, inputs, to, hasher)
+                }
+                Judgement::Refute { drift } => {
+                    let refute = Refute { drift, about };
+                    answer_by(alloc, refute, style, text, inputs, to, hasher)
+                }
+            }
+        }
+        Err(fault) => (None, conclude(&Err(fault), &mut to.err)),
     }
 }

@@ -10,7 +10,7 @@ ghost use Rattle.program.specs.Run.{AnswersOver, AnswersTo, DraftsOver, Lists, S
 ghost use Rattle.program.specs.World.{world};
 
 use crate::asked::Asked;
-use crate::drafted::write_file;
+use crate::drafted::write_request;
 use crate::files::Files;
 use crate::hindrance::Hindrance;
 use crate::inputs::{open, open_evidence, open_judged};
@@ -56,13 +56,13 @@ fn ask_of_files<Fs: Files, S: Sink, E: Sink, H: BuildHasher + Drop>(
     requires files { MayOpen (Fs.state files.old) }
     requires out { IsWritable (S.state to.old.out) }
     requires err { IsWritable (E.state to.old.err) }
-    ensures answers { AnswersOver (requested request paths.now.style) (places_of paths.now)
+    ensures answers { AnswersOver (requested request paths.now) (places_of paths.now)
         (world (Fs.state files.old) (S.state to.old.out) (E.state to.old.err))
         (world (Fs.state files.new) (S.state to.new.out) (E.state to.new.err))
         result.0 result.1 }
 {
     match open_evidence(files, paths) {
-        Ok(opened) => ask(alloc, request, paths.style, opened, to, hasher),
+        Ok(opened) => ask(alloc, request, paths, opened, to, hasher),
         Err(fault) => (None, conclude(&Err(fault), &mut to.err)),
     }
 }
@@ -82,7 +82,7 @@ fn ask_for_file<Fs: Files, S: Sink, E: Sink, H: BuildHasher + Copy + Drop>(
     requires files { MayOpen (Fs.state files.old) }
     requires out { IsWritable (S.state to.old.out) }
     requires err { IsWritable (E.state to.old.err) }
-    ensures drafts { DraftsOver (requested request paths.now.style) (places_of paths.now) path.now
+    ensures drafts { DraftsOver ((requested request paths.now).by None) (places_of paths.now) path.now
         (world (Fs.state files.old) (S.state to.old.out) (E.state to.old.err))
         (world (Fs.state files.new) (S.state to.new.out) (E.state to.new.err))
         result.1 result.0 }
@@ -91,7 +91,7 @@ fn ask_for_file<Fs: Files, S: Sink, E: Sink, H: BuildHasher + Copy + Drop>(
         Ok(opened) => {
             let inputs = opened.inputs;
             let out = &mut to.out;
-            let written = write_file(alloc, files, request, paths, path, inputs, out, hasher);
+            let written = write_request(alloc, files, request, paths, path, inputs, out, hasher);
             (conclude(&written.answer, &mut to.err), written.hindrance)
         }
         Err(fault) => (conclude(&Err(fault), &mut to.err), None),
@@ -111,14 +111,14 @@ fn judge_files<Fs: Files, S: Sink, E: Sink, H: BuildHasher + Drop>(
     requires files { MayOpen (Fs.state files.old) }
     requires out { IsWritable (S.state to.old.out) }
     requires err { IsWritable (E.state to.old.err) }
-    ensures answers { AnswersOver (judged_of judgement paths.now.evidence.style)
+    ensures answers { AnswersOver (judged_of judgement paths.now)
         (judged_places (second_of judgement) paths.now)
         (world (Fs.state files.old) (S.state to.old.out) (E.state to.old.err))
         (world (Fs.state files.new) (S.state to.new.out) (E.state to.new.err))
         result.0 result.1 }
 {
     match open_judged(files, judgement.second(), paths) {
-        Ok(opened) => judge(alloc, judgement, paths.evidence.style, opened, to, hasher),
+        Ok(opened) => judge(alloc, judgement, paths, opened, to, hasher),
         Err(fault) => (None, conclude(&Err(fault), &mut to.err)),
     }
 }
@@ -136,7 +136,7 @@ fn ask_paths<Fs: Files, S: Sink, E: Sink, H: BuildHasher + Copy + Drop>(
     requires files { MayOpen (Fs.state files.old) }
     requires out { IsWritable (S.state to.old.out) }
     requires err { IsWritable (E.state to.old.err) }
-    ensures answers { AnswersTo paths.now.output (requested request paths.now.style)
+    ensures answers { AnswersTo paths.now.output (requested request paths.now)
         (places_of paths.now)
         (world (Fs.state files.old) (S.state to.old.out) (E.state to.old.err))
         (world (Fs.state files.new) (S.state to.new.out) (E.state to.new.err))

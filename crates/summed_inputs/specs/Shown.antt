@@ -1,4 +1,4 @@
--- What an exit status shows of bytes, question by question.
+-- What an exit status shows of bytes, question by question, whatever is told about the inputs.
 use Rattle.std.specs.Prelude.{ℕ, List, Bool, Some}
 use Rattle.byte_stream.specs.Bytes.{IsBytes}
 use Rattle.certificate.specs.Certificate.{CertificateData}
@@ -30,29 +30,29 @@ pub record IsSettledShown (claim capture : List ℕ) : Type 0 where
 
 -- what status 0 and 1 of `check` show: the theorem, or a verdict of no
 abbrev pub CheckProves : Type 0
-CheckProves = (claim certificate capture : List ℕ) → IsBytes capture
-    → ShowsOfBytes 0 check claim certificate capture → IsProven claim certificate capture
+CheckProves = (about claim certificate capture : List ℕ) → IsBytes capture
+    → ShowsOfBytes 0 (check about) claim certificate capture → IsProven claim certificate capture
 
 abbrev pub CheckDenies : Type 0
-CheckDenies = (claim certificate capture : List ℕ)
-    → ShowsOfBytes 1 check claim certificate capture → IsDenied claim certificate capture
+CheckDenies = (about claim certificate capture : List ℕ)
+    → ShowsOfBytes 1 (check about) claim certificate capture → IsDenied claim certificate capture
 
 -- those of `refute`: the refutation stands, or falls
 abbrev pub RefuteDisproves : Type 0
-RefuteDisproves = (drift : Bool) (claim refutation capture : List ℕ) → IsBytes capture
-    → ShowsOfBytes 0 (refute drift) claim refutation capture
+RefuteDisproves = (drift : Bool) (about claim refutation capture : List ℕ) → IsBytes capture
+    → ShowsOfBytes 0 (refute drift about) claim refutation capture
     → IsDisproven drift claim refutation capture
 
 abbrev pub RefuteClears : Type 0
-RefuteClears = (drift : Bool) (claim refutation capture : List ℕ)
-    → ShowsOfBytes 1 (refute drift) claim refutation capture
+RefuteClears = (drift : Bool) (about claim refutation capture : List ℕ)
+    → ShowsOfBytes 1 (refute drift about) claim refutation capture
     → GiveRefutation (IsUncontestedOf drift) (Some refutation) claim capture
 
 -- those of `settle`: the claim is shown, or one of the other four answers
 abbrev pub SettleShows : Type 0
-SettleShows = (claim second capture : List ℕ) → IsBytes capture
-    → ShowsOfBytes 0 settle claim second capture → IsSettledShown claim capture
+SettleShows = (about claim second capture : List ℕ) → IsBytes capture
+    → ShowsOfBytes 0 (settle about) claim second capture → IsSettledShown claim capture
 
 abbrev pub SettleAnswers : Type 0
-SettleAnswers = (claim second capture : List ℕ)
-    → ShowsOfBytes 1 settle claim second capture → IsSettledBy No claim capture
+SettleAnswers = (about claim second capture : List ℕ)
+    → ShowsOfBytes 1 (settle about) claim second capture → IsSettledBy No claim capture

@@ -25,7 +25,10 @@ use std::alloc::{AllocError, Global};
 
 /// Does a certificate, the second input, show the claim?
 #[derive(Clone, Copy, Debug)]
-pub struct Check;
+pub struct Check<'a> {
+    /// What a person is told about the inputs, in whole lines.
+    pub about: &'a [u8],
+}
 
 /// The outcome of a verdict.
 fn outcome_of(verdict: &Verdict) -> Outcome
@@ -73,12 +76,12 @@ fn findings_on(certificate: &Certificate, evidence: &Evidence, fits: Option<bool
     }
 }
 
-impl Question for Check {
+impl<'a> Question for Check<'a> {
     type Second = Certificate;
 
     type Finding = Option<bool>;
 
-    ghost asks = { λ _. check };
+    ghost asks = { λ asked. check asked.about.now };
 
     ghost finding = { fit_finding };
 
@@ -112,7 +115,8 @@ impl Question for Check {
         bounds_of_bytes_hold_in_nanoseconds();
         yes_shows_the_headline();
         let findings = findings_on(second, evidence, fits_told(style, found));
-        let text = check_text(alloc, style, &evidence.claim, &evidence.held, &findings);
+        let (claim, held) = (&evidence.claim, &evidence.held);
+        let text = check_text(alloc, style, claim, held, &findings, self.about);
         publish_text(out, text, outcome_of(&findings.verdict))
     }
 }

@@ -12,7 +12,7 @@ ghost use Rattle.audit.specs.Refute.{IsSettledFor, refute, stands_on};
 use crate::evidence::Evidence;
 use crate::laws::course_beyond_the_bound_contests_the_claim;
 use crate::question::Question;
-use crate::whole_text::publish_text;
+use crate::whole_text::{publish_text, with_about};
 use audit_text::{refutation_answer, refuted_text};
 use byte_stream::Sink;
 use certificate::Refutation;
@@ -25,9 +25,11 @@ use std::alloc::{AllocError, Global};
 
 /// Does a refutation, the second input, stand against the claim?
 #[derive(Clone, Copy, Debug)]
-pub struct Refute {
+pub struct Refute<'a> {
     /// Whether the clock's error may drift, as the claim grants, or never changes.
     pub drift: bool,
+    /// What a person is told about the inputs, in whole lines.
+    pub about: &'a [u8],
 }
 
 /// The outcome for whether a refutation stands.
@@ -82,12 +84,12 @@ fn judged_text(
     }
 }
 
-impl Question for Refute {
+impl<'a> Question for Refute<'a> {
     type Second = Refutation;
 
     type Finding = ();
 
-    ghost asks = { λ asked. refute asked.drift };
+    ghost asks = { λ asked. refute asked.drift asked.about.now };
 
     ghost finding = { λ _. no_finding };
 
@@ -116,6 +118,7 @@ impl Question for Refute {
         match does_stand(alloc, self.drift, second, evidence) {
             Ok(stands) => {
                 let text = judged_text(alloc, style, &evidence.claim, second, stands);
+                let text = with_about(text, style, self.about);
                 publish_text(out, text, refuted_outcome(stands))
             }
             Err(AllocError) => publish(out, &Err(RunFault::Memory)),

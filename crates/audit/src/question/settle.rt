@@ -16,7 +16,7 @@ use crate::least_line::{least_if, nanoseconds_of};
 use crate::question::Question;
 use crate::question::find::{certificate_line, run_fault_of};
 use crate::question::find_refutation::refutation_line;
-use crate::whole_text::publish_text;
+use crate::whole_text::{publish_text, with_about};
 use audit_text::{
     conflicts_text, evidence_answer, evidence_text, open_answer, open_text, refutation_answer,
     shown_answer,
@@ -31,7 +31,10 @@ use std::alloc::{AllocError, Global};
 
 /// Is the claim shown, refuted, fitted by no course of events, or does it stay open?
 #[derive(Clone, Copy, Debug)]
-pub(crate) struct Settle;
+pub struct Settle<'a> {
+    /// What a person is told about the inputs, in whole lines.
+    pub about: &'a [u8],
+}
 
 /// What settles a claim, and the least bound that a certificate carries, if it was looked for.
 #[derive(Drop)]
@@ -197,12 +200,12 @@ fn text_for(
     }
 }
 
-impl Question for Settle {
+impl<'a> Question for Settle<'a> {
     type Second = ();
 
     type Finding = Settlement;
 
-    ghost asks = { λ _. spec.settle };
+    ghost asks = { λ asked. spec.settle asked.about.now };
 
     ghost finding = { finding_of };
 
@@ -239,6 +242,7 @@ impl Question for Settle {
         yes_shows_the_headline();
         course_beyond_the_bound_contests_the_claim();
         let text = text_for(alloc, style, evidence, found);
+        let text = with_about(text, style, self.about);
         publish_text(out, text, outcome_of(&found.settled))
     }
 }

@@ -8,7 +8,6 @@ ghost use Rattle.ntpaudit.specs.Invocation.{IsCalled};
 
 use crate::command::argument::{flag, is_given, required};
 use crate::command::evidence::{evidence_command, judged_paths, sums_option};
-use audit::Refute;
 use clap::{ArgMatches, Command};
 use program::{Invocation, Judgement};
 use std::alloc::{AllocError, Global};
@@ -38,9 +37,9 @@ pub(crate) fn declaration<'a>(alloc: Global) -> Result<Command<'a>, AllocError>
 pub(crate) fn invocation(alloc: Global, words: &ArgMatches) -> Result<Invocation, AllocError>
     ensures { IfOk result (IsCalled (codes "refute") (rows_of (found_of words.now))) }
 {
-    let refute = Refute {
+    let refute = Judgement::Refute {
         drift: is_given(words, "drift"),
     };
     let paths = judged_paths(alloc, words, "REFUTATION")?;
-    Ok(Invocation::Judge(Judgement::Refute(refute), paths))
+    Ok(Invocation::Judge(refute, paths))
 }

@@ -153,9 +153,15 @@ pub(crate) fn run<'a>(
         Command::Ask(request) => {
             audit::run(alloc, request, style, first, none, capture, out, hasher)
         }
-        Command::Check(_) => audit::run(alloc, Check, style, first, next, capture, out, hasher),
+        Command::Check(_) => {
+            let check = Check { about: &[] };
+            audit::run(alloc, check, style, first, next, capture, out, hasher)
+        }
         Command::Refute(_) => {
-            let refute = Refute { drift: false };
+            let refute = Refute {
+                drift: false,
+                about: &[],
+            };
             audit::run(alloc, refute, style, first, next, capture, out, hasher)
         }
     };

@@ -6,6 +6,7 @@ unfolding check_text
 returns c =
     rw (
       c.in_ok-add_verdict.ensures,
+      c.in_ok-add_about.ensures,
       c.in_ok-add_fits.ensures,
       c.in_ok-add_pieces.ensures,
       c.in_ok-add_reference_advice.ensures,

@@ -4,13 +4,13 @@ use Rattle.program.proofs.run.ask_for_file.Goals as goal
 
 pub returns-in-Ok : goal.returns-in-Ok
 returns-in-Ok g c =
-    let wrote = c.write_file-written.ensures in
+    let wrote = c.write_request-written.ensures in
     record {
       drafts = inr (record {
         feeds = _;
         sums = _;
         are_opened = opened_since wrote.kept c.in-Ok.ensures.opened;
-        written = c.write_file-written.result;
+        written = c.write_request-written.result;
         drafts = drafted_since c.in-Ok.ensures.kept wrote.drafts;
         concludes = c.conclude.ensures.concludes;
         conclusion_is = c.conclude.ensures.exact;

@@ -3,9 +3,9 @@ use Rattle.report.specs.declared.fault.Outcome.TheVariants.{Yes, No}
 use Rattle.summed_inputs.proofs.laws.check_is_the_theorem.Goals as goal
 
 pub returns-clause-yes : goal.returns-clause-yes
-returns-clause-yes c claim certificate capture bytes shows =
+returns-clause-yes c about claim certificate capture bytes shows =
     let traced = shows Yes refl in
     record { whole = traced.whole; by_pieces = traced.by_pieces; in_relations = traced.shown bytes }
 
 pub returns-clause-no : goal.returns-clause-no
-returns-clause-no c claim certificate capture shows = shows No refl
+returns-clause-no c about claim certificate capture shows = shows No refl

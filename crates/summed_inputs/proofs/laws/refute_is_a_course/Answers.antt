@@ -3,9 +3,9 @@ use Rattle.report.specs.declared.fault.Outcome.TheVariants.{Yes, No}
 use Rattle.summed_inputs.proofs.laws.refute_is_a_course.Goals as goal
 
 pub returns-clause-yes : goal.returns-clause-yes
-returns-clause-yes c drift claim refutation capture bytes shows =
+returns-clause-yes c drift about claim refutation capture bytes shows =
     let contested = shows Yes refl in
     record { stands = contested.stands; in_relations = contested.shown bytes }
 
 pub returns-clause-no : goal.returns-clause-no
-returns-clause-no c drift claim refutation capture shows = shows No refl
+returns-clause-no c drift about claim refutation capture shows = shows No refl

@@ -14,8 +14,8 @@ is_shown claim capture bytes (shown certificate) is holds =
 is_shown claim capture bytes settled is holds = absurd (let wrong : Yes ≡ No = is in cc)
 
 pub returns-clause-yes : goal.returns-clause-yes
-returns-clause-yes c claim second capture bytes shows =
+returns-clause-yes c about claim second capture bytes shows =
     let by = shows Yes refl in is_shown claim capture bytes by.settled by.outcome_is by.holds
 
 pub returns-clause-no : goal.returns-clause-no
-returns-clause-no c claim second capture shows = shows No refl
+returns-clause-no c about claim second capture shows = shows No refl

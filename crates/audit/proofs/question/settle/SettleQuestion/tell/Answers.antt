@@ -1,4 +1,4 @@
-use Rattle.audit.proofs.Common.{settled_data, evidence_data, IsSettledBy, text_for}
+use Rattle.audit.proofs.Common.{about_told, settled_data, evidence_data, IsSettledBy, text_for}
 use Rattle.audit.proofs.Showing.{BytesLaws, of_inputs, settled_from, told_whole}
 use Rattle.audit.proofs.SettlementText.{items_known, report_is}
 use Rattle.audit.proofs.question.settle.SettleQuestion.tell.Goals as goal
@@ -14,9 +14,10 @@ returns g c =
       headline = c.yes_shows_the_headline.ensures;
       contested = c.course_beyond_the_bound_contests_the_claim.ensures;
     } in
-    told_whole (rw c.outcome_of.ensures (report_is settled known c.requires.found))
+    told_whole (rw c.outcome_of.ensures (report_is settled (about_told c.args.style c.args.self.about.now) known c.requires.found))
     (of_inputs e (IsSettledBy c.outcome_of.result) (λ b f is. record {
       settled = settled;
       outcome_is = c.outcome_of.ensures;
       holds = settled_from laws b f e is settled c.requires.finding.settled;
-    })) (c.publish_text.ensures _ (items_known c.text_for-text.result (λ t. t.items) known c.text_for-text.ensures))
+    })) (c.publish_text.ensures _ (c.with_about-text.ensures _
+    (items_known c.text_for-text.result (λ t. t.items) known c.text_for-text.ensures)))

@@ -1,0 +1,104 @@
+//! What a report for a person ends with: the run's inputs, and the program.
+
+ghost use Rattle.std.specs.Prelude.{◌≡◌, ℕ, List, IfOk, map, option_map, string_bytes};
+ghost use Rattle.report.specs.FaultText.{input_word};
+ghost use Rattle.sum_file.specs.Sum.{data_of as sum_data, digest_named};
+ghost use Rattle.program.specs.About as spec;
+ghost use Rattle.program.specs.About.{about_of, data_of};
+
+use fault_words::shown;
+use report::Input;
+use std::alloc::{AllocError, Global};
+use sum_file::{Sum, SumFault, digest_of, read_sums};
+
+/// The program's version, and the logic in which it is proved, as `--version` tells them.
+pub const VERSION: &str = "0.9.1 (logic dac8208d650f15bf)";
+
+/// The same as a line of a report.
+const PROGRAM: &str = "ntpaudit 0.9.1 logic dac8208d650f15bf\n";
+
+/// An input of a run, and the operand that names it.
+#[derive(Clone, Copy, Debug)]
+pub(crate) struct Called<'a> {
+    /// Which input it is.
+    pub(crate) input: Input,
+    /// The operand.
+    pub(crate) name: &'a str,
+}
+
+/// The word for an input.
+fn word(input: Input) -> &'static str
+    ensures { result.now ≡ input_word input }
+{
+    match input {
+        Input::Claim => "claim",
+        Input::Capture => "capture",
+        Input::Certificate => "certificate",
+        Input::Refutation => "refutation",
+        Input::Sums => "sums",
+    }
+}
+
+/// The sums of a text, none if there is no text or it is refused.
+fn listed(alloc: Global, sums: Option<&[u8]>) -> Result<Vec<Sum>, AllocError>
+    ensures { IfOk result (λ listed. (name : List ℕ) → digest_named name (map sum_data listed.items)
+        ≡ spec.sum_in (option_map (λ text. text.now) sums.entry) name) }
+{
+    let Some(text) = sums else {
+        return Ok(Vec::new(alloc));
+    };
+    match read_sums(alloc, text) {
+        Ok(listed) => Ok(listed),
+        Err(SumFault::Form(_)) => Ok(Vec::new(alloc)),
+        Err(SumFault::Memory) => Err(AllocError),
+    }
+}
+
+/// To which sum an input is held.
+fn held_to(alloc: Global, digest: Option<[u8; 32]>) -> Result<String, AllocError>
+    ensures { IfOk result (λ text. string_bytes text ≡ spec.held_to digest) }
+{
+    match digest {
+        Some(digest) => {
+            let digits = hex::encode(alloc, digest)?;
+            format!(in alloc; "SHA-256 {digits}")
+        }
+        None => String::from_str(alloc, "not held to a sum"),
+    }
+}
+
+/// The line of an input that is held to its sum among these, if there is one.
+fn line(alloc: Global, listed: &[Sum], called: &Called<'_>) -> Result<String, AllocError>
+    ensures { IfOk result (λ text. string_bytes text ≡ spec.line_with
+        (digest_named called.now.name.now (map sum_data listed.now)) (data_of called.now)) }
+{
+    let name = shown(alloc, called.name)?;
+    let held = held_to(alloc, digest_of(listed, called.name.as_bytes()))?;
+    let mut text = String::from_str(alloc, word(called.input))?;
+    text.push_str(" ")?;
+    text.push_str(name.as_str())?;
+    text.push_str(": ")?;
+    text.push_str(held.as_str())?;
+    text.push_str("\n")?;
+    Ok(text)
+}
+
+/// The lines about these inputs, which are held to the text of a file of sums, if there is one, and
+/// about the program.
+pub(crate) fn about(
+    alloc: Global,
+    inputs: &[Called<'_>],
+    sums: Option<&[u8]>,
+) -> Result<Vec<u8>, AllocError>
+    ensures exact { IfOk result (λ lines. lines.items
+        ≡ about_of (map data_of inputs.now) (option_map (λ text. text.now) sums.entry)) }
+{
+    let listed = listed(alloc, sums)?;
+    let mut lines = String::new(alloc);
+    for called in inputs {
+        let line = line(alloc, listed.as_slice(), called)?;
+        lines.push_str(line.as_str())?;
+    }
+    lines.push_str(PROGRAM)?;
+    Ok(lines.into_bytes())
+}
