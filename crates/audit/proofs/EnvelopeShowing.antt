@@ -9,7 +9,7 @@ use Rattle.finder.specs.Entry.{best_hull}
 use Rattle.finder.specs.Envelope.{EnvelopeData, PieceHullData, data_of, envelope_of, envelope_to, piece_data, piece_hull_at}
 use Rattle.finder.specs.Piece.{count_of}
 use Rattle.checker.specs.Samples.{AreSamplesOf}
-use Rattle.audit_text.specs.declared.envelope.Envelope.{Envelope}
+use Rattle.audit_text.specs.declared.envelope.EnvelopeOptions.{EnvelopeOptions}
 use Rattle.audit.specs.Envelope.{report_of}
 use Rattle.audit.proofs.SettlementShowing.{refused_made}
 
@@ -64,7 +64,7 @@ module _ (P : PieceHullData → Type 0) (at : ℕ → PieceHullData) (each : (k 
 
 -- ---- what is made of an envelope, or of why there is none
 
-pub envelope_refused : (style : Style) (asked : Envelope) (e : EvidenceData) (fault : FindFault) (told : RunFault)
+pub envelope_refused : (style : Style) (asked : EnvelopeOptions) (e : EvidenceData) (fault : FindFault) (told : RunFault)
     → told ≡ find_run_fault_of fault → (fault ≡ Memory) ⊎ (envelope_in asked.step.seconds e ≡ Err fault)
     → IsMadeFor (envelope_report style asked None e) (Err told)
 envelope_refused style asked e Memory told is why = rw is tt

@@ -18,7 +18,7 @@ use Rattle.report.specs.declared.fault.RunFault.TheVariants.{Memory}
 use Rattle.report.specs.Reports.{Report, refused, whole_text}
 use Rattle.line_writer.specs.declared.field.Style.{Style}
 use Rattle.audit_text.specs.Envelope.{envelope_text}
-use Rattle.audit_text.specs.declared.envelope.Envelope.{Envelope}
+use Rattle.audit_text.specs.declared.envelope.EnvelopeOptions.{EnvelopeOptions}
 use Rattle.audit_text.specs.declared.least_line.LeastLine.{LeastLine}
 use Rattle.audit.specs.Evidence.{EvidenceData, GiveEvidence, OfClaimAndCapture, samples_in}
 use Rattle.audit.specs.Find.{find_run_fault_of}
@@ -33,14 +33,14 @@ bound_outcome (NoneHolds piece) = No
 
 -- the report on an envelope, as it is asked for, with this line of the least bound that a
 -- certificate carries; none if no bound was looked for
-abbrev pub text_of : Style → Envelope → EvidenceData → EnvelopeData → Option LeastLine → Report
+abbrev pub text_of : Style → EnvelopeOptions → EvidenceData → EnvelopeData → Option LeastLine → Report
 text_of style asked e envelope None = refused Memory
 text_of style asked e envelope (Some line) =
     whole_text (envelope_text style asked (samples_in e) e.claim envelope line)
     (bound_outcome envelope.least)
 
 -- the same on the least bound that was found, if it is asked for
-abbrev pub report_of : Style → Envelope → Option (Option LeastCarried) →
+abbrev pub report_of : Style → EnvelopeOptions → Option (Option LeastCarried) →
     EvidenceData → Result EnvelopeData FindFault → Report
 report_of style asked found e (Ok envelope) = text_of style asked e envelope
     (least_line_of e.claim asked.step.seconds asked.least found)
@@ -51,7 +51,7 @@ abbrev pub envelope_in : ℕ → EvidenceData → Result EnvelopeData FindFault
 envelope_in step e = envelope_of (samples_in e) e.claim step
 
 -- the report of `envelope` on a claim and the exchanges of a capture
-abbrev pub envelope_report : Style → Envelope → Option (Option LeastCarried) →
+abbrev pub envelope_report : Style → EnvelopeOptions → Option (Option LeastCarried) →
     EvidenceData → Report
 envelope_report style asked found e =
     report_of style asked found e (envelope_in asked.step.seconds e)
@@ -81,13 +81,13 @@ abbrev pub envelope_finding : EnvelopeFinding → Finding
 envelope_finding found = record no_finding { least = found.least }
 
 -- This is the envelope of evidence, with a least bound if one is asked for.
-pub record IsEnvelopeFor (asked : Envelope) (e : EvidenceData) (found : EnvelopeFinding)
+pub record IsEnvelopeFor (asked : EnvelopeOptions) (e : EvidenceData) (found : EnvelopeFinding)
     : Type 0 where
   pub finds : FindsEnvelope (samples_in e) e.claim asked.step.seconds (Ok found.envelope)
   pub asked_is : is_some found.least ≡ asked.least
 
 -- How far off may the clock have been, piece by piece?
-abbrev pub envelope : Envelope → QuestionData
+abbrev pub envelope : EnvelopeOptions → QuestionData
 envelope asked = record {
   report = λ style finding said e. envelope_report style asked finding.least e;
   Shows = λ claim second capture outcome. IsEnveloped asked.step.seconds outcome claim capture;

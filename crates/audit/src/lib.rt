@@ -33,7 +33,7 @@ mod sample_output;
 mod second;
 mod whole_text;
 
-pub use audit_text::{Envelope, PLAIN_ENVELOPE, Step};
+pub use audit_text::{EnvelopeOptions, PLAIN_ENVELOPE, Step};
 pub use commands::{answer_check, run_at, run_check, run_find, run_refute, run_samples, run_seek};
 pub use engine::{Outputs, answer, run, run_twice};
 pub use evidence::Evidence;

@@ -32,7 +32,7 @@ pub use crate::question::refute::Refute;
 pub use crate::question::settle::Settle;
 use crate::question::settle::Settlement;
 use crate::second::SecondInput;
-use audit_text::Envelope;
+use audit_text::EnvelopeOptions;
 use byte_stream::Sink;
 use finder::Found;
 use line_writer::Style;
@@ -111,7 +111,7 @@ pub enum Request {
     /// Is there a refutation of the claim?
     FindRefutation,
     /// How far off may the clock have been, piece by piece?
-    Envelope(Envelope),
+    Envelope(EnvelopeOptions),
 }
 
 /// What is found for a request, if its finding isn't `()`.

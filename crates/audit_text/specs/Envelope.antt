@@ -2,7 +2,7 @@
 -- bound that holds in all of them.
 use Rattle.std.specs.Prelude.{◌≡◌, ℕ, List, [], ◌∷◌, ◌++◌, true, codes, flat_map, if◌then◌else◌}
 use Rattle.line_writer.specs.Field.{FieldData, line_of, Heading, Named, Number, Second, Nanoseconds, Address, Low, High}
-use Rattle.line_writer.specs.declared.field.Kind.TheVariants as kind
+use Rattle.line_writer.specs.declared.field.ColumnKind.TheVariants as kind
 use Rattle.line_writer.specs.declared.field.Style.{Style}
 use Rattle.claim_file.specs.Claim.{ClaimData}
 use Rattle.sample_interval.specs.declared.kinds.Sample.{Sample}
@@ -16,11 +16,11 @@ use Rattle.audit_text.specs.Parts.{part_fields}
 use Rattle.audit_text.specs.Table.{IsUnder, heading, hull_high, hull_low, is_plain, row_of, rows_from, word_for}
 use Rattle.audit_text.specs.LeastLine.{least_line}
 use Rattle.audit_text.specs.SampleLine.{server_of}
-use Rattle.audit_text.specs.declared.envelope.Envelope.{Envelope}
+use Rattle.audit_text.specs.declared.envelope.EnvelopeOptions.{EnvelopeOptions}
 use Rattle.audit_text.specs.declared.least_line.LeastLine.{LeastLine}
 
 -- the columns, and one behind them for what servers say
-abbrev pub piece_columns : Envelope → List FieldData
+abbrev pub piece_columns : EnvelopeOptions → List FieldData
 piece_columns asked =
     Heading (codes "piece") kind.Number ∷ Heading (codes "begin") kind.Second ∷
     Heading (codes "end") kind.Second ∷ Heading (codes "low error ms") kind.End ∷
@@ -64,7 +64,7 @@ server_lines style samples claim number piece =
     (parts_named samples claim piece.stretch piece.entries)
 
 -- the lines of a piece, with those of its servers if they are asked for
-abbrev pub piece_lines : Style → Envelope → List Sample → ClaimData → ℕ → PieceHullData → List ℕ
+abbrev pub piece_lines : Style → EnvelopeOptions → List Sample → ClaimData → ℕ → PieceHullData → List ℕ
 piece_lines style asked samples claim number piece =
     (if asked.servers then server_lines style samples claim number piece else []) ++
     piece_line style number piece
@@ -83,7 +83,7 @@ bound_line style (NoneHolds piece) =
 
 -- the whole text
 unfoldable pub envelope_text :
-    Style → Envelope → List Sample → ClaimData → EnvelopeData → LeastLine → List ℕ
+    Style → EnvelopeOptions → List Sample → ClaimData → EnvelopeData → LeastLine → List ℕ
 envelope_text style asked samples claim envelope least =
     heading style (piece_columns asked) ++
     rows_from (piece_lines style asked samples claim) 0 envelope.pieces ++
@@ -94,10 +94,10 @@ envelope_text style asked samples claim envelope least =
 -- In the row of a piece every text ends where the heading of its column ends, and so in the row of
 -- a server, if servers are asked for.
 abbrev pub PiecesAreUnder : Type 0
-PiecesAreUnder = (asked : Envelope) (number : ℕ) (piece : PieceHullData) →
+PiecesAreUnder = (asked : EnvelopeOptions) (number : ℕ) (piece : PieceHullData) →
     IsUnder (piece_columns asked) (piece_fields number piece)
 
 abbrev pub ServersAreUnder : Type 0
-ServersAreUnder = (asked : Envelope) → asked.servers ≡ true →
+ServersAreUnder = (asked : EnvelopeOptions) → asked.servers ≡ true →
     (claim : ClaimData) (number : ℕ) (piece : PieceHullData) (part : Part) →
     IsUnder (piece_columns asked) (server_columns claim number piece part)

@@ -1,7 +1,7 @@
 -- The text of `at`: what each server says about the clock's error at one moment, and the hull.
 use Rattle.std.specs.Prelude.{ℕ, List, [], ◌∷◌, ◌++◌, codes, flat_map}
 use Rattle.line_writer.specs.Field.{FieldData, Heading, Word, Address, Low, High}
-use Rattle.line_writer.specs.declared.field.Kind.TheVariants.{Name, End}
+use Rattle.line_writer.specs.declared.field.ColumnKind.TheVariants.{Name, End}
 use Rattle.line_writer.specs.declared.field.Style.{Style}
 use Rattle.claim_file.specs.Claim.{ClaimData}
 use Rattle.span_cover.specs.declared.part.Part.{Part}

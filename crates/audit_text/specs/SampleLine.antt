@@ -1,7 +1,7 @@
 -- The line of `samples` for one sample.
 use Rattle.std.specs.Prelude.{ℕ, List, [], ◌∷◌, codes, slice_get, unwrap_or}
 use Rattle.line_writer.specs.Field.{FieldData, Heading, Number, Address, Label, Low, High}
-use Rattle.line_writer.specs.declared.field.Kind.TheVariants as kind
+use Rattle.line_writer.specs.declared.field.ColumnKind.TheVariants as kind
 use Rattle.line_writer.specs.declared.field.Style.{Style}
 use Rattle.claim_file.specs.Claim.{ClaimData}
 use Rattle.pairing.specs.declared.exchange.Exchange.{Exchange}

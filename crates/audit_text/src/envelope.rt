@@ -19,14 +19,14 @@ use crate::step::Step;
 use crate::table::{add_heading, add_row, hull_high, hull_low, is_plain, word_for};
 use claim_file::Claim;
 use finder::{LeastBound, PieceHull, parts};
-use line_writer::{Field, Kind, Style, add_line};
+use line_writer::{ColumnKind, Field, Style, add_line};
 use sample_interval::SampleSource;
 use span_cover::Part;
 use std::alloc::{AllocError, Global};
 
 /// How far off may the clock have been, piece by piece?
 #[derive(Clone, Copy, Debug)]
-pub struct Envelope {
+pub struct EnvelopeOptions {
     /// How long the pieces are.
     pub step: Step,
     /// Whether to show what each server says about each piece.
@@ -36,7 +36,7 @@ pub struct Envelope {
 }
 
 /// Pieces of 64 seconds, with nothing that has to be asked for.
-pub const PLAIN_ENVELOPE: Envelope = Envelope {
+pub const PLAIN_ENVELOPE: EnvelopeOptions = EnvelopeOptions {
     step: Step { seconds: 64 },
     servers: false,
     least: false,
@@ -44,16 +44,16 @@ pub const PLAIN_ENVELOPE: Envelope = Envelope {
 
 /// The columns, the last of them for what servers say.
 const COLUMNS: [Field<'static>; 6] = [
-    Field::Heading("piece", Kind::Number),
-    Field::Heading("begin", Kind::Second),
-    Field::Heading("end", Kind::Second),
-    Field::Heading("low error ms", Kind::End),
-    Field::Heading("high error ms", Kind::End),
-    Field::Heading("server", Kind::Name),
+    Field::Heading("piece", ColumnKind::Number),
+    Field::Heading("begin", ColumnKind::Second),
+    Field::Heading("end", ColumnKind::Second),
+    Field::Heading("low error ms", ColumnKind::End),
+    Field::Heading("high error ms", ColumnKind::End),
+    Field::Heading("server", ColumnKind::Name),
 ];
 
 /// The columns of pieces, and of what servers say in them.
-fn columns(asked: Envelope) -> &'static [Field<'static>]
+fn columns(asked: EnvelopeOptions) -> &'static [Field<'static>]
     ensures { map field_data result.now ≡ piece_columns asked }
 {
     if asked.servers {
@@ -211,7 +211,7 @@ fn add_bound(text: &mut Vec<u8>, style: Style, least: LeastBound) -> Result<(), 
 fn add_lines<S: SampleSource>(
     text: &mut Vec<u8>,
     style: Style,
-    asked: Envelope,
+    asked: EnvelopeOptions,
     samples: S,
     claim: &Claim,
     number: u32,
@@ -232,7 +232,7 @@ fn add_lines<S: SampleSource>(
 fn add_pieces<S: SampleSource>(
     text: &mut Vec<u8>,
     style: Style,
-    asked: Envelope,
+    asked: EnvelopeOptions,
     samples: S,
     claim: &Claim,
     pieces: &[PieceHull],
@@ -262,7 +262,7 @@ fn add_pieces<S: SampleSource>(
 pub fn envelope_text<S: SampleSource>(
     alloc: Global,
     style: Style,
-    asked: Envelope,
+    asked: EnvelopeOptions,
     samples: S,
     claim: &Claim,
     envelope: &finder::Envelope,

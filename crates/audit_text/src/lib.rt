@@ -46,7 +46,7 @@ mod table;
 pub use answer::{evidence_answer, found_answer, open_answer, refutation_answer, shown_answer};
 pub use check_report::{Findings, add_about, check_text};
 pub use counts_line::write_counts_line;
-pub use envelope::{Envelope, PLAIN_ENVELOPE, envelope_text};
+pub use envelope::{EnvelopeOptions, PLAIN_ENVELOPE, envelope_text};
 pub use least_line::LeastLine;
 pub use nothing::nothing_text;
 pub use parts::parts_text;

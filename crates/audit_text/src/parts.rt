@@ -9,15 +9,15 @@ use crate::sample_line::server_of;
 use crate::table::{add_heading, add_row, hull_high, hull_low};
 use claim_file::Claim;
 use intersection::kinds::Hull;
-use line_writer::{Field, Kind, Style};
+use line_writer::{ColumnKind, Field, Style};
 use span_cover::Part;
 use std::alloc::{AllocError, Global};
 
 /// The columns.
 const COLUMNS: [Field<'static>; 3] = [
-    Field::Heading("server", Kind::Name),
-    Field::Heading("low error ms", Kind::End),
-    Field::Heading("high error ms", Kind::End),
+    Field::Heading("server", ColumnKind::Name),
+    Field::Heading("low error ms", ColumnKind::End),
+    Field::Heading("high error ms", ColumnKind::End),
 ];
 
 /// Adds the row of a server's interval.

@@ -11,23 +11,23 @@ ghost use Rattle.audit_text.specs.SampleLine.{sample_line, server_of};
 
 use crate::table::add_row;
 use claim_file::Claim;
-use line_writer::{Field, Kind, Line, Style};
+use line_writer::{ColumnKind, Field, Line, Style};
 use pairing::Exchange;
 use sample_interval::{delay, offset, sample};
 use std::alloc::AllocError;
 
 /// The columns of samples.
 pub(crate) const COLUMNS: [Field<'static>; 10] = [
-    Field::Heading("sample", Kind::Number),
-    Field::Heading("server", Kind::Name),
-    Field::Heading("request", Kind::Number),
-    Field::Heading("reply", Kind::Number),
-    Field::Heading("low offset ms", Kind::End),
-    Field::Heading("high offset ms", Kind::End),
-    Field::Heading("low delay ms", Kind::End),
-    Field::Heading("high delay ms", Kind::End),
-    Field::Heading("low error ms", Kind::End),
-    Field::Heading("high error ms", Kind::End),
+    Field::Heading("sample", ColumnKind::Number),
+    Field::Heading("server", ColumnKind::Name),
+    Field::Heading("request", ColumnKind::Number),
+    Field::Heading("reply", ColumnKind::Number),
+    Field::Heading("low offset ms", ColumnKind::End),
+    Field::Heading("high offset ms", ColumnKind::End),
+    Field::Heading("low delay ms", ColumnKind::End),
+    Field::Heading("high delay ms", ColumnKind::End),
+    Field::Heading("low error ms", ColumnKind::End),
+    Field::Heading("high error ms", ColumnKind::End),
 ];
 
 /// The address of a server, by its number.

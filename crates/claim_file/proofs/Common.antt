@@ -36,7 +36,8 @@ pub use Rattle.claim_file.specs.Fields.{texts_of}
 pub use Rattle.claim_file.specs.Group.{IsInGroup, group_of, groups_of, is_grouping, servers_of, times_listed}
 pub use Rattle.claim_file.specs.Reading.{NamedData, claim_from, claim_of, claim_with, is_in_range, named_of}
 pub use Rattle.claim_file.specs.Reading.{within_limits}
-pub use Rattle.claim_file.specs.Time.{IsTime, date_time_at, exists, in_u32, pair_value, spelling, time_of, two_digits}
+pub use Rattle.claim_file.specs.Time.{IsTime, date_time_at, exists, in_u32, pair_value, spelling, time_of}
+pub use Rattle.era_unfold.specs.Digits.{two_digits}
 pub use Rattle.claim_file.specs.Time.{unix_second}
 pub use Rattle.claim_file.specs.declared.fault.ClaimFault.{ClaimFault}
 pub use Rattle.claim_file.specs.declared.fault.ClaimFault.TheVariants.{Address, Groups, Json, Memory, Range}

@@ -8,6 +8,7 @@ use Rattle.std.specs.Prelude.{List, [], ◌∷◌, ◌++◌, slice_index, codes,
 use Rattle.std.specs.Str.{bytes_eq}
 use Rattle.jiff_core.specs.Calendar.{IsCivilDate, days_in_month, days_from_civil}
 use Rattle.claim_file.specs.declared.time.DateTime.{DateTime}
+use Rattle.era_unfold.specs.Digits.{two_digits, four_digits}
 
 -- the calendar has this day, in a year of four digits
 abbrev pub is_date : ℕ → ℕ → ℕ → Bool
@@ -25,13 +26,6 @@ abbrev pub unix_second : DateTime → ℤ
 unix_second m =
     days_from_civil (pos m.year) m.month m.day *ℤ pos 86400
     +ℤ pos (m.hour * 3600 + m.minute * 60 + m.second)
-
--- a number below 100 as two digits, and one below 10000 as four
-abbrev pub two_digits : ℕ → List ℕ
-two_digits n = (48 + n / 10) ∷ (48 + n % 10) ∷ []
-
-abbrev pub four_digits : ℕ → List ℕ
-four_digits n = two_digits (n / 100) ++ two_digits (n % 100)
 
 -- the text that writes it
 abbrev pub spelling : DateTime → List ℕ

@@ -2,6 +2,7 @@
 
 ghost use Rattle.std.specs.Prelude.{◌≡◌, ◌<◌, true, pos, if◌then◌else◌, length, Some, None};
 ghost use Rattle.jiff_core.specs.Calendar.{days_from_civil};
+ghost use Rattle.era_unfold.specs.Digits.{two_digits};
 ghost use Rattle.claim_file.specs.Time as spec;
 
 use jiff::civil::Date;
@@ -122,7 +123,7 @@ impl DateTime {
 /// A number below 100 as two digits.
 fn digits(n: u32) -> [u8; 2]
     requires { n < 100 }
-    ensures { result ≡ spec.two_digits n }
+    ensures { result ≡ two_digits n }
 {
     [b'0' + (n / 10) as u8, b'0' + (n % 10) as u8]
 }

@@ -1,3 +1,4 @@
+pub mod Digits
 pub mod Nanoseconds
 pub mod Ratio
 pub mod Stamp

@@ -1,5 +1,5 @@
 -- The words about a fault are two lines.
-use Rattle.fault_words.proofs.Common.{◌∙◌, inl, inr, ℕ, ◌++◌, Bool, true, false, T, List, [], ◌∷◌, codes, refl, sym, subst, append_assoc, nat_eq, if◌then◌else◌, take, Option, Some, None, chars, flat_map, NoCharPasses-nil, AreQuiet, AreTwoLines, AreWords, FoundData, IsExplanation, IsOutputExplanation, IsTimeExplanation, field_of, field_words, IsQuiet, IsQuoted, are_visible, front, is_obeyed, IsQuietKnown, KnownData, are_words, filled, filling}
+use Rattle.fault_words.proofs.Common.{◌∙◌, inl, inr, ℕ, ◌++◌, Bool, true, false, T, List, [], ◌∷◌, codes, refl, sym, subst, append_assoc, nat_eq, if◌then◌else◌, take, Option, Some, None, chars, flat_map, NoCharPasses-nil, AreQuiet, AreTwoLines, AreWords, SeenData, IsExplanation, IsOutputExplanation, IsTimeExplanation, field_of, field_words, IsQuiet, IsQuoted, are_visible, front, is_obeyed, IsQuietKnown, KnownData, are_words, filled, filling}
 use Rattle.report.specs.declared.fault.Input.{Input}
 use Rattle.report.specs.declared.fault.Input.TheVariants as inputs
 use Rattle.report.specs.declared.fault.RunFault.{RunFault}
@@ -81,7 +81,7 @@ two_lines begin seen text quiet told words =
       said _ (codes "  ") remedy refl tt (filled_is_quiet words.known words.quiet (chars words.remedy)),
     )
 
-pub of_input : (called : NamesData) (fault : RunFault) (found : FoundData) (text : List ℕ) → AreQuiet called →
+pub of_input : (called : NamesData) (fault : RunFault) (found : SeenData) (text : List ℕ) → AreQuiet called →
     IsQuiet found.seen → IsExplanation called fault found text → AreTwoLines text
 of_input called fault found text quiet told words =
     let begin = quiet_append _ _ (subject_is_quiet called (input_of fault) quiet)

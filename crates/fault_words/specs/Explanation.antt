@@ -7,22 +7,22 @@ use Rattle.report.specs.declared.fault.RunFault.{RunFault}
 use Rattle.report.specs.declared.fault.RunFault.TheVariants as faults
 use Rattle.fault_words.specs.ClaimField.{field_name}
 use Rattle.fault_words.specs.Sentence.{IsQuietKnown, KnownData, are_words, filled}
-use Rattle.fault_words.specs.declared.found.Found.{Found}
-use Rattle.fault_words.specs.declared.kind.Kind.{Kind}
+use Rattle.fault_words.specs.declared.seen.Seen.{Seen}
+use Rattle.fault_words.specs.declared.kind.FileKind.{FileKind}
 use Rattle.fault_words.specs.Quote.{IsQuiet, IsQuoted}
 use Rattle.fault_words.specs.Subject.{NamesData, input_of, subject}
 
 -- what was seen of a fault when its input was looked at again: the field of a claim, or 0, whether
 -- it isn't there, what the file is instead, and what is said behind the sentence
-pub record FoundData : Type 0 where
+pub record SeenData : Type 0 where
   pub field : ℕ
   pub is_missing : Bool
-  pub kind : Kind
+  pub kind : FileKind
   pub seen : List ℕ
 
 -- the same of a value of the program
-abbrev pub found_data : Found → FoundData
-found_data found = record {
+abbrev pub seen_data : Seen → SeenData
+seen_data found = record {
   field = found.field;
   is_missing = found.is_missing;
   kind = found.kind;
@@ -30,12 +30,12 @@ found_data found = record {
 }
 
 -- What was seen is told without a character that a terminal obeys.
-abbrev pub IsToldQuietly : Found → Type 0
+abbrev pub IsToldQuietly : Seen → Type 0
 IsToldQuietly found = IsQuiet (string_bytes found.seen)
 
 -- a file of that kind, in which nothing was seen but this
-abbrev pub nothing_found : Kind → List ℕ → FoundData
-nothing_found kind seen = record { field = 0; is_missing = false; kind = kind; seen = seen }
+abbrev pub nothing_seen : FileKind → List ℕ → SeenData
+nothing_seen kind seen = record { field = 0; is_missing = false; kind = kind; seen = seen }
 
 -- the field of the claim that a claim's fault is of, or 0
 abbrev pub claim_field_of : ClaimFault → ℕ → ℕ
@@ -68,7 +68,7 @@ pub record AreWords (begin seen text : List ℕ) : Type 0 where
   pub quiet : IsQuietKnown known
 
 -- the words about a fault of inputs with these names
-abbrev pub IsExplanation : NamesData → RunFault → FoundData → List ℕ → Type 0
+abbrev pub IsExplanation : NamesData → RunFault → SeenData → List ℕ → Type 0
 IsExplanation names fault found text =
     AreWords (subject names (input_of fault) ++ field_words (field_of fault found.field))
     found.seen text

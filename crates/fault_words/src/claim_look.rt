@@ -4,8 +4,8 @@ ghost use Rattle.std.specs.Prelude.{IfOk};
 ghost use Rattle.fault_words.specs.Explanation.{IsToldQuietly};
 
 use crate::claim_field::field_name;
-use crate::found::Found;
 use crate::quote::quoted;
+use crate::seen::Seen;
 use claim_file::{ClaimFault, read_claim, read_time};
 use json_text::parse;
 use serde_json::Value;
@@ -17,15 +17,15 @@ pub(crate) fn look_at_claim(
     alloc: Global,
     fault: &ClaimFault,
     bytes: &[u8],
-) -> Result<Found, AllocError>
+) -> Result<Seen, AllocError>
     ensures { IfOk result IsToldQuietly }
 {
     if !has_fault(alloc, fault, bytes) {
-        return Ok(Found::nothing(alloc));
+        return Ok(Seen::nothing(alloc));
     }
     match parse(alloc, bytes)? {
         Some(value) => look_at_members(alloc, fault, &value),
-        None => Ok(Found::nothing(alloc)),
+        None => Ok(Seen::nothing(alloc)),
     }
 }
 
@@ -38,7 +38,7 @@ fn has_fault(alloc: Global, fault: &ClaimFault, bytes: &[u8]) -> bool {
 }
 
 /// The same of what its JSON text says.
-fn look_at_members(alloc: Global, fault: &ClaimFault, value: &Value) -> Result<Found, AllocError>
+fn look_at_members(alloc: Global, fault: &ClaimFault, value: &Value) -> Result<Seen, AllocError>
     ensures { IfOk result IsToldQuietly }
 {
     match fault {
@@ -48,32 +48,32 @@ fn look_at_members(alloc: Global, fault: &ClaimFault, value: &Value) -> Result<F
         ClaimFault::Time => at_time(alloc, value),
         ClaimFault::Range => at_range(alloc, value),
         ClaimFault::RepeatedServer => repeated(alloc, value),
-        ClaimFault::Json | ClaimFault::Groups => Ok(Found::nothing(alloc)),
-        ClaimFault::Memory => Ok(Found::nothing(alloc)),
+        ClaimFault::Json | ClaimFault::Groups => Ok(Seen::nothing(alloc)),
+        ClaimFault::Memory => Ok(Seen::nothing(alloc)),
     }
 }
 
 /// That it is this text.
-fn this_text(alloc: Global, text: &str) -> Result<Found, AllocError>
+fn this_text(alloc: Global, text: &str) -> Result<Seen, AllocError>
     ensures { IfOk result IsToldQuietly }
 {
     let text = quoted(alloc, text)?;
-    Ok(Found::seen(format!(in alloc; ": \"{}\"", text.as_str())?))
+    Ok(Seen::of_text(format!(in alloc; ": \"{}\"", text.as_str())?))
 }
 
 /// The first name that no claim has.
-fn unknown_name(alloc: Global, value: &Value) -> Result<Found, AllocError>
+fn unknown_name(alloc: Global, value: &Value) -> Result<Seen, AllocError>
     ensures { IfOk result IsToldQuietly }
 {
     let Some(members) = value.as_object() else {
-        return Ok(Found::nothing(alloc));
+        return Ok(Seen::nothing(alloc));
     };
     for name in members.keys() {
         if !is_known(name.as_str()) {
             return this_text(alloc, name.as_str());
         }
     }
-    Ok(Found::nothing(alloc))
+    Ok(Seen::nothing(alloc))
 }
 
 /// Whether a claim may have this name.
@@ -87,16 +87,16 @@ fn is_known(name: &str) -> bool {
 }
 
 /// What stands in the field of this code.
-fn at_field(alloc: Global, value: &Value, field: u8) -> Result<Found, AllocError>
+fn at_field(alloc: Global, value: &Value, field: u8) -> Result<Seen, AllocError>
     ensures { IfOk result IsToldQuietly }
 {
     let Some(member) = value.get(field_name(field)) else {
-        return Ok(Found::of_field(field, true, String::new(alloc)));
+        return Ok(Seen::of_field(field, true, String::new(alloc)));
     };
     let text = member.to_string(alloc)?;
     let text = quoted(alloc, text.as_str())?;
     let seen = format!(in alloc; "; it is {}", text.as_str())?;
-    Ok(Found::of_field(field, false, seen))
+    Ok(Seen::of_field(field, false, seen))
 }
 
 /// Whether a text is an IPv4 address.
@@ -105,7 +105,7 @@ fn is_address(text: &str) -> bool {
 }
 
 /// The first address that is none: the client's, or one of a server.
-fn at_address(alloc: Global, value: &Value) -> Result<Found, AllocError>
+fn at_address(alloc: Global, value: &Value) -> Result<Seen, AllocError>
     ensures { IfOk result IsToldQuietly }
 {
     let client = value.get("client").and_then(Value::as_str).unwrap_or("");
@@ -113,21 +113,21 @@ fn at_address(alloc: Global, value: &Value) -> Result<Found, AllocError>
         return at_field(alloc, value, 1);
     }
     let Some(servers) = value.get("servers").and_then(Value::as_array) else {
-        return Ok(Found::nothing(alloc));
+        return Ok(Seen::nothing(alloc));
     };
     for server in servers.iter() {
         let text = server.as_str().unwrap_or("");
         if !is_address(text) {
             let text = quoted(alloc, text)?;
             let seen = format!(in alloc; "; \"{}\" is none", text.as_str())?;
-            return Ok(Found::of_field(2, false, seen));
+            return Ok(Seen::of_field(2, false, seen));
         }
     }
-    Ok(Found::nothing(alloc))
+    Ok(Seen::nothing(alloc))
 }
 
 /// The first time that is none.
-fn at_time(alloc: Global, value: &Value) -> Result<Found, AllocError>
+fn at_time(alloc: Global, value: &Value) -> Result<Seen, AllocError>
     ensures { IfOk result IsToldQuietly }
 {
     let begin = value.get("from").and_then(Value::as_str).unwrap_or("");
@@ -159,13 +159,13 @@ fn server_count(value: &Value) -> usize {
 }
 
 /// The first field that is out of its range.
-fn at_range(alloc: Global, value: &Value) -> Result<Found, AllocError>
+fn at_range(alloc: Global, value: &Value) -> Result<Seen, AllocError>
     ensures { IfOk result IsToldQuietly }
 {
     let count = server_count(value);
     if count == 0 || 32 < count {
         let seen = format!(in alloc; "; it has {count}")?;
-        return Ok(Found::of_field(2, false, seen));
+        return Ok(Seen::of_field(2, false, seen));
     }
     if 31 < number_at(value, 3) {
         return at_field(alloc, value, 3);
@@ -183,12 +183,12 @@ fn at_range(alloc: Global, value: &Value) -> Result<Found, AllocError>
 }
 
 /// The first address that stands twice.
-fn repeated(alloc: Global, value: &Value) -> Result<Found, AllocError>
+fn repeated(alloc: Global, value: &Value) -> Result<Seen, AllocError>
     ensures { IfOk result IsToldQuietly }
 {
     let client = value.get("client").and_then(Value::as_str).unwrap_or("");
     let Some(servers) = value.get("servers").and_then(Value::as_array) else {
-        return Ok(Found::nothing(alloc));
+        return Ok(Seen::nothing(alloc));
     };
     for (count, server) in servers.iter().enumerate() {
         let text = server.as_str().unwrap_or("");
@@ -200,5 +200,5 @@ fn repeated(alloc: Global, value: &Value) -> Result<Found, AllocError>
             return this_text(alloc, text);
         }
     }
-    Ok(Found::nothing(alloc))
+    Ok(Seen::nothing(alloc))
 }

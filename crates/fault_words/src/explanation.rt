@@ -2,14 +2,14 @@
 
 ghost use Rattle.std.specs.Prelude.{◌≡◌, ◌++◌, IfOk, OnOk, codes, string_bytes};
 ghost use Rattle.fault_words.specs.Explanation as spec;
-ghost use Rattle.fault_words.specs.Explanation.{AreWords, found_data};
+ghost use Rattle.fault_words.specs.Explanation.{AreWords, seen_data};
 ghost use Rattle.fault_words.specs.Sentence.{IsQuietKnown, IsSentence, known_data};
 ghost use Rattle.fault_words.specs.Subject.{names_data, subject};
 
 use crate::claim_field::{field_name, field_sentence};
-use crate::found::Found;
 use crate::quote::quoted;
 use crate::remedy::{Known, WRITE_A_TIME, filled};
+use crate::seen::Seen;
 use crate::sentence::{Sentence, says, sentence_of};
 use crate::subject::{Names, input_of};
 use claim_file::ClaimFault;
@@ -28,7 +28,7 @@ fn field_of(fault: &RunFault, seen: u8) -> u8
 }
 
 /// The sentence of a fault, of this field of the claim if that isn't 0, of which this was seen.
-fn sentence_seen(fault: &RunFault, field: u8, found: &Found) -> Sentence
+fn sentence_seen(fault: &RunFault, field: u8, found: &Seen) -> Sentence
     ensures { IsSentence result }
 {
     if field == 0 {
@@ -112,10 +112,10 @@ pub fn explain(
     alloc: Global,
     names: &Names<'_>,
     fault: &RunFault,
-    found: &Found,
+    found: &Seen,
 ) -> Result<String, AllocError>
     ensures says { IfOk result (λ text. spec.IsExplanation
-        (names_data names.now) fault.now (found_data found.now) (string_bytes text)) }
+        (names_data names.now) fault.now (seen_data found.now) (string_bytes text)) }
 {
     let field = field_of(fault, found.field);
     let mut begin = String::new(alloc);

@@ -5,8 +5,8 @@ ghost use Rattle.fault_words.specs.Explanation.{IsToldQuietly};
 ghost use Rattle.fault_words.specs.Quote.{IsQuiet};
 
 use crate::claim_look::look_at_claim;
-use crate::found::Found;
-use crate::kind::{Kind, is_object, kind_of};
+use crate::kind::{FileKind, is_object, kind_of};
+use crate::seen::Seen;
 use certificate::{CertificateFault, RefutationFault};
 use claim_file::ClaimFault;
 use json_text::parse;
@@ -22,7 +22,7 @@ pub fn look(
     fault: &RunFault,
     bytes: &[u8],
     is_whole: bool,
-) -> Result<Found, AllocError>
+) -> Result<Seen, AllocError>
     ensures { IfOk result IsToldQuietly }
 {
     match fault {
@@ -33,63 +33,63 @@ pub fn look(
         RunFault::Certificate(CertificateFault::Top)
         | RunFault::Refutation(RefutationFault::Shape) => another_json(alloc, bytes, is_whole),
         RunFault::Capture(CaptureFault::TornHeader) if bytes.is_empty() => {
-            Found::of_kind(alloc, Kind::Empty)
+            Seen::of_kind(alloc, FileKind::Empty)
         }
-        RunFault::TooBig(_) => Found::of_kind(alloc, kind_of(bytes)),
+        RunFault::TooBig(_) => Seen::of_kind(alloc, kind_of(bytes)),
         RunFault::Capture(CaptureFault::Magic) => no_capture(alloc, bytes),
         RunFault::Capture(CaptureFault::Link) => look_at_link(alloc, bytes),
-        _ => Ok(Found::nothing(alloc)),
+        _ => Ok(Seen::nothing(alloc)),
     }
 }
 
 /// What a file looks like that isn't JSON, or else where its fault is, if there is memory for that.
-fn no_json(alloc: Global, bytes: &[u8], is_whole: bool) -> Result<Found, AllocError>
+fn no_json(alloc: Global, bytes: &[u8], is_whole: bool) -> Result<Seen, AllocError>
     ensures { IfOk result IsToldQuietly }
 {
     let kind = kind_of(bytes);
     if !kind.word().is_empty() || !is_whole {
-        return Found::of_kind(alloc, kind);
+        return Seen::of_kind(alloc, kind);
     }
     match Value::from_slice(alloc, bytes) {
-        Err(error) if error.is_memory() => Ok(Found::nothing(alloc)),
+        Err(error) if error.is_memory() => Ok(Seen::nothing(alloc)),
         Err(error) => {
             let (line, column) = (error.line(), error.column());
-            Ok(Found::seen(format!(in alloc; " at line {line}, column {column}")?))
+            Ok(Seen::of_text(format!(in alloc; " at line {line}, column {column}")?))
         }
-        Ok(_) => Ok(Found::nothing(alloc)),
+        Ok(_) => Ok(Seen::nothing(alloc)),
     }
 }
 
 /// What JSON it is instead of the second input.
-fn another_json(alloc: Global, bytes: &[u8], is_whole: bool) -> Result<Found, AllocError>
+fn another_json(alloc: Global, bytes: &[u8], is_whole: bool) -> Result<Seen, AllocError>
     ensures { IfOk result IsToldQuietly }
 {
     if !is_whole {
-        return Ok(Found::nothing(alloc));
+        return Ok(Seen::nothing(alloc));
     }
     let Some(value) = parse(alloc, bytes)? else {
-        return Ok(Found::nothing(alloc));
+        return Ok(Seen::nothing(alloc));
     };
     if value.get("client").is_some() {
-        return Found::of_kind(alloc, Kind::Claim);
+        return Seen::of_kind(alloc, FileKind::Claim);
     }
     if value.get("pieces").is_some() {
-        return Found::of_kind(alloc, Kind::Certificate);
+        return Seen::of_kind(alloc, FileKind::Certificate);
     }
     if value.get("reading").is_some() {
-        return Found::of_kind(alloc, Kind::Refutation);
+        return Seen::of_kind(alloc, FileKind::Refutation);
     }
-    Ok(Found::nothing(alloc))
+    Ok(Seen::nothing(alloc))
 }
 
 /// What a file looks like that isn't a capture.
-fn no_capture(alloc: Global, bytes: &[u8]) -> Result<Found, AllocError>
+fn no_capture(alloc: Global, bytes: &[u8]) -> Result<Seen, AllocError>
     ensures { IfOk result IsToldQuietly }
 {
     if is_object(bytes) {
-        return Found::of_kind(alloc, Kind::Object);
+        return Seen::of_kind(alloc, FileKind::Object);
     }
-    Found::of_kind(alloc, kind_of(bytes))
+    Seen::of_kind(alloc, kind_of(bytes))
 }
 
 /// The number in the capture's field of the link type.
@@ -120,12 +120,12 @@ fn link_name(link: u32) -> &'static str
 }
 
 /// The capture's link type.
-fn look_at_link(alloc: Global, bytes: &[u8]) -> Result<Found, AllocError>
+fn look_at_link(alloc: Global, bytes: &[u8]) -> Result<Seen, AllocError>
     ensures { IfOk result IsToldQuietly }
 {
     let Some(link) = link_of(bytes) else {
-        return Ok(Found::nothing(alloc));
+        return Ok(Seen::nothing(alloc));
     };
     let name = link_name(link);
-    Ok(Found::seen(format!(in alloc; "; its link type is {link}{name}")?))
+    Ok(Seen::of_text(format!(in alloc; "; its link type is {link}{name}")?))
 }

@@ -8,7 +8,7 @@ use crate::remedy::ORDER_OF_FILES;
 
 /// What a file is instead of what it has to be.
 #[derive(Clone, Copy, Debug)]
-pub enum Kind {
+pub enum FileKind {
     /// Nothing that can be told.
     Unknown,
     /// A file without a byte.
@@ -45,35 +45,35 @@ pub enum Kind {
     Utf16,
 }
 
-impl Kind {
+impl FileKind {
     /// What is said of a file of this kind, and nothing if it can't be told.
     #[tactic(auto, using(crate::proofs::Quiet::visible_is_quiet))]
     pub fn word(self) -> &'static str
         ensures { IsQuiet result.now }
     {
         match self {
-            Kind::Unknown | Kind::Absent => "",
-            Kind::Empty => "; it is empty",
-            Kind::Pcap => "; it is a classic pcap file",
-            Kind::Pcapng => "; it is pcapng",
-            Kind::ModifiedPcap => "; it is a modified pcap file",
-            Kind::Gzip => "; it is packed by gzip",
-            Kind::Zstd => "; it is packed by zstd",
-            Kind::Xz => "; it is packed by xz",
-            Kind::Object => "; it is JSON",
-            Kind::Claim => "; it is a claim",
-            Kind::Certificate => "; it is a certificate",
-            Kind::Refutation => "; it is a refutation",
-            Kind::Folder => "; it is a folder",
-            Kind::Pipe => "; it is a pipe, and can't be looked at again",
-            Kind::Marked => "; it begins with a byte order mark",
-            Kind::Utf16 => "; it is UTF-16",
+            FileKind::Unknown | FileKind::Absent => "",
+            FileKind::Empty => "; it is empty",
+            FileKind::Pcap => "; it is a classic pcap file",
+            FileKind::Pcapng => "; it is pcapng",
+            FileKind::ModifiedPcap => "; it is a modified pcap file",
+            FileKind::Gzip => "; it is packed by gzip",
+            FileKind::Zstd => "; it is packed by zstd",
+            FileKind::Xz => "; it is packed by xz",
+            FileKind::Object => "; it is JSON",
+            FileKind::Claim => "; it is a claim",
+            FileKind::Certificate => "; it is a certificate",
+            FileKind::Refutation => "; it is a refutation",
+            FileKind::Folder => "; it is a folder",
+            FileKind::Pipe => "; it is a pipe, and can't be looked at again",
+            FileKind::Marked => "; it begins with a byte order mark",
+            FileKind::Utf16 => "; it is UTF-16",
         }
     }
 
     /// Whether it is a pipe.
     pub(crate) fn is_pipe(self) -> bool {
-        matches!(self, Kind::Pipe)
+        matches!(self, FileKind::Pipe)
     }
 
     /// What is done about a file of this kind, where a capture is needed or a JSON file, and else
@@ -83,50 +83,50 @@ impl Kind {
         ensures { T (are_words result.now) }
     {
         match self {
-            Kind::Unknown | Kind::Empty | Kind::Claim | Kind::Pipe => other,
-            Kind::Pcap if is_capture => other,
-            Kind::Gzip => "unpack it: gunzip < @ > unpacked",
-            Kind::Zstd => "unpack it: unzstd < @ > unpacked",
-            Kind::Xz => "unpack it: unxz < @ > unpacked",
-            Kind::Certificate => "a certificate is judged by check: ntpaudit check ~ @",
-            Kind::Refutation => "a refutation is judged by refute: ntpaudit refute ~ @",
-            Kind::Folder => "name a file in it: ls @",
-            Kind::Absent => "see how its path is spelt, and in which folder you are: pwd",
-            Kind::Marked if !is_capture => "take the mark away: tail -c +4 @ > new.json",
-            Kind::Utf16 if !is_capture =>
+            FileKind::Unknown | FileKind::Empty | FileKind::Claim | FileKind::Pipe => other,
+            FileKind::Pcap if is_capture => other,
+            FileKind::Gzip => "unpack it: gunzip < @ > unpacked",
+            FileKind::Zstd => "unpack it: unzstd < @ > unpacked",
+            FileKind::Xz => "unpack it: unxz < @ > unpacked",
+            FileKind::Certificate => "a certificate is judged by check: ntpaudit check ~ @",
+            FileKind::Refutation => "a refutation is judged by refute: ntpaudit refute ~ @",
+            FileKind::Folder => "name a file in it: ls @",
+            FileKind::Absent => "see how its path is spelt, and in which folder you are: pwd",
+            FileKind::Marked if !is_capture => "take the mark away: tail -c +4 @ > new.json",
+            FileKind::Utf16 if !is_capture =>
                 "rewrite it as UTF-8: iconv -f UTF-16 -t UTF-8 @ > new.json",
-            Kind::Pcapng if is_capture => {
+            FileKind::Pcapng if is_capture => {
                 "rewrite it: editcap -F pcap @ new.pcap (-F nsecpcap if capinfos says nanoseconds)"
             }
-            Kind::ModifiedPcap if is_capture => "rewrite it: editcap -F pcap @ new.pcap",
-            Kind::Pcap | Kind::Pcapng | Kind::ModifiedPcap => ORDER_OF_FILES,
-            Kind::Object | Kind::Marked | Kind::Utf16 => ORDER_OF_FILES,
+            FileKind::ModifiedPcap if is_capture => "rewrite it: editcap -F pcap @ new.pcap",
+            FileKind::Pcap | FileKind::Pcapng | FileKind::ModifiedPcap => ORDER_OF_FILES,
+            FileKind::Object | FileKind::Marked | FileKind::Utf16 => ORDER_OF_FILES,
         }
     }
 }
 
 /// What a file is by its first bytes, if it isn't JSON.
-pub(crate) fn kind_of(bytes: &[u8]) -> Kind {
+pub(crate) fn kind_of(bytes: &[u8]) -> FileKind {
     let Some(front) = bytes.get(..4) else {
         return if bytes.is_empty() {
-            Kind::Empty
+            FileKind::Empty
         } else {
-            Kind::Unknown
+            FileKind::Unknown
         };
     };
     match front {
         [0xd4, 0xc3, 0xb2, 0xa1]
         | [0xa1, 0xb2, 0xc3, 0xd4]
         | [0x4d, 0x3c, 0xb2, 0xa1]
-        | [0xa1, 0xb2, 0x3c, 0x4d] => Kind::Pcap,
-        [0x0a, 0x0d, 0x0d, 0x0a] => Kind::Pcapng,
-        [0x34, 0xcd, 0xb2, 0xa1] => Kind::ModifiedPcap,
-        [0x1f, 0x8b, ..] => Kind::Gzip,
-        [0x28, 0xb5, 0x2f, 0xfd] => Kind::Zstd,
-        [0xfd, 0x37, 0x7a, 0x58] => Kind::Xz,
-        [0xef, 0xbb, 0xbf, ..] => Kind::Marked,
-        [0xff, 0xfe, ..] | [0xfe, 0xff, ..] => Kind::Utf16,
-        _ => Kind::Unknown,
+        | [0xa1, 0xb2, 0x3c, 0x4d] => FileKind::Pcap,
+        [0x0a, 0x0d, 0x0d, 0x0a] => FileKind::Pcapng,
+        [0x34, 0xcd, 0xb2, 0xa1] => FileKind::ModifiedPcap,
+        [0x1f, 0x8b, ..] => FileKind::Gzip,
+        [0x28, 0xb5, 0x2f, 0xfd] => FileKind::Zstd,
+        [0xfd, 0x37, 0x7a, 0x58] => FileKind::Xz,
+        [0xef, 0xbb, 0xbf, ..] => FileKind::Marked,
+        [0xff, 0xfe, ..] | [0xfe, 0xff, ..] => FileKind::Utf16,
+        _ => FileKind::Unknown,
     }
 }
 

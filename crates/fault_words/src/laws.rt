@@ -3,7 +3,7 @@
 ghost use Rattle.std.specs.Prelude.{◌<◌, ◌≤◌, ℕ, List, length};
 ghost use Rattle.report.specs.declared.fault.RunFault.{RunFault};
 ghost use Rattle.fault_words.specs.ClaimField.{field_name};
-ghost use Rattle.fault_words.specs.Explanation.{AreQuiet, AreTwoLines, FoundData, IsExplanation};
+ghost use Rattle.fault_words.specs.Explanation.{AreQuiet, AreTwoLines, SeenData, IsExplanation};
 ghost use Rattle.fault_words.specs.Explanation.{IsOutputExplanation, IsTimeExplanation};
 ghost use Rattle.fault_words.specs.Quote.{IsQuiet};
 ghost use Rattle.fault_words.specs.Subject.{NamesData};
@@ -16,7 +16,7 @@ pub fn no_field_is_without_a_name()
 /// Words are two lines, of which a terminal obeys nothing but their line feeds, if it obeys nothing
 /// of the files' names and of what was seen. Those about a TIME always are.
 pub fn words_are_two_lines()
-    ensures input { (names : NamesData) (fault : RunFault) (found : FoundData) (text : List ℕ) →
+    ensures input { (names : NamesData) (fault : RunFault) (found : SeenData) (text : List ℕ) →
         AreQuiet names → IsQuiet found.seen → IsExplanation names fault found text →
         AreTwoLines text }
     ensures output { (name seen text : List ℕ) → IsQuiet name → IsQuiet seen →

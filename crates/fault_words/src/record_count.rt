@@ -2,11 +2,11 @@
 
 ghost use Rattle.std.specs.Prelude.{◌≡◌, ◌^◌, ◌-◌, ◌<◌, IfOk, string_bytes};
 ghost use Rattle.byte_stream.specs.State.{IsReadable};
-ghost use Rattle.fault_words.specs.Explanation.{IsToldQuietly, found_data, nothing_found};
+ghost use Rattle.fault_words.specs.Explanation.{IsToldQuietly, seen_data, nothing_seen};
 ghost use Rattle.fault_words.specs.Quote.{IsQuiet};
-ghost use Rattle.fault_words.specs.declared.kind.Kind.TheVariants.{Unknown};
+ghost use Rattle.fault_words.specs.declared.kind.FileKind.TheVariants.{Unknown};
 
-use crate::found::Found;
+use crate::seen::Seen;
 use byte_stream::Feed;
 use pcap_reader::{Capture, CaptureFault, RecordSource};
 use std::alloc::{AllocError, Global};
@@ -46,15 +46,15 @@ pub fn look_at_records<F: Feed + Drop>(
     alloc: Global,
     feed: F,
     fault: &CaptureFault,
-) -> Result<Found, AllocError>
+) -> Result<Seen, AllocError>
     requires { IsReadable (F.state feed) }
     ensures nothing_else { IfOk result (λ found.
-        found_data found ≡ nothing_found Unknown (string_bytes found.seen)) }
+        seen_data found ≡ nothing_seen Unknown (string_bytes found.seen)) }
     ensures quiet { IfOk result IsToldQuietly }
 {
     let Ok(mut source) = Capture::begin(alloc, feed) else {
-        return Ok(Found::nothing(alloc));
+        return Ok(Seen::nothing(alloc));
     };
     let seen = record_words(alloc, whole_records(&mut source, fault))?;
-    Ok(Found::seen(seen))
+    Ok(Seen::of_text(seen))
 }

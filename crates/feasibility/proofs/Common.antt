@@ -65,7 +65,7 @@ pub use Rattle.feasibility.specs.DriftRefutation.{HasDriftCourse, IsCompatibleWi
 pub use Rattle.feasibility.specs.DriftRefutation.{IsRefutedWithDrift, Shows, mark_of}
 pub use Rattle.feasibility.specs.DriftTest.{all_compatible, are_compatible, do_agree, do_all_agree, is_possible}
 pub use Rattle.feasibility.specs.DriftTest.{is_refuted_with_drift}
-pub use Rattle.feasibility.specs.Evidence.{IsNoEvidence, IsPossibleError, count_with_exchange, has_exchange}
+pub use Rattle.feasibility.specs.ServedGroups.{IsNoEvidence, IsPossibleError, count_with_exchange, has_exchange}
 pub use Rattle.feasibility.specs.GroupMarks.{DoGroupsAgree, IsSound, group_exchanges, group_highs, group_lows}
 pub use Rattle.feasibility.specs.GroupMarks.{is_outside}
 pub use Rattle.feasibility.specs.Groups.{Adds, AreApart, HoldsOne, HoldsOneOr64, IsFound, holds}

@@ -20,5 +20,5 @@ pub mod PartialTable
 pub mod PairMarks
 pub mod ShownConflicts
 pub mod NumberedMarks
-pub mod Evidence
+pub mod ServedGroups
 pub mod LeastCovers

@@ -33,13 +33,13 @@ pub use crate::conflict_laws::{
     ends_of_all_conflicts_are_a_cover, first_contradiction_is_one,
     marks_of_groups_decide_conflicts, pairs_show_conflicts, tests_of_marks_make_a_table,
 };
-pub use crate::evidence_laws::{few_groups_are_no_evidence, no_evidence_gives_no_yes};
 pub use crate::refutation_laws::{
     accepted_refutations_have_a_course, courses_of_refutations_break_the_claim,
     narrower_bounds_and_faster_drifts_are_refuted_too, own_mark_joins_the_others,
     refutations_are_exact, refutations_are_settled, refutations_stand_where_a_course_shows_them,
     refutations_without_drift_stand, worked_drift_is_seen, yes_and_refutation_never_meet,
 };
+pub use crate::served_laws::{few_groups_are_no_evidence, no_evidence_gives_no_yes};
 
 /// Of what the clock itself advances, the error rises by at most P/(B+P) and falls by at most
 /// P/(B-P), with P for the rate of the drift in parts of B.

@@ -6,7 +6,7 @@ use Rattle.certificate.specs.Certificate.{data_of as certificate_data}
 use Rattle.intersection.specs.Fineness.{times_le}
 use Rattle.feasibility.specs.Contradiction.{AreAllConflicts, HoldsAnEnd, ShownConflict}
 use Rattle.feasibility.specs.DriftSettlement.{SettlesWithDrift}
-use Rattle.feasibility.specs.Evidence.{IsNoEvidence, count_with_exchange}
+use Rattle.feasibility.specs.ServedGroups.{IsNoEvidence, count_with_exchange}
 use Rattle.std.proofs.Common.{get_or, IfSome, IsSomeAnd, IsTrue, MatchOption, Option, Some, None, ⊎_elim}
 use Rattle.checker.specs.Course.{Fits as FitsExchanges}
 use Rattle.checker.specs.Traceability.{IsWithin}

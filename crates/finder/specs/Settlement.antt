@@ -19,7 +19,7 @@ use Rattle.feasibility.specs.Contradiction.{ShownConflict, AreAllConflicts, NoFe
 use Rattle.feasibility.specs.Cover.{SomeCourse, SomeCourseAt}
 use Rattle.feasibility.specs.DriftRefutation.{IsRefutedWithDrift, HasDriftCourse}
 use Rattle.feasibility.specs.DriftSettlement.{SettlesWithDrift}
-use Rattle.feasibility.specs.Evidence.{IsNoEvidence, count_with_exchange}
+use Rattle.feasibility.specs.ServedGroups.{IsNoEvidence, count_with_exchange}
 use Rattle.feasibility.specs.PairMarks.{conflict_data}
 use Rattle.finder.specs.Fewest.{HasFewest, IsOfLongest, IsStuck, IsTooLong, NoneIsAccepted, NoneOfFewIsAccepted, stretch_over}
 use Rattle.finder.specs.Leeway.{AreHeld}

@@ -12,7 +12,7 @@ ghost use Rattle.claim_file.specs.Claim.{data_of as claim_data};
 ghost use Rattle.checker.specs.Traceability.{samples_of};
 ghost use Rattle.feasibility.specs.ConflictTable.{IsConflictTable};
 ghost use Rattle.feasibility.specs.ConflictsView.{data_of};
-ghost use Rattle.feasibility.specs.Evidence.{count_with_exchange};
+ghost use Rattle.feasibility.specs.ServedGroups.{count_with_exchange};
 ghost use Rattle.finder.specs.Reach.{AreTablesFor};
 ghost use Rattle.checker.specs.Samples.{AreSamplesOf};
 ghost use Rattle.finder.specs.Settlement.{IsSearched, Settles};

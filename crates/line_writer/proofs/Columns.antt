@@ -1,13 +1,13 @@
 -- Texts in columns.
 use Rattle.line_writer.proofs.Common.{◌≡◌, ℕ, ◌+◌, ◌-◌, ◌≤◌, ◌∷◌, ◌++◌, List, length, arith, refl, length-append, add-one, append_assoc, replicate, FieldData, Word, Label, Named, Instead, Heading, in_column, width, width_of, most_of}
-use Rattle.line_writer.specs.declared.field.Kind.{Kind}
-use Rattle.line_writer.specs.declared.field.Kind.TheVariants as kind
+use Rattle.line_writer.specs.declared.field.ColumnKind.{ColumnKind}
+use Rattle.line_writer.specs.declared.field.ColumnKind.TheVariants as kind
 
 pub one_more : (n : ℕ) (text : List ℕ) → 32 ∷ (replicate n 32 ++ text) ≡ replicate (n + 1) 32 ++ text
 one_more n text = rw add-one refl
 
 -- no column is wider than the longest text of its field
-narrow : (k : Kind) → width k ≤ 20
+narrow : (k : ColumnKind) → width k ≤ 20
 narrow kind.Number = omega arith
 narrow kind.Second = omega arith
 narrow kind.End = omega arith

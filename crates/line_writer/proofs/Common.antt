@@ -23,8 +23,10 @@ pub use Rattle.hex.specs.Hex.{encode_lower, lower_digits}
 unfoldable pub use Rattle.hex.specs.Hex.{encode_with}
 pub use Rattle.jiff_core.proofs.SignedLemmas.{signed_arith}
 pub use lib.Ieee.Fits.{and_l, and_r}
-pub use Rattle.line_writer.specs.Date.{clock_text, day_number, day_of, days_passed, four_digits, hour_of, march_day}
-pub use Rattle.line_writer.specs.Date.{march_month, march_year, minute_of, month_of, second_of, time_text, two_digits}
+pub use Rattle.line_writer.specs.Date.{clock_text, day_number, day_of, days_passed, hour_of, march_day}
+pub use Rattle.era_unfold.specs.Digits.{four_digits}
+pub use Rattle.line_writer.specs.Date.{march_month, march_year, minute_of, month_of, second_of, time_text}
+pub use Rattle.era_unfold.specs.Digits.{two_digits}
 pub use Rattle.line_writer.specs.Date.{year_of}
 pub use Rattle.line_writer.specs.Field.{FieldData, Heading, Instead, Label, Named, Word, field_data, in_column}
 pub use Rattle.line_writer.specs.Field.{is_short, most_of, reference_text, rest_text, room_of, width, width_of}

@@ -4,6 +4,7 @@
 -- leap year is its last, and days are counted from the first of March of the year -10000. A law
 -- says that the text reads back as the second.
 use Rattle.std.specs.Prelude.{ℕ, ◌+◌, ◌-◌, ◌*◌, ◌/◌, ◌%◌, nat_lt, if◌then◌else◌, List, [], ◌∷◌, ◌++◌, codes}
+use Rattle.era_unfold.specs.Digits.{two_digits, four_digits}
 
 -- the days from that first of March to a day that is counted from 1970 on
 abbrev pub march_day : ℕ → ℕ
@@ -36,13 +37,6 @@ month_of day = if nat_lt 12 (march_month day) then march_month day - 12 else mar
 
 abbrev pub day_of : ℕ → ℕ
 day_of day = month_scaled day % 153 / 5 + 1
-
--- a number below 100 as two digits, and one below 10000 as four
-abbrev pub two_digits : ℕ → List ℕ
-two_digits n = (48 + n / 10) ∷ (48 + n % 10) ∷ []
-
-abbrev pub four_digits : ℕ → List ℕ
-four_digits n = two_digits (n / 100) ++ two_digits (n % 100)
 
 -- a day that is counted from 1970 on
 abbrev pub date_text : ℕ → List ℕ

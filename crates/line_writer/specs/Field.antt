@@ -8,8 +8,8 @@ use Rattle.line_writer.specs.Millisecond.{milliseconds, nanosecond_above, nanose
 use Rattle.line_writer.specs.Moment.{moment_above, moment_below}
 use Rattle.line_writer.specs.declared.field.Field.{Field}
 use Rattle.line_writer.specs.declared.field.Field.TheVariants as the
-use Rattle.line_writer.specs.declared.field.Kind.{Kind}
-use Rattle.line_writer.specs.declared.field.Kind.TheVariants as kind
+use Rattle.line_writer.specs.declared.field.ColumnKind.{ColumnKind}
+use Rattle.line_writer.specs.declared.field.ColumnKind.TheVariants as kind
 use Rattle.line_writer.specs.declared.field.Style.{Style}
 use Rattle.line_writer.specs.declared.field.Style.TheVariants.{Plain, Human, Columns}
 
@@ -40,7 +40,7 @@ pub data FieldData : Type 0 where
   Address : List ℕ → FieldData
   Reference : List ℕ → FieldData
   -- the heading of a column, and what stands in the column
-  Heading : List ℕ → Kind → FieldData
+  Heading : List ℕ → ColumnKind → FieldData
   -- no field stands here
   Nothing : FieldData
 
@@ -102,7 +102,7 @@ human_text (Reference bytes) = reference_text bytes
 human_text field = plain_text field
 
 -- how wide a column is, by what stands in it
-abbrev pub width : Kind → ℕ
+abbrev pub width : ColumnKind → ℕ
 width kind.Number = 8
 width kind.Second = 20
 width kind.End = 14

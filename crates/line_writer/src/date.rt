@@ -1,7 +1,8 @@
 //! Unix seconds as dates and times of day in UTC.
 
 ghost use Rattle.std.specs.Prelude.{◌≡◌, ◌+◌, ◌<◌, ◌≤◌, ◌++◌, length};
-ghost use Rattle.line_writer.specs.Date.{clock_text, date_text, day_of, month_of, time_text, two_digits, year_of};
+ghost use Rattle.line_writer.specs.Date.{clock_text, date_text, day_of, month_of, time_text, year_of};
+ghost use Rattle.era_unfold.specs.Digits.{two_digits};
 
 use crate::line::{CAPACITY, Line};
 

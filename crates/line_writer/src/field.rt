@@ -48,14 +48,14 @@ pub enum Field<'a> {
     /// A reference identifier.
     Reference([u8; 4]),
     /// The heading of a column, and what stands in the column.
-    Heading(&'a str, Kind),
+    Heading(&'a str, ColumnKind),
     /// No field: not even a space stands for it.
     Nothing,
 }
 
 /// What stands in a column, which says how wide that is.
 #[derive(Clone, Copy, Debug)]
-pub enum Kind {
+pub enum ColumnKind {
     /// A number that counts or names.
     Number,
     /// A time in whole Unix seconds.
@@ -183,15 +183,15 @@ fn put_human(line: &mut Line, field: &Field<'_>)
 }
 
 /// How wide a column is.
-fn width(kind: Kind) -> usize
+fn width(kind: ColumnKind) -> usize
     ensures width { result ≡ width kind }
     ensures narrow { result ≤ 20 }
 {
     match kind {
-        Kind::Number => 8,
-        Kind::Second => 20,
-        Kind::End => 14,
-        Kind::Name => 15,
+        ColumnKind::Number => 8,
+        ColumnKind::Second => 20,
+        ColumnKind::End => 14,
+        ColumnKind::Name => 15,
     }
 }
 
@@ -202,10 +202,10 @@ fn width_of(field: &Field<'_>) -> usize
 {
     match field {
         Field::Heading(_, kind) => width(*kind),
-        Field::Number(_) => width(Kind::Number),
-        Field::Second(_) => width(Kind::Second),
-        Field::Low(_) | Field::High(_) | Field::Instead(_) | Field::Blank => width(Kind::End),
-        Field::Address(_) | Field::Word(_) => width(Kind::Name),
+        Field::Number(_) => width(ColumnKind::Number),
+        Field::Second(_) => width(ColumnKind::Second),
+        Field::Low(_) | Field::High(_) | Field::Instead(_) | Field::Blank => width(ColumnKind::End),
+        Field::Address(_) | Field::Word(_) => width(ColumnKind::Name),
         _ => 0,
     }
 }

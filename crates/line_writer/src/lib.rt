@@ -31,6 +31,6 @@ mod millisecond;
 mod moment;
 mod number;
 
-pub use field::{Field, Kind, Style, add_line, put_fields};
+pub use field::{ColumnKind, Field, Style, add_line, put_fields};
 pub use line::{CAPACITY, Line};
 pub use number::Number;

@@ -6,7 +6,7 @@
 use crate::warning::warnings;
 use byte_stream::{Feed, ReadFeed, WriteSink};
 use fault_words::{
-    Found, Kind, Names, STANDARD_INPUT, explain, explain_output, explain_time, input_of, look,
+    FileKind, Names, STANDARD_INPUT, Seen, explain, explain_output, explain_time, input_of, look,
     look_at_records, shown,
 };
 use pcap_reader::CaptureFault;
@@ -85,7 +85,7 @@ fn words_of_fault(
     let alloc = rt.alloc();
     let found = match input_of(fault) {
         Some(input) => look_again(rt, path_of(names.of(input)), input, fault)?,
-        None => Found::nothing(alloc),
+        None => Seen::nothing(alloc),
     };
     let claim = shown_name(alloc, names.claim)?;
     let capture = shown_name(alloc, names.capture)?;
@@ -123,7 +123,7 @@ fn look_again(
     path: &str,
     input: Input,
     fault: &RunFault,
-) -> Result<Found, AllocError> {
+) -> Result<Seen, AllocError> {
     match fault {
         RunFault::Device(_) => look_at_device(rt, path),
         RunFault::Capture(
@@ -144,25 +144,25 @@ fn refused_open(rt: &HostRuntime, path: &str) -> Option<Error> {
 }
 
 /// What the system says of a file that can't be opened or read.
-fn look_at_device(rt: &HostRuntime, path: &str) -> Result<Found, AllocError> {
+fn look_at_device(rt: &HostRuntime, path: &str) -> Result<Seen, AllocError> {
     let alloc = rt.alloc();
     let refused = match rt.metadata(path) {
         Err(error) => Some(error),
-        Ok(metadata) if metadata.is_dir() => return Found::of_kind(alloc, Kind::Folder),
+        Ok(metadata) if metadata.is_dir() => return Seen::of_kind(alloc, FileKind::Folder),
         Ok(metadata) if metadata.is_file() => refused_open(rt, path),
         Ok(_) => None,
     };
     let Some(error) = refused else {
-        return Ok(Found::nothing(alloc));
+        return Ok(Seen::nothing(alloc));
     };
     let kind = match error.kind() {
-        ErrorKind::NotFound => Kind::Absent,
-        _ => Kind::Unknown,
+        ErrorKind::NotFound => FileKind::Absent,
+        _ => FileKind::Unknown,
     };
     let seen = format!(in alloc; ": {error}")?;
-    Ok(Found {
+    Ok(Seen {
         kind,
-        ..Found::seen(seen)
+        ..Seen::of_text(seen)
     })
 }
 
@@ -175,15 +175,15 @@ pub(crate) fn open_regular(rt: &HostRuntime, path: &str) -> Option<File> {
 }
 
 /// What is seen of a file that isn't looked at again: that it's a pipe, if it is one.
-fn unseen(rt: &HostRuntime, path: &str) -> Result<Found, AllocError> {
+fn unseen(rt: &HostRuntime, path: &str) -> Result<Seen, AllocError> {
     match rt.metadata(path) {
-        Ok(metadata) if metadata.file_type().is_fifo() => Found::of_kind(rt.alloc(), Kind::Pipe),
-        _ => Ok(Found::nothing(rt.alloc())),
+        Ok(metadata) if metadata.file_type().is_fifo() => Seen::of_kind(rt.alloc(), FileKind::Pipe),
+        _ => Ok(Seen::nothing(rt.alloc())),
     }
 }
 
 /// How many records stand before the fault of a record.
-fn count_records(rt: &HostRuntime, path: &str, fault: &CaptureFault) -> Result<Found, AllocError> {
+fn count_records(rt: &HostRuntime, path: &str, fault: &CaptureFault) -> Result<Seen, AllocError> {
     match open_regular(rt, path) {
         Some(file) => look_at_records(rt.alloc(), ReadFeed::new(file), fault),
         None => unseen(rt, path),
@@ -196,7 +196,7 @@ fn look_at_bytes(
     path: &str,
     input: Input,
     fault: &RunFault,
-) -> Result<Found, AllocError> {
+) -> Result<Seen, AllocError> {
     let alloc = rt.alloc();
     let Some(file) = open_regular(rt, path) else {
         return unseen(rt, path);
@@ -208,17 +208,17 @@ fn look_at_bytes(
 }
 
 /// What is seen of a fault in the first bytes of a large file.
-fn look_at_front(rt: &HostRuntime, path: &str, fault: &RunFault) -> Result<Found, AllocError> {
+fn look_at_front(rt: &HostRuntime, path: &str, fault: &RunFault) -> Result<Seen, AllocError> {
     let alloc = rt.alloc();
     let Some(file) = open_regular(rt, path) else {
-        return Ok(Found::nothing(alloc));
+        return Ok(Seen::nothing(alloc));
     };
     let mut front = [0; FRONT];
     let Ok(count) = ReadFeed::new(file).pull(&mut front) else {
-        return Ok(Found::nothing(alloc));
+        return Ok(Seen::nothing(alloc));
     };
     match front.get(..count) {
         Some(bytes) => look(alloc, fault, bytes, false),
-        None => Ok(Found::nothing(alloc)),
+        None => Ok(Seen::nothing(alloc)),
     }
 }

@@ -58,7 +58,7 @@ unfoldable pub use Rattle.pairing.specs.Pairing.{collection_of, counts_of, excha
 pub use Rattle.pairing.specs.Reading.{Continues, Gathers, IsRead, IsWhole}
 pub use Rattle.pairing.specs.Refusal.{refusal_of, same_refusal}
 pub use Rattle.pairing.specs.Sources.{common_reference, is_source, source_count}
-pub use Rattle.pairing.specs.Statement.{judged, message_in}
+pub use Rattle.pairing.specs.Statement.{message_of_reply, message_in}
 unfoldable pub use Rattle.pairing.specs.Statement.{message_of}
 pub use Rattle.pairing.specs.declared.compact.CompactExchange.{CompactExchange}
 pub use Rattle.pairing.specs.declared.compact.CompactRequest.{CompactRequest}

@@ -1,5 +1,5 @@
 -- One more record gathered.
-use Rattle.pairing.proofs.Common.{◌≡◌, ◌∙◌, ℕ, ◌+◌, List, [], ◌∷◌, ◌++◌, Bool, true, false, Option, Some, None, refl, sym, ap, length-append, arith, append-nil, map, true≢false, filter, count_by, is_none, IsSome, ◌&&◌, ◌==◌, if◌then◌else◌, cons_option, option_and_then, option_map, bytes_eq, map-append, filter-append, filter_map-append, nat_tests, RecordHead, Record, mode_of, version_of, Packet, packet_of, ntp_port, ClaimData, Counts, CompactExchange, IndexedRequest, Key, Message, Refusal, Version, Leap, Stratum, Precision, ZeroStamp, NoRequest, Ambiguous, zero_counts, count_for, IsGathered, IsGatheredFrom, counts_with, is_accepted, is_early, is_for, indexed_in, compact_in, compact_of, key_of, indexed_of, Request, Reply, is_request, is_reply, server_at, requested_server, replying_server, request_to, reply_from, request_in, reply_in, request_of, reply_of, requests_of, replies_of, refusal_of, judged, message_in, message_of}
+use Rattle.pairing.proofs.Common.{◌≡◌, ◌∙◌, ℕ, ◌+◌, List, [], ◌∷◌, ◌++◌, Bool, true, false, Option, Some, None, refl, sym, ap, length-append, arith, append-nil, map, true≢false, filter, count_by, is_none, IsSome, ◌&&◌, ◌==◌, if◌then◌else◌, cons_option, option_and_then, option_map, bytes_eq, map-append, filter-append, filter_map-append, nat_tests, RecordHead, Record, mode_of, version_of, Packet, packet_of, ntp_port, ClaimData, Counts, CompactExchange, IndexedRequest, Key, Message, Refusal, Version, Leap, Stratum, Precision, ZeroStamp, NoRequest, Ambiguous, zero_counts, count_for, IsGathered, IsGatheredFrom, counts_with, is_accepted, is_early, is_for, indexed_in, compact_in, compact_of, key_of, indexed_of, Request, Reply, is_request, is_reply, server_at, requested_server, replying_server, request_to, reply_from, request_in, reply_in, request_of, reply_of, requests_of, replies_of, refusal_of, message_of_reply, message_in, message_of}
 use Rattle.pairing.specs.declared.message.Message.TheVariants.{Request as Asks, Refused, Reply as Waits}
 use Rattle.pairing.specs.Index.{request_at}
 use Rattle.pairing.proofs.JoinSteps.{keeps_others, count_by-push, count_for-with_refusal}
@@ -36,7 +36,7 @@ pub data Says (head : RecordHead) : Option Message → List Request → List Rep
       Says head (Some (Waits (compact_of reply))) [] (reply ∷ [])
 
 says_judged : (head : RecordHead) (reply : Reply) (o : Option Refusal) → refusal_of reply.header ≡ o →
-    Says head (Some (judged reply)) [] (reply ∷ [])
+    Says head (Some (message_of_reply reply)) [] (reply ∷ [])
 says_judged head reply None h = rw h (accepted reply h)
 says_judged head reply (Some refusal) h = rw h (refused reply refusal h)
 
@@ -44,7 +44,7 @@ says_servers : (head : RecordHead) (p : Packet) (asked answered : Option ℕ) �
     Says head
     (elim (option_map (request_to head p) asked) [
       | Some q ↦ Some (Asks (key_of q))
-      | None ↦ option_map judged
+      | None ↦ option_map message_of_reply
           (option_map (reply_from head p) answered)
     ])
     (cons_option (option_map (request_to head p) asked) [])

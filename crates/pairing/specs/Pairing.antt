@@ -77,7 +77,7 @@ paired reply [] = Err NoRequest
 paired reply (q ∷ []) = Ok (exchange_of q reply)
 paired reply (q ∷ other ∷ others) = Err Ambiguous
 
--- what becomes of a reply among these requests: its own header is judged first
+-- what becomes of a reply among these requests: its own header is message_of_reply first
 abbrev pub unless_refused : Option Refusal → Result Exchange Refusal → Result Exchange Refusal
 unless_refused None outcome = outcome
 unless_refused (Some refusal) outcome = Err refusal

@@ -19,15 +19,15 @@ abbrev pub judged_by : Option Refusal → Reply → Message
 judged_by None reply = Waits (compact_of reply)
 judged_by (Some refusal) reply = Refused refusal
 
-abbrev pub judged : Reply → Message
-judged reply = judged_by (refusal_of reply.header) reply
+abbrev pub message_of_reply : Reply → Message
+message_of_reply reply = judged_by (refusal_of reply.header) reply
 
 -- a packet
 abbrev pub message_in : ClaimData → RecordHead → Packet → Option Message
 message_in claim head p =
     elim (request_in claim head p) [
       | Some q ↦ Some (Asks (key_of q))
-      | None ↦ option_map judged (reply_in claim head p)
+      | None ↦ option_map message_of_reply (reply_in claim head p)
     ]
 
 -- a record

@@ -6,7 +6,7 @@ ghost use Rattle.byte_stream.specs.Bytes.{IsBytes};
 ghost use Rattle.era_unfold.specs.Window.{per_second};
 ghost use Rattle.ntp_packet.specs.Packet.{packet_shown};
 ghost use Rattle.claim_file.specs.Claim.{data_of};
-ghost use Rattle.pairing.specs.Statement.{judged, message_in, message_of};
+ghost use Rattle.pairing.specs.Statement.{message_of_reply, message_in, message_of};
 ghost use Rattle.pairing.specs.Message.{reply_from, server_at, requested_server, replying_server};
 
 use crate::compact::CompactExchange;
@@ -96,9 +96,9 @@ pub(crate) fn replying_server(claim: &Claim, packet: &Packet<'_>) -> Option<u8>
 
 /// What a reply of this server says.
 #[inline(always)]
-fn judge(server: u8, head: &RecordHead, packet: &Packet<'_>) -> Message
+fn message_of_reply(server: u8, head: &RecordHead, packet: &Packet<'_>) -> Message
     requires { head.now.sub < per_second head.now.unit }
-    ensures { result ≡ judged (reply_from head.now (packet_shown packet.now) server) }
+    ensures { result ≡ message_of_reply (reply_from head.now (packet_shown packet.now) server) }
 {
     match accepted_distance(&packet.header) {
         Ok(distance) => Message::Reply(CompactExchange::new(server, head, packet, distance)),
@@ -120,7 +120,7 @@ fn message_in(claim: &Claim, head: &RecordHead, packet: &Packet<'_>) -> Option<M
         }));
     }
     let server = replying_server(claim, packet)?;
-    Some(judge(server, head, packet))
+    Some(message_of_reply(server, head, packet))
 }
 
 /// What a record says: a request, a reply, or nothing.

@@ -9,7 +9,7 @@ use crate::question::Question;
 use crate::question::find::run_fault_of;
 use crate::sample_list::samples_of;
 use crate::whole_text::publish_text;
-use audit_text::{Envelope, envelope_text};
+use audit_text::{EnvelopeOptions, envelope_text};
 use byte_stream::Sink;
 use finder::laws::best_hulls_hold_the_error;
 use finder::{LeastBound, LeastCarried, find_envelope_over};
@@ -36,7 +36,7 @@ fn outcome_of(least: LeastBound) -> Outcome
     }
 }
 
-impl Question for Envelope {
+impl Question for EnvelopeOptions {
     type Second = ();
 
     type Finding = EnvelopeFinding;

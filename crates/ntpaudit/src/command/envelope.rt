@@ -8,7 +8,7 @@ ghost use Rattle.ntpaudit.specs.Invocation.{IsCalled};
 
 use crate::command::argument::{flag, is_given, step_of, step_option};
 use crate::command::evidence::{ask, evidence_command};
-use audit::{Envelope, Request};
+use audit::{EnvelopeOptions, Request};
 use clap::{ArgMatches, Command};
 use program::Invocation;
 use std::alloc::{AllocError, Global};
@@ -44,7 +44,7 @@ pub(crate) fn invocation(alloc: Global, words: &ArgMatches) -> Result<Invocation
     let Some(step) = step_of(words) else {
         return Invocation::refusal(alloc, "no step\n");
     };
-    let envelope = Envelope {
+    let envelope = EnvelopeOptions {
         step,
         servers: is_given(words, "servers"),
         least: is_given(words, "least"),

@@ -4,7 +4,7 @@ ghost use Rattle.byte_stream.specs.State.{IsWritable};
 
 use crate::expectation::table;
 use crate::inputs::REFUTATION;
-use audit::{At, Check, Envelope, Find, PLAIN_ENVELOPE, Refute, Request, Step, Style};
+use audit::{At, Check, EnvelopeOptions, Find, PLAIN_ENVELOPE, Refute, Request, Step, Style};
 use byte_stream::{Cut, Feed, Sink, TestFeed, TestSink};
 use listing::run_list;
 use report::{Input, Outcome, RunFault};
@@ -70,7 +70,7 @@ const FIND: Command<'static> = Command::Ask(Request::Find(Find {
 }));
 
 /// Such pieces, with what each server says.
-const SERVERS: Command<'static> = Command::Ask(Request::Envelope(Envelope {
+const SERVERS: Command<'static> = Command::Ask(Request::Envelope(EnvelopeOptions {
     servers: true,
     ..PLAIN_ENVELOPE
 }));

@@ -6,7 +6,7 @@ ghost use Rattle.checker.specs.Traceability.{samples_of};
 ghost use Rattle.checker.specs.Verdict.{verdict_of};
 ghost use Rattle.checker.specs.declared.verdict.Verdict.TheVariants.{Yes};
 ghost use Rattle.claim_file.specs.Claim.{ClaimData, IsLawful};
-ghost use Rattle.feasibility.specs.Evidence.{IsNoEvidence, count_with_exchange};
+ghost use Rattle.feasibility.specs.ServedGroups.{IsNoEvidence, count_with_exchange};
 ghost use Rattle.pairing.specs.Exchange.{IsLawful as IsLawfulExchange};
 ghost use Rattle.pairing.specs.declared.exchange.Exchange.{Exchange};
 

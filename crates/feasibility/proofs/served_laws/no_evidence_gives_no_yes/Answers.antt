@@ -1,6 +1,6 @@
 use Rattle.feasibility.proofs.Common.{are_samples, samples_of}
 use Rattle.feasibility.proofs.HeardGroups.{untraceable}
-use Rattle.feasibility.proofs.evidence_laws.no_evidence_gives_no_yes.Goals as goal
+use Rattle.feasibility.proofs.served_laws.no_evidence_gives_no_yes.Goals as goal
 
 pub returns : goal.returns
 returns c claim xs groups certificate lawful each none accepted =

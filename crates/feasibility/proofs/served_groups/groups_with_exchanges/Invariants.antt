@@ -1,6 +1,6 @@
 use Rattle.feasibility.proofs.Common.{map, drop, data_of as claim_data, holds}
 use Rattle.feasibility.proofs.HeardGroups.{AreHeardTo}
-use Rattle.feasibility.proofs.evidence.groups_with_exchanges.Given as goal
+use Rattle.feasibility.proofs.served_groups.groups_with_exchanges.Given as goal
 
 abbrev pub invariant-loop-exchange : goal.invariant-loop-exchange
 invariant-loop-exchange g l =

@@ -2,7 +2,7 @@ use Rattle.feasibility.proofs.Common.{◌≡◌, ℕ, ◌+◌, ◌<◌, ◌≤�
 use Rattle.feasibility.proofs.CoverMembers.{count_same}
 use Rattle.feasibility.proofs.HeardGroups.{AreHeardTo, one_more_heard, all_heard}
 use Rattle.feasibility.proofs.KeptMarkLists.{first_left, lawful_shown, read_is, within_groups}
-use Rattle.feasibility.proofs.evidence.groups_with_exchanges.Goals as goal
+use Rattle.feasibility.proofs.served_groups.groups_with_exchanges.Goals as goal
 
 pub index-requires : goal.index-requires
 index-requires g c =
