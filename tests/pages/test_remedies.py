@@ -5,8 +5,7 @@ commands of the pages are those in code font that begin with a tool of TOOLS. Wh
 to settle the claim as the one does of which it was spoiled, and a part of one has to be listed. A command for which
 no file is made here fails. Of the dossier's own remedies whatever is in code font is run, but for the names of NAMES.
 
-It prints a line for each case that failed or was skipped, and last 'N passed, M failed'. The program is the one that
-./ntpaudit runs, or the file that the environment's NTPAUDIT names (from the repository's root).
+It prints a line for each case that failed or was skipped, and last 'N passed, M failed'.
 """
 import ast
 import gzip

@@ -15,7 +15,7 @@ from tests.second import answers, marks, pieces, rechecked, rules, settlement
 from tests.second.answers import Evidence
 from tests.second.claims import Claim, Piece, Refutation, changed
 from tests.second.columns import TICKS, counted
-from tests.second.commands import PLAIN
+from tests.second.commands import plain_commands
 from tests.second.marks import Conflicts
 from tests.second.pieces import Hulls, Pieces, Stop
 from tests.second.rules import Sample
@@ -230,7 +230,7 @@ def unaccepted(question: Question, certificate: bytes) -> str:
 def envelope_case(question: Question) -> Iterator[Case]:
     """`envelope` with each of its options. The line of the least bound is looked at by itself: once for claims that
     differ in nothing but their bound."""
-    for command in (command for command in PLAIN if command.name == "envelope"):
+    for command in (command for command in plain_commands() if command.name == "envelope"):
         words = "--step", question.step, *command.options
         if (has_least := "--least" in words) and question.pieces.judged:
             continue
@@ -315,7 +315,7 @@ def at_case(question: Question) -> Iterator[Case]:
 
 def plain_case(question: Question) -> Iterator[Case]:
     """Each command of which nothing else has to be known than its second reading."""
-    for command in PLAIN:
+    for command in plain_commands():
         if command.name in set(answers.READINGS) - {"settle", "envelope", "find", "at"}:
             wanted = answers.READINGS[command.name](question.evidence, *command.words)
             yield command.title, differs(question.call(command.name, *command.words), *wanted)

@@ -33,7 +33,7 @@ from tests.support import check, count, program, run
 from tests.second import marks, pieces, rules
 from tests.second.claims import Claim, changed
 from tests.second.columns import TICKS
-from tests.second.commands import PLAIN
+from tests.second.commands import plain_commands
 from tests.second.exchanges import evidence_of
 from tests.second.pieces import Hulls
 from tests.second.questions import Asks, CASES, Question, Way, settle_case
@@ -140,5 +140,5 @@ def cases() -> Iterator[tuple[str, Callable[[], Told]]]:
 def together(told: list[Told]) -> None:
     kinds = sum((Counter(one.kinds) for one in told), Counter[str]())
     print("; ".join(f"{number} {kind}" for kind, number in kinds.most_common()))
-    check("each command is called", missing=({command.title for command in PLAIN} - {
+    check("each command is called", missing=({command.title for command in plain_commands()} - {
         word for one in told for word in one.called}, set()))
