@@ -13,8 +13,10 @@ import subprocess
 import sys
 import tempfile
 import threading
+import time
 import unittest
 from collections.abc import Callable, Iterable, Sized
+from contextlib import suppress
 from pathlib import Path
 from types import ModuleType
 from typing import Any
@@ -141,6 +143,24 @@ def run(words: Iterable[object], given: bytes | None = b"", **how: Any) -> Ran:
     except OSError as error:
         return f"no start: {error}", b"", b""
     return ran.returncode, ran.stdout, ran.stderr
+
+
+def until(holds: Callable[[], bool]) -> bool:
+    """Waits until something holds, as long as a run may take."""
+    end = time.monotonic() + SECONDS
+    while not (held := holds()) and time.monotonic() < end:
+        time.sleep(0.01)
+    return held
+
+
+def children(process: int) -> list[int]:
+    """The processes that a process has made, the first first."""
+    found = []
+    for stat in Path("/proc").glob("[0-9]*/stat"):
+        with suppress(OSError):  # (it may have ended meanwhile)
+            if int(stat.read_bytes().rpartition(b")")[2].split()[1]) == process:
+                found.append(int(stat.parent.name))
+    return sorted(found)
 
 
 def files_in(folder: Path, pattern: str) -> list[Path]:

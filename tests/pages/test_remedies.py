@@ -373,7 +373,8 @@ CALLED = {
 """How its commands are called, beside those that are called as they are. (Those that change the system only say what
 they would do.)"""
 
-DAEMON = ("ip link set lo up && chronyd -x -f \"$PWD/chrony.conf\" && sleep 1 && {}; "
+DAEMON = ("ip link set lo up && chronyd -x -f \"$PWD/chrony.conf\" && "
+          "for _ in $(seq 300); do chronyc -n tracking >/dev/null && break; sleep 0.2; done; {}; "
           "status=$?; kill $(cat pid); exit $status")
 """A command that asks a chronyd, which runs beside it in a network of its own."""
 

@@ -30,6 +30,9 @@ LOOKED_AT = 300_000
 WAIT = 20
 """How many times its limit a call may take by the clock, where others have the processor."""
 
+MANY = 1000
+"""An envelope of more pieces is printed with its servers once: their lines depend on neither bound nor false_max."""
+
 COVERS = 8
 """As many covers are tried where no refutation was found; tests/system/test_covers.py tries every one."""
 
@@ -66,12 +69,14 @@ def differs(ran: Ran, status: int, lines: list[str], error: bytes = b"") -> str:
 class Way(NamedTuple):
     """How questions on a capture are asked: of which program, in which folder (with the capture in capture.pcap), how
     many seconds of the processor a call may take, and whether the reading makes all pieces, where there are many; and
-    the pieces that it has made, by the claim without its bound."""
+    the pieces that it has made, by the claim without its bound, and the claims without bound and false_max whose
+    servers were shown."""
     program: str
     folder: Path
     limit: int
     is_whole: bool
     made: dict[str, Pieces]
+    shown: set[str]
 
 
 class Question:
@@ -98,16 +103,23 @@ class Question:
             self.way.made[but_bound] = Pieces(self.claim, self.samples)
         return self.way.made[but_bound]
 
+    def is_shown_enough(self) -> bool:
+        """Whether the servers' lines are many, and were asked of a claim that has the same."""
+        but_hulls = json.dumps(changed(self.claim, bound_ns=0, false_max=0))
+        is_shown = but_hulls in self.way.shown
+        self.way.shown.add(but_hulls)
+        return is_shown and self.span[1] - self.span[0] > MANY * self.step * TICKS
+
     @property
     def hulls(self) -> Hulls:
         return self.pieces.hulls
 
-    @property
+    @cached_property
     def evidence(self) -> Evidence:
         """What tests/second/answers.py reads, whose intervals are made of sorted lists."""
         known = len(self.samples)
         counts = counted(records=2 * known, requests=known, replies=known, samples=known)
-        return Evidence(self.claim, self.samples, self.records, counts, self.hulls.intervals)
+        return Evidence(self.claim, self.samples, self.records, counts, self.hulls.intervals, {})
 
     @cached_property
     def covers(self) -> list[set[int]]:
@@ -233,6 +245,8 @@ def envelope_case(question: Question) -> Iterator[Case]:
     for command in (command for command in plain_commands() if command.name == "envelope"):
         words = "--step", question.step, *command.options
         if (has_least := "--least" in words) and question.pieces.judged:
+            continue
+        if "--servers" in words and question.is_shown_enough():
             continue
         ran, line = question.call("envelope", *words), ""
         if has_least:

@@ -36,7 +36,8 @@ from tests.second.rules import BILLION, Sample, ceiling
 from tests.tools.events import Course, FINE, PartedCourse, StampedCourse
 from tests.tools.families import spelled
 
-COURSES = 1000
+COURSES = 500
+"""Two dozen slips in the second reading were each seen by the first 50 courses."""
 
 
 def ends_of(course: Course, rng: random.Random) -> list[int]:

@@ -80,7 +80,8 @@ def calls_on(claim: Path, folder: Path) -> list[tuple[str, Words]]:
     """Calls of each command with a claim and its capture, and with certificates and refutations that fit or don't."""
     name = claim.name.removesuffix(".claim.json")
     both: list[Path | str] = [claim, DATA / f"{name.split('.')[0]}.pcap"]
-    alone = dict.fromkeys(command.name for command in plain_commands() if not command.others and command.name != "settle")
+    alone = dict.fromkeys(command.name for command in plain_commands()
+                          if not command.others and command.name != "settle")
     given: list[Words] = [[name, *both, *options] for name in alone for options in variants(name)]
     given += [["at", *both, moment] for moment in moments_of(json.loads(claim.read_text()))]
     for step in ("1", "8"):
@@ -102,7 +103,8 @@ def test_captures(folder: Path) -> None:
     for _ in compare_all(calls):
         pass
     names = {words[0] for _, words in calls}
-    check("each command on the captures of data/", seen=(names, {command.name for command in every_command()} - {"settle"}))
+    check("each command on the captures of data/",
+          seen=(names, {command.name for command in every_command()} - {"settle"}))
 
 
 def test_references(folder: Path) -> None:
