@@ -37,7 +37,7 @@ from tests.tools.events import Course, FINE, PartedCourse, StampedCourse
 from tests.tools.families import spelled
 
 COURSES = 500
-"""Two dozen slips in the second reading were each seen by the first 50 courses."""
+"""Of ten slips in the second reading 50 courses show seven, and 60 to 100 no other."""
 
 
 def ends_of(course: Course, rng: random.Random) -> list[int]:

@@ -251,7 +251,7 @@ def test_package(folder: Path) -> None:
           crates=({part["name"] for part in made_of["packages"]}, {"ntpaudit", "sources", "toolchain", *crates}))
     check("the package is installed", status=(run([*dpkg, "-i", packages[0]])[0], 0))
     users = root / "etc/passwd"
-    if shutil.which("systemd-sysusers"):
+    if is_here("systemd-sysusers", "the package's user"):
         check("the package makes its user", user=(users.exists() and "ntpaudit" in users.read_text(), True))
     listed = run([root / "usr/bin/ntpaudit", "list", DATA / "two-packets.pcap"])
     check("its program runs", run=(listed, (0, (DATA / "two-packets.list.txt").read_bytes(), b"")))
