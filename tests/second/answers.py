@@ -20,13 +20,15 @@ Answer = tuple[int, list[str]]
 
 class Evidence(NamedTuple):
     """A claim and its samples: of each the numbers of its two records, the line of counts, and the interval of each
-    server over any piece; and by their seconds the pieces that were made of it."""
+    server over any piece; by their seconds the pieces that were made of it; and the hull over any piece, if it isn't
+    made of these intervals."""
     claim: Claim
     samples: list[Sample]
     records: list[tuple[int, int]]
     counts: str
     intervals: Callable[[int, int], Intervals]
     made: dict[int, list["Drawn"]]
+    hull: Callable[[int, int], Hull] | None = None
 
 
 def by_rules(claim: Claim, samples: list[Sample], records: list[tuple[int, int]] = [], counts: str = "") -> Evidence:
@@ -74,7 +76,8 @@ def drawn(evidence: Evidence, step: int) -> Iterator[Drawn]:
     found = []
     for begin, end in rules.pieces_of(evidence.claim, step):
         of_servers = evidence.intervals(begin, end)
-        found.append(Drawn(begin, end, of_servers, rules.hull_of(evidence.claim, of_servers)))
+        hull = evidence.hull(begin, end) if evidence.hull else rules.hull_of(evidence.claim, of_servers)
+        found.append(Drawn(begin, end, of_servers, hull))
         yield found[-1]
     evidence.made[step] = found
 

@@ -116,10 +116,10 @@ class Question:
 
     @cached_property
     def evidence(self) -> Evidence:
-        """What tests/second/answers.py reads, whose intervals are made of sorted lists."""
+        """What tests/second/answers.py reads, whose intervals and hulls are made of sorted lists."""
         known = len(self.samples)
         counts = counted(records=2 * known, requests=known, replies=known, samples=known)
-        return Evidence(self.claim, self.samples, self.records, counts, self.hulls.intervals, {})
+        return Evidence(self.claim, self.samples, self.records, counts, self.hulls.intervals, {}, self.hulls.over)
 
     @cached_property
     def covers(self) -> list[set[int]]:
