@@ -31,7 +31,8 @@ WAIT = 20
 """How many times its limit a call may take by the clock, where others have the processor."""
 
 MANY = 1000
-"""An envelope of more pieces is printed with its servers once: their lines depend on neither bound nor false_max."""
+"""Of claims that differ in nothing but bound and false_max `envelope` and `find` are asked once, if they make more
+pieces: those of a century's span make 36,525."""
 
 COVERS = 8
 """As many covers are tried where no refutation was found; tests/system/test_covers.py tries every one."""
@@ -69,14 +70,14 @@ def differs(ran: Ran, status: int, lines: list[str], error: bytes = b"") -> str:
 class Way(NamedTuple):
     """How questions on a capture are asked: of which program, in which folder (with the capture in capture.pcap), how
     many seconds of the processor a call may take, and whether the reading makes all pieces, where there are many; and
-    the pieces that it has made, by the claim without its bound, and the claims without bound and false_max whose
-    servers were shown."""
+    the pieces that it has made, by the claim without its bound, and the claims without bound and false_max of which
+    something was asked."""
     program: str
     folder: Path
     limit: int
     is_whole: bool
     made: dict[str, Pieces]
-    shown: set[str]
+    asked: set[str]
 
 
 class Question:
@@ -103,12 +104,13 @@ class Question:
             self.way.made[but_bound] = Pieces(self.claim, self.samples)
         return self.way.made[but_bound]
 
-    def is_shown_enough(self) -> bool:
-        """Whether the servers' lines are many, and were asked of a claim that has the same."""
+    @cached_property
+    def is_asked_enough(self) -> bool:
+        """Whether the pieces are many, and were asked for by a claim like this."""
         but_hulls = json.dumps(changed(self.claim, bound_ns=0, false_max=0))
-        is_shown = but_hulls in self.way.shown
-        self.way.shown.add(but_hulls)
-        return is_shown and self.span[1] - self.span[0] > MANY * self.step * TICKS
+        is_asked = but_hulls in self.way.asked
+        self.way.asked.add(but_hulls)
+        return is_asked and self.span[1] - self.span[0] > MANY * self.step * TICKS
 
     @property
     def hulls(self) -> Hulls:
@@ -242,11 +244,11 @@ def unaccepted(question: Question, certificate: bytes) -> str:
 def envelope_case(question: Question) -> Iterator[Case]:
     """`envelope` with each of its options. The line of the least bound is looked at by itself: once for claims that
     differ in nothing but their bound."""
-    for command in (command for command in plain_commands() if command.name == "envelope"):
+    for command in plain_commands():
+        if command.name != "envelope" or question.is_asked_enough:
+            continue
         words = "--step", question.step, *command.options
         if (has_least := "--least" in words) and question.pieces.judged:
-            continue
-        if "--servers" in words and question.is_shown_enough():
             continue
         ran, line = question.call("envelope", *words), ""
         if has_least:
@@ -309,6 +311,8 @@ def below_wrong(question: Question, bound_ns: int, piece: int) -> str:
 
 def find_case(question: Question, step: int | None = None) -> Iterator[Case]:
     """`find`, and `check` of what it found."""
+    if question.is_asked_enough:
+        return
     step = step or question.step
     ran, line = question.call("find", "--step", step), answers.failing(question.evidence, step)
     if line:

@@ -85,20 +85,12 @@ def questions_on(name: str, exchanges: Exchanges, claims: dict[str, Claim], way:
         yield Question(f"{name}, claim {which}", claim, samples, records, by_drift[drift], way)
 
 
-def claims_of(name: str, size: int, claims: dict[str, Claim]) -> dict[str, Claim]:
-    """All claims, the last one first with other sizes; over a century, where an envelope has 36,525 pieces, then only
-    the last one of each drift."""
-    if size == SIZES[0]:
-        return claims
-    last = {claim["drift_ppb"] if name.endswith("-century") else which: which for which, claim in claims.items()}
-    return {which: claims[which] for which in reversed(last.values())}
-
-
 def try_family(name: str, size: int) -> Told:
     made = families.FAMILIES[name](size)
+    claims = made.claims if size == SIZES[0] else dict(reversed(made.claims.items()))
     with tempfile.TemporaryDirectory(prefix="ntpaudit-") as folder:
         way = Way(PROGRAM, Path(folder), LIMIT, name in WHOLE and size == 64, {}, set())
-        return tried(questions_on(f"{name} with {size}", made.exchanges, claims_of(name, size, made.claims), way))
+        return tried(questions_on(f"{name} with {size}", made.exchanges, claims, way))
 
 
 def exact_claims() -> dict[str, Claim]:
