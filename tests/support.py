@@ -149,7 +149,7 @@ def until(holds: Callable[[], bool]) -> bool:
     """Waits until something holds, as long as a run may take."""
     end = time.monotonic() + SECONDS
     while not (held := holds()) and time.monotonic() < end:
-        time.sleep(0.01)
+        time.sleep(0.1)
     return held
 
 
