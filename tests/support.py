@@ -145,7 +145,7 @@ def run(words: Iterable[object], given: bytes | None = b"", **how: Any) -> Ran:
     return ran.returncode, ran.stdout, ran.stderr
 
 
-def until(holds: Callable[[], bool]) -> bool:
+def wait_until(holds: Callable[[], bool]) -> bool:
     """Waits until something holds, as long as a run may take."""
     end = time.monotonic() + SECONDS
     while not (held := holds()) and time.monotonic() < end:

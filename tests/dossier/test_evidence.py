@@ -14,7 +14,7 @@ from html import unescape
 from pathlib import Path
 from typing import Any
 
-from tests.support import ROOT, SECONDS, check, children, run, until
+from tests.support import ROOT, SECONDS, check, children, run, wait_until
 from tests.dossier.audits import (ENVIRONMENT, PROGRAM, SCRIPT, capture_of, check_page, dossier, folder_of, parts_left,
                                   rows, skipped, table)
 from tests.dossier.leaps import leap_list
@@ -479,7 +479,7 @@ def test_measuring(place: Path) -> None:
         except Fault:
             return False
     with load(2) as busy:
-        is_busy = until(lambda: len(busy) == 2 and all(map(has_used_some, busy)))
+        is_busy = wait_until(lambda: len(busy) == 2 and all(map(has_used_some, busy)))
     check("processors that are kept busy", used=(is_busy, True),
           left=([process for process in busy if Path(f"/proc/{process}").exists()], []))
     check("stamps of two ends", seen=(matched({1: 100, 2: 200}, {2: 205, 1: 97, 9: 1}, 2), [-3, 5]),
@@ -664,7 +664,7 @@ def test_measure_broken_off(place: Path) -> None:
     call = subprocess.Popen([SCRIPT, "measure", "--load", "--count", "100000"],
                             env={**ENVIRONMENT, "PATH": f"{place}:{os.environ['PATH']}"}, stdout=subprocess.PIPE,
                             stderr=subprocess.PIPE, start_new_session=True)
-    until(lambda: any(len(children(worker)) > 2 for worker in children(call.pid)))  # (two record, the others are busy)
+    wait_until(lambda: any(len(children(worker)) > 2 for worker in children(call.pid)))  # (two of them record)
     os.killpg(call.pid, signal.SIGINT)
     out, err = call.communicate(timeout=SECONDS)
     check("Ctrl-C in measure", status=(call.returncode, 130),

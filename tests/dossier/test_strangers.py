@@ -21,7 +21,7 @@ from pathlib import Path
 from typing import Any
 from unittest.mock import patch
 
-from tests.support import DATA, SECONDS, Ran, check, children, run, until
+from tests.support import DATA, SECONDS, Ran, check, children, run, wait_until
 from tests.dossier.audits import (ENVIRONMENT, PROGRAM, SCRIPT, SEARCH, check_page, dossier, folder_of, parts_left,
                                   rows, skipped, table, within)
 from tests.dossier.test_evidence import key_of, why_no_link
@@ -458,7 +458,7 @@ def test_at_once(place: Path) -> None:
     with Folder(str(folder)) as ours, known[0].alone(ours):
         (folder / "audit.json").unlink()
         call = subprocess.Popen([SCRIPT, "audit", "--state", state, folder], env=ENVIRONMENT, stdout=subprocess.DEVNULL)
-        until(lambda: waits_for_lock(call.pid))
+        wait_until(lambda: waits_for_lock(call.pid))
         check("an audit while another writes", waits=((call.poll(), (folder / "audit.json").exists()), (None, False)))
     check("an audit after another wrote", status=(call.wait(SECONDS), 0), made=((folder / "audit.json").exists(), True))
     (state / "audits").write_text("")
@@ -506,7 +506,7 @@ def test_programs(place: Path) -> None:
     limit, (status, out, _) = within(lambda limit: dossier("audit", "--limit", str(limit), single,
                                                            env={**ENVIRONMENT, "NTPAUDIT": str(slow)}),
                                      lambda _: sleeping.exists())
-    until(lambda: not any(map(is_running, sleeping.read_text().split())))
+    wait_until(lambda: not any(map(is_running, sleeping.read_text().split())))
     check("a program that doesn't end", status=(status, 2),
           line=(f"not done within {limit} s (--limit)" in out.decode(), True),
           left=(list(filter(is_running, sleeping.read_text().split())), []))

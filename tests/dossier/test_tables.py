@@ -32,7 +32,7 @@ from pathlib import Path
 from typing import Any
 from unittest.mock import patch
 
-from tests.support import DATA, ROOT, SECONDS, check, children, files_in, run, until
+from tests.support import DATA, ROOT, SECONDS, check, children, files_in, run, wait_until
 from tests.dossier.audits import (CLAIMS, ENVIRONMENT, PROGRAM, SCRIPT, STATE, TICKS_PER_MS, capture_of, check_page,
                                   dossier, folder_of, match_of, parts_left, rows, skipped, table)
 from tests.dossier.test_captures import records_of
@@ -524,7 +524,7 @@ def test_side_by_side(place: Path) -> None:
     calls = {**ENVIRONMENT, "NTPAUDIT": str(held)}
     call = subprocess.Popen([SCRIPT, "audit", "--jobs", "4", *folders], env=calls, stdout=subprocess.DEVNULL,
                             stderr=subprocess.DEVNULL)
-    until(lambda: len(list(parent.glob("*/audit.json"))) >= 20 or call.poll() is not None)
+    wait_until(lambda: len(list(parent.glob("*/audit.json"))) >= 20 or call.poll() is not None)
     call.kill()
     call.wait(SECONDS)
     hold.unlink()

@@ -53,8 +53,8 @@ Parts = tuple[int, int, int, int]
 
 
 def greatest(parts: Iterable[Parts]) -> Parts:
-    first, last, other_first, other_last = map(max, zip(*parts))
-    return first, last, other_first, other_last
+    firsts, lasts, other_firsts, other_lasts = zip(*parts)
+    return max(firsts), max(lasts), max(other_firsts), max(other_lasts)
 
 
 class Hulls:
