@@ -1,8 +1,8 @@
 """What the tests share: what they say of a case, the program, and how they run it.
 
 A test is a function `test_..` of a module `test_..` in a folder here, and may take a folder of its own. `tests/run`
-makes a case of unittest of each. What a test counts, checks or skips is a subtest. The program is the one that
-./ntpaudit runs, or the file that the environment's NTPAUDIT names (from the repository's root).
+makes a case of unittest of each. What a test counts, checks or skips is a subtest. The program is the file that the
+environment's NTPAUDIT names (from the repository's root), or else dist/ntpaudit.
 """
 import functools
 import hashlib
@@ -13,8 +13,10 @@ import subprocess
 import sys
 import tempfile
 import threading
+import time
 import unittest
 from collections.abc import Callable, Iterable, Sized
+from contextlib import suppress
 from pathlib import Path
 from types import ModuleType
 from typing import Any
@@ -68,19 +70,22 @@ def cases_of(module: ModuleType) -> list[Case]:
 
 
 @functools.cache
+def is_shipped() -> bool:
+    """Whether dist/MANIFEST names the sources that are here, so that dist/ntpaudit is theirs."""
+    manifest = ROOT / "dist/MANIFEST"
+    return manifest.exists() and f"sources {sum_of_sources(ROOT)}\n" in manifest.read_text()
+
+
+@functools.cache
 def program() -> str:
-    """The program under test: the file that the environment's NTPAUDIT names (from the repository's root), or the one
-    that the launcher keeps, which the launcher has made sure of just now."""
-    if "NTPAUDIT" in os.environ:
-        named = (ROOT / os.environ["NTPAUDIT"]).resolve()
-        if not os.access(named, os.X_OK):
-            sys.exit(f"NTPAUDIT names {named}, and no program is there")
-        return str(named)
-    ran = subprocess.run([ROOT / "ntpaudit", "--version"], stdin=subprocess.DEVNULL, stdout=subprocess.DEVNULL)
-    if ran.returncode:
-        sys.exit(f"./ntpaudit --version ends with status {ran.returncode}")
-    kept = ROOT / "out" / "ntpaudit"
-    return str(kept if kept.exists() else ROOT / "dist" / "ntpaudit")
+    """The program under test. It is never built here: that takes many minutes, and is `./ntpaudit --version`."""
+    path = (ROOT / os.environ.get("NTPAUDIT", "dist/ntpaudit")).resolve()
+    if "NTPAUDIT" not in os.environ and shutil.which("rt") and not is_shipped():
+        sys.exit("dist/ntpaudit is of other sources: set NTPAUDIT to it or to another program, as out/ntpaudit, "
+                 "which `./ntpaudit --version` builds")
+    if not os.access(path, os.X_OK):
+        sys.exit(f"no program is at {path}: set NTPAUDIT to the path of one")
+    return str(path)
 
 
 def count(name: str, wrong: str) -> None:
@@ -138,6 +143,24 @@ def run(words: Iterable[object], given: bytes | None = b"", **how: Any) -> Ran:
     except OSError as error:
         return f"no start: {error}", b"", b""
     return ran.returncode, ran.stdout, ran.stderr
+
+
+def wait_until(holds: Callable[[], bool]) -> bool:
+    """Waits until something holds, as long as a run may take."""
+    end = time.monotonic() + SECONDS
+    while not (held := holds()) and time.monotonic() < end:
+        time.sleep(0.1)
+    return held
+
+
+def children(process: int) -> list[int]:
+    """The processes that a process has made, the first first."""
+    found = []
+    for stat in Path("/proc").glob("[0-9]*/stat"):
+        with suppress(OSError):  # (it may have ended meanwhile)
+            if int(stat.read_bytes().rpartition(b")")[2].split()[1]) == process:
+                found.append(int(stat.parent.name))
+    return sorted(found)
 
 
 def files_in(folder: Path, pattern: str) -> list[Path]:

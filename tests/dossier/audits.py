@@ -8,7 +8,7 @@ import re
 import shutil
 import tempfile
 from base64 import b64encode
-from collections.abc import Sequence
+from collections.abc import Callable, Sequence
 from html.parser import HTMLParser
 from pathlib import Path
 from typing import Any
@@ -44,6 +44,15 @@ def skipped(name: str, why: str) -> None:
 def dossier(*words: object, **how: Any) -> Ran:
     how.setdefault("env", ENVIRONMENT)
     return run([SCRIPT, *words], **how)
+
+
+def within(call: Callable[[int], Ran], is_enough: Callable[[Ran], object]) -> tuple[int, Ran]:
+    """The least of some limits in seconds that leaves enough for what doesn't hang, and what a call with it gives."""
+    for limit in (3, 15, 75, 375):
+        ran = call(limit)
+        if is_enough(ran):
+            break
+    return limit, ran
 
 
 def folder_of(parent: Path, name: str, capture: Path = DATA / "clients-us.pcap",

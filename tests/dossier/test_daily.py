@@ -17,7 +17,7 @@ from pathlib import Path
 from typing import Any
 from unittest.mock import patch
 
-from tests.support import DATA, ROOT, check, run
+from tests.support import DATA, ROOT, SECONDS, check, run
 from tests.dossier.audits import (ENVIRONMENT, PROGRAM, SCRIPT, capture_of, check_page, dossier, folder_of, rows,
                                   skipped, table)
 from tests.dossier.test_captures import records_of
@@ -668,7 +668,7 @@ def test_recorder(place: Path) -> None:
         captures = [name for name in folder.names() if name.endswith(".pcap")]
         check("the recorder's files", read=(([one.name for one in found], ahead), (captures, [])),
               some=(len(captures), 1),
-              now=([abs(one.begin - time.time()) < 60 and one.grows for one in found], [True] * len(captures)),
+              now=([abs(one.begin - time.time()) < SECONDS and one.grows for one in found], [True] * len(captures)),
               beside=([name for name in folder.names() if name not in captures], ["evidence.json", "lo.recorder.json"]))
 
 

@@ -14,7 +14,7 @@ from html import unescape
 from pathlib import Path
 from typing import Any
 
-from tests.support import ROOT, check, run
+from tests.support import ROOT, SECONDS, check, children, run, wait_until
 from tests.dossier.audits import (ENVIRONMENT, PROGRAM, SCRIPT, capture_of, check_page, dossier, folder_of, parts_left,
                                   rows, skipped, table)
 from tests.dossier.leaps import leap_list
@@ -379,12 +379,12 @@ def why_no_recording(*user: object) -> str:
     if not shutil.which("tcpdump"):
         return "tcpdump isn't installed"
     # (a file that it writes it gives to its own user)
-    ran = run([*user, "tcpdump", "-i", "lo", "-c", "1", "-w", "-", "udp and port 123 and port 124"], timeout=2)
-    return "" if ran[0] == "no end" else "there is no right to record"
+    words = [*user, "tcpdump", "-i", "lo", "-c", "1", "-w", "-", "udp and port 123 and port 124"]
+    return "" if b"listening on" in listened(words, {**os.environ})[2] else "there is no right to record"
 
 
-def until_it_listens(words: list[Any], environment: dict[str, str]) -> tuple[int, bytes, bytes]:
-    """Calls a recorder, ends it as it listens, and lets a second go by: its file has the second in its name."""
+def listened(words: list[Any], environment: dict[str, str]) -> tuple[int, bytes, bytes]:
+    """Calls a recorder, and ends it as it listens."""
     said = []
     with subprocess.Popen(words, env=environment, stdout=subprocess.PIPE, stderr=subprocess.PIPE) as call:
         assert call.stdout and call.stderr
@@ -393,8 +393,14 @@ def until_it_listens(words: list[Any], environment: dict[str, str]) -> tuple[int
             if b"listening on" in line:
                 call.send_signal(signal.SIGINT)
         out = call.stdout.read()
-    time.sleep(1)
     return call.returncode, out, b"".join(said)
+
+
+def until_it_listens(words: list[Any], environment: dict[str, str]) -> tuple[int, bytes, bytes]:
+    """The same, and lets a second go by: its file has the second in its name."""
+    ran = listened(words, environment)
+    time.sleep(1)
+    return ran
 
 
 def why_no_link() -> str:
@@ -454,6 +460,11 @@ def test_measure(place: Path) -> None:
     check("measure too few", run=((status, out), (5, b"")), line=(b"a number from 10 to 100000" in err, True))
 
 
+def has_used_some(process: int) -> bool:
+    """Whether a process has used a processor."""
+    return sum(map(int, Path(f"/proc/{process}/stat").read_text().rsplit(")", 1)[1].split()[11:13])) > 0
+
+
 def test_measuring(place: Path) -> None:
     """What stamps come to, and what is refused."""
     from dossier.records import asdict, replace
@@ -468,10 +479,8 @@ def test_measuring(place: Path) -> None:
         except Fault:
             return False
     with load(2) as busy:
-        time.sleep(0.3)
-        used = [sum(map(int, Path(f"/proc/{process}/stat").read_text().rsplit(")", 1)[1].split()[11:13]))
-                for process in busy]
-    check("processors that are kept busy", used=(len(used) == 2 and min(used) > 0, True),
+        is_busy = wait_until(lambda: len(busy) == 2 and all(map(has_used_some, busy)))
+    check("processors that are kept busy", used=(is_busy, True),
           left=([process for process in busy if Path(f"/proc/{process}").exists()], []))
     check("stamps of two ends", seen=(matched({1: 100, 2: 200}, {2: 205, 1: 97, 9: 1}, 2), [-3, 5]),
           some=(matched({k: 100 for k in range(1, 10)}, {k: 101 for k in range(1, 11)}, 10), [1] * 9))
@@ -641,8 +650,7 @@ def test_record(place: Path) -> None:
 STILL = """#!/bin/sh
 # stands in for tcpdump: listens, and never records
 echo "listening on ntp0" >&2
-: >"$0.listens"
-exec sleep 60
+exec sleep 1000
 """
 
 
@@ -656,12 +664,9 @@ def test_measure_broken_off(place: Path) -> None:
     call = subprocess.Popen([SCRIPT, "measure", "--load", "--count", "100000"],
                             env={**ENVIRONMENT, "PATH": f"{place}:{os.environ['PATH']}"}, stdout=subprocess.PIPE,
                             stderr=subprocess.PIPE, start_new_session=True)
-    listens, end = place / "tcpdump.listens", time.monotonic() + 60
-    while not listens.exists() and time.monotonic() < end:
-        time.sleep(0.1)
-    time.sleep(0.5)
+    wait_until(lambda: any(len(children(worker)) > 2 for worker in children(call.pid)))  # (two of them record)
     os.killpg(call.pid, signal.SIGINT)
-    out, err = call.communicate(timeout=60)
+    out, err = call.communicate(timeout=SECONDS)
     check("Ctrl-C in measure", status=(call.returncode, 130),
           said=((out, err), (b"", b"ntpaudit-dossier: broken off; what is done isn't done again by the next call\n")))
 

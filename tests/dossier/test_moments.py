@@ -11,7 +11,7 @@ import time
 from collections.abc import Sequence
 from pathlib import Path
 
-from tests.support import check
+from tests.support import SECONDS, check
 from tests.dossier.audits import ENVIRONMENT, SCRIPT, capture_of, dossier
 from tests.dossier.test_captures import records_of
 from tests.dossier.test_daily import metrics_of
@@ -141,7 +141,7 @@ def test_follow(place: Path) -> None:
         assert call.stdout
         lines = [call.stdout.readline() for _ in range(2)]
         call.send_signal(signal.SIGINT)
-        out, err = call.communicate(timeout=60)
+        out, err = call.communicate(timeout=SECONDS)
     check("now --follow", status=(call.returncode, 1), lines=([" refuted " in line for line in lines], [True, True]),
           end=(out.splitlines()[-1].startswith("ended after "), True), err=(err, ""), colours=("\x1b" in out, False))
 

@@ -10,7 +10,7 @@ import time
 from pathlib import Path
 from typing import Any
 
-from tests.support import DATA, ROOT, Ran, check, run
+from tests.support import DATA, ROOT, SECONDS, Ran, check, run
 from tests.dossier.audits import ENVIRONMENT, KEEP, SCRIPT, dossier, folder_of, rows, skipped
 from tests.dossier.test_captures import records_of
 from tests.dossier.test_daily import DAY, hours_of, recorded
@@ -188,7 +188,8 @@ def test_root(place: Path) -> None:
     if not shutil.which("tcpdump"):
         skipped("root records in another's folder", "tcpdump isn't installed")
     for where in (folder, folder / "new", folder / "2026-11-22") if shutil.which("tcpdump") else ():
-        status, _, err = run(["timeout", "20", SCRIPT, "record", "--interface", "lo", where], env=ENVIRONMENT)
+        status, _, err = run(["timeout", str(SECONDS // 2), SCRIPT, "record", "--interface", "lo", where],
+                             env=ENVIRONMENT)
         check(f"root records in another's folder: {where.name}", status=(status, 2 if where.is_symlink() else 4),
               said=(b"is a link" in err or b"name one of root's own, such as /srv" in err, True),
               others=(b"runuser" in err, False),

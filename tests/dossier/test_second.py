@@ -3,7 +3,6 @@
 import json
 import os
 import shutil
-import time
 from pathlib import Path
 from typing import Any
 
@@ -143,10 +142,8 @@ def test_no_second(place: Path) -> None:
     missing = {**ENVIRONMENT, "NTPAUDIT_SECOND": str(place / "nowhere")}
     holds("no second program", dossier("verify", "--state", place / "state", "--second", folder, env=missing), 70,
           "ntpaudit-dossier: the second program, ntpaudit-recheck, isn't there")
-    begun = time.monotonic()
-    holds("a second program that never ends", verified("exec sleep 60", "--limit", "5"), 2, "not done within 5 s")
+    holds("a second program that never ends", verified("exec sleep 1000", "--limit", "5"), 2, "not done within 5 s")
     holds("a second program that says no end of lines", verified("exec yes"), 2, "says more of certificate.json than a")
-    check("none is waited for", quick=(time.monotonic() - begun < 50, True))
     for text, why in (("echo 'recheck: capture: it is torn' >&2; exit 2", "recheck: capture: it is torn"),
                       ("exit 127", "status 127, and no line"), ("kill -9 $$", "status -9, and no line"),
                       ("printf 'a\\033[2Jb\\n' >&2; exit 70", "a\\x1b[2Jb")):

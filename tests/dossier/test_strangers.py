@@ -21,9 +21,9 @@ from pathlib import Path
 from typing import Any
 from unittest.mock import patch
 
-from tests.support import DATA, ROOT, SECONDS, Ran, check, run
+from tests.support import DATA, ROOT, SECONDS, Ran, check, children, run, wait_until
 from tests.dossier.audits import (ENVIRONMENT, KEEP, PROGRAM, SCRIPT, SEARCH, check_page, dossier, folder_of,
-                                  parts_left, rows, skipped, table)
+                                  parts_left, rows, skipped, table, within)
 from tests.dossier.test_evidence import key_of, why_no_link
 
 KILOBYTES = 3_000_000
@@ -147,7 +147,7 @@ def test_swapped_record(place: Path) -> None:
     for command in ("page", "verify"):
         turns = subprocess.Popen(["sh", "-c", 'cat "$1" > "$3"; while :; do cat "$2" > "$3"; done', "sh",
                                   place / "forged.json", signed, record])
-        status, out, _ = limited(command, "--signers", place / "signers", folder, timeout=10)
+        status, out, _ = limited(command, "--signers", place / "signers", folder)
         turns.kill()
         turns.wait()
         check(f"a record that is swapped, by {command}", status=(status, 2), good=(b"alice@example.org" in out, False),
@@ -353,8 +353,8 @@ def test_named_outputs(place: Path) -> None:
               out=(out, b""))
     fifo = place / "fifo"
     os.mkfifo(fifo)
-    reader = subprocess.Popen(["timeout", "20", "cat", fifo], stdout=subprocess.PIPE)
-    status = dossier("page", "-o", fifo, folder, timeout=20)[0]
+    reader = subprocess.Popen(["timeout", str(SECONDS), "cat", fifo], stdout=subprocess.PIPE)
+    status = dossier("page", "-o", fifo, folder)[0]
     out = reader.communicate()[0]
     check("-o to a FIFO", status=(status, 0), whole=(out.endswith(b"</html>\n"), True),
           there=(stat.S_ISFIFO(fifo.lstat().st_mode), True))
@@ -432,6 +432,12 @@ def test_every_write(place: Path) -> None:
     check("Ctrl-C where files are put", seen=(len(seen), 12))
 
 
+def waits_for_lock(process: int) -> bool:
+    """Whether a process, or one that it has made, waits for a lock."""
+    waiting = [line.split()[5] for line in Path("/proc/locks").read_text().splitlines() if "-> " in line]
+    return any(str(one) in waiting for one in (process, *children(process)))
+
+
 def test_at_once(place: Path) -> None:
     """Several audits of one folder at once."""
     folder = folder_of(place, "host")
@@ -442,7 +448,7 @@ def test_at_once(place: Path) -> None:
           left=(parts_left(place), []))
     held = os.open(folder, os.O_RDONLY)
     fcntl.flock(held, fcntl.LOCK_EX)
-    check("an audit of a folder that somebody holds", status=(dossier("audit", "--again", folder, timeout=30)[0], 0))
+    check("an audit of a folder that somebody holds", status=(dossier("audit", "--again", folder)[0], 0))
     os.close(held)
     from dossier.folder.entry import read_record
     from dossier.folder.files import Folder
@@ -452,7 +458,7 @@ def test_at_once(place: Path) -> None:
     with Folder(str(folder)) as ours, known[0].alone(ours):
         (folder / "audit.json").unlink()
         call = subprocess.Popen([SCRIPT, "audit", "--state", state, folder], env=ENVIRONMENT, stdout=subprocess.DEVNULL)
-        time.sleep(1.5)
+        wait_until(lambda: waits_for_lock(call.pid))
         check("an audit while another writes", waits=((call.poll(), (folder / "audit.json").exists()), (None, False)))
     check("an audit after another wrote", status=(call.wait(SECONDS), 0), made=((folder / "audit.json").exists(), True))
     (state / "audits").write_text("")
@@ -472,6 +478,13 @@ def test_at_once(place: Path) -> None:
 # ---- what is called
 
 
+def is_running(process: str) -> bool:
+    try:
+        return Path(f"/proc/{process}/stat").read_text().split()[2] != "Z"
+    except OSError:
+        return False
+
+
 def test_programs(place: Path) -> None:
     """Programs of the folder aren't run, and one that doesn't end is ended with all that it began."""
     folder = folder_of(place, "host")
@@ -486,16 +499,17 @@ def test_programs(place: Path) -> None:
         check(f"programs of the folder, called in {cwd.name}", owned=((place / "owned").exists(), False),
               status=(status, 0))
     slow = place / "slow"
-    slow.write_text(f'#!/bin/sh\n[ "$1" = --version ] && exec "{PROGRAM}" "$1"\nsleep 314 & echo $! >> '
+    slow.write_text(f'#!/bin/sh\n[ "$1" = --version ] && exec "{PROGRAM}" "$1"\nsleep 1000 & echo $! >> '
                     f'"{place}/sleeping"\nwait\n')
     slow.chmod(0o755)
-    single, begun = folder_of(place, "single"), time.monotonic()
-    status, out, _ = dossier("audit", "--limit", "1", single, env={**ENVIRONMENT, "NTPAUDIT": str(slow)})
-    time.sleep(0.2)
-    sleeping = [number for number in (place / "sleeping").read_text().split() if Path(f"/proc/{number}").exists()
-                and "Z" not in Path(f"/proc/{number}/stat").read_text().split()[2]]
-    check("a program that doesn't end", status=(status, 2), line=(b"not done within 1 s (--limit)" in out, True),
-          quick=(time.monotonic() - begun < 30, True), left=(sleeping, []))
+    single, sleeping = folder_of(place, "single"), place / "sleeping"
+    limit, (status, out, _) = within(lambda limit: dossier("audit", "--limit", str(limit), single,
+                                                           env={**ENVIRONMENT, "NTPAUDIT": str(slow)}),
+                                     lambda _: sleeping.exists())
+    wait_until(lambda: not any(map(is_running, sleeping.read_text().split())))
+    check("a program that doesn't end", status=(status, 2),
+          line=(f"not done within {limit} s (--limit)" in out.decode(), True),
+          left=(list(filter(is_running, sleeping.read_text().split())), []))
     said = place / "environment"
     keeps = place / "keeps"
     keeps.write_text(f'#!/bin/sh\nenv > "{said}"\nexec "{PROGRAM}" "$@"\n')
@@ -664,7 +678,7 @@ def test_hostile_inputs(place: Path) -> None:
     for words in rows(["draft", fifo], ["draft", "--chrony", fifo, capture], ["draft", "--measured", fifo, capture],
                   ["picture", claim, fifo], ["picture", fifo, capture], ["verify", "--signers", fifo, place],
                   ["audit", "--leap-seconds", fifo, place], ["draft", "/dev/zero"], ["picture", "/dev/zero", capture]):
-        status, out, err = limited(*words, timeout=20)
+        status, out, err = limited(*words)
         check(f"a file that is none: {words[0]} {[str(word) for word in words[1:]]}", status=(status, 2),
               line=(b" is a " in err and err.count(b"\n") == 1, True), output=(out, b""))
 
@@ -779,7 +793,7 @@ def test_own_faults(place: Path) -> None:
                                 "it can't be worked on (No space left on device)"),
                                (lambda: IndexError("x"), 2, "it can't be worked on (IndexError: x)"),
                                (crash, 3, "the process of this folder was ended"),
-                               (lambda: time.sleep(60), 2, "not done within 3 s (--limit)")):
+                               (lambda: time.sleep(1000), 2, "not done within {} s (--limit)")):
         def failing(*given: Any, kind: Any = kind) -> Any:
             if os.path.exists("/tmp") and first_sum in given[0].sums.values():
                 raise kind()
@@ -787,11 +801,14 @@ def test_own_faults(place: Path) -> None:
         (Path(folders[0]) / "f.pcap").write_bytes((DATA / "vlan-ns.pcap").read_bytes())
         first_sum = sums_of(Path(folders[0]), "f.pcap")["f.pcap"]
         with patch.object(making, "make", failing):
-            found = dict(jobs.run_all(folders, lambda path, number: audit.audit(wanted, path, number), 3, 2))
+            for limit in (3, 15, 75) if "--limit" in line else (SECONDS,):
+                found = dict(jobs.run_all(folders, lambda path, number: audit.audit(wanted, path, number), limit, 2))
+                if found[folders[1]].status == 0:
+                    break
         refusal = found[folders[0]].refusal
         lines = [refusal.line.partition(": ")[2]] if refusal else found[folders[0]].lines
-        check(f"a folder with {line}", status=(found[folders[0]].status, status), line=(line in lines[0], True),
-              other=(found[folders[1]].status, 0))
+        check(f"a folder with {line}", status=(found[folders[0]].status, status),
+              line=(line.format(limit) in lines[0], True), other=(found[folders[1]].status, 0))
     room = placing.Room()
     room.left = 100
     check("room", over=(is_taken(lambda data: room.take(101), ""), False))

@@ -24,7 +24,6 @@ import textwrap
 import time
 from collections import Counter
 from collections.abc import Iterator
-from concurrent.futures import ThreadPoolExecutor
 from contextlib import suppress
 from fractions import Fraction
 from html.parser import HTMLParser
@@ -33,7 +32,7 @@ from pathlib import Path
 from typing import Any
 from unittest.mock import patch
 
-from tests.support import DATA, ROOT, SECONDS, check, files_in, run
+from tests.support import DATA, ROOT, SECONDS, check, children, files_in, run, wait_until
 from tests.dossier.audits import (CLAIMS, ENVIRONMENT, PROGRAM, SCRIPT, STATE, TICKS_PER_MS, capture_of, check_page,
                                   dossier, folder_of, match_of, parts_left, rows, skipped, table)
 from tests.dossier.test_captures import records_of
@@ -516,18 +515,21 @@ def test_remedies() -> None:
 
 
 def test_side_by_side(place: Path) -> None:
-    parent = place / "many"
+    parent, hold, held = place / "many", place / "hold", place / "held"
     folders = [folder_of(parent, f"host-{number:03}") for number in range(200)]
-    call = subprocess.Popen([SCRIPT, "audit", "--jobs", "4", *folders], env=ENVIRONMENT, stdout=subprocess.DEVNULL,
+    hold.touch()
+    held.write_text(f'#!/bin/sh\nwhile [ -e "{hold}" ] && [ -e "{folders[30]}/audit.json" ]; do sleep 0.1; done\n'
+                    f'exec "{PROGRAM}" "$@"\n')
+    held.chmod(0o755)
+    calls = {**ENVIRONMENT, "NTPAUDIT": str(held)}
+    call = subprocess.Popen([SCRIPT, "audit", "--jobs", "4", *folders], env=calls, stdout=subprocess.DEVNULL,
                             stderr=subprocess.DEVNULL)
-    until = time.monotonic() + SECONDS
-    while len(list(parent.glob("*/audit.json"))) < 20 and time.monotonic() < until:
-        time.sleep(0.01)
+    wait_until(lambda: len(list(parent.glob("*/audit.json"))) >= 20 or call.poll() is not None)
     call.kill()
     call.wait(SECONDS)
-    time.sleep(0.2)
+    hold.unlink()
     done = len(list(parent.glob("*/audit.json")))
-    status, out, err = dossier("audit", "--jobs", "4", *folders)
+    status, out, err = dossier("audit", "--jobs", "4", *folders, env=calls)
     lines = out.decode().splitlines()
     check("200 folders, resumed after a kill", status=(status, 0), error=(err, b""), last=(lines[-1], "200 yes"),
           killed=(20 <= done < 200, True),
@@ -549,20 +551,10 @@ def test_side_by_side(place: Path) -> None:
               left=(parts_left(place / "broken"), []))
 
 
-def children(process: int) -> list[int]:
-    """The processes that a process has made, the first first."""
-    found = []
-    for stat in Path("/proc").glob("[0-9]*/stat"):
-        with suppress(OSError):  # (it may have ended meanwhile)
-            if int(stat.read_bytes().rpartition(b")")[2].split()[1]) == process:
-                found.append(int(stat.parent.name))
-    return sorted(found)
-
-
 def stopped_amid(process: int, number: int) -> Any:
     """So many processes that a process has made, each stopped while one that it has made itself is there."""
-    found, until = list[int](), time.monotonic() + SECONDS
-    while len(found) < number and time.monotonic() < until:
+    found, end = list[int](), time.monotonic() + SECONDS
+    while len(found) < number and time.monotonic() < end:
         for worker in set(children(process)) - set(found):
             with suppress(ProcessLookupError):  # (it may have ended meanwhile)
                 os.kill(worker, signal.SIGSTOP)

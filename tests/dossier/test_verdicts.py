@@ -192,7 +192,7 @@ def test_split(place: Path) -> None:
     for name, make in rows(("index.html", lambda path: path.symlink_to(victim)), ("00001.html", os.mkfifo)):
         (made / name).unlink()
         make(made / name)
-    check("page --split over a link and a FIFO", run=(dossier("page", "--split", made, folders[0], timeout=20)[0], 0),
+    check("page --split over a link and a FIFO", run=(dossier("page", "--split", made, folders[0])[0], 0),
           victim=(victim.read_text(), "victim"),
           files=([(made / name).is_file() and not (made / name).is_symlink() for name in ("index.html", "00001.html")],
                  [True] * 2), left=([path.name for path in made.iterdir() if path.name.startswith(".")], []))

@@ -25,6 +25,7 @@
 - What the comments of the crates name is there: files, modules of specs, and words in code font or with a `_`.
 - No source of the crates makes up a want of memory (made_up.py has the rule), and what would do so is seen.
 """
+import functools
 import json
 import os
 import re
@@ -265,13 +266,18 @@ def hold_anchors(document: Path) -> None:
         check(f"{document.name}: link {path}#{anchor}", there=(there, True))
 
 
+@functools.cache
+def commands() -> set[str]:
+    return set(re.findall(r"^  (\w+)  ", run([PROGRAM, "--help"])[1].decode(), flags=re.M))
+
+
 def hold_places(document: Path) -> None:
     """Each word in code font in a line that names paths of crates is in one of these crates, or is a command's name."""
     for line in document.read_text("utf-8").splitlines():
         crates = sorted(set(re.findall(r"crates/(\w+)/", line)))
         code = "\n".join(code_of(crate, "src", "specs", "proofs") for crate in crates)
         for word in {word for word in CODE.findall(line) if crates and WORD.fullmatch(word)}:
-            if "NOUN" not in word and word not in COMMANDS:
+            if "NOUN" not in word and word not in commands():
                 check(f"{document.name}: {word} in {' '.join(crates)}",
                       there=(bool(re.search(rf"\b{word}\b", code)), True))
 
@@ -493,7 +499,6 @@ def test_pictures() -> None:
 
 
 PROGRAM = program()
-COMMANDS = set(re.findall(r"^  (\w+)  ", run([PROGRAM, "--help"])[1].decode(), flags=re.M))
 
 
 def test_documents() -> None:

@@ -5,8 +5,7 @@ commands of the pages are those in code font that begin with a tool of TOOLS. Wh
 to settle the claim as the one does of which it was spoiled, and a part of one has to be listed. A command for which
 no file is made here fails. Of the dossier's own remedies whatever is in code font is run, but for the names of NAMES.
 
-It prints a line for each case that failed or was skipped, and last 'N passed, M failed'. The program is the one that
-./ntpaudit runs, or the file that the environment's NTPAUDIT names (from the repository's root).
+It prints a line for each case that failed or was skipped, and last 'N passed, M failed'.
 """
 import ast
 import gzip
@@ -374,7 +373,8 @@ CALLED = {
 """How its commands are called, beside those that are called as they are. (Those that change the system only say what
 they would do.)"""
 
-DAEMON = ("ip link set lo up && chronyd -x -f \"$PWD/chrony.conf\" && sleep 1 && {}; "
+DAEMON = ("ip link set lo up && chronyd -x -f \"$PWD/chrony.conf\" && "
+          "for _ in $(seq 300); do chronyc -n tracking >/dev/null && break; sleep 0.2; done; {}; "
           "status=$?; kill $(cat pid); exit $status")
 """A command that asks a chronyd, which runs beside it in a network of its own."""
 

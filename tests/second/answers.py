@@ -20,19 +20,22 @@ Answer = tuple[int, list[str]]
 
 class Evidence(NamedTuple):
     """A claim and its samples: of each the numbers of its two records, the line of counts, and the interval of each
-    server over any piece."""
+    server over any piece; by their seconds the pieces that were made of it; and the hull over any piece, if it isn't
+    made of these intervals."""
     claim: Claim
     samples: list[Sample]
     records: list[tuple[int, int]]
     counts: str
     intervals: Callable[[int, int], Intervals]
+    made: dict[int, list["Drawn"]]
+    hull: Callable[[int, int], Hull] | None = None
 
 
 def by_rules(claim: Claim, samples: list[Sample], records: list[tuple[int, int]] = [], counts: str = "") -> Evidence:
     """Evidence whose intervals are those of the best samples, looked for among all of them."""
     def intervals(begin: int, end: int) -> Intervals:
         return rules.intervals(claim, samples, rules.best_entries(claim, samples, begin, end), begin, end)
-    return Evidence(claim, samples, records, counts, intervals)
+    return Evidence(claim, samples, records, counts, intervals, {})
 
 
 def step_of(words: Sequence[object]) -> int:
@@ -66,10 +69,17 @@ class Drawn(NamedTuple):
 
 
 def drawn(evidence: Evidence, step: int) -> Iterator[Drawn]:
-    """The pieces of so many seconds."""
+    """The pieces of so many seconds. Where all of them were made, they aren't made again."""
+    if step in evidence.made:
+        yield from evidence.made[step]
+        return
+    found = []
     for begin, end in rules.pieces_of(evidence.claim, step):
         of_servers = evidence.intervals(begin, end)
-        yield Drawn(begin, end, of_servers, rules.hull_of(evidence.claim, of_servers))
+        hull = evidence.hull(begin, end) if evidence.hull else rules.hull_of(evidence.claim, of_servers)
+        found.append(Drawn(begin, end, of_servers, hull))
+        yield found[-1]
+    evidence.made[step] = found
 
 
 def bound_over(found: list[Drawn]) -> tuple[int | None, int]:
@@ -114,7 +124,7 @@ def failing(evidence: Evidence, step: int) -> str | None:
 
 def find(evidence: Evidence, *words: object) -> Answer:
     """A certificate, or the first piece that fails; or the nearest refutation."""
-    claim, known, _, _, _ = evidence
+    claim, known = evidence.claim, evidence.samples
     if "--refutation" in words:
         found = rules.refutation(claim, known)
         return int(not found), [rules.compact(found) if found else "nothing refutation"]

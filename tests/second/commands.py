@@ -3,6 +3,7 @@ a request and its reply. tests/system/test_prefixes.py, tests/system/test_device
 tests/system/test_refused_memory.py and tests/system/test_human.py try each of them, and tests/system/test_hostile.py
 looks that it does. A command of tests/second/answers.py needs nothing here.
 """
+import functools
 import re
 from collections.abc import Callable, Iterator, Sequence
 from functools import partial
@@ -141,11 +142,16 @@ def commands_of(name: str) -> Iterator[Command]:
         yield Command(name, partial(told, name, words), others, (*options, "--human"))
 
 
-COMMANDS = tuple(command for name in (*SECOND, *READINGS) for command in commands_of(name))
-PLAIN = [command for command in COMMANDS if "--human" not in command.options]
+@functools.cache
+def every_command() -> tuple[Command, ...]:
+    return tuple(command for name in (*SECOND, *READINGS) for command in commands_of(name))
+
+
+def plain_commands() -> list[Command]:
+    return [command for command in every_command() if "--human" not in command.options]
 
 
 def variants(name: str) -> list[tuple[str, ...]]:
     """A command's options as they are tried: each of those above, and all together."""
-    found = [command.options for command in PLAIN if command.name == name]
+    found = [command.options for command in plain_commands() if command.name == name]
     return list(dict.fromkeys([*found, tuple(word for options in found for word in options)]))

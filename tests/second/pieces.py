@@ -47,19 +47,19 @@ class Side:
         at = bisect_right(self.middles, both)
         return self.to_first[at], self.to_last[at]
 
-    def greatest(self, begin: int, end: int) -> int:
-        first, last = self.parts(begin + end)
-        return max(first + self.ppb * begin, last - self.ppb * end) // self.rest
+
+Parts = tuple[int, int, int, int]
+"""The two parts of a low end, and those of a negated high end."""
 
 
-def greatest(parts: Iterable[Ends]) -> Ends:
-    firsts, lasts = zip(*parts)
-    return max(firsts), max(lasts)
+def greatest(parts: Iterable[Parts]) -> Parts:
+    firsts, lasts, other_firsts, other_lasts = zip(*parts)
+    return max(firsts), max(lasts), max(other_firsts), max(other_lasts)
 
 
 class Hulls:
-    """The intervals and the hull of any piece, of the groups outside of some. The parts of the groups' ends are kept
-    as long as no middle of a window is passed."""
+    """The intervals and the hull of any piece, of the groups outside of some. The parts of the servers' and the groups'
+    ends are kept as long as no middle of a window is passed."""
 
     def __init__(self, claim: Claim, samples: list[Sample], without: Iterable[int] = ()) -> None:
         left = [group for number, group in enumerate(rules.groups_of(claim)) if number not in set(without)]
@@ -72,19 +72,24 @@ class Hulls:
         self.groups = [known for group in left if (known := [server for server in group if server in self.sides])]
         self.middles = sorted(middle for sides in self.sides.values() for side in sides for middle in side.middles)
         self.since = self.until = 0
-        self.parts: list[tuple[int, int, int, int]] = []
+        self.of_servers: dict[int, Parts] = {}
+        self.parts: list[Parts] = []
 
     def intervals(self, begin: int, end: int) -> dict[int, Ends]:
         """The interval of each server that has a sample."""
-        return {server: (low.greatest(begin, end), -high.greatest(begin, end))
-                for server, (low, high) in self.sides.items()}
+        if not self.since <= begin + end < self.until:
+            self.place(begin + end)
+        first, last, rest = self.ppb * begin, self.ppb * end, BILLION - self.ppb
+        return {server: (max(low_first + first, low_last - last) // rest,
+                         -(max(high_first + first, high_last - last) // rest))
+                for server, (low_first, low_last, high_first, high_last) in self.of_servers.items()}
 
     def place(self, both: int) -> None:
-        """Keeps the parts for pieces with this middle: of a group's low end, and of its negated high end."""
+        """Keeps the parts for pieces with this middle: of a low end, and of a negated high end."""
         at = bisect_right(self.middles, both)
         self.since, self.until = [NONE, *self.middles[at - 1:at]][-1], [*self.middles[at:at + 1], -NONE][0]
-        self.parts = [(*greatest(self.sides[server][0].parts(both) for server in group),
-                       *greatest(self.sides[server][1].parts(both) for server in group)) for group in self.groups]
+        self.of_servers = {server: (*low.parts(both), *high.parts(both)) for server, (low, high) in self.sides.items()}
+        self.parts = [greatest(self.of_servers[server] for server in group) for group in self.groups]
 
     def over(self, begin: int, end: int) -> Hull:
         """The hull: None where it's unbounded, () where it's empty. With the ends in order, a point lies in so many

@@ -15,7 +15,7 @@ from tests.second import answers, marks, pieces, rechecked, rules, settlement
 from tests.second.answers import Evidence
 from tests.second.claims import Claim, Piece, Refutation, changed
 from tests.second.columns import TICKS, counted
-from tests.second.commands import PLAIN
+from tests.second.commands import plain_commands
 from tests.second.marks import Conflicts
 from tests.second.pieces import Hulls, Pieces, Stop
 from tests.second.rules import Sample
@@ -29,6 +29,10 @@ LOOKED_AT = 300_000
 
 WAIT = 20
 """How many times its limit a call may take by the clock, where others have the processor."""
+
+MANY = 1000
+"""Of claims that differ in nothing but bound and false_max `envelope` and `find` are asked once, if they make more
+pieces: those of a century's span make 36,525."""
 
 COVERS = 8
 """As many covers are tried where no refutation was found; tests/system/test_covers.py tries every one."""
@@ -66,12 +70,14 @@ def differs(ran: Ran, status: int, lines: list[str], error: bytes = b"") -> str:
 class Way(NamedTuple):
     """How questions on a capture are asked: of which program, in which folder (with the capture in capture.pcap), how
     many seconds of the processor a call may take, and whether the reading makes all pieces, where there are many; and
-    the pieces that it has made, by the claim without its bound."""
+    the pieces that it has made, by the claim without its bound, and the claims without bound and false_max of which
+    something was asked."""
     program: str
     folder: Path
     limit: int
     is_whole: bool
     made: dict[str, Pieces]
+    asked: set[str]
 
 
 class Question:
@@ -98,16 +104,24 @@ class Question:
             self.way.made[but_bound] = Pieces(self.claim, self.samples)
         return self.way.made[but_bound]
 
+    @cached_property
+    def is_asked_enough(self) -> bool:
+        """Whether the pieces are many, and were asked for by a claim like this."""
+        but_hulls = json.dumps(changed(self.claim, bound_ns=0, false_max=0))
+        is_asked = but_hulls in self.way.asked
+        self.way.asked.add(but_hulls)
+        return is_asked and self.span[1] - self.span[0] > MANY * self.step * TICKS
+
     @property
     def hulls(self) -> Hulls:
         return self.pieces.hulls
 
-    @property
+    @cached_property
     def evidence(self) -> Evidence:
-        """What tests/second/answers.py reads, whose intervals are made of sorted lists."""
+        """What tests/second/answers.py reads, whose intervals and hulls are made of sorted lists."""
         known = len(self.samples)
         counts = counted(records=2 * known, requests=known, replies=known, samples=known)
-        return Evidence(self.claim, self.samples, self.records, counts, self.hulls.intervals)
+        return Evidence(self.claim, self.samples, self.records, counts, self.hulls.intervals, {}, self.hulls.over)
 
     @cached_property
     def covers(self) -> list[set[int]]:
@@ -230,7 +244,9 @@ def unaccepted(question: Question, certificate: bytes) -> str:
 def envelope_case(question: Question) -> Iterator[Case]:
     """`envelope` with each of its options. The line of the least bound is looked at by itself: once for claims that
     differ in nothing but their bound."""
-    for command in (command for command in PLAIN if command.name == "envelope"):
+    for command in plain_commands():
+        if command.name != "envelope" or question.is_asked_enough:
+            continue
         words = "--step", question.step, *command.options
         if (has_least := "--least" in words) and question.pieces.judged:
             continue
@@ -295,6 +311,8 @@ def below_wrong(question: Question, bound_ns: int, piece: int) -> str:
 
 def find_case(question: Question, step: int | None = None) -> Iterator[Case]:
     """`find`, and `check` of what it found."""
+    if question.is_asked_enough:
+        return
     step = step or question.step
     ran, line = question.call("find", "--step", step), answers.failing(question.evidence, step)
     if line:
@@ -315,7 +333,7 @@ def at_case(question: Question) -> Iterator[Case]:
 
 def plain_case(question: Question) -> Iterator[Case]:
     """Each command of which nothing else has to be known than its second reading."""
-    for command in PLAIN:
+    for command in plain_commands():
         if command.name in set(answers.READINGS) - {"settle", "envelope", "find", "at"}:
             wanted = answers.READINGS[command.name](question.evidence, *command.words)
             yield command.title, differs(question.call(command.name, *command.words), *wanted)

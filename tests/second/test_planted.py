@@ -14,7 +14,7 @@ from concurrent.futures import ProcessPoolExecutor
 from pathlib import Path
 from typing import Any
 
-from tests.support import ROOT, count
+from tests.support import count
 from tests.second import rechecked, test_recheck
 
 SCENES = 60

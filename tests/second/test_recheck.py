@@ -34,7 +34,8 @@ from tests.second.rechecked import recheck
 from tests.tools import directed, scenes
 from tests.tools.scenes import Scene
 
-SEED, SCENES = "2026", 250
+SEED, SCENES = "2026", 125
+"""tests/second/test_planted.py needs 60 scenes, beside what is directed, to see each bug that it plants."""
 MOST_CAPTURE = 50_000_000
 """A transcript with more exchanges is passed over: Python would need minutes for it."""
 

@@ -36,7 +36,8 @@ from tests.second.rules import BILLION, Sample, ceiling
 from tests.tools.events import Course, FINE, PartedCourse, StampedCourse
 from tests.tools.families import spelled
 
-COURSES = 1000
+COURSES = 500
+"""Of ten slips in the second reading 50 courses show seven, and 60 to 100 no other."""
 
 
 def ends_of(course: Course, rng: random.Random) -> list[int]:

@@ -15,7 +15,7 @@ from typing import IO, Any
 from tests.support import DATA, Ran, SECONDS, check, nobody, program, run, sum_of
 from tests.second import sum_form
 from tests.second.columns import SAMPLE, written
-from tests.second.commands import CAPTURE, CERTIFICATE, CLAIM, COMMANDS, Command, REFUTATION, SECOND, fault_alone
+from tests.second.commands import CAPTURE, CERTIFICATE, CLAIM, Command, every_command, fault_alone, REFUTATION, SECOND
 
 PROGRAM = program()
 BYTES = CAPTURE.read_bytes()
@@ -49,7 +49,7 @@ def test_sums(folder: Path) -> None:
     data = {**{str(file): file.read_bytes() for file in files}, **devices}
     sums.write_bytes(b"".join(sum_form.line_of(name.encode(), sum_of(given).encode()) for name, given in data.items()))
     no_sums = 4, b"", b"ntpaudit: device sums\n"
-    for command in [command for command in COMMANDS if command.name in SECOND]:
+    for command in [command for command in every_command() if command.name in SECOND]:
         name, operands = command.title, [command.name, CLAIM, CAPTURE, *command.words]
         try_command(command._replace(options=(*command.options, f"--sums={sums}")))
         for what, no_file in {"is missing": folder / "missing", "is a folder": folder,
@@ -221,5 +221,5 @@ def test_slow_pipes() -> None:
 
 
 def test_commands() -> None:
-    for command in COMMANDS:
+    for command in every_command():
         try_command(command)

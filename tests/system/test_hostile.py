@@ -33,7 +33,7 @@ from tests.support import check, count, program, run
 from tests.second import marks, pieces, rules
 from tests.second.claims import Claim, changed
 from tests.second.columns import TICKS
-from tests.second.commands import PLAIN
+from tests.second.commands import plain_commands
 from tests.second.exchanges import evidence_of
 from tests.second.pieces import Hulls
 from tests.second.questions import Asks, CASES, Question, Way, settle_case
@@ -89,7 +89,7 @@ def try_family(name: str, size: int) -> Told:
     made = families.FAMILIES[name](size)
     claims = made.claims if size == SIZES[0] else dict(reversed(made.claims.items()))
     with tempfile.TemporaryDirectory(prefix="ntpaudit-") as folder:
-        way = Way(PROGRAM, Path(folder), LIMIT, name in WHOLE and size == 64, {})
+        way = Way(PROGRAM, Path(folder), LIMIT, name in WHOLE and size == 64, {}, set())
         return tried(questions_on(f"{name} with {size}", made.exchanges, claims, way))
 
 
@@ -107,7 +107,7 @@ def exact_claims() -> dict[str, Claim]:
 
 def try_exact() -> Told:
     with tempfile.TemporaryDirectory(prefix="ntpaudit-") as folder:
-        way = Way(PROGRAM, Path(folder), LIMIT, True, {})
+        way = Way(PROGRAM, Path(folder), LIMIT, True, {}, set())
         exchanges = families.many_pieces(64).exchanges
         told = tried(questions_on("100,000 pieces", exchanges, exact_claims(), way), [settle_case])
     check("100,000 pieces, and one more", kinds=(told.kinds, lambda kinds: kinds[0] == "shown" != kinds[1]))
@@ -122,7 +122,7 @@ def try_file(name: str) -> Told:
         (place / "capture.pcap").write_bytes((families.FILES / f"{name}.pcap").read_bytes())
         known = evidence_of(claim, run([PROGRAM, "list", place / "capture.pcap"])[1])
         question = Question(f"data/slow/{name}", claim, known.samples, known.records,
-                            marks.contradictions(claim, known.samples), Way(PROGRAM, place, LIMIT, True, {}))
+                            marks.contradictions(claim, known.samples), Way(PROGRAM, place, LIMIT, True, {}, set()))
         return tried([question])
 
 
@@ -140,5 +140,5 @@ def cases() -> Iterator[tuple[str, Callable[[], Told]]]:
 def together(told: list[Told]) -> None:
     kinds = sum((Counter(one.kinds) for one in told), Counter[str]())
     print("; ".join(f"{number} {kind}" for kind, number in kinds.most_common()))
-    check("each command is called", missing=({command.title for command in PLAIN} - {
+    check("each command is called", missing=({command.title for command in plain_commands()} - {
         word for one in told for word in one.called}, set()))

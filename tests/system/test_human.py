@@ -28,7 +28,7 @@ from tests.support import DATA, ROOT, Ran, check, files_in, program, run
 from tests.second import exchanges, marks, shown, slips, sum_form
 from tests.second.claims import Claim, read_claim
 from tests.second.columns import MOMENT, PIECE, SAMPLE, TICKS, ends_shown, read
-from tests.second.commands import CAPTURE, CERTIFICATE, CLAIM, COMMANDS, PLAIN, REFUTATION, TIME, variants
+from tests.second.commands import CAPTURE, CERTIFICATE, CLAIM, REFUTATION, TIME, every_command, plain_commands, variants
 
 PROGRAM = program()
 VERSION = run([PROGRAM, "--version"])[1]
@@ -85,7 +85,8 @@ def calls_on(claim: Path, folder: Path) -> list[tuple[str, Words]]:
     """Calls of each command with a claim and its capture, and with certificates and refutations that fit or don't."""
     name = claim.name.removesuffix(".claim.json")
     both: list[Path | str] = [claim, DATA / f"{name.split('.')[0]}.pcap"]
-    alone = dict.fromkeys(command.name for command in PLAIN if not command.others and command.name != "settle")
+    alone = dict.fromkeys(command.name for command in plain_commands()
+                          if not command.others and command.name != "settle")
     given: list[Words] = [[name, *both, *options] for name in alone for options in variants(name)]
     given += [["at", *both, moment] for moment in moments_of(json.loads(claim.read_text()))]
     for step in ("1", "8"):
@@ -107,7 +108,8 @@ def test_captures(folder: Path) -> None:
     for _ in compare_all(calls):
         pass
     names = {words[0] for _, words in calls}
-    check("each command on the captures of data/", seen=(names, {command.name for command in COMMANDS} - {"settle"}))
+    check("each command on the captures of data/",
+          seen=(names, {command.name for command in every_command()} - {"settle"}))
 
 
 def test_references(folder: Path) -> None:
@@ -128,7 +130,7 @@ def test_other_texts(folder: Path) -> None:
     """Faults and statuses are the same with the option and without."""
     torn, none = folder / "torn.pcap", folder / "none"
     torn.write_bytes(CAPTURE.read_bytes()[:200])
-    for command in PLAIN:
+    for command in plain_commands():
         for what, files in {"a torn capture": [CLAIM, torn], "no claim": [none, CAPTURE], "no capture": [CLAIM, none],
                             "another claim": [CAPTURE, CAPTURE]}.items():
             words = [command.name, *files, *command.words]
@@ -160,7 +162,7 @@ def test_inputs(folder: Path) -> None:
 
 def test_option() -> None:
     """The option's two names, its places, and where it isn't known."""
-    for command in PLAIN:
+    for command in plain_commands():
         name, words = command.title, [CLAIM, CAPTURE, *command.words]
         human = run([PROGRAM, command.name, *words, "--human"])
         for what, spelled in {"-H": ["-H", *words], "--human": ["--human", *words], "with -H behind": [*words, "-H"],

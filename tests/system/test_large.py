@@ -155,7 +155,7 @@ PROGRAM = program()
 
 def test_questions(folder: Path) -> None:
     kinds = Counter[tuple[str, str]]()
-    for question in asked(Exchanges(rows()), Way(PROGRAM, folder, LIMIT, True, {})):
+    for question in asked(Exchanges(rows()), Way(PROGRAM, folder, LIMIT, True, {}, set())):
         for name, wrong in cases_of(question):
             count(f"{question.name}: {name}", wrong)
             if name.startswith("settle: "):

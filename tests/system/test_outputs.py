@@ -13,7 +13,7 @@ from pathlib import Path
 from typing import Any
 
 from tests.support import Ran, check, program, run
-from tests.second.commands import CAPTURE, CLAIM, COMMANDS, Command, fault_alone
+from tests.second.commands import CAPTURE, CLAIM, Command, every_command, fault_alone
 
 PROGRAM = program()
 BYTES = CAPTURE.read_bytes()
@@ -22,14 +22,16 @@ NO_OUTPUT = 4, b"", b"ntpaudit: device output after 0\n"
 TORN = 2, b"", b"ntpaudit: capture 1 torn-header\n"
 NOBODY = 65534
 
-WRITERS = [command for command in COMMANDS if command.name in ("settle", "find")]
-"""The commands that take `-o`."""
+
+def writers() -> list[Command]:
+    """The commands that take `-o`."""
+    return [command for command in every_command() if command.name in ("settle", "find")]
 
 
 def for_a_program(command: Command) -> Command:
     """The same command without `--human`."""
     options = tuple(option for option in command.options if option != "--human")
-    [plain] = [other for other in WRITERS if (other.name, other.options) == (command.name, options)]
+    [plain] = [other for other in writers() if (other.name, other.options) == (command.name, options)]
     return plain
 
 
@@ -75,7 +77,7 @@ def test_answers(folder: Path) -> None:
     """Each answer of a program goes to the file, with status 1 too, and nothing else stays in its folder."""
     short, inside = folder / "short.pcap", folder / "in"
     short.write_bytes(BYTES[:130])
-    for command in WRITERS:
+    for command in writers():
         for records, capture in ((2, CAPTURE), (1, short)):
             text = text_of(for_a_program(command), records)[1]
             for what, files in beginnings():
@@ -106,7 +108,7 @@ def test_refusals(folder: Path) -> None:
         "a claim whose reads fail": ("/proc/self/mem", CAPTURE, (4, b"", b"ntpaudit: device claim\n")),
         "a capture whose reads fail": (CLAIM, "/proc/self/mem", (4, b"", b"ntpaudit: device capture\n")),
         "an endless claim": ("/dev/zero", CAPTURE, (2, b"", b"ntpaudit: too-big claim\n"))}
-    for command in WRITERS:
+    for command in writers():
         for what, (claim, capture, wanted) in refused.items():
             for old, files in beginnings():
                 fill(inside, files)
@@ -150,7 +152,7 @@ def test_obstacles(folder: Path) -> None:
     """What can't be written is told before anything is read, and nothing is changed."""
     named = list(obstacles(folder))
     before = files_of(folder)
-    for command in WRITERS:
+    for command in writers():
         for what, file in named:
             check(f"{command.title} to {what}", run=(call(command, file), NO_OUTPUT), files=(files_of(folder), before))
         check(f"{command.title} of a claim that isn't one to a folder",
@@ -164,7 +166,7 @@ def test_inputs(folder: Path) -> None:
     os.link(folder / "f.pcap", folder / "other")
     (folder / "sub").mkdir()
     before = files_of(folder)
-    for command in WRITERS:
+    for command in writers():
         for file in ("claim", "./claim", folder / "claim", "sub/../f.pcap", "f.pcap", "other"):
             check(f"{command.title} to an input as {file}",
                   run=(call(command, file, "claim", "f.pcap", cwd=folder), NO_OUTPUT), files=(files_of(folder), before))
@@ -183,7 +185,7 @@ def test_inputs(folder: Path) -> None:
 
 def test_output_fails(folder: Path) -> None:
     """If a person can't be told, the file is as it was, though its draft was whole."""
-    for command in WRITERS:
+    for command in writers():
         for streams in ("> /dev/full", ">&-", "<&- >&- 2>&-"):
             for what, files in beginnings():
                 fill(folder / "in", files)
@@ -235,7 +237,7 @@ def test_side_by_side(folder: Path) -> None:
     """Two calls for one file: the second is refused while the first waits for its capture, which goes on."""
     pipe = folder / "pipe"
     os.mkfifo(pipe)
-    for command in WRITERS:
+    for command in writers():
         (folder / "f").unlink(missing_ok=True)
         with ThreadPoolExecutor() as pool:
             first = pool.submit(call, command, folder / "f", capture=pipe)
@@ -268,7 +270,7 @@ def test_rights(folder: Path) -> None:
         shutil.copy(CAPTURE, capture)
         claim.chmod(0o644)
         capture.chmod(0o644)
-        for command in WRITERS:
+        for command in writers():
             fill(shut, {"f": OLD})
             shut.chmod(0o555)
             ran = call(command, shut / "f", claim, capture, **dict(how))

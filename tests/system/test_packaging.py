@@ -11,11 +11,14 @@ import shutil
 import tempfile
 from pathlib import Path
 
-from tests.support import DATA, ROOT, check, is_here, program, run, skip, sum_of, sum_of_sources
+from tests.support import DATA, ROOT, check, is_here, is_shipped, program, run, skip, sum_of, sum_of_sources
 from tests.dossier.leaps import leap_list
 
 PROGRAM = program()
-MANUAL = run([ROOT / "docs/manual", PROGRAM])[1]
+
+
+def manual() -> bytes:
+    return run([ROOT / "docs/manual", PROGRAM])[1]
 
 
 def said(*words: str) -> str:
@@ -33,7 +36,8 @@ def options_of_commands() -> dict[str, set[str]]:
 
 def test_manual() -> None:
     named = options_of_commands()
-    text = MANUAL.decode()
+    made = manual()
+    text = made.decode()
     for sign, escaped in {"-": r"\-", "'": r"\(aq", "\\": r"\(rs"}.items():
         text = text.replace(escaped, sign)
     for name, options in named.items():
@@ -46,7 +50,7 @@ def test_manual() -> None:
     check("the man page without Markdown", left=(re.findall(r"[`*]{2}|\]\(|^#|^\| |\|--|`\w", text, flags=re.M), []))
     with tempfile.TemporaryDirectory(prefix="ntpaudit-") as folder:
         page = Path(folder) / "ntpaudit.1"
-        page.write_bytes(MANUAL)
+        page.write_bytes(made)
         if is_here("mandoc", "the man page by mandoc"):
             check("mandoc finds nothing", run=(run(["mandoc", "-T", "lint", page])[:2], (0, b"")))
         if is_here("man", "the man page by man"):
@@ -247,12 +251,12 @@ def test_package(folder: Path) -> None:
           crates=({part["name"] for part in made_of["packages"]}, {"ntpaudit", "sources", "toolchain", *crates}))
     check("the package is installed", status=(run([*dpkg, "-i", packages[0]])[0], 0))
     users = root / "etc/passwd"
-    if shutil.which("systemd-sysusers"):
+    if is_here("systemd-sysusers", "the package's user"):
         check("the package makes its user", user=(users.exists() and "ntpaudit" in users.read_text(), True))
     listed = run([root / "usr/bin/ntpaudit", "list", DATA / "two-packets.pcap"])
     check("its program runs", run=(listed, (0, (DATA / "two-packets.list.txt").read_bytes(), b"")))
     page = gzip.decompress((root / "usr/share/man/man1/ntpaudit.1.gz").read_bytes())
-    check("its man page", same=(page == MANUAL, True))
+    check("its man page", same=(page == manual(), True))
     bare = {name: value for name, value in os.environ.items() if name != "NTPAUDIT"}
     before = files_below(root / "usr")
     said_by = run([root / "usr/bin/ntpaudit-dossier", "--version"], env=bare)
@@ -262,19 +266,14 @@ def test_package(folder: Path) -> None:
           left=([file for file in files_below(root) if not file.startswith(("var/lib/dpkg/", "etc/"))], []))
 
 
-def is_built() -> bool:
-    """Whether ./install and ./package find a program without building one: a build would take away the file that other
-    scripts are calling."""
-    return "NTPAUDIT" not in os.environ or f"sources {sum_of_sources(ROOT)}\n" in (ROOT / "dist/MANIFEST").read_text()
-
-
 def is_at_hand(name: str) -> bool:
-    """The same; where it isn't so, a case is skipped."""
-    if not is_built():
+    """Whether ./install and ./package find a program without building one: a build would take away the file that other
+    scripts are calling. Where it isn't so, a case is skipped."""
+    if not is_shipped():
         skip(name, "dist/MANIFEST names other sources")
-    return is_built()
+    return is_shipped()
 
 
 def test_sources() -> None:
     check("dist/MANIFEST names the sources that are here, so nothing has to be built to install it",
-          seen=(is_built(), True))
+          seen=(is_shipped(), True))

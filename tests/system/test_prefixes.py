@@ -11,7 +11,7 @@ from pathlib import Path
 from tests.support import DATA, Ran, check, program, run, sum_of
 from tests.second import sum_form
 from tests.second.answers import Answer
-from tests.second.commands import CAPTURE, CLAIM, COMMANDS, Command, SECOND, fault_alone, flags_of
+from tests.second.commands import CAPTURE, CLAIM, Command, every_command, fault_alone, flags_of, SECOND
 from tests.system import test_outputs
 
 BYTES = CAPTURE.read_bytes()
@@ -112,12 +112,12 @@ def try_outputs(command: Command) -> None:
 
 def test_names() -> None:
     named = set(re.findall(r"^  (\w+)  ", run([PROGRAM, "--help"])[1].decode(), flags=re.M))
-    check("the commands of the program", seen=({command.name for command in COMMANDS}, named - {"list", "help"}))
+    check("the commands of the program", seen=({command.name for command in every_command()}, named - {"list", "help"}))
 
 
 def test_flags() -> None:
     """An option without a value is refused twice, with a value, and beside a command that hasn't it."""
-    operands = {command.name: [CLAIM, CAPTURE, *command.others] for command in COMMANDS} | {"list": [CAPTURE]}
+    operands = {command.name: [CLAIM, CAPTURE, *command.others] for command in every_command()} | {"list": [CAPTURE]}
     flags = {name: flags_of(name) for name in operands}
     for name, files in operands.items():
         for letter, word in flags[name]:
@@ -130,9 +130,9 @@ def test_flags() -> None:
 
 
 def test_commands() -> None:
-    for command in COMMANDS:
+    for command in every_command():
         try_command(command)
         if command.name in SECOND:
             try_sums(command)
-        if command in test_outputs.WRITERS:
+        if command in test_outputs.writers():
             try_outputs(command)

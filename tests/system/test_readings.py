@@ -21,7 +21,7 @@ from tests.support import DATA, Ran, check, files_in, program, run
 from tests.second import answers
 from tests.second.answers import Evidence
 from tests.second.claims import Claim, changed
-from tests.second.commands import PLAIN, variants
+from tests.second.commands import plain_commands, variants
 from tests.second.exchanges import evidence_of
 
 CERTIFICATE = DATA / "two-packets.certificate.json"
@@ -43,7 +43,7 @@ def times_of(claim: Claim) -> list[str]:
 
 def calls_on(claim: Claim) -> Iterator[tuple[str, ...]]:
     """Each command with a reading, and what stands behind claim and capture."""
-    for name in sorted({command.name for command in PLAIN} & set(answers.READINGS) - {"settle"}):
+    for name in sorted({command.name for command in plain_commands()} & set(answers.READINGS) - {"settle"}):
         steps = STEPS if name in ("find", "envelope") else []
         for options in variants(name):
             if name == "at":

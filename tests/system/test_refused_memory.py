@@ -20,7 +20,7 @@ from typing import Any, NamedTuple
 from tests.support import DATA, Ran, check, is_here, program, run, sum_of
 from tests.cases import transcript
 from tests.second import sum_form
-from tests.second.commands import CAPTURE, CERTIFICATE, CLAIM, COMMANDS, REFUTATION, SECOND, fault_alone
+from tests.second.commands import CAPTURE, CERTIFICATE, CLAIM, every_command, fault_alone, REFUTATION, SECOND
 from tests.system import test_outputs
 
 REAL, REAL_CLAIM, REAL_TIME = DATA / "clients-us.pcap", DATA / "clients-us.claim.json", "2026-11-22T07:03:36Z"
@@ -175,7 +175,7 @@ class Inputs:
 
 def calls_of_commands(made: Inputs) -> Iterator[Call]:
     """Each command on the two packets, and on a torn capture; by sums too, if it takes any."""
-    for command in COMMANDS:
+    for command in every_command():
         for what, by_sums in (("", []), (" by sums", ["--sums", made.sums]))[:1 + (command.name in SECOND)]:
             words = [*command.words, *by_sums]
             yield Call(f"{command.title}{what}", [command.name, CLAIM, CAPTURE, *words], (*command.whole, b""))
@@ -184,7 +184,7 @@ def calls_of_commands(made: Inputs) -> Iterator[Call]:
 
 def calls_with_outputs(folder: Path) -> Iterator[Call]:
     """The commands that write a file, on the two packets."""
-    for number, command in enumerate(test_outputs.WRITERS):
+    for number, command in enumerate(test_outputs.writers()):
         status, text, _ = test_outputs.told(command, 2)
         answer = status, text + test_outputs.text_of(test_outputs.for_a_program(command), 2)[1], b""
         yield Call(f"{command.title} -o", [command.name, CLAIM, CAPTURE, *command.words], answer, folder / f"o{number}")
