@@ -33,7 +33,8 @@ bound_outcome (NoneHolds piece) = No
 
 -- the report on an envelope, as it is asked for, with this line of the least bound that a
 -- certificate carries; none if no bound was looked for
-abbrev pub text_of : Style → EnvelopeOptions → EvidenceData → EnvelopeData → Option LeastLine → Report
+abbrev pub text_of : Style → EnvelopeOptions → EvidenceData → EnvelopeData → Option LeastLine
+    → Report
 text_of style asked e envelope None = refused Memory
 text_of style asked e envelope (Some line) =
     whole_text (envelope_text style asked (samples_in e) e.claim envelope line)

@@ -68,7 +68,8 @@ HasCourseOf false refutation e = HasCourse e.claim e.collection.exchanges refuta
 
 -- The refutation is accepted. So a course of events fits the exchanges in which the clock is off by
 -- its error, beyond the bound, and no certificate has a verdict of yes.
-pub record IsContestedOf (drift : Bool) (refutation : RefutationData) (e : EvidenceData) : Type 0 where
+pub record IsContestedOf (drift : Bool) (refutation : RefutationData) (e : EvidenceData)
+    : Type 0 where
   pub accepted : IsOfRefuted drift refutation e
   pub course : HasCourseOf drift refutation e
   pub no_yes : (certificate : CertificateData) → ¬ (verdict_on certificate e ≡ verdicts.Yes)
@@ -81,7 +82,8 @@ IsShownByNone false refutation e = Unit {0}
 
 -- It isn't accepted. So if its error may drift, and what it says by itself is against the claim, no
 -- course shows it.
-pub record IsUncontestedOf (drift : Bool) (refutation : RefutationData) (e : EvidenceData) : Type 0 where
+pub record IsUncontestedOf (drift : Bool) (refutation : RefutationData) (e : EvidenceData)
+    : Type 0 where
   pub refused : ¬ (IsOfRefuted drift refutation e)
   pub shown_by_none : IsShownByNone drift refutation e
 

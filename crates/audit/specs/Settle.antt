@@ -165,8 +165,8 @@ pub record IsSettledBy (outcome : Outcome) (claim capture : List ℕ) : Type 0 w
 abbrev pub IsSettled : Outcome → FeedState → FeedState → Type 0
 IsSettled outcome claim capture = OfClaimAndCapture claim capture (IsSettledBy outcome)
 
--- is the claim shown, refuted, fitted by no course, without evidence, or does it stay open? A person
--- is told this about the inputs.
+-- is the claim shown, refuted, fitted by no course, without evidence, or does it stay open? A
+-- person is told this about the inputs.
 abbrev pub settle : List ℕ → QuestionData
 settle about = record {
   report = λ style finding said e. settle_report style about finding e finding.settled;

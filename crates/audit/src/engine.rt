@@ -178,8 +178,8 @@ pub fn run<
     }
 }
 
-/// Answers a question as `run` does, and tells what it finds twice: for a program on `draft`, and if
-/// that is whole, in this style on `out`, the same finding.
+/// Answers a question as `run` does, and tells what it finds twice: for a program on `draft`, and
+/// if that is whole, in this style on `out`, the same finding.
 ///
 /// Nothing is written on `out` unless `draft` has got its whole text and was finished. `Write(n)`
 /// comes if `draft` failed after exactly n bytes of its text, or `out` after n bytes of the other.
@@ -224,7 +224,7 @@ pub fn run_twice<
 }
 
 /// Answers a question as `run` does, with the text on `to.out`, and reports a fault on `to.err`.
-/// Beside the capture's feed stands what that comes to.
+/// Beside the capture's feed stands the conclusion.
 pub fn answer<
     Q: Question,
     C: Feed,

@@ -64,7 +64,8 @@ server_lines style samples claim number piece =
     (parts_named samples claim piece.stretch piece.entries)
 
 -- the lines of a piece, with those of its servers if they are asked for
-abbrev pub piece_lines : Style → EnvelopeOptions → List Sample → ClaimData → ℕ → PieceHullData → List ℕ
+abbrev pub piece_lines : Style → EnvelopeOptions → List Sample → ClaimData → ℕ → PieceHullData
+    → List ℕ
 piece_lines style asked samples claim number piece =
     (if asked.servers then server_lines style samples claim number piece else []) ++
     piece_line style number piece

@@ -1,8 +1,8 @@
 //! What courses of events can do, exactly: which marks one course can keep, which errors it can
 //! have, and whether any course fits a capture at all.
 //!
-//! Each exchange leaves two marks (`error_marks`): what the error can't lie below at one reading of the
-//! clock, and what it can't lie above at another. A course of events keeps the marks of every
+//! Each exchange leaves two marks (`error_marks`): what the error can't lie below at one reading of
+//! the clock, and what it can't lie above at another. A course of events keeps the marks of every
 //! exchange with a server that isn't false (specs/Keeping), and pairs of marks settle whether there
 //! is one (specs/TrueMarks): wherever each low mark is compatible with each high mark, the lowest
 //! course keeps them all (specs/LowestCourse).
@@ -19,7 +19,8 @@
 //! Where no more groups have an exchange than may be false, exchanges are no evidence: every error
 //! is possible (specs/Evidence). [`groups_with_exchanges`] tells which have one.
 //!
-//! Whether any course fits, as [`course_fits`] of `feasibility/src/fits.rt` asks it, with its proof:
+//! Whether any course fits, as [`course_fits`] of `feasibility/src/fits.rt` asks it, with its
+//! proof:
 //!
 //! ```text
 //! let found = conflicts_of(alloc, exchanges, claim)?;

@@ -38,9 +38,9 @@ pub struct Place {
 /// At each place the groups of its cover are taken for false. As many more may be false as the
 /// claim allows: those that let least be at its reading. Then the error is the greatest that the
 /// other groups let be, to one side of zero or the other. If it is beyond the bound and the
-/// refutation stands, that is the answer; where 64 bits don't hold the error, with the greatest that
-/// they hold. So none may be found though there is one, if it lies elsewhere, or if its error is
-/// next to the bound.
+/// refutation stands, that is the answer; where 64 bits don't hold the error, with the greatest
+/// that they hold. So none may be found though there is one, if it lies elsewhere, or if its error
+/// is next to the bound.
 ///
 /// The marks are gathered and held against each other once, with the memory of
 /// `feasibility::conflicts_of`. Then it looks twice at each exchange for each place and side.

@@ -17,8 +17,8 @@ use std::alloc::{AllocError, Global};
 use sweep::BestTable;
 
 /// The bound in nanoseconds that is likely the least one, if it's no less than `start`: that one if
-/// it is likely enough; else what halving from the greatest bound on comes to, and then what a
-/// closer look finds from there on.
+/// it is likely enough; else the bound that halving from the greatest one ends at, and then what
+/// a closer look finds from there on.
 pub(crate) fn likely_least(
     alloc: Global,
     tables: &[BestTable],

@@ -34,7 +34,8 @@ use intersection::kinds::Hull;
 /// are as many.
 pub fn samples_of_exchanges_keep_limits()
     ensures of_claim { (claim : ClaimData) (xs : List Exchange) → IsLawful claim →
-        All (IsLawfulExchange (length claim.servers)) xs → AreSamplesOf claim (samples_of xs claim) }
+        All (IsLawfulExchange (length claim.servers)) xs
+        → AreSamplesOf claim (samples_of xs claim) }
     ensures as_many { (claim : ClaimData) (xs : List Exchange) →
         length (samples_of xs claim) ≡ length xs }
 {}
@@ -116,8 +117,8 @@ pub fn pieces_within_have_no_wider_hulls_without_groups()
 {}
 
 /// If no tick of the span needs more than so many ticks of bound where the groups of a cover have
-/// no say, then the clock is off by no more whenever it shows a reading of the span, in every course
-/// that fits with a false server in each of these groups.
+/// no say, then the clock is off by no more whenever it shows a reading of the span, in every
+/// course that fits with a false server in each of these groups.
 pub fn neediest_ticks_bound_the_error()
     ensures { (claim : ClaimData) (xs : List Exchange) (cover : ℕ → Bool) (most : ℕ)
         (course : Course) → IsLawful claim → All (IsLawfulExchange (length claim.servers)) xs →

@@ -148,8 +148,8 @@ impl Gap {
         ends.saturating_add(self.change(drift_ppb)).div_ceil(2)
     }
 
-    /// Where the tick likely lies that needs the most, but no closer to an end than an eighth of the
-    /// gap. If rounding tells as much as the drift, the middle.
+    /// Where the tick likely lies that needs the most, but no closer to an end than an eighth of
+    /// the gap. If rounding tells as much as the drift, the middle.
     fn middle(self, drift_ppb: u32) -> u64
         requires in_order { self.first.begin ≤ self.last.begin }
         requires rate { IsRate drift_ppb }
@@ -197,8 +197,8 @@ impl Gap {
 /// The search begins with the gap between the span's ends. A tick splits a gap where the need is
 /// likely greatest, if it rises and falls as fast as the clock may drift; but a gap is left behind
 /// only if the hull over all of it needs no more than the best tick, since no tick within it needs
-/// more than that. Of the two gaps that a tick splits the one that likely needs more comes first, so
-/// that what lies close in time is mostly looked up one after the other.
+/// more than that. Of the two gaps that a tick splits the one that likely needs more comes first,
+/// so that what lies close in time is mostly looked up one after the other.
 pub(crate) fn neediest_tick(
     alloc: Global,
     tables: &[BestTable],

@@ -55,8 +55,8 @@ judged_places which paths = record {
   sums = option_map string_bytes paths.evidence.sums;
 }
 
--- What an engine is asked, on the text of the file of sums to which the inputs are held, if there is
--- one; and whether lines about them are made first.
+-- What an engine is asked, on the text of the file of sums to which the inputs are held, if there
+-- is one; and whether lines about them are made first.
 pub record Asking : Type 1 where
   pub by : Option (List ℕ) → AskedData
   pub makes_lines : Bool

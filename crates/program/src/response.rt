@@ -31,8 +31,8 @@ pub struct Summed {
     pub read: InputBytes,
 }
 
-/// Answers a question. If there is the text of a file of sums, each input is held to its line there,
-/// under its name, and what was read is returned. Beside it stands the conclusion.
+/// Answers a question. If there is the text of a file of sums, each input is held to its line
+/// there, under its name, and what was read is returned. Beside it stands the conclusion.
 fn answer_by<
     Q: Question,
     N: NamedFeed + Drop,

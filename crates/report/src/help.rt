@@ -11,7 +11,7 @@ use crate::fault::Outcome;
 use crate::publication::{Made, publish};
 use byte_stream::Sink;
 
-/// Shows a text on `out`. The result is what that comes to.
+/// Shows a text on `out`, and returns the conclusion.
 pub fn show<S: Sink, E: Sink>(text: String, out: &mut S, err: &mut E) -> Conclusion
     requires out { IsWritable (S.state out.old) }
     requires err { IsWritable (E.state err.old) }

@@ -9,13 +9,13 @@ use crate::conclusion::Conclusion;
 use crate::delivery::deliver;
 use byte_stream::Sink;
 
-/// What a refused command line comes to.
+/// The conclusion of a refused command line.
 const REFUSED_COMMAND_LINE: Conclusion = Conclusion {
     code: 5,
     fault: None,
 };
 
-/// Says on `err` why a command line is refused, and finishes it. The result is what that comes to,
+/// Says on `err` why a command line is refused, and finishes it. The conclusion is the same
 /// whatever the sink does.
 pub fn refuse<E: Sink>(text: String, err: &mut E) -> Conclusion
     requires { IsWritable (E.state err.old) }
@@ -26,8 +26,8 @@ pub fn refuse<E: Sink>(text: String, err: &mut E) -> Conclusion
     REFUSED_COMMAND_LINE
 }
 
-/// Says on `err` that a TIME isn't written as a claim's times are, and finishes it. The result is
-/// what that comes to, whatever the sink does. It takes no memory.
+/// Says on `err` that a TIME isn't written as a claim's times are, and finishes it. The conclusion
+/// is the same whatever the sink does. It takes no memory.
 pub fn refuse_time<E: Sink>(err: &mut E) -> Conclusion
     requires { IsWritable (E.state err.old) }
     ensures says { IsDelivered (codes "ntpaudit: time\n") (E.state err.old) (E.state err.new) }
