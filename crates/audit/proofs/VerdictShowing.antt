@@ -35,8 +35,8 @@ module _ (certificate : CertificateData) (e : EvidenceData) where
   verdict_shows verdict outcome is settled = subst (HasVerdict certificate e) (sym is) (shown verdict settled)
 
   -- the bytes of any inputs that say the certificate and give the evidence show the same
-  pub verdict_shown : (about : List ℕ) → GivesNanoseconds → ShowsHeadline → (outcome : Outcome) → HasVerdict certificate e outcome →
-      ShowsOf (check about) certificate_second (certificate_said certificate) e outcome
+  pub verdict_shown : (about : List ℕ) → GivesNanoseconds → ShowsHeadline → (outcome : Outcome) →
+      HasVerdict certificate e outcome → ShowsOf (check about) certificate_second (certificate_said certificate) e outcome
   verdict_shown about nanoseconds headline Yes h claim second capture are = record {
     whole = of_inputs e IsTracedTo (λ b f is. traced_to nanoseconds b f e is certificate h) claim second capture are;
     shown = of_inputs e (λ b f. IsBytes f → IsShown b f)

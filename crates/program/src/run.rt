@@ -82,7 +82,8 @@ fn ask_for_file<Fs: Files, S: Sink, E: Sink, H: BuildHasher + Copy + Drop>(
     requires files { MayOpen (Fs.state files.old) }
     requires out { IsWritable (S.state to.old.out) }
     requires err { IsWritable (E.state to.old.err) }
-    ensures drafts { DraftsOver ((requested request paths.now).by None) (places_of paths.now) path.now
+    ensures drafts { DraftsOver ((requested request paths.now).by None) (places_of paths.now)
+        path.now
         (world (Fs.state files.old) (S.state to.old.out) (E.state to.old.err))
         (world (Fs.state files.new) (S.state to.new.out) (E.state to.new.err))
         result.1 result.0 }

@@ -8,8 +8,8 @@ returns-in-Ok g c =
     let e = evidence_data c.args.evidence.now in
     let refutation = refutation_data c.args.second.now in
     told_whole (rw (c.refuted_outcome.ensures, c.in-Ok.ensures.tested) refl)
-    (refutation_shown c.course_beyond_the_bound_contests_the_claim.ensures c.args.self.drift c.args.self.about.now refutation e
-    c.refuted_outcome.result (rw c.refuted_outcome.ensures c.in-Ok.ensures.shows))
+    (refutation_shown c.course_beyond_the_bound_contests_the_claim.ensures c.args.self.drift c.args.self.about.now
+    refutation e c.refuted_outcome.result (rw c.refuted_outcome.ensures c.in-Ok.ensures.shows))
     (c.publish_text.ensures _ (c.with_about-text.ensures _ c.judged_text-text.ensures))
 
 pub returns-in-Err : goal.returns-in-Err

@@ -9,12 +9,13 @@ returns g c =
     let found = c.args.found.now in
     let settled = settled_data found.settled in
     let known = text_for c.args.style e found.least settled in
+    let about = about_told c.args.style c.args.self.about.now in
     let laws : BytesLaws = record {
       nanoseconds = c.bounds_of_bytes_hold_in_nanoseconds.ensures;
       headline = c.yes_shows_the_headline.ensures;
       contested = c.course_beyond_the_bound_contests_the_claim.ensures;
     } in
-    told_whole (rw c.outcome_of.ensures (report_is settled (about_told c.args.style c.args.self.about.now) known c.requires.found))
+    told_whole (rw c.outcome_of.ensures (report_is settled about known c.requires.found))
     (of_inputs e (IsSettledBy c.outcome_of.result) (λ b f is. record {
       settled = settled;
       outcome_is = c.outcome_of.ensures;
