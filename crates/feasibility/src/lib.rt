@@ -17,7 +17,7 @@
 //! pass, whether a refutation stands that takes whole groups for false.
 //!
 //! Where no more groups have an exchange than may be false, exchanges are no evidence: every error
-//! is possible (specs/Evidence). [`groups_with_exchanges`] tells which have one.
+//! is possible (specs/ServedGroups). [`groups_with_exchanges`] tells which have one.
 //!
 //! Whether any course fits, as [`course_fits`] of `feasibility/src/fits.rt` asks it, with its
 //! proof:
