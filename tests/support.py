@@ -76,11 +76,10 @@ def program() -> str:
         if not os.access(named, os.X_OK):
             sys.exit(f"NTPAUDIT names {named}, and no program is there")
         return str(named)
-    ran = subprocess.run([ROOT / "ntpaudit", "--version"], stdin=subprocess.DEVNULL, stdout=subprocess.DEVNULL)
+    ran = subprocess.run([ROOT / "ntpaudit", "--path"], stdin=subprocess.DEVNULL, stdout=subprocess.PIPE, text=True)
     if ran.returncode:
-        sys.exit(f"./ntpaudit --version ends with status {ran.returncode}")
-    kept = ROOT / "out" / "ntpaudit"
-    return str(kept if kept.exists() else ROOT / "dist" / "ntpaudit")
+        sys.exit(f"./ntpaudit --path ends with status {ran.returncode}")
+    return ran.stdout.removesuffix("\n")
 
 
 def count(name: str, wrong: str) -> None:
