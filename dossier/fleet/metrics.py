@@ -33,6 +33,7 @@ HELP = {
     "now_least_bound_seconds": "The least bound that a certificate of the last minutes carries, if there is one.",
     "now_groups_heard": "Groups of servers that have a sample.",
     "now_groups": "Groups of servers in the claim.",
+    "now_refused_files": "Files of the recorder that can't be read, and were left out.",
     "now_last_record_timestamp_seconds": "When the recorder's last record was made.",
 }
 DATE = re.compile(r"\d{4}-\d\d-\d\d")

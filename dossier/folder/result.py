@@ -75,6 +75,8 @@ class Moment:
     leap: str = ""
     """What takes a yes away, if anything does."""
     pieces: list[Piece] = field(default_factory=list)
+    bad: list[Text] = field(default_factory=list)
+    """The faults of files that were left out."""
 
     @property
     def is_off(self) -> bool:
