@@ -174,7 +174,7 @@ OPTIONS = [
            "again and again, each 10 seconds if no number is given; on a terminal with a band of the last hour",
            {"metavar": "SECONDS", "nargs": "?", "const": 10}),
     Option("now", "--no-color", "", "no colours on a terminal"),
-    Option("audit page verify year now", "--leap-seconds", "FILE",
+    Option("audit page verify sign year now", "--leap-seconds", "FILE",
            "the list of leap seconds; the system's if it is left out"),
     Option("verify", "--second", "", "have the second program, ntpaudit-recheck, judge each answer too"),
     Option("audit page", "--metrics", "FILE",
@@ -335,7 +335,7 @@ def run_on_folders(given: argparse.Namespace, folders: list[str]) -> int:
     if given.command == "sign":
         from .fleet.signing import sign_all
         from .premise.leap import read_list
-        return sign_all(folders, given.key, known, given.limit, read_list(None))
+        return sign_all(folders, given.key, known, given.limit, read_list(given.leap_seconds))
     if given.command == "keep":
         from .fleet.keeping import keep_all
         return keep_all(folders, given.years, given.force, known, given.limit)

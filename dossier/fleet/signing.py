@@ -13,6 +13,7 @@ from ..folder.jobs import DEVNULL, ENVIRONMENT, PIPE, begun, find_tool, private_
 from ..folder.placing import is_ones_own, keep, place
 from ..folder.registry import Known
 from ..folder.result import Result
+from ..premise.leap import record_by
 from ..records import replace
 from ..schema import said
 from ..text import label, plain
@@ -36,7 +37,7 @@ def sign_all(folders: list[str], key: str, known: Known, seconds: int, leaps: Le
         if found.text:
             try:
                 signature = signature_by(key, found.text.encode())
-                found = run_one(path, partial(sign, known, found.text.encode(), signature), seconds)
+                found = run_one(path, partial(sign, known, leaps, found.text.encode(), signature), seconds)
             except Fault as refused:
                 found = Result(refused.status, [refused.line])
         lines = [found.refusal.line] if found.refusal else found.lines
@@ -68,10 +69,14 @@ def to_be_signed(known: Known, leaps: LeapList, path: str, _: int) -> Result:
             return Result(NOT_SHOWN, [f"{DISPUTED}: {words}"])
         if changed := change_of(folder, record):
             return Result(NOT_SHOWN, [changed])
-        return Result(text=record_text(replace(seen, signed=now())).decode())
+        found = record_by(leaps, seen)
+        if found.verdicts != seen.verdicts:
+            raise fault("by your own list of leap seconds it says something else: name the list by which it was verified "
+                        "(--leap-seconds)", USAGE)
+        return Result(text=record_text(replace(found, signed=now())).decode())
 
 
-def sign(known: Known, signed: bytes, signature: bytes, path: str, _: int) -> Result:
+def sign(known: Known, leaps: LeapList, signed: bytes, signature: bytes, path: str, _: int) -> Result:
     """Puts what was signed in its place, with the signature, if the folder's audit.json is still the same but for the
     time."""
     with Folder(path) as folder, known.alone(folder):
@@ -82,7 +87,8 @@ def sign(known: Known, signed: bytes, signature: bytes, path: str, _: int) -> Re
             return Result(lines=["signed"])
         data, record = audit_json(folder), read_record(signed)
         seen = known.shown(sum_of(data), read_record(data))
-        if folder.has(files.SIGNATURE) or not seen or replace(seen, signed=record.signed) != record:
+        if folder.has(files.SIGNATURE) or not seen or \
+                replace(record_by(leaps, seen), signed=record.signed) != record:
             raise fault(f"{files.AUDIT} has changed meanwhile")
         place(folder, {files.AUDIT: [signed], files.SIGNATURE: [signature]})
         known.add(sum_of(signed), seen)

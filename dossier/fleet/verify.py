@@ -19,6 +19,7 @@ from ..records import replace
 from ..schema import first_difference, said
 from ..text import label, plain
 from ..units import now
+from ..verdict.alerts import warning_words
 from ..verdict.making import Earlier, Making, no_earlier
 from ..verdict.second import Second
 from ..verdict.sentences import TWICE, reason
@@ -64,6 +65,7 @@ class Verifier:
         found = self.compared(folder, record, made, is_other, form < VERSION)
         notes = ["by another build of the program than the audit's"] if is_other else []
         notes += sorted({reason(entry) for entry in made.entries if entry.verdict == UNSUPPORTED})
+        notes += sorted({warning_words(one) for entry in made.entries for one in entry.warnings if one.kind == "twice"})
         if not found:
             if form == VERSION:
                 self.known.add(sum_of(data), made)
