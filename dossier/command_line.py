@@ -392,8 +392,8 @@ def reading_of(given: argparse.Namespace) -> "Proposal":
 
 def run_draft(given: argparse.Namespace, program: Program) -> int:
     from .folder.placing import write_named
-    from .premise.correction import correction_text
     from .premise.leap import read_list
+    from .schema import json_text
     from .verdict.draft import Wanted, claim_text, draft, of_leaps
     found = correction_of(given)
     proposed, leaps = found.drift_ppb if found else given.oscillator_ppb, read_list(None)
@@ -414,6 +414,6 @@ def run_draft(given: argparse.Namespace, program: Program) -> int:
     if not drafted.text:
         return 1
     if found and given.evidence:
-        write_named(given.evidence, correction_text(found))
+        write_named(given.evidence, json_text(found))
     sys.stdout.write(drafted.text)
     return 0

@@ -11,8 +11,8 @@ BLANK = re.compile("[\u034f\u115f\u1160\u17b4\u17b5\u180b-\u180f\u2800\u3164\ufe
 WORD = re.compile(r"[^\s/]+")
 ALIKE = re.compile("[\u0370-\u058f\u13a0-\u13ff\u1c80-\u1c88\u1f00-\u1fff\u2c80-\u2cff\u2de0-\u2dff\ua4d0-\ua4ff"
                    "\ua640-\ua69f\uab70-\uabbf\uff21-\uff5a\U0001d400-\U0001d7ff]")
-"""Letters of alphabets with some that look like Latin ones: Greek, Cyrillic, Armenian, Cherokee, Coptic, Lisu, and Latin
-ones of other widths and weights."""
+"""Letters of alphabets with some that look like Latin ones: Greek, Cyrillic, Armenian, Cherokee, Coptic, Lisu, and
+Latin ones of other widths and weights."""
 
 
 def plain(words: str) -> str:
@@ -21,7 +21,8 @@ def plain(words: str) -> str:
     with such."""
     if words.isascii() and words.isprintable():
         return words
-    words = WORD.sub(lambda word: ALIKE.sub(lambda c: spelled(c[0]), word[0]) if LATIN.search(word[0]) else word[0], words)
+    words = WORD.sub(lambda word: ALIKE.sub(lambda c: spelled(c[0]), word[0]) if LATIN.search(word[0]) else word[0],
+                     words)
     return "".join(c if c.isprintable() and not BLANK.match(c) else spelled(c) for c in words)
 
 

@@ -1,7 +1,7 @@
 """The days of a year of one machine: which folders they are in, and what is known here of each.
 
-Each day's audit.json is looked at, its claim, and no capture. A day is what its claim's span says, whatever its folder is called.
-It counts once, and only if it is of the claim that most of the machine's days have.
+Each day's audit.json is looked at, and its claim, but no capture. A day is what its claim's span says, whatever its
+folder is called. It counts once, and only if it is of the claim that most of the machine's days have.
 """
 import os
 from collections import Counter

@@ -1,8 +1,8 @@
 """How audits are kept for years: their captures packed by zstd, without what may be made anew.
 
-A capture is taken away only after what was packed of it unpacked to the same bytes, and is on the disk in its place. How old a
-folder is counts from the newest recording among those that are kept, and not from the clock, which may be wrong for a
-night.
+A capture is taken away only after what was packed of it unpacked to the same bytes, and is on the disk in its place.
+How old a folder is counts from the newest recording among those that are kept, and not from the clock, which may be
+wrong for a night.
 """
 import hashlib
 import os

@@ -4,7 +4,6 @@ import sys
 from functools import partial
 from typing import IO
 
-from ..capture.recorder import text_of
 from ..fault import DEVICE, NOT_SHOWN, USAGE, Fault, fault, summed
 from ..folder import files
 from ..folder.entry import DISPUTED, LeapList, read_record, record_text
@@ -15,7 +14,7 @@ from ..folder.registry import Known
 from ..folder.result import Result
 from ..premise.leap import record_by
 from ..records import replace
-from ..schema import said
+from ..schema import json_text
 from ..text import label, plain
 from ..units import now
 from .audit import change_of
@@ -54,7 +53,7 @@ def to_be_signed(known: Known, leaps: LeapList, path: str, _: int) -> Result:
         if signed_in(folder) == YEAR:
             if wrong := difference(folder, known, leaps):
                 return Result(NOT_SHOWN, [wrong])
-            return Result(text=text_of(said(replace(read_statements(folder.data(YEAR)), signed=now()))).decode())
+            return Result(text=json_text(replace(read_statements(folder.data(YEAR)), signed=now())).decode())
         data = audit_json(folder)
         record = read_record(data)
         if folder.has(files.SIGNATURE):
@@ -71,8 +70,8 @@ def to_be_signed(known: Known, leaps: LeapList, path: str, _: int) -> Result:
             return Result(NOT_SHOWN, [changed])
         found = record_by(leaps, seen)
         if found.verdicts != seen.verdicts:
-            raise fault("by your own list of leap seconds it says something else: name the list by which it was verified "
-                        "(--leap-seconds)", USAGE)
+            raise fault("by your own list of leap seconds it says something else: name the list by which it was "
+                        "verified (--leap-seconds)", USAGE)
         return Result(text=record_text(replace(found, signed=now())).decode())
 
 

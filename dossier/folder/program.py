@@ -12,6 +12,9 @@ from .jobs import ENVIRONMENT, PIPE, begun, private_folder, run, stream
 from .placing import keep
 
 ROOT = os.path.realpath(os.path.join(__file__, *[os.pardir] * 3))
+IS_REPOSITORY = os.path.isfile(f"{ROOT}/crates.txt")
+BESIDE = f"{ROOT.removesuffix('/share/ntpaudit')}/bin" if ROOT.endswith("/share/ntpaudit") else ROOT
+"""Where programs stand that were installed with this, or copied."""
 SUMS = "sums"
 """A private file with the sums of the operands of a call."""
 MOST_OF_WORDS = 1000
@@ -99,12 +102,10 @@ def path_of_program() -> str | None:
     path = os.environ.get("NTPAUDIT")
     if path:
         return os.path.realpath(os.path.join(ROOT, path))
-    if os.path.exists(f"{ROOT}/crates.txt"):
+    if IS_REPOSITORY:
         return path_of_launcher()
-    prefix, is_installed, _ = ROOT.rpartition("/share/ntpaudit")
-    beside = f"{prefix}/bin/ntpaudit" if is_installed else f"{ROOT}/ntpaudit"
-    if os.path.isfile(beside):
-        return beside
+    if os.path.isfile(f"{BESIDE}/ntpaudit"):
+        return f"{BESIDE}/ntpaudit"
     return shutil.which("ntpaudit", path=ENVIRONMENT["PATH"]) if ENVIRONMENT["PATH"] else None
 
 

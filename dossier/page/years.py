@@ -6,14 +6,13 @@ from collections.abc import Iterator, Sequence
 from itertools import groupby
 from typing import NamedTuple
 
-from ..capture.recorder import text_of
 from ..fault import fault
 from ..fleet.days import Wanted, machines_of, twinned, year_of
 from ..fleet.statements import Stated, Statements, stated_of, statement, sums_of
 from ..folder.files import YEAR
 from ..folder.jobs import run_all
 from ..folder.result import Result, Told, Year
-from ..schema import said
+from ..schema import json_text
 from ..text import plain
 from ..units import civil, ns_up_ms
 from .figure import shade, strip
@@ -84,10 +83,11 @@ def write_year(folders: list[str], wanted: Wanted, pages: Pages, seconds: int, j
         put(pages.page(pages.title, articles, machines), pages.output)
         return worst
     for number, year in articles:
-        put(pages.page(f"{pages.title}: {year.machine}", [(number, year)], above=INDEX), f"{number:05}.html", pages.split)
+        text = pages.page(f"{pages.title}: {year.machine}", [(number, year)], above=INDEX)
+        put(text, f"{number:05}.html", pages.split)
         sums, data = f"{number:05}.sums", sums_of(pages.split, year)
         put(data, sums, pages.split)
         stated.append(stated_of(year, sums, data))
     put(pages.page(pages.title, [], machines), INDEX, pages.split)
-    put(text_of(said(Statements(wanted.year, civil(wanted.at), "", stated))), YEAR, pages.split)
+    put(json_text(Statements(wanted.year, civil(wanted.at), "", stated)), YEAR, pages.split)
     return worst

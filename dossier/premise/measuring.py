@@ -18,9 +18,10 @@ from ..folder.jobs import PIPE, answer, begun, find_tool, run
 from ..folder.placing import keep, write_named
 from ..folder.program import Program
 from ..folder.result import Result
+from ..schema import json_text, said
 from ..text import plain
 from ..units import now, round_up
-from .measurement import Measurement, measurement_text
+from .measurement import Measurement
 
 APART = 0.001
 """Seconds between two packets."""
@@ -52,7 +53,7 @@ def measure(program: Program, wanted: Wanted, output: str | None) -> int:
         make_link()
         earlier = sorted(sent_over(program, tool, wanted.packets, busy))
         found = measurement(earlier, busy, version_of(tool), plain(system.nodename), plain(system.release), now())
-        return Result(lines=found.lines(), text=measurement_text(found).decode())
+        return Result(lines=found.lines(), text=json_text({**said(found), "reason": found.why}).decode())
     measured = answer(work)
     for line in measured.lines:
         print(line)

@@ -160,7 +160,8 @@ def test_now_metrics(place: Path) -> None:
                        ["yes" if name == "right" else "refuted"]),
               own=({key: own[key] for key in own if key != "least_bound_seconds"},
                    {"clock_off": str(int(name == "off")), "claimed_bound_seconds": "0.005000000",
-                    "hull_low_seconds": hull[0], "hull_high_seconds": hull[1], "groups_heard": "4", "groups": "4", "refused_files": "0",
+                    "hull_low_seconds": hull[0], "hull_high_seconds": hull[1], "groups_heard": "4", "groups": "4",
+                    "refused_files": "0",
                     "last_record_timestamp_seconds": own["last_record_timestamp_seconds"]}),
               last=(last - 10 <= float(own["last_record_timestamp_seconds"]) <= last + 1, True))
 
