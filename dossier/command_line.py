@@ -299,8 +299,8 @@ def run(given: argparse.Namespace) -> int:
         print(f"ntpaudit-dossier, form {VERSION} of audit.json\n{program.made.version}, SHA-256 {program.made.sha256}")
         return 0
     if given.command == "measure":
-        from .premise.measuring import Wanted, measure
-        return measure(program, Wanted(given.count, given.load), given.output)
+        from .premise.measuring import measure
+        return measure(program, given.count, given.load, given.output)
     if given.command == "draft":
         return run_draft(given, program)
     from .page.figure import picture_of
@@ -332,15 +332,14 @@ def run_on_folders(given: argparse.Namespace, folders: list[str]) -> int:
     if given.command == "page" and given.split and given.output:
         raise fault("--split takes no --output: it writes into a folder", USAGE)
     known = Known(state_of(given.state), writes=given.command != "page" or given.verify)
-    if given.command == "sign":
-        from .fleet.signing import sign_all
-        from .premise.leap import read_list
-        return sign_all(folders, given.key, known, given.limit, read_list(given.leap_seconds))
     if given.command == "keep":
         from .fleet.keeping import keep_all
         return keep_all(folders, given.years, given.force, known, given.limit)
     from .premise.leap import read_list
     leaps = read_list(given.leap_seconds)
+    if given.command == "sign":
+        from .fleet.signing import sign_all
+        return sign_all(folders, given.key, known, given.limit, leaps)
     if given.command == "page" and not given.verify:
         from .page.page import write_page
         return write_page(folders, given, known, leaps)

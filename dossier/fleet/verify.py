@@ -20,7 +20,7 @@ from ..schema import first_difference, said
 from ..text import label, plain
 from ..units import now
 from ..verdict.alerts import warning_words
-from ..verdict.making import Earlier, Making, no_earlier
+from ..verdict.making import Making
 from ..verdict.second import Second
 from ..verdict.sentences import TWICE, reason
 from .audit import change_of
@@ -61,7 +61,7 @@ class Verifier:
             return Verified(found, [], None)
         is_other = record.program.sha256 != self.program.made.sha256
         making = Making(folder, self.program, record.options, self.leaps, record.kept)
-        made = replace(making.record(earlier_of(folder, record) if is_other else no_earlier), signed=record.signed)
+        made = replace(making.record(earlier_of(folder, record) if is_other else None), signed=record.signed)
         found = self.compared(folder, record, made, is_other, form < VERSION)
         notes = ["by another build of the program than the audit's"] if is_other else []
         notes += sorted({reason(entry) for entry in made.entries if entry.verdict == UNSUPPORTED})
@@ -121,12 +121,10 @@ def audit_json(folder: Folder) -> bytes:
     return folder.data(files.AUDIT)
 
 
-def earlier_of(folder: Folder, record: Record) -> Earlier:
-    """The refutations that stand in a folder: another build of the program may find another one."""
-    def earlier(part: str) -> bytes:
-        name = files.REFUTATION if part == "." else f"{part}/{files.REFUTATION}"
-        return folder.data(name) if name in record.outputs else b""
-    return earlier
+def earlier_of(folder: Folder, record: Record) -> dict[str, bytes]:
+    """The refutations that stand in a folder, by their parts: another build of the program may find another one."""
+    return {entry.part: folder.data(entry.within(files.REFUTATION)) for entry in record.entries
+            if entry.within(files.REFUTATION) in record.outputs}
 
 
 def in_words_of(place: str, kept: object, made: object) -> str:

@@ -72,8 +72,9 @@ def test_beside(place: Path) -> None:
     how = nobody("a strange folder that can't be written")
     for top in (copy, prefix / "bin"):
         shutil.copy(PROGRAM, top / "ntpaudit")
-    for top, others in ((house, how or {}), (copy, {}), (prefix / "bin", {})):
-        status, out, _ = run([top / "ntpaudit-dossier", "--version"], env=bare, **others)
+    for top in (house, copy, prefix / "bin"):
+        how = how if top == house and how else {}
+        status, out, _ = run([top / "ntpaudit-dossier", "--version"], env=bare, **how)
         check(f"the program of {top.name}", status=(status, 0), sum=(sum_of(Path(PROGRAM).read_bytes()) in out.decode(),
                                                                     True))
     dossier("audit", folder := folder_of(place, "host"))
