@@ -14,7 +14,7 @@ from functools import partial
 
 from ..fault import DEVICE, NOT_SHOWN, USAGE, fault
 from ..folder import files
-from ..folder.entry import DISPUTED, Kept, Record, read_record, record_text
+from ..folder.entry import DISPUTED, Kept, Record, record_text
 from ..folder.files import Folder, is_capture, sum_of, sum_of_file
 from ..folder.jobs import find_tool, run_all, stream
 from ..folder.placing import Copy, blocks_of, copy_of, is_ones_own, make_last, place, remove_folder, take_away
@@ -24,7 +24,7 @@ from ..records import replace
 from ..text import label, plain
 from ..units import DAY
 from .audit import change_of
-from .verify import audit_json
+from .verify import known_in
 
 YEAR = 365.25 * DAY
 PACKED = (".gz", ".zst")
@@ -58,8 +58,7 @@ GONE = "taken away"
 def ended(known: Known, path: str, _: int) -> Result:
     """When the span of a folder ended, if it is known here."""
     with Folder(path) as folder:
-        data = audit_json(folder)
-        record = known.shown(sum_of(data), read_record(data))
+        record = known_in(folder, known)[1]
         return Result(last=max(entry.claim.last for entry in record.entries) if record and record.entries else 0)
 
 
@@ -91,9 +90,7 @@ def keep(path: str, is_over: bool, known: Known) -> Result:
     """What was done with a folder whose audit was made or verified here. What is disputed is left as it is."""
     with Folder(path) as folder, known.alone(folder):
         is_ones_own(folder.place)
-        data = audit_json(folder)
-        record = read_record(data)
-        seen = known.shown(sum_of(data), record)
+        record, seen = known_in(folder, known)
         if not seen:
             raise fault("neither made nor verified here: `ntpaudit-dossier verify` comes first", USAGE)
         if words := known.dispute(record):

@@ -20,7 +20,7 @@ from ..units import now
 from .audit import change_of
 from .signature import NAMESPACE, NO_KEYGEN, signed_in
 from .statements import difference, read_statements
-from .verify import audit_json
+from .verify import known_in
 
 OF_A_PERSON = ("HOME", "TERM", "DISPLAY", "WAYLAND_DISPLAY", "XDG_RUNTIME_DIR", "SSH_AUTH_SOCK", "SSH_ASKPASS",
                "SSH_ASKPASS_REQUIRE", "SSH_SK_PROVIDER", "SSH_SK_HELPER")
@@ -54,13 +54,11 @@ def to_be_signed(known: Known, leaps: LeapList, path: str, _: int) -> Result:
             if wrong := difference(folder, known, leaps):
                 return Result(NOT_SHOWN, [wrong])
             return Result(text=json_text(replace(read_statements(folder.data(YEAR)), signed=now())).decode())
-        data = audit_json(folder)
-        record = read_record(data)
+        record, seen = known_in(folder, known)
         if folder.has(files.SIGNATURE):
             raise fault(f"signed already; who wants another signature takes {files.SIGNATURE} away", DEVICE)
         if record.refusal:
             raise fault("the audit was refused, so there is nothing to sign", DEVICE)
-        seen = known.shown(sum_of(data), record)
         if not seen:
             raise fault("neither made nor verified here, so it isn't signed: `ntpaudit-dossier verify` comes first",
                         USAGE)
@@ -84,8 +82,7 @@ def sign(known: Known, leaps: LeapList, signed: bytes, signature: bytes, path: s
                 raise fault(f"{YEAR} has changed meanwhile")
             place(folder, {YEAR: [signed], f"{YEAR}.sig": [signature]})
             return Result(lines=["signed"])
-        data, record = audit_json(folder), read_record(signed)
-        seen = known.shown(sum_of(data), read_record(data))
+        record, seen = read_record(signed), known_in(folder, known)[1]
         if folder.has(files.SIGNATURE) or not seen or \
                 replace(record_by(leaps, seen), signed=record.signed) != record:
             raise fault(f"{files.AUDIT} has changed meanwhile")

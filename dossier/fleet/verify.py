@@ -7,7 +7,7 @@ from typing import NamedTuple
 from .. import VERSION
 from ..fault import DEVICE, NOT_SHOWN, Fault, fault, summed
 from ..folder import files
-from ..folder.entry import DISPUTED, OPEN, UNSUPPORTED, LeapList, Record
+from ..folder.entry import DISPUTED, OPEN, UNSUPPORTED, LeapList, Record, read_record
 from ..folder.files import Folder, own, sum_of
 from ..folder.jobs import run_all, run_one
 from ..folder.older import differs as differs_from_older, form_of, read_any
@@ -119,6 +119,13 @@ def audit_json(folder: Folder) -> bytes:
     if not folder.has(files.AUDIT):
         raise fault("not audited", DEVICE)
     return folder.data(files.AUDIT)
+
+
+def known_in(folder: Folder, known: Known) -> tuple[Record, Record | None]:
+    """What audit.json says, and the same as it was made or verified here, if it was."""
+    data = audit_json(folder)
+    record = read_record(data)
+    return record, known.shown(sum_of(data), record)
 
 
 def earlier_of(folder: Folder, record: Record) -> dict[str, bytes]:
