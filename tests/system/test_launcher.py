@@ -292,6 +292,12 @@ def test_strange_folders(folder: Path) -> None:
     copy.kept.symlink_to(folder / "elsewhere")
     copy.check_refused("a link in the place of out/", b"out is a link", **nothing)
     check("where the link leads", left=(os.listdir(folder / "elsewhere"), []))
+    copy.kept.unlink()
+    copy.kept.mkdir()
+    (copy.kept / "build.log").symlink_to(folder / "elsewhere/victim")
+    copy.source.write_text(PROGRAM + "# other\n")
+    copy.check_refused("a link in out/", b"has links in it")
+    check("where a link in out/ leads", left=(os.listdir(folder / "elsewhere"), []))
 
 
 def test_verify(folder: Path) -> None:
