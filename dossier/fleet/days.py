@@ -118,8 +118,8 @@ def found_in(wanted: Wanted, folder: Folder, name: str) -> Iterator[Found]:
         yield Found(Told(name, MISSING, plain(name), plain(found.words)))
         return
     if record is None:
-        yield Found(Told(name, NOT_VERIFIED, plain(name), f"{AUDIT} was neither made nor verified here, of this "
-                         f"{CLAIM}", sha256=sum_))
+        why = f"{AUDIT} was neither made nor verified here, or is of another {CLAIM}"
+        yield Found(Told(name, NOT_VERIFIED, plain(name), why, sha256=sum_))
     elif record.refusal:
         yield Found(Told(name, REFUSED, plain(name), plain(record.refusal.line), sha256=sum_), made=written.program)
     else:
