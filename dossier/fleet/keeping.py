@@ -6,7 +6,6 @@ wrong for a night.
 """
 import hashlib
 import os
-import sys
 import time
 from collections import Counter
 from collections.abc import Iterable
@@ -21,7 +20,7 @@ from ..folder.placing import Copy, blocks_of, copy_of, is_ones_own, make_last, p
 from ..folder.registry import Known
 from ..folder.result import Result
 from ..records import replace
-from ..text import label, plain
+from ..text import label, note, plain
 from ..units import DAY
 from .audit import change_of
 from .verify import known_in
@@ -41,7 +40,7 @@ def keep_all(folders: list[str], years: int | None, force: bool, known: Known, s
         lasts = {path: found.last for path, found in run_all(folders, partial(ended, known), seconds) if found.last}
         over, words = over_of(lasts, years, force, known)
         if words:
-            print(f"ntpaudit-dossier: {words}", file=sys.stderr, flush=True)
+            note(f"ntpaudit-dossier: {words}")
             worst = USAGE
     for path, found in run_all(folders, lambda path, _: keep(path, path in over, known), seconds):
         line = found.refusal.line if found.refusal else found.lines[0]

@@ -1,13 +1,12 @@
 """What audits come to as metrics, in Prometheus' text format, for the textfile collector of node_exporter."""
 import os
 import re
-import sys
 from collections.abc import Iterable, Iterator
 
 from ..fault import Fault
 from ..folder.entry import ANSWERED, DISPUTED, NOT_VERIFIED, REFUSED, Entry, Record
 from ..folder.placing import write_named
-from ..text import plain
+from ..text import note, plain
 from ..units import SECOND, seconds_of
 
 Sample = tuple[str, str, int]
@@ -107,6 +106,6 @@ def write_metrics(path: str, samples: Iterable[Sample]) -> int:
     try:
         write_named(path, metrics_text(samples).encode("utf-8", "backslashreplace"))
     except Fault as found:
-        print(plain(found.line), file=sys.stderr, flush=True)
+        note(found.line)
         return found.status
     return 0

@@ -1,7 +1,6 @@
 """A year of many machines: looked at machine by machine, written as a calendar with the sums, what isn't shown, and
 statements to sign, and kept so that these can be signed."""
 import os
-import sys
 from collections.abc import Iterator, Sequence
 from itertools import groupby
 from typing import NamedTuple
@@ -13,7 +12,7 @@ from ..folder.files import YEAR
 from ..folder.jobs import run_all
 from ..folder.result import Result, Told, Year
 from ..schema import json_text
-from ..text import plain
+from ..text import note
 from ..units import civil, ns_up_ms
 from .figure import shade, strip
 from .templates import INDEX, SIGNS, page, put, templates
@@ -72,7 +71,7 @@ def write_year(folders: list[str], wanted: Wanted, pages: Pages, seconds: int, j
         if result.refusal or result.year is None:
             worst = max(worst, result.status)
             why = result.refusal.line if result.refusal else "nothing came of it"
-            print(plain(f"{machine}: {why}"), file=sys.stderr)
+            note(f"{machine}: {why}")
             continue
         found[number] = result.year
     if not found:
