@@ -174,7 +174,7 @@ OPTIONS = [
            "again and again, each 10 seconds if no number is given; on a terminal with a band of the last hour",
            {"metavar": "SECONDS", "nargs": "?", "const": 10}),
     Option("now", "--no-color", "", "no colours on a terminal"),
-    Option("audit page verify year now", "--leap-seconds", "FILE",
+    Option("audit page verify sign year now", "--leap-seconds", "FILE",
            "the list of leap seconds; the system's if it is left out"),
     Option("verify", "--second", "", "have the second program, ntpaudit-recheck, judge each answer too"),
     Option("audit page", "--metrics", "FILE",
@@ -299,8 +299,8 @@ def run(given: argparse.Namespace) -> int:
         print(f"ntpaudit-dossier, form {VERSION} of audit.json\n{program.made.version}, SHA-256 {program.made.sha256}")
         return 0
     if given.command == "measure":
-        from .premise.measuring import Wanted, measure
-        return measure(program, Wanted(given.count, given.load), given.output)
+        from .premise.measuring import measure
+        return measure(program, given.count, given.load, given.output)
     if given.command == "draft":
         return run_draft(given, program)
     from .page.figure import picture_of
@@ -332,15 +332,14 @@ def run_on_folders(given: argparse.Namespace, folders: list[str]) -> int:
     if given.command == "page" and given.split and given.output:
         raise fault("--split takes no --output: it writes into a folder", USAGE)
     known = Known(state_of(given.state), writes=given.command != "page" or given.verify)
-    if given.command == "sign":
-        from .fleet.signing import sign_all
-        from .premise.leap import read_list
-        return sign_all(folders, given.key, known, given.limit, read_list(None))
     if given.command == "keep":
         from .fleet.keeping import keep_all
         return keep_all(folders, given.years, given.force, known, given.limit)
     from .premise.leap import read_list
     leaps = read_list(given.leap_seconds)
+    if given.command == "sign":
+        from .fleet.signing import sign_all
+        return sign_all(folders, given.key, known, given.limit, leaps)
     if given.command == "page" and not given.verify:
         from .page.page import write_page
         return write_page(folders, given, known, leaps)
@@ -392,8 +391,8 @@ def reading_of(given: argparse.Namespace) -> "Proposal":
 
 def run_draft(given: argparse.Namespace, program: Program) -> int:
     from .folder.placing import write_named
-    from .premise.correction import correction_text
     from .premise.leap import read_list
+    from .schema import json_text
     from .verdict.draft import Wanted, claim_text, draft, of_leaps
     found = correction_of(given)
     proposed, leaps = found.drift_ppb if found else given.oscillator_ppb, read_list(None)
@@ -414,6 +413,6 @@ def run_draft(given: argparse.Namespace, program: Program) -> int:
     if not drafted.text:
         return 1
     if found and given.evidence:
-        write_named(given.evidence, correction_text(found))
+        write_named(given.evidence, json_text(found))
     sys.stdout.write(drafted.text)
     return 0

@@ -247,6 +247,11 @@ def said(value: Any) -> Any:
     return list(map(said, value)) if isinstance(value, (list, tuple)) else value
 
 
+def json_text(value: Any) -> bytes:
+    """A record, or what is made of such, as a file of JSON."""
+    return (json.dumps(said(value), indent=1) + "\n").encode()
+
+
 def first_difference(one: Any, other: Any, place: str = "") -> tuple[str, Any, Any] | None:
     """Where two values of JSON differ first, and what they say there."""
     if isinstance(one, dict) and isinstance(other, dict):

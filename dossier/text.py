@@ -3,15 +3,26 @@ import re
 import shlex
 import sys
 
+LATIN = re.compile("[A-Za-z]")
 BLANK = re.compile("[\u034f\u115f\u1160\u17b4\u17b5\u180b-\u180f\u2800\u3164\ufe00-\ufe0f\uffa0\U000e0100-\U000e01ef]")
 """What counts as printable, and isn't seen: two names may differ in it alone."""
 
 
+WORD = re.compile(r"[^\s/]+")
+ALIKE = re.compile("[\u0370-\u058f\u13a0-\u13ff\u1c80-\u1c88\u1f00-\u1fff\u2c80-\u2cff\u2de0-\u2dff\ua4d0-\ua4ff"
+                   "\ua640-\ua69f\uab70-\uabbf\uff21-\uff5a\U0001d400-\U0001d7ff]")
+"""Letters of alphabets with some that look like Latin ones: Greek, Cyrillic, Armenian, Cherokee, Coptic, Lisu, and
+Latin ones of other widths and weights."""
+
+
 def plain(words: str) -> str:
     """The text with whatever isn't printable, or isn't seen, spelled out, as in `a\\x0ab`: line feeds, escape codes,
-    marks that turn the direction of writing, and bytes that are no UTF-8."""
+    marks that turn the direction of writing, bytes that are no UTF-8, and what may look like a Latin letter in a word
+    with such."""
     if words.isascii() and words.isprintable():
         return words
+    words = WORD.sub(lambda word: ALIKE.sub(lambda c: spelled(c[0]), word[0]) if LATIN.search(word[0]) else word[0],
+                     words)
     return "".join(c if c.isprintable() and not BLANK.match(c) else spelled(c) for c in words)
 
 

@@ -89,18 +89,18 @@ def day_of(seconds: int) -> str:
 
 
 def between(begin: int, end: int) -> str:
-    """`between .. and ..`, or `at ..` of one moment."""
-    return f"at {shown_time(begin)}" if begin == end else two_times("between", begin, "and", end)
+    return two_times("between", begin, "and", end)
 
 
 def from_to(begin: int, end: int) -> str:
-    """`from .. to ..`, or `at ..` of one moment."""
-    return f"at {shown_time(begin)}" if begin == end else two_times("from", begin, "to", end)
+    return two_times("from", begin, "to", end)
 
 
 def two_times(word: str, begin: int, other: str, end: int) -> str:
-    """Two times, each with its word, the second without the day if it is the same."""
+    """Two times, each with its word, the second without the day if it is the same; or `at ..` of one moment."""
     first, last = shown_time(begin), shown_time(end)
+    if begin == end:
+        return f"at {first}"
     return f"{word} {first} {other} {last[11:] if first[:10] == last[:10] else last}"
 
 

@@ -1,7 +1,6 @@
 """The recorder: tcpdump on an interface. Beside its files it leaves what they are recorded by, and has evidence.json
 name it, so that a draft can know of what kind their stamps are.
 """
-import json
 import os
 import re
 import signal
@@ -15,7 +14,7 @@ from ..folder.files import EVIDENCE, Folder, data_named, is_capture
 from ..folder.jobs import ENVIRONMENT, find_tool, private_folder, run
 from ..folder.placing import make_folder, place
 from ..records import dataclass, replace
-from ..schema import Address, Text, Time, is_time, length, matching, read_typed, said
+from ..schema import Address, Text, Time, is_time, json_text, length, matching, read_typed
 from ..text import note, plain
 from ..units import now, seconds_of
 
@@ -135,17 +134,13 @@ def keep(path: str, found: Recorder) -> None:
             told = evidence(folder)
             made, reading = dict[str, Iterable[bytes]](), told.get("reading", "")
             if not is_as(read_recorder(folder, name), found):
-                made[name] = [text_of(said(found))]
+                made[name] = [json_text(found)]
             if name not in named_in(reading):
-                made[EVIDENCE] = [text_of({**told, "reading": f"{reading} {name}".strip()})]
+                made[EVIDENCE] = [json_text({**told, "reading": f"{reading} {name}".strip()})]
             if not made:
                 return
             place(folder, made)
     raise fault(f"{name} and {EVIDENCE} don't stay as they are written")
-
-
-def text_of(value: object) -> bytes:
-    return (json.dumps(value, indent=1) + "\n").encode()
 
 
 def is_as(old: Recorder | None, found: Recorder) -> bool:

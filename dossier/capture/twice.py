@@ -3,11 +3,11 @@
 A reply to a request that was recorded twice is of no use, since it may be the answer to either. So a file is left out,
 and named, if larger ones have most of its requests too.
 """
-from ..folder.answers import read_counts
 from ..folder.entry import Alert
 from ..folder.files import CLAIM
 from ..folder.program import Program
 from .captures import Audited, joined, open_capture
+from .recording import Samples
 
 Requests = set[tuple[str, str, str]]
 """Of each request who asked whom, and the timestamp in it, which no two of a client's have in common."""
@@ -17,8 +17,10 @@ def once(copies: dict[str, str], program: Program) -> Audited:
     """One capture of all, given by their names and their copies, in which each packet is there once, if that can be
     had by leaving out files."""
     opened = {name: open_capture(name, copy) for name, copy in copies.items()}
-    whole = joined(dict(opened), copies)
-    if len(copies) == 1 or not are_twice(counts_of(program, whole.path)):
+    whole, seen = joined(dict(opened), copies), Samples()
+    if len(copies) > 1:
+        program.blocks(seen.take, "samples", CLAIM, whole.path)
+    if not are_twice(seen.counts):
         return whole
     again = repeated({name: requests_of(program, one.path) for name, one in opened.items()})
     if not again:
@@ -32,15 +34,6 @@ def once(copies: dict[str, str], program: Program) -> Audited:
 def are_twice(counts: dict[str, int]) -> bool:
     """Whether most replies may be the answer to two requests."""
     return 2 * counts.get("ambiguous", 0) > counts.get("replies", 0)
-
-
-def counts_of(program: Program, capture: str) -> dict[str, int]:
-    last = [b""]
-
-    def take(block: bytes) -> None:
-        last[0] = block[block.rfind(b"\n", 0, -1) + 1 :]
-    program.blocks(take, "samples", CLAIM, capture)
-    return read_counts(last[0].decode("ascii"))
 
 
 def requests_of(program: Program, capture: str) -> Requests:

@@ -96,8 +96,8 @@ def keep_recordings(folder: Folder, record: Record) -> None:
     for name in {files.JOINED, *record.outputs}:
         if os.path.basename(name) == files.JOINED and kind_of(folder.place, name) == FILE and \
                 folder.sum(name) not in (left.get(name), record.outputs.get(name)):
-            raise fault(f"{name} is what an audit leaves, and none left this one: if it is a recording, give it another "
-                        "name, such as f.pcap", DEVICE)
+            raise fault(f"{name} is what an audit leaves, and none left this one: if it is a recording, give it "
+                        "another name, such as f.pcap", DEVICE)
 
 
 def result_of(path: str, record: Record, known: Known, more: str, others: Iterable[str] = ()) -> Result:

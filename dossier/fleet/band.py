@@ -2,7 +2,7 @@
 hour, drawn with characters: the hull over time, and the bound."""
 from collections.abc import Iterator
 
-from ..folder.entry import ANSWERED, NOTHING_FITS, Hull, Piece
+from ..folder.entry import ANSWERED, NOTHING_FITS, REFUSED, Hull, Piece
 from ..folder.result import Moment
 from ..text import count, plain
 from ..units import SECOND, TICKS, bound_ticks, ceil_div, civil, high_ms, low_ms, ns_up_ms
@@ -33,6 +33,8 @@ def fields_of(moment: Moment) -> list[str]:
     begin, end = civil(moment.begin), civil(moment.end)
     said = [f"{begin} .. {end[11:] if begin[:10] == end[:10] else end}", moment.verdict]
     hull = whole(moment.pieces)
+    if hull is None and moment.verdict == REFUSED:
+        return [moment.recorder, *said]
     if hull is None:
         was = f"nothing was recorded since {civil(moment.last)}" if moment.last else "nothing was recorded"
         return [moment.recorder, *said, was]
@@ -63,7 +65,7 @@ def line_of(moment: Moment) -> str:
 def metrics_of(moment: Moment) -> Iterator[Sample]:
     """The hull is that of the last second: how the clock is now. A low end is rounded down and a high end up."""
     labels = labels_of(recorder=moment.recorder)
-    for other in ANSWERED:
+    for other in (*ANSWERED, REFUSED):
         yield "now_verdict", labels_of(recorder=moment.recorder, verdict=other), int(other == moment.verdict)
     yield "now_clock_off", labels, int(moment.is_off)
     yield "now_claimed_bound_seconds", labels, moment.bound_ns
@@ -74,6 +76,7 @@ def metrics_of(moment: Moment) -> Iterator[Sample]:
         yield "now_least_bound_seconds", labels, moment.least_ns
     yield "now_groups_heard", labels, moment.heard
     yield "now_groups", labels, moment.groups
+    yield "now_refused_files", labels, len(moment.bad)
     if moment.last:
         yield "now_last_record_timestamp_seconds", labels, moment.last * SECOND
 

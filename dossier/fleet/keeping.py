@@ -1,12 +1,11 @@
 """How audits are kept for years: their captures packed by zstd, without what may be made anew.
 
-A capture is taken away only after what was packed of it unpacked to the same bytes, and is on the disk in its place. How old a
-folder is counts from the newest recording among those that are kept, and not from the clock, which may be wrong for a
-night.
+A capture is taken away only after what was packed of it unpacked to the same bytes, and is on the disk in its place.
+How old a folder is counts from the newest recording among those that are kept, and not from the clock, which may be
+wrong for a night.
 """
 import hashlib
 import os
-import sys
 import time
 from collections import Counter
 from collections.abc import Iterable
@@ -14,17 +13,17 @@ from functools import partial
 
 from ..fault import DEVICE, NOT_SHOWN, USAGE, fault
 from ..folder import files
-from ..folder.entry import DISPUTED, Kept, Record, read_record, record_text
+from ..folder.entry import DISPUTED, Kept, Record, record_text
 from ..folder.files import Folder, is_capture, sum_of, sum_of_file
 from ..folder.jobs import find_tool, run_all, stream
 from ..folder.placing import Copy, blocks_of, copy_of, is_ones_own, make_last, place, remove_folder, take_away
 from ..folder.registry import Known
 from ..folder.result import Result
 from ..records import replace
-from ..text import label, plain
+from ..text import label, note, plain
 from ..units import DAY
 from .audit import change_of
-from .verify import audit_json
+from .verify import known_in
 
 YEAR = 365.25 * DAY
 PACKED = (".gz", ".zst")
@@ -41,7 +40,7 @@ def keep_all(folders: list[str], years: int | None, force: bool, known: Known, s
         lasts = {path: found.last for path, found in run_all(folders, partial(ended, known), seconds) if found.last}
         over, words = over_of(lasts, years, force, known)
         if words:
-            print(f"ntpaudit-dossier: {words}", file=sys.stderr, flush=True)
+            note(f"ntpaudit-dossier: {words}")
             worst = USAGE
     for path, found in run_all(folders, lambda path, _: keep(path, path in over, known), seconds):
         line = found.refusal.line if found.refusal else found.lines[0]
@@ -58,8 +57,7 @@ GONE = "taken away"
 def ended(known: Known, path: str, _: int) -> Result:
     """When the span of a folder ended, if it is known here."""
     with Folder(path) as folder:
-        data = audit_json(folder)
-        record = known.shown(sum_of(data), read_record(data))
+        record = known_in(folder, known)[1]
         return Result(last=max(entry.claim.last for entry in record.entries) if record and record.entries else 0)
 
 
@@ -91,9 +89,7 @@ def keep(path: str, is_over: bool, known: Known) -> Result:
     """What was done with a folder whose audit was made or verified here. What is disputed is left as it is."""
     with Folder(path) as folder, known.alone(folder):
         is_ones_own(folder.place)
-        data = audit_json(folder)
-        record = read_record(data)
-        seen = known.shown(sum_of(data), record)
+        record, seen = known_in(folder, known)
         if not seen:
             raise fault("neither made nor verified here: `ntpaudit-dossier verify` comes first", USAGE)
         if words := known.dispute(record):

@@ -1,13 +1,12 @@
 """What audits come to as metrics, in Prometheus' text format, for the textfile collector of node_exporter."""
 import os
 import re
-import sys
 from collections.abc import Iterable, Iterator
 
 from ..fault import Fault
 from ..folder.entry import ANSWERED, DISPUTED, NOT_VERIFIED, REFUSED, Entry, Record
 from ..folder.placing import write_named
-from ..text import plain
+from ..text import note, plain
 from ..units import SECOND, seconds_of
 
 Sample = tuple[str, str, int]
@@ -33,6 +32,7 @@ HELP = {
     "now_least_bound_seconds": "The least bound that a certificate of the last minutes carries, if there is one.",
     "now_groups_heard": "Groups of servers that have a sample.",
     "now_groups": "Groups of servers in the claim.",
+    "now_refused_files": "Files of the recorder that can't be read, and were left out.",
     "now_last_record_timestamp_seconds": "When the recorder's last record was made.",
 }
 DATE = re.compile(r"\d{4}-\d\d-\d\d")
@@ -106,6 +106,6 @@ def write_metrics(path: str, samples: Iterable[Sample]) -> int:
     try:
         write_named(path, metrics_text(samples).encode("utf-8", "backslashreplace"))
     except Fault as found:
-        print(plain(found.line), file=sys.stderr, flush=True)
+        note(found.line)
         return found.status
     return 0

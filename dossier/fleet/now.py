@@ -15,10 +15,10 @@ from ..capture.captures import audited
 from ..capture.classic import HEADER, Classic
 from ..capture.recorder import begun_files
 from ..capture.tail import Growing
-from ..fault import Fault
+from ..fault import NOT_SHOWN, REFUSED as INPUT_REFUSED, Fault
 from ..folder.answers import read_envelope, read_settled
 from ..folder.claim import Claim
-from ..folder.entry import NO_EVIDENCE, OF_LEAPS, UNSUPPORTED, YES, LeapList
+from ..folder.entry import NO_EVIDENCE, OF_LEAPS, REFUSED, UNSUPPORTED, YES, LeapList
 from ..folder.files import CLAIM, Folder, data_named
 from ..folder.jobs import answer
 from ..folder.placing import keep
@@ -27,7 +27,7 @@ from ..folder.result import Moment, Result
 from ..premise.leap import alerts_of, look_up
 from ..records import replace
 from ..schema import read_typed
-from ..text import note
+from ..text import note, plain
 from ..units import civil
 from ..verdict.judgement import piece_of
 from .band import Band, line_of, metrics_of
@@ -52,14 +52,23 @@ def show_now(wanted: Wanted, metrics: str | None) -> int:
     """Prints a line for each recorder, the worst first, and writes metrics. The status is 1 if any clock isn't shown,
     or a fault's."""
     found = moments(wanted)
+    tell_bad(found)
     for moment in found:
         print(line_of(moment), flush=True)
     return max(status_of(found), write_metrics(metrics, [one for each in found for one in metrics_of(each)])
                if metrics else 0)
 
 
+def tell_bad(found: list[Moment]) -> None:
+    for moment in found:
+        for line in moment.bad:
+            note(line)
+
+
 def status_of(found: list[Moment]) -> int:
-    return int(any(moment.verdict != YES for moment in found))
+    """1 if any clock isn't shown, else 2 if a file was refused."""
+    is_shown = all(moment.verdict == YES for moment in found)
+    return INPUT_REFUSED * any(moment.bad for moment in found) if is_shown else NOT_SHOWN
 
 
 def follow(wanted: Wanted, metrics: str | None, seconds: int, has_colour: bool) -> int:
@@ -76,6 +85,7 @@ def follow(wanted: Wanted, metrics: str | None, seconds: int, has_colour: bool) 
             try:
                 found = moments(wanted)
                 status = status_of(found)
+                tell_bad(found)
                 screen.show(found, shutil.get_terminal_size().columns)
                 if metrics:
                     write_metrics(metrics, [one for each in found for one in metrics_of(each)])
@@ -104,25 +114,37 @@ def look(wanted: Wanted) -> Result:
         for recorder, behind, begun, name in begun_files(folder):
             if begun < time.time() + AHEAD:
                 recorders.setdefault(recorder.removesuffix("-"), []).append((begun, behind.zfill(12), name))
-        found = [moment_of(wanted, claim, folder, recorder, [name for *_, name in sorted(files, reverse=True)])
+        found = [moment_or_refusal(wanted, claim, folder, recorder, [name for *_, name in sorted(files, reverse=True)])
                  for recorder, files in recorders.items()]
-    return Result(moments=found or [silent(wanted, claim, "", 0)])
+    return Result(moments=found or [silent(wanted, claim, "")])
 
 
-def silent(wanted: Wanted, claim: Claim, recorder: str, last: int) -> Moment:
-    """Nothing was recorded in these minutes."""
+def silent(wanted: Wanted, claim: Claim, recorder: str, verdict: str = NO_EVIDENCE, last: int = 0) -> Moment:
+    """Nothing is known of these minutes."""
     end = int(time.time())
-    return Moment(recorder, end - MINUTE * wanted.minutes, end, NO_EVIDENCE, claim.bound_ns, len(claim.grouped), last)
+    return Moment(recorder, end - MINUTE * wanted.minutes, end, verdict, claim.bound_ns, len(claim.grouped), last)
 
 
-def moment_of(wanted: Wanted, claim: Claim, folder: Folder, recorder: str, names: list[str]) -> Moment:
-    """Of a recorder, by the names of its files, the newest first."""
+def moment_or_refusal(wanted: Wanted, claim: Claim, folder: Folder, recorder: str, names: list[str]) -> Moment:
+    """Of a recorder, by the names of its files, the newest first. Those that can't be read are left out and named."""
+    bad: list[str] = []
+    try:
+        moment = moment_of(wanted, claim, folder, recorder, names, bad)
+    except Fault as found:
+        moment, bad = silent(wanted, claim, recorder, REFUSED), [*bad, found.line]
+    return replace(moment, bad=list(map(plain, dict.fromkeys(bad))))
+
+
+def moment_of(wanted: Wanted, claim: Claim, folder: Folder, recorder: str, names: list[str], bad: list[str]) -> Moment:
     span = MINUTE * wanted.minutes
-    last = next(filter(None, (file.last(time.time() + AHEAD) for file in growing(folder, names))), 0)
+    last = next(filter(None, (file.last(time.time() + AHEAD) for file in growing(folder, names, bad))), 0)
     if last < time.time() - span:
-        return silent(wanted, claim, recorder, last)
-    capture = audited(dict(copies(growing(folder, names), last - 2 * span)))
-    first = min(Classic(capture.path, capture.extent).extent.stamps) >> 32
+        return silent(wanted, claim, recorder, last=last)
+    capture = audited(dict(copies(growing(folder, names, bad), last - 2 * span)))
+    stamps = Classic(capture.path, capture.extent).extent.stamps
+    if not stamps:
+        return silent(wanted, claim, recorder, last=last)
+    first = min(stamps) >> 32
     begin = max(last - span, first)
     own = replace(claim, from_=civil(begin), to=civil(last))
     keep(CLAIM, own.text)
@@ -139,9 +161,14 @@ def moment_of(wanted: Wanted, claim: Claim, folder: Folder, recorder: str, names
                   [piece_of(envelope, k) for k in range(len(envelope.hulls))])
 
 
-def growing(folder: Folder, names: list[str]) -> Iterator[Growing]:
-    """The files, but those that were only just begun."""
-    return (Growing(folder, name) for name in names if folder.size(name) >= HEADER)
+def growing(folder: Folder, names: list[str], bad: list[str]) -> Iterator[Growing]:
+    """The files, but those that were only just begun, and bad ones, whose faults are kept."""
+    for name in names:
+        try:
+            if folder.size(name) >= HEADER:
+                yield Growing(folder, name)
+        except Fault as found:
+            bad.append(found.line)
 
 
 def copies(files: Iterator[Growing], second: int) -> Iterator[tuple[str, str]]:

@@ -4,7 +4,6 @@ import sys
 from functools import partial
 from typing import IO
 
-from ..capture.recorder import text_of
 from ..fault import DEVICE, NOT_SHOWN, USAGE, Fault, fault, summed
 from ..folder import files
 from ..folder.entry import DISPUTED, LeapList, read_record, record_text
@@ -13,14 +12,15 @@ from ..folder.jobs import DEVNULL, ENVIRONMENT, PIPE, begun, find_tool, private_
 from ..folder.placing import is_ones_own, keep, place
 from ..folder.registry import Known
 from ..folder.result import Result
+from ..premise.leap import record_by
 from ..records import replace
-from ..schema import said
+from ..schema import json_text
 from ..text import label, plain
 from ..units import now
 from .audit import change_of
 from .signature import NAMESPACE, NO_KEYGEN, signed_in
 from .statements import difference, read_statements
-from .verify import audit_json
+from .verify import known_in
 
 OF_A_PERSON = ("HOME", "TERM", "DISPLAY", "WAYLAND_DISPLAY", "XDG_RUNTIME_DIR", "SSH_AUTH_SOCK", "SSH_ASKPASS",
                "SSH_ASKPASS_REQUIRE", "SSH_SK_PROVIDER", "SSH_SK_HELPER")
@@ -36,7 +36,7 @@ def sign_all(folders: list[str], key: str, known: Known, seconds: int, leaps: Le
         if found.text:
             try:
                 signature = signature_by(key, found.text.encode())
-                found = run_one(path, partial(sign, known, found.text.encode(), signature), seconds)
+                found = run_one(path, partial(sign, known, leaps, found.text.encode(), signature), seconds)
             except Fault as refused:
                 found = Result(refused.status, [refused.line])
         lines = [found.refusal.line] if found.refusal else found.lines
@@ -53,14 +53,12 @@ def to_be_signed(known: Known, leaps: LeapList, path: str, _: int) -> Result:
         if signed_in(folder) == YEAR:
             if wrong := difference(folder, known, leaps):
                 return Result(NOT_SHOWN, [wrong])
-            return Result(text=text_of(said(replace(read_statements(folder.data(YEAR)), signed=now()))).decode())
-        data = audit_json(folder)
-        record = read_record(data)
+            return Result(text=json_text(replace(read_statements(folder.data(YEAR)), signed=now())).decode())
+        record, seen = known_in(folder, known)
         if folder.has(files.SIGNATURE):
             raise fault(f"signed already; who wants another signature takes {files.SIGNATURE} away", DEVICE)
         if record.refusal:
             raise fault("the audit was refused, so there is nothing to sign", DEVICE)
-        seen = known.shown(sum_of(data), record)
         if not seen:
             raise fault("neither made nor verified here, so it isn't signed: `ntpaudit-dossier verify` comes first",
                         USAGE)
@@ -68,10 +66,14 @@ def to_be_signed(known: Known, leaps: LeapList, path: str, _: int) -> Result:
             return Result(NOT_SHOWN, [f"{DISPUTED}: {words}"])
         if changed := change_of(folder, record):
             return Result(NOT_SHOWN, [changed])
-        return Result(text=record_text(replace(seen, signed=now())).decode())
+        found = record_by(leaps, seen)
+        if found.verdicts != seen.verdicts:
+            raise fault("by your own list of leap seconds it says something else: name the list by which it was "
+                        "verified (--leap-seconds)", USAGE)
+        return Result(text=record_text(replace(found, signed=now())).decode())
 
 
-def sign(known: Known, signed: bytes, signature: bytes, path: str, _: int) -> Result:
+def sign(known: Known, leaps: LeapList, signed: bytes, signature: bytes, path: str, _: int) -> Result:
     """Puts what was signed in its place, with the signature, if the folder's audit.json is still the same but for the
     time."""
     with Folder(path) as folder, known.alone(folder):
@@ -80,9 +82,9 @@ def sign(known: Known, signed: bytes, signature: bytes, path: str, _: int) -> Re
                 raise fault(f"{YEAR} has changed meanwhile")
             place(folder, {YEAR: [signed], f"{YEAR}.sig": [signature]})
             return Result(lines=["signed"])
-        data, record = audit_json(folder), read_record(signed)
-        seen = known.shown(sum_of(data), read_record(data))
-        if folder.has(files.SIGNATURE) or not seen or replace(seen, signed=record.signed) != record:
+        record, seen = read_record(signed), known_in(folder, known)[1]
+        if folder.has(files.SIGNATURE) or not seen or \
+                replace(record_by(leaps, seen), signed=record.signed) != record:
             raise fault(f"{files.AUDIT} has changed meanwhile")
         place(folder, {files.AUDIT: [signed], files.SIGNATURE: [signature]})
         known.add(sum_of(signed), seen)

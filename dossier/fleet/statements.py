@@ -11,14 +11,16 @@ from ..folder.registry import Known
 from ..folder.result import Year
 from ..records import dataclass, field, replace
 from ..schema import Count, Name, Sum, Text, Time, is_time, length, or_nothing, read_typed, within
-from ..text import count, label, plain
+from ..text import count, label, listed, plain
 from ..units import now, ns_ms, ns_up_ms, seconds_of
-from .days import Wanted, is_day, year_of
+from .days import Wanted, is_day, twinned, year_of
 
 RULES = {100_000: "MiFID II's RTS 25 of high-frequency trading, and CAT's 6.8 of exchanges",
          1_000_000: "MiFID II's RTS 25 of most venues and trading", 50_000_000: "FINRA 6820 and CAT's 6.8 of members",
          1_000_000_000: "MiFID II's RTS 25 of voice trading, and CAT's 6.8 of manual orders"}
 """Who asks for a bound of so many nanoseconds, by docs/BOUND.md."""
+
+TWINS = "A recording of these days is that of"
 
 
 @dataclass(frozen=True)
@@ -45,7 +47,7 @@ class Statements:
 
 def statement(year: Year) -> str:
     """What somebody can sign of a machine's year."""
-    if not year.claim or not year.days:
+    if not year.claim or not any(day.sha256 for day in year.days):
         return f"Of {year.machine} nothing is known here."
     claim, counts = year.claim, year.counts
     rule = RULES.get(claim.bound_ns)
@@ -62,6 +64,7 @@ def statement(year: Year) -> str:
     worst = year.worst
     said += [f"The greatest bound that a day needed was {ns_up_ms(worst.least_ns or 0)} ms, on {worst.date}."] \
         if worst else []
+    said += [f"{TWINS} {listed(year.twins)} too, so one of them is a copy."] if year.twins else []
     programs = "; ".join(f"{made.version or 'ntpaudit'}, SHA-256 {made.sha256}" for made in year.programs)
     return " ".join([*said, f"Audited by {programs}."])
 
@@ -146,6 +149,7 @@ def difference(folder: Folder, known: Known, leaps: LeapList) -> str:
     """The first difference between what stands in a year and what its days come to, by what is known here; nothing if
     there is none."""
     found = read_statements(folder.data(YEAR))
+    years = list[Year]()
     for stated in found.machines:
         data, name = folder.data(stated.file), label(stated.machine)
         if sum_of(data) != stated.sha256:
@@ -154,6 +158,7 @@ def difference(folder: Folder, known: Known, leaps: LeapList) -> str:
         machines = {os.path.dirname(day) or "." for day in days}
         if len(machines) > 1:
             return f"{label(stated.file)} has days of several machines"
+        year = Year("", [])
         for machine in machines:
             wanted = Wanted(found.year, known, leaps, seconds_of(found.made))
             year = year_of(wanted, machine, [os.path.basename(day) for day in days])
@@ -161,6 +166,9 @@ def difference(folder: Folder, known: Known, leaps: LeapList) -> str:
                 return f"{name}: a day isn't the one that {stated.file} names"
             if not may_be(stated.machine, machine):
                 return f"{name}: its days are in {machine}, which has another name"
-            if stated_of(replace(year, machine=stated.machine), stated.file, data) != stated:
-                return f"{name}: the statement doesn't follow from its days, as they are known here"
+        years.append(replace(year, machine=stated.machine))
+    for stated, year in zip(found.machines, twinned(years)):
+        own = stated if year.days else replace(stated, days=0)
+        if stated_of(year, stated.file, folder.data(stated.file)) != own:
+            return f"{label(stated.machine)}: the statement doesn't follow from its days, as they are known here"
     return ""

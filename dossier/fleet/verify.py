@@ -7,7 +7,7 @@ from typing import NamedTuple
 from .. import VERSION
 from ..fault import DEVICE, NOT_SHOWN, Fault, fault, summed
 from ..folder import files
-from ..folder.entry import DISPUTED, OPEN, UNSUPPORTED, LeapList, Record
+from ..folder.entry import DISPUTED, OPEN, UNSUPPORTED, LeapList, Record, read_record
 from ..folder.files import Folder, own, sum_of
 from ..folder.jobs import run_all, run_one
 from ..folder.older import differs as differs_from_older, form_of, read_any
@@ -19,7 +19,8 @@ from ..records import replace
 from ..schema import first_difference, said
 from ..text import label, plain
 from ..units import now
-from ..verdict.making import Earlier, Making, no_earlier
+from ..verdict.alerts import warning_words
+from ..verdict.making import Making
 from ..verdict.second import Second
 from ..verdict.sentences import TWICE, reason
 from .audit import change_of
@@ -60,10 +61,11 @@ class Verifier:
             return Verified(found, [], None)
         is_other = record.program.sha256 != self.program.made.sha256
         making = Making(folder, self.program, record.options, self.leaps, record.kept)
-        made = replace(making.record(earlier_of(folder, record) if is_other else no_earlier), signed=record.signed)
+        made = replace(making.record(earlier_of(folder, record) if is_other else None), signed=record.signed)
         found = self.compared(folder, record, made, is_other, form < VERSION)
         notes = ["by another build of the program than the audit's"] if is_other else []
         notes += sorted({reason(entry) for entry in made.entries if entry.verdict == UNSUPPORTED})
+        notes += sorted({warning_words(one) for entry in made.entries for one in entry.warnings if one.kind == "twice"})
         if not found:
             if form == VERSION:
                 self.known.add(sum_of(data), made)
@@ -119,12 +121,17 @@ def audit_json(folder: Folder) -> bytes:
     return folder.data(files.AUDIT)
 
 
-def earlier_of(folder: Folder, record: Record) -> Earlier:
-    """The refutations that stand in a folder: another build of the program may find another one."""
-    def earlier(part: str) -> bytes:
-        name = files.REFUTATION if part == "." else f"{part}/{files.REFUTATION}"
-        return folder.data(name) if name in record.outputs else b""
-    return earlier
+def known_in(folder: Folder, known: Known) -> tuple[Record, Record | None]:
+    """What audit.json says, and the same as it was made or verified here, if it was."""
+    data = audit_json(folder)
+    record = read_record(data)
+    return record, known.shown(sum_of(data), record)
+
+
+def earlier_of(folder: Folder, record: Record) -> dict[str, bytes]:
+    """The refutations that stand in a folder, by their parts: another build of the program may find another one."""
+    return {entry.part: folder.data(entry.within(files.REFUTATION)) for entry in record.entries
+            if entry.within(files.REFUTATION) in record.outputs}
 
 
 def in_words_of(place: str, kept: object, made: object) -> str:

@@ -75,25 +75,18 @@ end, which begins with a name."""
 
 
 def read_envelope(text: bytes) -> Envelope:
-    """Takes the text of `envelope --servers` apart."""
-    lines, _ = lines_of(text)
+    """Takes the text of `envelope` apart, with or without servers."""
+    lines, closing = lines_of(text)
     width, servers = width_of(lines), {}
     for place in range(width):
         words, fields = " ".join(lines[place :: width + 1]).split(" "), len(lines[place].split(" "))
         column = {name: words[at::fields] for at, name in enumerate(SERVER)}
         servers[column["server"][0]] = list(map(int, column["low"])), list(map(int, column["high"]))
-    return read_hulls(text)._replace(servers=servers)
-
-
-def read_hulls(text: bytes) -> Envelope:
-    """The envelope with its servers left out."""
-    lines, closing = lines_of(text)
-    width = width_of(lines)
     pieces = [dict(zip(PIECE, line.split())) for line in lines[width :: width + 1]]
     bound, least = closing["bound_ns"], closing.get("least_ns", {"bound": "none"})
     has_least = "none" not in (bound["bound"], least["bound"])
     return Envelope([int(piece["begin"]) for piece in pieces], [int(piece["end"]) for piece in pieces],
-                    [read_hull([piece["low"], piece.get("high", "")]) for piece in pieces], {},
+                    [read_hull([piece["low"], piece.get("high", "")]) for piece in pieces], servers,
                     int(least["bound"]) if has_least else None, int((least if has_least else bound)["piece"]))
 
 

@@ -245,8 +245,7 @@ class Journal:
                 is_ones_own(self.place)
             flags = os.O_RDWR | os.O_CREAT | os.O_APPEND if writes else os.O_RDONLY
             self.file = os.open(name, flags | os.O_NOFOLLOW | os.O_CLOEXEC, 0o600, dir_fd=self.place)
-            with os.fdopen(os.dup(self.file), "rb") as opened:
-                self.text = opened.read().decode("utf-8", "replace")
+            self.text = self.again()
         except FileNotFoundError:
             pass
 

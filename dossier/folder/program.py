@@ -8,10 +8,13 @@ from ..fault import MEMORY, MISSING, Fault
 from ..text import plain
 from .entry import Made
 from .files import sum_of_file
-from .jobs import DEVNULL, ENVIRONMENT, begun, private_folder, run, stream
+from .jobs import ENVIRONMENT, PIPE, begun, private_folder, run, stream
 from .placing import keep
 
 ROOT = os.path.realpath(os.path.join(__file__, *[os.pardir] * 3))
+IS_REPOSITORY = os.path.isfile(f"{ROOT}/crates.txt")
+BESIDE = f"{ROOT.removesuffix('/share/ntpaudit')}/bin" if ROOT.endswith("/share/ntpaudit") else ROOT
+"""Where programs stand that were installed with this, or copied."""
 SUMS = "sums"
 """A private file with the sums of the operands of a call."""
 MOST_OF_WORDS = 1000
@@ -93,25 +96,24 @@ def find_program() -> Program:
 
 
 def path_of_program() -> str | None:
-    """The file that the environment's NTPAUDIT names (from the repository's root); or the one that the launcher keeps,
-    which it has made sure of just now; or, if this is a copy or installed, the one beside it; or `ntpaudit` on the
-    PATH."""
+    """The file that the environment's NTPAUDIT names (from the repository's root); or the one that the launcher runs,
+    which it has made sure of just now; or, if this is installed or a copy, the one of the same PREFIX or beside it; or
+    `ntpaudit` on the PATH."""
     path = os.environ.get("NTPAUDIT")
     if path:
         return os.path.realpath(os.path.join(ROOT, path))
-    if os.path.exists(f"{ROOT}/crates.txt"):
+    if IS_REPOSITORY:
         return path_of_launcher()
-    for beside in (f"{ROOT}/ntpaudit", os.path.join(os.path.dirname(os.path.dirname(ROOT)), "bin", "ntpaudit")):
-        if os.path.exists(beside):
-            return beside
+    if os.path.isfile(f"{BESIDE}/ntpaudit"):
+        return f"{BESIDE}/ntpaudit"
     return shutil.which("ntpaudit", path=ENVIRONMENT["PATH"]) if ENVIRONMENT["PATH"] else None
 
 
 def path_of_launcher() -> str:
     home = {name: os.environ[name] for name in ("HOME",) if name in os.environ}
-    with begun([f"{ROOT}/ntpaudit", "--version"], env=ENVIRONMENT | home, stdout=DEVNULL) as built:
-        pass
+    with begun([f"{ROOT}/ntpaudit", "--path"], env=ENVIRONMENT | home, stdout=PIPE) as built:
+        assert built.stdout
+        path = built.stdout.read().decode("utf-8", "surrogateescape").removesuffix("\n")
     if built.returncode:
         raise Fault("ntpaudit: the program is not built", MISSING)
-    kept = f"{ROOT}/out/ntpaudit"
-    return kept if os.path.exists(kept) else f"{ROOT}/dist/ntpaudit"
+    return path

@@ -75,6 +75,8 @@ class Moment:
     leap: str = ""
     """What takes a yes away, if anything does."""
     pieces: list[Piece] = field(default_factory=list)
+    bad: list[Text] = field(default_factory=list)
+    """The faults of files that were left out."""
 
     @property
     def is_off(self) -> bool:
@@ -111,6 +113,10 @@ class Year:
     """That of most days, whose span doesn't matter."""
     others: Annotated[list[Text], length(0, 2 * MOST_DAYS)] = field(default_factory=list)
     programs: list[Made] = field(default_factory=list)
+    captures: list[Sum] = field(default_factory=list)
+    """The sums of its days' captures."""
+    twins: list[Text] = field(default_factory=list)
+    """The machines that have one of these too."""
 
     @property
     def counts(self) -> dict[str, int]:

@@ -11,8 +11,7 @@ from ..folder.files import Folder
 from ..folder.registry import Judgement
 from ..folder.result import Row
 from ..premise.backing import backing
-from ..premise.premises import premises
-from ..premise.support import support
+from ..premise.premises import premises, support
 from ..text import label
 from ..units import SECOND
 from ..verdict.apart import ranges_of

@@ -20,13 +20,14 @@ from ..folder.older import read_any
 from ..folder.registry import Known
 from ..folder.result import Result, Row, Section
 from ..premise.leap import record_by
-from ..records import replace
+from ..records import asdict, replace
+from ..schema import json_text
 from ..text import capital, count
 from ..verdict.sentences import TWICE
 from . import templates
 from .article import article, parts, short_article
 from .remedies import remedy
-from .table import as_csv, as_json, badness_of, row_of, row_without_verdict
+from .table import as_csv, badness_of, row_of, row_without_verdict
 from .templates import INDEX, put
 
 MEANINGS = {
@@ -215,7 +216,7 @@ def written(own: list[Shown], given: argparse.Namespace) -> Iterator[Shown]:
 def text_of(found: list[Shown], given: argparse.Namespace, folders: int, years: Sequence[str]) -> bytes:
     """What is asked for, of sections: the table as JSON or CSV, or a page that leads to these years."""
     if given.json:
-        return as_json([one.row for one in found]).encode("utf-8", "backslashreplace")
+        return json_text([asdict(one.row) for one in found])
     if given.csv:
         return as_csv([one.row for one in found]).encode("utf-8", "backslashreplace")
     return page(found, given.title, folders, given.signers is not None, years=years)

@@ -1,7 +1,6 @@
 """The table of machines and days: a row for each audit, for a page, as JSON and as CSV."""
 import csv
 import io
-import json
 import re
 
 from ..fleet.signature import Signature
@@ -35,10 +34,6 @@ def row_of(folder: str, entry: Entry, signature: Signature, judged: Judgement | 
         worst_begin=civil(worst.from_), worst_end=civil(worst.to), samples=entry.counts["samples"],
         servers=len(claim.servers), groups=len(claim.grouped), false_max=claim.false_max,
         leap_seconds=entry.leap.says, judged_twice_at=judged.at if judged and entry.answer != OPEN else "")
-
-
-def as_json(rows: list[Row]) -> str:
-    return json.dumps([asdict(row) for row in rows], indent=1) + "\n"
 
 
 FORMULA = re.compile(r"(^|[;,\t|])(\s*[\"']*\s*[=+@\uff1d\uff0b\uff20\uff0d-])")

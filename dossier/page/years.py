@@ -1,21 +1,18 @@
 """A year of many machines: looked at machine by machine, written as a calendar with the sums, what isn't shown, and
 statements to sign, and kept so that these can be signed."""
 import os
-import sys
 from collections.abc import Iterator, Sequence
 from itertools import groupby
 from typing import NamedTuple
 
-from ..capture.recorder import text_of
 from ..fault import fault
-from ..fleet.days import Wanted, machines_of, year_of
+from ..fleet.days import Wanted, machines_of, twinned, year_of
 from ..fleet.statements import Stated, Statements, stated_of, statement, sums_of
 from ..folder.files import YEAR
 from ..folder.jobs import run_all
 from ..folder.result import Result, Told, Year
-from ..records import replace
-from ..schema import said
-from ..text import plain
+from ..schema import json_text
+from ..text import note
 from ..units import civil, ns_up_ms
 from .figure import shade, strip
 from .templates import INDEX, SIGNS, page, put, templates
@@ -65,8 +62,7 @@ def quoted(path: str) -> str:
 
 def write_year(folders: list[str], wanted: Wanted, pages: Pages, seconds: int, jobs: int) -> int:
     """Writes the year. The status is that of the worst machine that couldn't be looked at; 0 if all could."""
-    names, worst, found, stated = machines_of(folders), 0, list[tuple[Year, str]](), list[Stated]()
-    articles = list[tuple[int, Year]]()
+    names, worst, found, stated = machines_of(folders), 0, dict[int, Year](), list[Stated]()
     templates()
 
     def work(machine: str, _: int) -> Result:
@@ -75,21 +71,22 @@ def write_year(folders: list[str], wanted: Wanted, pages: Pages, seconds: int, j
         if result.refusal or result.year is None:
             worst = max(worst, result.status)
             why = result.refusal.line if result.refusal else "nothing came of it"
-            print(plain(f"{machine}: {why}"), file=sys.stderr)
+            note(f"{machine}: {why}")
             continue
-        year, file = result.year, f"{number:05}.html"
-        if pages.split:
-            put(pages.page(f"{pages.title}: {year.machine}", [(number, year)], above=INDEX), file, pages.split)
-            sums, data = f"{number:05}.sums", sums_of(pages.split, year)
-            put(data, sums, pages.split)
-            stated.append(stated_of(year, sums, data))
-            year = replace(year, days=[Told(day.date, day.verdict, least_ns=day.least_ns) for day in year.days])
-        else:
-            articles.append((number, year))
-        found.append((year, file if pages.split else f"#m{number}"))
+        found[number] = result.year
     if not found:
         raise fault("none of these folders has a year")
-    put(pages.page(pages.title, articles, found), INDEX if pages.split else pages.output, pages.split)
-    if pages.split:
-        put(text_of(said(Statements(wanted.year, civil(wanted.at), "", stated))), YEAR, pages.split)
+    articles = list(zip(found, twinned(list(found.values()))))
+    machines = [(year, f"{number:05}.html" if pages.split else f"#m{number}") for number, year in articles]
+    if not pages.split:
+        put(pages.page(pages.title, articles, machines), pages.output)
+        return worst
+    for number, year in articles:
+        text = pages.page(f"{pages.title}: {year.machine}", [(number, year)], above=INDEX)
+        put(text, f"{number:05}.html", pages.split)
+        sums, data = f"{number:05}.sums", sums_of(pages.split, year)
+        put(data, sums, pages.split)
+        stated.append(stated_of(year, sums, data))
+    put(pages.page(pages.title, [], machines), INDEX, pages.split)
+    put(json_text(Statements(wanted.year, civil(wanted.at), "", stated)), YEAR, pages.split)
     return worst

@@ -1,12 +1,11 @@
 """How fast a clock may gain or lose by its oscillator and its client together: what a draft proposes as drift, and what
 that rests on, as JSON for evidence.json to name."""
-import json
 from typing import Literal
 
 from ..fault import Fault, fault
 from ..folder.claim import GREATEST_DRIFT
 from ..records import dataclass
-from ..schema import Count, Mangled, Time, said
+from ..schema import Count, Mangled, Time
 from ..units import seconds_of
 from . import client, tracking
 from .client import Configuration
@@ -53,7 +52,3 @@ def correction(oscillator_ppb: int, found: Configuration, log: Tracking | None, 
     if drift > GREATEST_DRIFT:
         raise fault(f"a drift of {drift} by the configuration is more than a claim can grant")
     return Correction("drift", oscillator_ppb, drift, found, log, made)
-
-
-def correction_text(found: Correction) -> bytes:
-    return (json.dumps(said(found), indent=1) + "\n").encode()

@@ -1,11 +1,10 @@
 """What was measured of stamps, as `measure` prints it, leaves it as JSON, and a page shows it."""
-import json
 import os
 from typing import Literal
 
 from ..folder.files import data_named
 from ..records import dataclass
-from ..schema import Count, Text, Time, read_typed, said
+from ..schema import Count, Text, Time, read_typed
 from ..text import count
 
 
@@ -57,8 +56,3 @@ def read_measurement(path: str) -> Measurement:
     """What a file holds that the command line names."""
     found: Measurement = read_typed(os.path.basename(path), Measurement, data_named(path))
     return found
-
-
-def measurement_text(found: Measurement) -> bytes:
-    """A measurement as JSON, with its reason."""
-    return (json.dumps({**said(found), "reason": found.why}, indent=1) + "\n").encode()

@@ -10,7 +10,6 @@ import subprocess
 import time
 from collections.abc import Iterator
 from contextlib import ExitStack, contextmanager
-from typing import NamedTuple
 
 from ..capture.recorder import version_of
 from ..fault import DEVICE, fault
@@ -18,9 +17,10 @@ from ..folder.jobs import PIPE, answer, begun, find_tool, run
 from ..folder.placing import keep, write_named
 from ..folder.program import Program
 from ..folder.result import Result
+from ..schema import json_text, said
 from ..text import plain
 from ..units import now, round_up
-from .measurement import Measurement, measurement_text
+from .measurement import Measurement
 
 APART = 0.001
 """Seconds between two packets."""
@@ -39,20 +39,15 @@ neigh add {THERE} lladdr {CARD} nud permanent dev {ENDS[0]}
 """The link, in the words of ip(8)."""
 
 
-class Wanted(NamedTuple):
-    packets: int
-    is_loaded: bool
-
-
-def measure(program: Program, wanted: Wanted, output: str | None) -> int:
+def measure(program: Program, packets: int, is_loaded: bool, output: str | None) -> int:
     """Measures, prints what came of it, and leaves it in a file if one is named."""
     def work(*_: object) -> Result:
-        busy = len(os.sched_getaffinity(0)) if wanted.is_loaded else 0
+        busy = len(os.sched_getaffinity(0)) if is_loaded else 0
         tool, system = find_tool("tcpdump", "tcpdump isn't installed, which records the packets"), os.uname()
         make_link()
-        earlier = sorted(sent_over(program, tool, wanted.packets, busy))
+        earlier = sorted(sent_over(program, tool, packets, busy))
         found = measurement(earlier, busy, version_of(tool), plain(system.nodename), plain(system.release), now())
-        return Result(lines=found.lines(), text=measurement_text(found).decode())
+        return Result(lines=found.lines(), text=json_text({**said(found), "reason": found.why}).decode())
     measured = answer(work)
     for line in measured.lines:
         print(line)

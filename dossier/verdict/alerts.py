@@ -3,7 +3,7 @@ from collections.abc import Callable
 
 from ..folder.entry import Alert
 from ..premise import allowance
-from ..premise.support import named
+from ..premise.premises import named
 from ..text import capital, count, is_or_are, listed, plain, reference
 from ..units import SECOND, between, civil, from_to, ns_ms, outward, shown_time, span_of_seconds
 

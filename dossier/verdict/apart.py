@@ -73,16 +73,11 @@ def hulls_of(envelope: Envelope, gaps: list[Gap]) -> list[Hull]:
     return ["empty" if is_in else hull for hull, is_in in zip(envelope.hulls, are_in(envelope, gaps))]
 
 
-def meets_of(lows: list[int], highs: list[int], hulls: list[Hull]) -> list[bool]:
-    """Of each piece that has a hull whether a server's interval holds something, and meets it."""
-    return [low <= hull[1] and hull[0] <= high for low, high, hull in zip(lows, highs, hulls)
-            if not isinstance(hull, str)]
-
-
 def met_of(envelope: Envelope, gaps: list[Gap]) -> dict[str, list[bool]]:
-    """The same of each server by its address."""
+    """Of each server by its address, of each piece that has a hull, whether its interval there meets that."""
     hulls = hulls_of(envelope, gaps)
-    return {address: meets_of(*ends, hulls) for address, ends in envelope.servers.items()}
+    return {address: [low <= hull[1] and hull[0] <= high for low, high, hull in zip(lows, highs, hulls)
+                      if not isinstance(hull, str)] for address, (lows, highs) in envelope.servers.items()}
 
 
 def apart_of(envelope: Envelope, gaps: list[Gap]) -> list[str]:

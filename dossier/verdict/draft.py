@@ -9,7 +9,7 @@ from ..capture.recording import Recording, read_recording
 from ..capture.traffic import Traffic, number_of, read_traffic
 from ..capture.twice import are_twice
 from ..fault import USAGE, fault
-from ..folder.answers import read_hulls, read_settled
+from ..folder.answers import read_envelope, read_settled
 from ..folder.claim import Claim, Part
 from ..folder.entry import NOTHING_FITS, Alert, LeapList
 from ..folder.files import CLAIM
@@ -182,7 +182,7 @@ class Draft:
         if read_settled(self.program.run("settle", CLAIM, self.capture).text).answer == NOTHING_FITS:
             self.remark(self.why_nothing_fits(claim), "bound_ns:", asked)
             return without
-        envelope = read_hulls(self.program.run("envelope", CLAIM, self.capture, "--least", "--step", LONGEST).text)
+        envelope = read_envelope(self.program.run("envelope", CLAIM, self.capture, "--least", "--step", LONGEST).text)
         if envelope.least_ns is None:
             begin, hull = envelope.begins[envelope.worst], envelope.hulls[envelope.worst]
             why = f"the piece from {civil(begin)} is {hull}" if isinstance(hull, str) else \

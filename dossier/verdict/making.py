@@ -5,7 +5,6 @@ it.
 """
 import re
 import time
-from collections.abc import Callable
 
 from .. import VERSION
 from ..capture.captures import cut, thinned, unpacked
@@ -24,13 +23,6 @@ from ..text import operand, plain
 from ..units import now
 from .judgement import Beside
 from .settling import Settling
-
-Earlier = Callable[[str], bytes]
-"""The refutation that was found earlier of the part of this name; nothing if there is none to be taken."""
-
-
-def no_earlier(_: str) -> bytes:
-    return b""
 
 
 def inputs_of(folder: Folder, kept: Kept | None) -> dict[str, str]:
@@ -98,8 +90,8 @@ def take_inputs(folder: Folder, kept: Kept | None) -> Inputs:
 
 
 def make(taken: Inputs, options: Options, leaps: LeapList, backed: Backing, program: Program,
-         earlier: Earlier) -> list[Entry]:
-    """All answers, and their files in the current folder."""
+         earlier: dict[str, bytes]) -> list[Entry]:
+    """All answers, and their files in the current folder. Of a part that has an earlier refutation it may be taken."""
     name, copy = next(iter(taken.copies.items()))
     claim = read_claim(program, copy)
     parts = list(parts_of(claim, options.days))
@@ -112,7 +104,7 @@ def make(taken: Inputs, options: Options, leaps: LeapList, backed: Backing, prog
     beside = Beside(leaps, backed, whole.alerts, taken.capture)
     entries = []
     for part, cut_to in zip(parts, cut(whole.path, parts, whole.extent)):
-        settling = Settling(part, whole, program, options.step, sums, earlier(part.name))
+        settling = Settling(part, whole, program, options.step, sums, earlier.get(part.name, b""))
         settling.left |= made
         entries.append(settling.settle(beside, cut_to))
         if JOINED in settling.left:
@@ -137,12 +129,12 @@ class Making:
         self.folder, self.program, self.options, self.leaps, self.kept = folder, program, options, leaps, kept
         self.begun, self.made, self.taken = time.monotonic(), now(), Inputs({}, {})
 
-    def record(self, earlier: Earlier = no_earlier) -> Record:
+    def record(self, earlier: dict[str, bytes] | None = None) -> Record:
         """What the program answers; a fault if there is no verdict."""
         self.taken = take_inputs(self.folder, self.kept)
         backed = backing(self.folder, self.taken.sums)
         try:
-            return self.of(make(self.taken, self.options, self.leaps, backed, self.program, earlier))
+            return self.of(make(self.taken, self.options, self.leaps, backed, self.program, earlier or {}))
         except Fault as found:
             found.why, found.what = self.taken.named(found.why), self.taken.typed(found.what)
             raise

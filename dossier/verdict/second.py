@@ -8,7 +8,7 @@ from ..fault import MISSING, fault
 from ..folder.entry import NO_EVIDENCE, NOTHING_FITS, REFUTED, YES, Entry
 from ..folder.files import CERTIFICATE, CLAIM, CLAIM_OF_0, REFUTATION, REPORT, own_data, sum_of_file
 from ..folder.jobs import ENVIRONMENT, stream
-from ..folder.program import ROOT, lines_of
+from ..folder.program import BESIDE, IS_REPOSITORY, ROOT, lines_of
 from ..text import plain
 
 NAME = "ntpaudit-recheck"
@@ -57,12 +57,13 @@ def answers_of(entry: Entry) -> Iterator[tuple[str, str, str]]:
 
 
 def find_second() -> Second:
-    """The file that the environment's NTPAUDIT_SECOND names (from the repository's root), or the repository's, or the
-    one that was installed beside this, or `ntpaudit-recheck` on the PATH."""
-    beside = os.path.join(os.path.dirname(os.path.dirname(ROOT)), "bin", NAME)
+    """The file that the environment's NTPAUDIT_SECOND names (from the repository's root), or the repository's; or the
+    one that was installed or copied with this; or `ntpaudit-recheck` on the PATH."""
     named = os.environ.get("NTPAUDIT_SECOND")
-    places = [os.path.realpath(os.path.join(ROOT, named))] if named else [f"{ROOT}/second/recheck", beside]
-    path = next(filter(os.path.exists, places), None if named else shutil.which(NAME, path=ENVIRONMENT["PATH"]))
+    own = f"{ROOT}/second/recheck" if IS_REPOSITORY else f"{BESIDE}/{NAME}"
+    path: str | None = os.path.realpath(os.path.join(ROOT, named)) if named else own
+    if not named and not os.path.isfile(own):
+        path = shutil.which(NAME, path=ENVIRONMENT["PATH"])
     if not path or not os.access(path, os.X_OK):
         raise fault(f"the second program, {NAME}, isn't there: NTPAUDIT_SECOND is the path to it", MISSING)
     return Second(path, sum_of_file(path))

@@ -7,8 +7,8 @@ from pathlib import Path
 from unittest.mock import patch
 from typing import Any
 
-from tests.support import DATA, ROOT, check, is_here, nobody, run
-from tests.dossier.audits import ENVIRONMENT, SCRIPT, dossier, folder_of, skipped
+from tests.support import DATA, ROOT, check, is_here, manifest_of, nobody, run, sum_of
+from tests.dossier.audits import ENVIRONMENT, PROGRAM, SCRIPT, dossier, folder_of, skipped
 
 
 def test_owned(place: Path) -> None:
@@ -43,6 +43,43 @@ def test_owned(place: Path) -> None:
         check(f"the launcher in a delivered folder by {path[:2]}..{path[-2:]}", status=(status, 70),
               owned=(owned.exists(), False), built=(b"it was not built" in err, True))
         owned.unlink(missing_ok=True)
+
+
+def test_beside(place: Path) -> None:
+    """What lies beside the script or its repository isn't run: a folder `out`, `second` or `dossier`."""
+    house, copy, prefix = place / "house", place / "copy", place / "prefix"
+    script = f'#!/bin/sh\necho "$0" >> "{place}/owned"\n'
+    bare = {name: value for name, value in ENVIRONMENT.items() if name not in ("NTPAUDIT", "NTPAUDIT_SECOND")}
+    for top in (house, copy, prefix / "share/ntpaudit"):
+        shutil.copytree(ROOT / "dossier", top / "dossier", ignore=shutil.ignore_patterns("__pycache__"))
+    for folder in (house / "dist", house / "crates/ntpaudit/src", prefix / "bin"):
+        folder.mkdir(parents=True)
+    for top in (house, copy, prefix / "bin"):
+        shutil.copy(SCRIPT, top)
+    shutil.copy(ROOT / "ntpaudit", house)
+    (house / "crates.txt").write_text("ntpaudit:\n")
+    (house / "crates/ntpaudit/src/main.rt").write_text("a source\n")
+    shutil.copy(PROGRAM, house / "dist/ntpaudit")
+    (house / "dist/MANIFEST").write_text(manifest_of(house, "a toolchain"))
+    for file in (house / "out/ntpaudit", copy / "out/ntpaudit", copy / "second/recheck",
+                 prefix / "share/ntpaudit/ntpaudit"):
+        file.parent.mkdir(exist_ok=True)
+        file.write_text(script)
+        file.chmod(0o755)
+    (prefix / "bin/dossier").mkdir()
+    (prefix / "bin/dossier/__init__.py").write_text(f"open('{place}/owned', 'a').write('dossier')\n")
+    (house / "out").chmod(0o555)
+    how = nobody("a strange folder that can't be written")
+    for top in (copy, prefix / "bin"):
+        shutil.copy(PROGRAM, top / "ntpaudit")
+    for top in (house, copy, prefix / "bin"):
+        how = how if top == house and how else {}
+        status, out, _ = run([top / "ntpaudit-dossier", "--version"], env=bare, **how)
+        check(f"the program of {top.name}", status=(status, 0), sum=(sum_of(Path(PROGRAM).read_bytes()) in out.decode(),
+                                                                    True))
+    dossier("audit", folder := folder_of(place, "host"))
+    run([copy / "ntpaudit-dossier", "verify", "--second", folder], env=bare)
+    check("what lies beside", run=((place / "owned").exists(), False))
 
 
 def test_statuses(place: Path) -> None:

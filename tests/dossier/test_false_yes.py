@@ -156,8 +156,16 @@ def test_free_words(place: Path) -> None:
     theirs = json.loads((signed / "audit.json").read_text())
     check("what is signed of free words", signed=(theirs["signed"] > "2001", True), program=(
         theirs["program"]["version"] in (words, ""), False), made=(theirs["made"] > "2001-01-02", True),
+        list_=((theirs["leap_seconds"]["file"], theirs["leap_seconds"]["sha256"] == "1" * 64),
+               (mine["NTPAUDIT_LEAP_SECONDS"], False)),
         by_others=(dossier("verify", signed, env=elsewhere(place / "others"))[0], 0),
         known=(json.loads(dossier("page", "--json", signed, env=mine)[1])[0]["verdict"], "yes"))
+    unlisted = Path(shutil.copytree(folder, place / "unlisted"))
+    without = {**mine, "NTPAUDIT_LEAP_SECONDS": str(place / "missing")}
+    status, out, _ = dossier("sign", "--key", place / "key", unlisted, env=without)
+    check("what is signed without a list", status=(status, 5), said=(b"--leap-seconds" in out, True),
+          named=(dossier("sign", "--key", place / "key", "--leap-seconds", mine["NTPAUDIT_LEAP_SECONDS"], unlisted,
+                         env=without)[0], 0))
     for field in ("made", "signed"):
         (folder / "audit.json").write_text(json.dumps({**whole, field: "9999-01-01T00:00:00Z"}))
         for command in ("verify", "page"):

@@ -112,6 +112,39 @@ def test_now_of_files(place: Path) -> None:
     check("too few groups", run=((status, "no evidence" in lines[0], "1 of 4" in lines[0]), (1, True, True)))
 
 
+def test_bad_files(place: Path) -> None:
+    """A file that is no capture: it is named, in the metrics too, and all others are looked at."""
+    last = int(time.time()) - 5
+    begin, rec, metrics = last - 1500, place / "rec", place / "m.prom"
+    recorded(rec, begin, (begin, last + 1, RIGHT))
+    recorded(rec, begin, (begin, last + 1, AHEAD), interface="eth1")
+    bad = rec / name_of(last - 1, "eth0")
+    for file in (bad, rec / name_of(last, "wlan0")):
+        file.write_bytes(99 * b"x")
+    status, lines, err = now(rec, "--metrics", metrics)
+    found = {(dict(labels)["recorder"], key, dict(labels).get("verdict", "")): value
+             for (key, *labels), value in metrics_of(metrics).items()}
+    said = [line.split("  ") for line in lines]
+    check("bad files", status=(status, 1), named=([name in err for name in (bad.name, "wlan0-")], [True, True]),
+          verdicts=({words[0]: words[2] for words in said}, {"eth0": "yes", "eth1": "refuted", "wlan0": "no evidence"}),
+          files=([found[one, "now_refused_files", ""] for one in ("eth0", "eth1", "wlan0")], ["1", "0", "1"]),
+          yes=(found["eth0", "now_verdict", "yes"], "1"))
+    for file in [file for file in rec.iterdir() if not file.name.startswith("eth0")]:
+        file.unlink()
+    whole = recorded(place / "whole", begin, (begin, last + 1, RIGHT)).read_bytes()
+    for name, data, wanted in (("records of no time", whole[:22] + bytes(99), "no evidence"),
+                               ("other frames", whole[:20] + b"\x65" + whole[21:], "refused"),
+                               ("rubbish", 99 * b"x", "yes")):
+        bad.write_bytes(data)
+        status, lines, err = now(rec, "--metrics", metrics)
+        check(f"one bad file: {name}", status=(status, 2 if wanted == "yes" else 1), lines=(len(lines), 1), verdict=(
+            lines[0].split("  ")[2], wanted), metrics=([dict(labels)["verdict"] for (_, *labels), value in metrics_of(
+                metrics).items() if "verdict" in dict(labels) and value == "1"], [wanted]))
+    bad.unlink()
+    bad.symlink_to(rec)
+    check("a link among files", run=(now(rec)[0], 2), named=(bad.name in now(rec)[2], True))
+
+
 def test_now_metrics(place: Path) -> None:
     last = int(time.time()) - 5
     begin = last - 1500
@@ -128,6 +161,7 @@ def test_now_metrics(place: Path) -> None:
               own=({key: own[key] for key in own if key != "least_bound_seconds"},
                    {"clock_off": str(int(name == "off")), "claimed_bound_seconds": "0.005000000",
                     "hull_low_seconds": hull[0], "hull_high_seconds": hull[1], "groups_heard": "4", "groups": "4",
+                    "refused_files": "0",
                     "last_record_timestamp_seconds": own["last_record_timestamp_seconds"]}),
               last=(last - 10 <= float(own["last_record_timestamp_seconds"]) <= last + 1, True))
 

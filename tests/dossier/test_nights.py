@@ -150,7 +150,8 @@ def test_others_of_nights(place: Path) -> None:
     line, row = asked(place, "twice")
     check("a packed copy", verdict=(row["verdict"], "yes"),
           warned=(row["warnings"][0], "after.pcap.gz has packets once more that after.pcap has: it is left out, since "
-                  "of a packet that is there twice nothing follows."))
+                  "of a packet that is there twice nothing follows."),
+          verified=(f"({row['warnings'][0]})" in dossier("verify", place / "twice")[1].decode(), True))
 
 
 def test_own_names(place: Path) -> None:

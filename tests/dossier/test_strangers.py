@@ -729,6 +729,9 @@ def test_names_in_lines(place: Path) -> None:
         other = other.rename(place / name)
         check(f"a folder called {ascii(name)}", machine=(table(other)[0]["machine"].isascii(), True),
               line=(b"\\" in dossier("verify", other)[1].split(b": ")[0], True))
+    for name in ("h\u043est", "\u0430-host", "hos\U0001d42d", "h\uff4fst", "\u0445\u043e\u0441\u0442"):
+        other = other.rename(place / name)
+        check(f"a folder called {ascii(name)}", ascii=(table(other)[0]["machine"].isascii(), "h" in name))
     odd = folder_of(place, "odd")
     (capture := os.fsencode(odd) + b"/f\xff.pcap", (odd / "f.pcap").rename(os.fsdecode(capture)))
     dossier("audit", odd)

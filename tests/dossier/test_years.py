@@ -201,6 +201,44 @@ def test_signed_year(place: Path) -> None:
     check("an audit that was changed", told=(b"a day isn't the one that 00001.sums names" in out, True))
 
 
+def test_copied_years(place: Path) -> None:
+    """A known audit in another machine's folder, another machine's day, a statement on no days, and the last year."""
+    fleet, pages, key = place / "fleet", place / "pages", key_of(place, "key")[0]
+    for number in (0, 1):
+        dossier("audit", day(fleet / "web 1", number, RIGHT))
+        dossier("audit", day(fleet / "web 2", number, WIDE, bound_ns=1_500_000))
+    known, other = fleet / "web 1" / "2001-09-09", fleet / "web 2" / "2001-09-09"
+    kept = (other / "audit.json").read_bytes()
+    shutil.copy(known / "audit.json", other)
+    text = dossier("year", "--year", "2001", fleet / "web 2")[1].decode()
+    check("a known audit.json beside another claim", shown=("0 of 365" in text, True),
+          cell=('title="2001-09-09: not verified"' in text, True))
+    (other / "audit.json").write_bytes(kept)
+    shutil.copytree(known, fleet / "web 3" / known.name)
+    dossier("year", "--year", "2001", "--split", pages, *sorted(fleet.iterdir()))
+    texts = [unescape((pages / f"0000{number}.html").read_text()) for number in (1, 2, 3)]
+    twins = [re.findall(r"A recording of these days is that of (.*?) too", text) for text in texts]
+    check("a day of another machine", named=(twins, [[f"{fleet}/web 3"], [], [f"{fleet}/web 1"]]),
+          index=((pages / "index.html").read_text().count("has a recording of"), 2))
+    check("a copy, signed and verified", sign=(dossier("sign", "--key", key, pages)[0], 0),
+          said=(b"verified: its statements follow" in dossier("verify", pages, fleet)[1], True))
+    year = json.loads((pages / "year.json").read_text())
+    silent = {**year["machines"][0], "statement": texts[0].partition('class="statement">')[2].partition("</p>")[0]}
+    nothing = {**silent, "machine": "web 9", "file": "empty.sums", "sha256": sum_of(b"")}
+    (pages / "empty.sums").write_bytes(b"")
+    silent["statement"] = re.sub("A recording .*? copy[.] ", "", silent["statement"])
+    for name, machines in (("a copy that isn't said", [silent, *year["machines"][1:]]),
+                           ("a statement on no days", [nothing])):
+        (pages / "year.json").write_text(json.dumps({**year, "machines": machines}))
+        out = dossier("verify", pages, fleet)[1]
+        check(f"a year with {name}", told=(b"doesn't follow from its days" in out, True))
+    dossier("year", "--year", "2002", "--split", place / "2002", fleet / "web 1")
+    check("a year without days", verified=(dossier("verify", place / "2002")[:2], (
+        0, f"{place}/2002: verified: its statements follow from its days\n".encode())))
+    status, _, err = dossier("year", "--year", "9999", "-o", place / "9999.html", fleet / "web 1")
+    check("the last year", run=((status, err), (0, b"")))
+
+
 def test_midnight(place: Path) -> None:
     """A day ends with the moment at which the next begins, so that no moment lies between two days."""
     claim = {**CLAIM, "from": "2001-09-09T00:00:00Z", "to": "2001-09-12T00:00:00Z", "drift_ppb": 0}

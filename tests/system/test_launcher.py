@@ -12,7 +12,7 @@ from collections.abc import Callable
 from pathlib import Path
 from typing import Any
 
-from tests.support import ROOT, Ran, SECONDS, check, manifest_of, nobody, run
+from tests.support import ROOT, Ran, SECONDS, check, manifest_of, nobody, run, sum_of
 
 STAND_IN = """#!/bin/sh
 # stands in for the toolchain: `rt run` in the crate's folder leaves the "program" that its source is
@@ -261,6 +261,43 @@ def test_shipped_program(folder: Path) -> None:
         copy.top.chmod(0o555)
         copy.check_run("the shipped program in a read-only folder", 2, **nothing, **how)
         copy.top.chmod(0o755)
+
+
+def test_strange_folders(folder: Path) -> None:
+    """Somebody's folder `out` beside the launcher, with a program and a stamp that fits the sources: it isn't run."""
+    copy = Copy(folder)
+    ship(copy)
+    nothing: dict[str, Any] = {"toolchain": copy.home}
+    copy.check_run("before a strange folder", 0, **nothing)
+    strange = PROGRAM.replace("ran", "ran wrongly")
+    for name, is_there in (("without one's own", False), ("over one's own", True)):
+        stamp = (copy.kept / "ntpaudit.stamp").read_text().splitlines()
+        for mode in (0o755, 0o555):
+            if not is_there:
+                shutil.rmtree(copy.kept)
+            copy.kept.mkdir(exist_ok=True)
+            (copy.kept / "ntpaudit").write_text(strange)
+            (copy.kept / "ntpaudit").chmod(0o755)
+            found = os.stat(copy.kept / "ntpaudit")
+            for third in (stamp[2], sum_of(strange.encode()) + "  -", f"{found.st_ino} {found.st_mtime:.10f}"):
+                (copy.kept / "ntpaudit.stamp").write_text("\n".join([*stamp[:2], third, *stamp[3:], ""]))
+                os.utime(copy.kept / "ntpaudit.stamp", (2**33, 2**33))
+                copy.kept.chmod(mode)
+                copy.check_run(f"a strange folder {name}, {mode:o}", 0, **nothing)
+                copy.kept.chmod(0o755)
+                path = copy.launch("--path", **nothing)[1].decode().strip()
+                check(f"where the program is, {name}", same=(Path(path).read_text(), PROGRAM))
+    shutil.rmtree(copy.kept)
+    (folder / "elsewhere").mkdir()
+    copy.kept.symlink_to(folder / "elsewhere")
+    copy.check_refused("a link in the place of out/", b"out is a link", **nothing)
+    check("where the link leads", left=(os.listdir(folder / "elsewhere"), []))
+    copy.kept.unlink()
+    copy.kept.mkdir()
+    (copy.kept / "build.log").symlink_to(folder / "elsewhere/victim")
+    copy.source.write_text(PROGRAM + "# other\n")
+    copy.check_refused("a link in out/", b"has links in it")
+    check("where a link in out/ leads", left=(os.listdir(folder / "elsewhere"), []))
 
 
 def test_verify(folder: Path) -> None:
