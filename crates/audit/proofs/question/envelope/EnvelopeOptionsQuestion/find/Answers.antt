@@ -1,7 +1,7 @@
 use Rattle.audit.proofs.Common.{evidence_data, no_finding}
 use Rattle.audit.proofs.EnvelopeShowing.{envelope_refused}
 use Rattle.audit.proofs.Showing.{making_fault, memory_unfound, nothing_found}
-use Rattle.audit.proofs.question.envelope.EnvelopeQuestion.find.Goals as goal
+use Rattle.audit.proofs.question.envelope.EnvelopeOptionsQuestion.find.Goals as goal
 
 pub returns-in-Ok-least_if-clause-found : goal.returns-in-Ok-least_if-clause-found
 returns-in-Ok-least_if-clause-found c = record {

@@ -1,7 +1,7 @@
 use Rattle.audit.proofs.Common.{◌∙◌, Bool, sym, ap, refl, IsEnvelopeOf, evidence_data, least_line_of}
 use Rattle.audit.proofs.EnvelopeShowing.{count_is_few, envelope_shows, few_pieces}
 use Rattle.audit.proofs.Showing.{of_evidence, told_whole}
-use Rattle.audit.proofs.question.envelope.EnvelopeQuestion.tell.Goals as goal
+use Rattle.audit.proofs.question.envelope.EnvelopeOptionsQuestion.tell.Goals as goal
 
 pub line_on-line-requires-clause-few : goal.line_on-line-requires-clause-few
 line_on-line-requires-clause-few g c =
