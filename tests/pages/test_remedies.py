@@ -301,7 +301,7 @@ SHOWN: dict[str, tuple[Maker, str]] = {
     "editcap -F nsecpcap -A '2026-11-22 07:10:00Z' f.pcap ../after.pcap": (whole_capture, ""),
     "editcap -F nsecpcap -D 50 f.pcap ../once.pcap": (
         by(lambda whole: whole[:24] + b"".join(2 * record for record in records(whole))), "../once.pcap"),
-    "mergecap -F nsecpcap -w joined.pcap f-*.pcap": (parts, "joined.pcap"),
+    "mergecap -F nsecpcap -w f.pcap f-*.pcap": (parts, "f.pcap"),
     "mergecap -F nsecpcap -w new.pcap f1.pcap f2.pcap": (parts, "new.pcap"),
     "mergecap -F pcap -w new.pcap f1.pcap f2.pcap": (parts, "new.pcap"),
     "reordercap f.pcap ../g.pcap": (
