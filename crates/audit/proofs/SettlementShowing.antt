@@ -26,7 +26,7 @@ module _ (e : EvidenceData) (agree : AllPairs SameRequest e.collection.exchanges
   }
   settled_of (settles.fitted_by_none conflicts) h = h
   settled_of (settles.no_evidence groups) h = h
-  settled_of (settles.left_open begin end hull covers) h = h
+  settled_of (settles.left_open begin end hull covers most) h = h
 
 -- why nothing is known shows what it says
 pub fault_found : (e : EvidenceData) (fault : FindFault)

@@ -36,8 +36,8 @@ pub answered : (e : EvidenceData) (settled : SettledData) (least : Option (Optio
 unfolding settled_answer
 answered e (settles.shown certificate) (Some found) is = refl
 answered e (settles.shown certificate) None is = absurd cc
-answered e (settles.left_open begin end hull covers) (Some found) is = refl
-answered e (settles.left_open begin end hull covers) None is = absurd cc
+answered e (settles.left_open begin end hull covers most) (Some found) is = refl
+answered e (settles.left_open begin end hull covers most) None is = absurd cc
 answered e (settles.refuted refutation) least is = refl
 answered e (settles.fitted_by_none conflicts) least is = refl
 answered e (settles.no_evidence groups) least is = refl

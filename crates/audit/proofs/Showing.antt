@@ -101,8 +101,8 @@ module _ (laws : BytesLaws) (b f : List ℕ) (e : EvidenceData) (is : IsEvidence
       give_of (λ evidence. IsSettledOf evidence (settles.fitted_by_none conflicts)) h
   settled_from (settles.no_evidence groups) h =
       give_of (λ evidence. IsSettledOf evidence (settles.no_evidence groups)) h
-  settled_from (settles.left_open begin end hull covers) h =
-      give_of (λ evidence. IsSettledOf evidence (settles.left_open begin end hull covers)) h
+  settled_from (settles.left_open begin end hull covers most) h =
+      give_of (λ evidence. IsSettledOf evidence (settles.left_open begin end hull covers most)) h
 
   settlement_of : (settled : Result SettledData FindFault) → IsSettlementOf e settled → IsSettlementFrom settled b f
   settlement_of (Ok settled) h = settled_from settled h

@@ -39,7 +39,7 @@ settled_text e (refuted refutation) = refutation_text refutation ++ codes "\n"
 settled_text e (fitted_by_none conflicts) =
     conflicts_text Plain e.claim e.collection.exchanges conflicts
 settled_text e (no_evidence groups) = evidence_text Plain e.claim groups
-settled_text e (left_open begin end hull covers) = open_text Plain begin end hull
+settled_text e (left_open begin end hull covers most) = open_text Plain begin end hull
 
 -- for a person: what was found, on the least bound in nanoseconds that a certificate carries
 unfoldable pub settled_answer : EvidenceData → Option ℕ → SettledData → List ℕ
@@ -51,13 +51,13 @@ settled_answer e least (fitted_by_none conflicts) =
     conflicts_text Human e.claim e.collection.exchanges conflicts
 settled_answer e least (no_evidence groups) =
     evidence_answer e.claim e.collection.exchanges groups
-settled_answer e least (left_open begin end hull covers) =
-    open_answer e.claim begin end hull covers least
+settled_answer e least (left_open begin end hull covers most) =
+    open_answer e.claim begin end hull covers most least
 
 -- the answer is on the least bound
 abbrev pub names_least : SettledData → Bool
 names_least (shown certificate) = true
-names_least (left_open begin end hull covers) = true
+names_least (left_open begin end hull covers most) = true
 names_least settled = false
 
 -- the bound in nanoseconds, if one was looked for and found
@@ -132,8 +132,8 @@ IsSettledOf e (refuted refutation) = IsContestedOf true refutation e
 IsSettledOf e (fitted_by_none conflicts) =
     IsFittedByNone e.claim e.collection.exchanges conflicts
 IsSettledOf e (no_evidence groups) = IsUnheard e.claim e.collection.exchanges groups
-IsSettledOf e (left_open begin end hull covers) =
-    IsLeftOpen e.claim e.collection.exchanges begin end hull covers
+IsSettledOf e (left_open begin end hull covers most) =
+    IsLeftOpen e.claim e.collection.exchanges begin end hull covers most
 
 -- ---- what it shows of bytes
 

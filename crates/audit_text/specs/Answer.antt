@@ -1,6 +1,6 @@
 -- What `settle`, `find` and `refute` say to a person: one line a fact.
-use Rattle.std.specs.Prelude.{ℕ, ℤ, Option, List, [], ◌∷◌, ◌++◌, codes, if◌then◌else◌, nat_lt}
-use Rattle.line_writer.specs.Field.{line_of, Word, Named}
+use Rattle.std.specs.Prelude.{ℕ, ℤ, Option, Some, None, List, [], ◌∷◌, ◌++◌, codes, if◌then◌else◌, nat_lt}
+use Rattle.line_writer.specs.Field.{line_of, Word, Named, High}
 use Rattle.line_writer.specs.declared.field.Style.TheVariants.{Human}
 use Rattle.certificate.specs.Refutation.{RefutationData}
 use Rattle.claim_file.specs.Claim.{ClaimData}
@@ -42,8 +42,15 @@ unfoldable pub covers_line : ℕ → List ℕ
 covers_line covers = if nat_lt covers 64 then [] else line_of Human
     (Named (codes "covers") covers ∷ Word (codes "looked at, there may be others") ∷ [])
 
--- the claim stays open: where, how much wider the least bound is, and whether covers were left out
-unfoldable pub open_answer : ClaimData → ℤ → ℤ → Hull → ℕ → Option ℕ → List ℕ
-open_answer claim begin end hull covers least_ns =
+-- how far the clock is off at most, if that is known
+unfoldable pub most_line : Option ℤ → List ℕ
+most_line (Some most) =
+    line_of Human (Word (codes "off at most") ∷ High most ∷ Word (codes "ms") ∷ [])
+most_line None = []
+
+-- the claim stays open: where, how much wider the least bound is, how far the clock is off at most,
+-- and whether covers were left out
+unfoldable pub open_answer : ClaimData → ℤ → ℤ → Hull → ℕ → Option ℤ → Option ℕ → List ℕ
+open_answer claim begin end hull covers most least_ns =
     open_text Human begin end hull ++ claimed_line claim.bound_ns ++ carried_line least_ns ++
-    wider_line claim.bound_ns least_ns ++ covers_line covers
+    wider_line claim.bound_ns least_ns ++ most_line most ++ covers_line covers

@@ -4,7 +4,7 @@ ghost use Rattle.std.specs.Prelude.{◌≡◌, ◌≤◌, ◌++◌, IfOk, length
 ghost use Rattle.certificate.specs.Refutation.{data_of as refutation_data};
 ghost use Rattle.claim_file.specs.Claim.{data_of, max_servers};
 ghost use Rattle.audit_text.specs.Answer as spec;
-ghost use Rattle.audit_text.specs.Answer.{answer_line, covers_line};
+ghost use Rattle.audit_text.specs.Answer.{answer_line, covers_line, most_line};
 
 use crate::bound_lines::{add_carried, add_claimed, add_wider};
 use crate::refutation_lines::add_refutation;
@@ -101,7 +101,8 @@ pub fn evidence_answer<X: ToExchange>(
 
 /// The text of `settle` for a person if neither a certificate nor a refutation was found: the piece
 /// that stays open and its hull in ticks, how much wider the least bound is that a certificate
-/// carries, in nanoseconds, and how many minimal covers were looked at, if there may be others.
+/// carries, in nanoseconds, how many ticks the clock is off at most, if that's known, and how many
+/// minimal covers were looked at, if there may be others.
 #[tactic(auto, unfolding(crate::specs::Answer::open_answer))]
 pub fn open_answer(
     alloc: Global,
@@ -110,17 +111,37 @@ pub fn open_answer(
     end: i128,
     hull: Hull,
     covers: u8,
+    most: Option<i128>,
     least_ns: Option<u64>,
 ) -> Result<Vec<u8>, AllocError>
     ensures { IfOk result (λ text. text.items ≡
-        spec.open_answer (data_of claim.now) begin end hull covers least_ns) }
+        spec.open_answer (data_of claim.now) begin end hull covers most least_ns) }
 {
     let mut text = open_text(alloc, Style::Human, begin, end, hull)?;
     add_claimed(&mut text, claim.bound_ns)?;
     add_carried(&mut text, least_ns)?;
     add_wider(&mut text, claim.bound_ns, least_ns)?;
+    add_most(&mut text, most)?;
     add_covers(&mut text, covers)?;
     Ok(text)
+}
+
+/// Adds the line of how many ticks the clock is off at most, if that's known.
+#[tactic(auto, unfolding(crate::specs::Answer::most_line))]
+fn add_most(text: &mut Vec<u8>, most: Option<i128>) -> Result<(), AllocError>
+    ensures { IfOk result (λ _. text.new.items ≡ text.old.items ++ most_line most) }
+{
+    match most {
+        Some(most) => {
+            let fields = [
+                Field::Word("off at most"),
+                Field::High(most),
+                Field::Word("ms"),
+            ];
+            add_line(text, Style::Human, &fields)
+        }
+        None => Ok(()),
+    }
 }
 
 /// Adds the line of how many minimal covers were looked at, if there may be others.

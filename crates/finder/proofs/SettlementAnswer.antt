@@ -1,6 +1,6 @@
 -- What settles a claim.
 use Rattle.finder.proofs.Common.{◌≡◌, ℕ, ◌<◌, ◌≤◌, ℤ, pos, ◌*ℤ◌, ◌≤ℤ◌, true, false, true≢false, List, [], ◌∷◌, Ok, refl, sym, ◌∙◌, subst, to_z, of_z, Fits, w64, unsigned_abs, arith, rules, T, non_neg, w128, ◌↔◌, All, IsTrue, ints, clamps, ClaimData, IsLawful, Exchange, CertificateData, RefutationData, Certificate, Hull, Sample, IsPiece, Course, IsObservedIn, samples_of, verdict_of, Yes, HasSmallCover, IsCover, SomeCourse, AreLongest, IsStuck, end_after, FindsFewest, AreHeld, NoneIsRefuted}
-use Rattle.std.specs.Prelude.{Bool, length}
+use Rattle.std.specs.Prelude.{Bool, length, option_map}
 use Rattle.pairing.specs.Exchange.{IsLawful as IsLawfulExchange}
 use Rattle.certificate.specs.Certificate.{data_of as certificate_data}
 use Rattle.intersection.specs.Fineness.{times_le}
@@ -129,11 +129,12 @@ module _ (claim : ClaimData) (xs : List Exchange) where
       rw is (omega (arith, ints), further)
 
   -- as some course fits, the samples don't contradict each other there, and so no certificate is accepted
-  pub left_open : (begin end : ℤ) (hull : Hull) (covers : ℕ) → begin ≤ℤ end → IsHeard claim xs → IsFitted claim xs
+  pub left_open : (begin end : ℤ) (hull : Hull) (covers : ℕ) (most : Option ℤ) → begin ≤ℤ end → IsHeard claim xs
+      → IsFitted claim xs
       → FindsFewest (samples_of xs claim) claim (Ok (found.Nothing begin end hull))
       → NoneIsRefuted claim xs → AreHeld claim xs (unsigned_abs begin ∷ unsigned_abs end ∷ []) covers
-      → IsLeftOpen claim xs begin end hull covers
-  left_open begin end hull covers forward is_heard courses finds none_refuted bounded = record {
+      → IfSome most (NoneIsBeyond claim xs) → IsLeftOpen claim xs begin end hull covers most
+  left_open begin end hull covers most forward is_heard courses finds none_refuted bounded within = record {
     heard = is_heard;
     courses = courses;
     stuck = finds.stuck;
@@ -143,6 +144,7 @@ module _ (claim : ClaimData) (xs : List Exchange) where
     none_refuted = none_refuted;
     held = finds.held;
     bounded = bounded;
+    within = within;
   }
 
 -- ---- the most that the clock is off by
@@ -178,19 +180,20 @@ module _ (claim : ClaimData) (xs : List Exchange) (covers : List Groups) (least 
     → IsCover claim xs (holds_false claim.groups course.is_false))
     (lawful : IsLawful claim) (each : All (IsLawfulExchange (length claim.servers)) xs)
   where
-    pub none_beyond : (n : ℕ) (old new : Option ℕ) → length covers ≤ n
+    pub none_beyond : (n : ℕ) (old : Option ℕ) (new : Option ℤ) → length covers ≤ n
         → NeedNoMore (samples_of xs claim) claim covers n old
-        → IfSome new (λ found. (length covers < 64) × (old ≡ Some found)) → IfSome new (NoneIsBeyond claim xs)
+        → IfSome new (λ found. (length covers < 64) × (option_map pos old ≡ Some found))
+        → IfSome new (NoneIsBeyond claim xs)
     none_beyond n old None past tried is = tt
     none_beyond n None (Some most) past tried is = absurd cc
     none_beyond n (Some all) (Some most) past tried is = λ course fits observed.
         let false_in : ℕ → Bool = holds_false claim.groups course.is_false in
-        let same : all ≡ most = cc in
+        let same : pos all ≡ most = cc in
         ⊎_elim
         (λ one.
         let held = held_one (λ cover. NoneNeedsMore (samples_of xs claim) claim (holds cover) all) covers false_in
         (all_tried (λ cover. NoneNeedsMore (samples_of xs claim) claim (holds cover) all) covers n past tried) one in
-        subst (λ (m : ℕ). IsWithin course (pos m)) same (within_most claim lawful xs each
+        subst (IsWithin course) same (within_most claim lawful xs each
         (are_samples xs claim lawful each) (holds held.0) course fits held.2 all held.1 observed))
         (λ many. absurd (omega (arith, many)))
         (least.all_or_64 false_in (cover_of course fits) fits.few_false)

@@ -32,13 +32,14 @@ use Rattle.finder.specs.declared.settlement.Settled.{Settled}
 use Rattle.finder.specs.declared.settlement.Settled.TheVariants as the
 
 -- a certificate, a refutation, all conflicts, how few groups have a sample, or the tick at which
--- the certificate of fewest pieces stops, with its hull, and how many covers were looked at
+-- the certificate of fewest pieces stops, with its hull, how many covers were looked at, and how
+-- many ticks the clock is off at most, if that's known
 pub data SettledData : Type 0 where
   shown : CertificateData → SettledData
   refuted : RefutationData → SettledData
   fitted_by_none : List ShownConflict → SettledData
   no_evidence : ℕ → SettledData
-  left_open : ℤ → ℤ → Hull → ℕ → SettledData
+  left_open : ℤ → ℤ → Hull → ℕ → Option ℤ → SettledData
 
 -- what a value of the program says
 abbrev pub settled_data : Settled → SettledData
@@ -46,12 +47,7 @@ settled_data (the.Shown certificate) = shown (certificate_data certificate)
 settled_data (the.Refuted refutation) = refuted (refutation_data refutation)
 settled_data (the.NothingFits conflicts) = fitted_by_none (map conflict_data conflicts.items)
 settled_data (the.NoEvidence groups) = no_evidence groups
-settled_data (the.Open begin end hull covers most) = left_open begin end hull covers
-
--- how many ticks the clock is off at most where the claim is open, if that's known
-abbrev pub most_of : Settled → Option ℕ
-most_of (the.Open begin end hull covers most) = most
-most_of settled = None
+settled_data (the.Open begin end hull covers most) = left_open begin end hull covers most
 
 module _ (claim : ClaimData) (xs : List Exchange) where
   -- More groups have a sample than may be false, so that the capture is evidence.
@@ -92,12 +88,19 @@ module _ (claim : ClaimData) (xs : List Exchange) where
     pub nothing_said : IsNoEvidence claim xs groups
     pub none_accepted : NoneIsAccepted (samples_of xs claim) claim
 
+  -- in no course that fits is the clock off by more than so many ticks when it shows a reading of
+  -- the span
+  abbrev pub NoneIsBeyond : ℤ → Type 0
+  NoneIsBeyond most = (course : Course) → Fits claim xs course
+      → IsObservedIn course claim.first claim.last → IsWithin course most
+
   -- A course fits, and no certificate is accepted, though the capture is evidence, and no
   -- refutation whose error never changes. Where the longest pieces have come to, the next tick
   -- isn't shown; in every course that fits, the error lies in its hull at every moment whose
   -- reading lies there. At both its ends the bound holds in every course that fits, but for
-  -- rounding, and for courses with the groups of another cover false if there are so many.
-  pub record IsLeftOpen (begin end : ℤ) (hull : Hull) (covers : ℕ) : Type 0 where
+  -- rounding, and for courses with the groups of another cover false if there are so many. What
+  -- the clock is off by at most is so at every reading of the span.
+  pub record IsLeftOpen (begin end : ℤ) (hull : Hull) (covers : ℕ) (most : Option ℤ) : Type 0 where
     pub heard : IsHeard
     pub courses : IsFitted
     pub stuck : IsStuck (samples_of xs claim) claim begin end hull
@@ -106,13 +109,14 @@ module _ (claim : ClaimData) (xs : List Exchange) where
     pub held : HoldsError claim (samples_of xs claim) (stretch_over begin end) hull
     pub bounded :
         AreHeld claim xs (unsigned_abs begin ∷ unsigned_abs end ∷ []) covers
+    pub within : IfSome most NoneIsBeyond
 
   abbrev pub IsSettledAs : SettledData → Type 0
   IsSettledAs (shown certificate) = IsShownBy certificate
   IsSettledAs (refuted refutation) = IsContestedBy refutation
   IsSettledAs (fitted_by_none conflicts) = IsFittedByNone conflicts
   IsSettledAs (no_evidence groups) = IsUnheard groups
-  IsSettledAs (left_open begin end hull covers) = IsLeftOpen begin end hull covers
+  IsSettledAs (left_open begin end hull covers most) = IsLeftOpen begin end hull covers most
 
   -- A course fits, and as many pieces as a certificate may have don't reach the span's end: none
   -- that may be written is accepted. Neither is a refutation whose error never changes; whether
@@ -123,12 +127,6 @@ module _ (claim : ClaimData) (xs : List Exchange) where
     pub too_long : IsTooLong (samples_of xs claim) claim
     pub none_accepted : NoneOfFewIsAccepted (samples_of xs claim) claim
     pub none_refuted : NoneIsRefuted claim xs
-
-  -- in no course that fits is the clock off by more than so many ticks when it shows a reading of
-  -- the span
-  abbrev pub NoneIsBeyond : ℕ → Type 0
-  NoneIsBeyond most = (course : Course) → Fits claim xs course
-      → IsObservedIn course claim.first claim.last → IsWithin course (pos most)
 
   -- What a search for a refutation has come to: this one stands, or none whose error never changes
   -- does, and the bound holds at these readings, with so many minimal covers looked at; and no
@@ -142,6 +140,5 @@ module _ (claim : ClaimData) (xs : List Exchange) where
   -- what a search for what settles a claim answers
   pub record Settles (result : Result Settled FindFault) : Type 0 where
     pub settled : IfOk result (λ found. IsSettledAs (settled_data found))
-    pub within : IfOk result (λ found. IfSome (most_of found) NoneIsBeyond)
     pub refused : IfErr result (λ fault.
         (fault ≡ Memory) ⊎ ((fault ≡ TooManyPieces) × HasTooManyPieces))

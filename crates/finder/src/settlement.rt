@@ -7,7 +7,8 @@
 //! tried for each minimal cover, where the pieces stop and at the tick that needs most with the
 //! cover left out (neediest.rt), and one without drift last. The claim is open if none stands.
 
-ghost use Rattle.std.specs.Prelude.{◌≡◌, ◌<◌, ◌≤◌, length, map, All, IfOk, IfSome, Some};
+ghost use Rattle.std.specs.Prelude.{◌≡◌, ◌<◌, ◌≤◌, pos, length, map, All, IfOk, IfSome, Some};
+ghost use Rattle.std.specs.Option.{option_map};
 ghost use Rattle.claim_file.specs.Claim.{data_of as claim_data};
 ghost use Rattle.checker.specs.Traceability.{samples_of};
 ghost use Rattle.feasibility.specs.ConflictTable.{IsConflictTable};
@@ -66,7 +67,7 @@ pub enum Settled {
         /// How many ticks the clock is off at most at any reading of the span, whatever course
         /// fits. It's known if all minimal covers were looked at, and for each the search for the
         /// tick that needs most came to its end.
-        most: Option<u128>,
+        most: Option<i128>,
     },
 }
 
@@ -107,14 +108,18 @@ enum Search {
     Found(Refutation),
     /// None was found with this many minimal covers, 64 if there are more. If it's known, this is
     /// how many ticks the clock is off at most.
-    Nothing { covers: u8, most: Option<u128> },
+    Nothing { covers: u8, most: Option<i128> },
 }
 
 /// How many ticks the clock is off at most, if these are all minimal covers.
-fn if_all(most: Option<u128>, covers: usize) -> Option<u128>
-    ensures { IfSome result (λ found. (covers < 64) × (most ≡ Some found)) }
+fn if_all(most: Option<u128>, covers: usize) -> Option<i128>
+    ensures { IfSome result (λ found. (covers < 64) × (option_map pos most ≡ Some found)) }
 {
-    if covers < 64 { most } else { None }
+    if covers < 64 {
+        i128::try_from(most?).ok()
+    } else {
+        None
+    }
 }
 
 /// A refutation with drift, if one is found: for each minimal cover at both ends of the tick that

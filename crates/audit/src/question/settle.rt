@@ -118,8 +118,8 @@ fn settled_answer(
             end,
             hull,
             covers,
-            ..
-        } => open_answer(alloc, claim, *begin, *end, *hull, *covers, least),
+            most,
+        } => open_answer(alloc, claim, *begin, *end, *hull, *covers, *most, least),
     }
 }
 

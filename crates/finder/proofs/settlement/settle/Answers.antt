@@ -14,7 +14,6 @@ returns-then-not-has_cover g c =
           c.in_ok-conflicts.ensures.covers)
           (c.some_course_fits_where_a_cover_is_small.ensures claim xs c.args.claim.now.lawful c.requires.exchanges)
           (λ is_in ends. c.ends_of_all_conflicts_are_a_cover.ensures claim xs _ is_in c.in_ok-listed.ensures ends);
-      within = tt;
       refused = tt;
     }
 
@@ -29,7 +28,6 @@ returns-then-groups-claim g c =
           (c.few_groups_are_no_evidence.ensures claim xs)
           (c.no_evidence_gives_no_yes.ensures claim xs) c.groups_heard-groups.result
           c.groups_heard-groups.ensures few;
-      within = tt;
       refused = tt;
     }
 
@@ -47,7 +45,6 @@ returns-in-Ok-Certificate g c =
           FindsFewest samples claim (Ok (found.Certificate c.in-Ok-Certificate.certificate)))
           c.exchange_samples-samples.ensures.samples
           (rw (c.in-Ok-Certificate.is, c.in-Ok-Certificate.field-0-is) at c.fewest_by.ensures));
-      within = tt;
       refused = tt;
     }
 
@@ -76,7 +73,6 @@ returns-in-Found g c =
       settled = contested_by claim xs _
           (heard claim xs c.groups_heard-groups.result c.groups_heard-groups.ensures c.if-groups-claim.false)
           (rw c.in-Found.is at c.in_ok-refutation-in-Ok-Nothing.ensures);
-      within = tt;
       refused = tt;
     }
 
@@ -88,7 +84,6 @@ returns-in-Found-2 g c =
       settled = contested_by claim xs _
           (heard claim xs c.groups_heard-groups.result c.groups_heard-groups.ensures c.if-groups-claim.false)
           (rw c.in-Found-2.is at c.in_ok-refutation-in-Err-TooManyPieces.ensures);
-      within = tt;
       refused = tt;
     }
 
@@ -102,7 +97,6 @@ returns-in-Err-TooManyPieces g c =
     let searched = rw c.in-Nothing-2.is at c.in_ok-refutation-in-Err-TooManyPieces.ensures in
     record {
       settled = tt;
-      within = tt;
       refused = inr (
         refl,
         record {
@@ -134,10 +128,9 @@ returns-in-Ok-Nothing g c =
     at c.in_ok-refutation-in-Ok-Nothing.ensures in
     record {
       settled = rw (tick.begin_kept, tick.end_kept) (left_open claim xs begin end c.in-Ok-Nothing.hull
-          c.in-Nothing.covers tick.forward
+          c.in-Nothing.covers c.in-Nothing.most tick.forward
           (heard claim xs c.groups_heard-groups.result c.groups_heard-groups.ensures c.if-groups-claim.false)
           (λ reading. c.some_course_is_observed_at_any_reading.ensures claim xs reading c.args.claim.now.lawful
-          c.requires.exchanges course) finds searched.0 searched.1);
-      within = searched.2;
+          c.requires.exchanges course) finds searched.0 searched.1 searched.2);
       refused = tt;
     }
