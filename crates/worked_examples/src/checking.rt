@@ -1,8 +1,5 @@
-//! From samples and certificates to verdicts.
+//! From samples to verdicts.
 
-mod certificates;
-mod claims;
-mod finds;
 mod hulls;
 mod pieces;
 mod refutation_texts;

@@ -1,6 +1,5 @@
 //! From frames and claims to exchanges.
 
-mod claims;
 mod exchanges;
 mod frames;
 mod headers;

@@ -1,4 +1,4 @@
-//! Samples, offsets, delays and widenings, by hand.
+//! Samples and widenings, by hand.
 
 ghost use Rattle.sample_interval.specs.Exchange.{IsOfSomeClaim};
 
@@ -6,7 +6,7 @@ use crate::checking::pieces::twenty_milliseconds;
 use crate::expectation::{assert_equal, assert_equal_at};
 use pairing::Exchange;
 use sample_interval::kinds::Sample;
-use sample_interval::{delay, offset, sample, widen};
+use sample_interval::{sample, widen};
 use vectors::TICK;
 
 /// A request at the second, in microseconds, its reply 20 ms later, and both timestamps half way.
@@ -45,17 +45,11 @@ fn widenings_round_up(rt: HostRuntime) {
 
 #[test]
 fn exact_readings(rt: HostRuntime) {
-    let x = exchange();
-    assert_equal(&rt, offset(&x, 0), (-4295, 1));
-    assert_equal(&rt, delay(&x, 0), (85_895_050, 85_903_641));
-    assert_equal(&rt, sample(&x, 0), twenty_milliseconds());
+    assert_equal(&rt, sample(&exchange(), 0), twenty_milliseconds());
 }
 
 #[test]
 fn readings_within_a_microsecond(rt: HostRuntime) {
-    let x = exchange();
-    assert_equal(&rt, offset(&x, 4295), (-8590, 4296));
-    assert_equal(&rt, delay(&x, 4295), (85_886_460, 85_912_231));
     let expected = Sample {
         server: 0,
         low: -42_953_969,
@@ -65,5 +59,5 @@ fn readings_within_a_microsecond(rt: HostRuntime) {
         high_from: TICK + 85_895_050,
         high_to: TICK + 85_907_936,
     };
-    assert_equal(&rt, sample(&x, 4295), expected);
+    assert_equal(&rt, sample(&exchange(), 4295), expected);
 }
