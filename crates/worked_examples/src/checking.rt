@@ -1,5 +1,7 @@
-//! From samples to verdicts.
+//! From samples and certificates to verdicts.
 
+mod certificates;
+mod finds;
 mod hulls;
 mod pieces;
 mod refutation_texts;

@@ -1,5 +1,6 @@
 //! From frames and claims to exchanges.
 
+mod claims;
 mod exchanges;
 mod frames;
 mod headers;

@@ -1,4 +1,4 @@
-//! Samples and widenings, by hand.
+//! Samples, offsets, delays and widenings, by hand.
 
 ghost use Rattle.sample_interval.specs.Exchange.{IsOfSomeClaim};
 
@@ -6,7 +6,7 @@ use crate::checking::pieces::twenty_milliseconds;
 use crate::expectation::{assert_equal, assert_equal_at};
 use pairing::Exchange;
 use sample_interval::kinds::Sample;
-use sample_interval::{sample, widen};
+use sample_interval::{delay, offset, sample, widen};
 use vectors::TICK;
 
 /// A request at the second, in microseconds, its reply 20 ms later, and both timestamps half way.
@@ -45,7 +45,10 @@ fn widenings_round_up(rt: HostRuntime) {
 
 #[test]
 fn exact_readings(rt: HostRuntime) {
-    assert_equal(&rt, sample(&exchange(), 0), twenty_milliseconds());
+    let x = exchange();
+    assert_equal(&rt, offset(&x, 0), (-4295, 1));
+    assert_equal(&rt, delay(&x, 0), (85_895_050, 85_903_641));
+    assert_equal(&rt, sample(&x, 0), twenty_milliseconds());
 }
 
 #[test]
