@@ -138,14 +138,12 @@ unmet_rest walk p e es after m =
 -- ---- one step of a walk
 stops : (walk : Side) (needed entered left : ℕ) (e : End) (es : List End) → enters walk e ≡ true
     → nat_le (left + needed) (entered + 1) ≡ true → first_reached walk needed entered left (e ∷ es) ≡ Some e.at
-stops walk needed entered left e es h k =
-    cond-true (enters walk e) _ _ h ∙ cond-true (nat_le (left + needed) (entered + 1)) _ _ k
+stops walk needed entered left e es h k = cc
 
 goes_on : (walk : Side) (needed entered left : ℕ) (e : End) (es : List End) → enters walk e ≡ true
     → nat_le (left + needed) (entered + 1) ≡ false
     → first_reached walk needed entered left (e ∷ es) ≡ first_reached walk needed (entered + 1) left es
-goes_on walk needed entered left e es h k =
-    cond-true (enters walk e) _ _ h ∙ cond-false (nat_le (left + needed) (entered + 1)) _ _ k
+goes_on walk needed entered left e es h k = cc
 
 leaves : (walk : Side) (needed entered left : ℕ) (e : End) (es : List End) → enters walk e ≡ false
     → first_reached walk needed entered left (e ∷ es) ≡ first_reached walk needed entered (left + 1) es
