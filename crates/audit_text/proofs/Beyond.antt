@@ -1,6 +1,6 @@
 -- An error beyond a bound in ticks is one beyond it in whole nanoseconds, rounded up.
-use Rattle.std.proofs.Common.{◌<◌, ◌*◌, ◌↔◌, ℕ, ℤ, IsTrue, unsigned_abs, ⊎_elim, arith}
-use Rattle.std.proofs.lemmas.Bool.{cases_lt, lt-ltb, ltb-true}
+use Rattle.std.proofs.Common.{◌<◌, ◌*◌, ◌↔◌, ℕ, ℤ, IsTrue, unsigned_abs, arith}
+use Rattle.std.proofs.lemmas.Bool.{lt-ltb, ltb-true}
 use Rattle.era_unfold.specs.Ratio.{IsCeiling, IsFloor}
 use Rattle.era_unfold.specs.Nanoseconds.{ticks_down, nanoseconds_per_second}
 use Rattle.era_unfold.specs.Window.{ticks_per_second}
@@ -17,16 +17,10 @@ module _ (n t : ℕ) where
   up = IsCeiling-ceiling_of (t * nanoseconds_per_second) ticks_per_second (omega arith)
 
   shown_beyond : ticks_down n < t → n < longer t
-  shown_beyond h =
-      ⊎_elim (λ beyond. beyond)
-      (λ within. absurd (omega (arith, h, down.greatest t (omega (arith, within, up.not_below)))))
-      (cases_lt n (longer t))
+  shown_beyond h = grind (arith, down.greatest t, up.not_below)
 
   beyond_in_ticks : n < longer t → ticks_down n < t
-  beyond_in_ticks h =
-      ⊎_elim (λ beyond. beyond)
-      (λ within. absurd (omega (arith, h, up.least n (omega (arith, within, down.not_above)))))
-      (cases_lt (ticks_down n) t)
+  beyond_in_ticks h = grind (arith, up.least n, down.not_above)
 
 pub beyond_as_shown : (bound_ns : ℕ) (error : ℤ) →
     ticks_down bound_ns < unsigned_abs error ↔ IsTrue (is_beyond bound_ns error)

@@ -5,11 +5,11 @@ use Rattle.std.proofs.lemmas.Option.{slice_get-get_or, slice_get-map}
 module _ {X Y : Type 0} (shown : X → Y) (held : List X) (i : ℕ) (d : X) (within : i < length held)
     (x : Y) (is : x ≡ shown (get_or held i d)) where
   -- it is the one at its place
-  pub stands_at : (e : Y) → x ≡ get_or (map shown held) i e
+  stands_at : (e : Y) → x ≡ get_or (map shown held) i e
   stands_at e = is ∙ sym (get_or-map shown held i d e within)
 
   -- which is one of them
-  pub is_inside : i < length (map shown held)
+  is_inside : i < length (map shown held)
   is_inside = rw (length-map held shown) within
 
   -- and is found there

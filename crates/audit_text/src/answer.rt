@@ -152,9 +152,7 @@ fn add_covers(text: &mut Vec<u8>, covers: u8) -> Result<(), AllocError>
     if covers < 64 {
         return Ok(());
     }
-    let fields = [
-        Field::Named("covers", u64::from(covers)),
-        Field::Word("looked at, there may be others"),
-    ];
+    let others = Field::Word("looked at, there may be others");
+    let fields = [Field::Named("covers", u64::from(covers)), others];
     add_line(text, Style::Human, &fields)
 }

@@ -11,11 +11,8 @@ use std::alloc::AllocError;
 pub(crate) fn add_claimed(text: &mut Vec<u8>, bound_ns: u64) -> Result<(), AllocError>
     ensures { IfOk result (λ _. text.new.items ≡ text.old.items ++ claimed_line bound_ns) }
 {
-    let fields = [
-        Field::Word("bound"),
-        Field::Nanoseconds(u128::from(bound_ns)),
-    ];
-    add_line(text, Style::Human, &fields)
+    let bound = Field::Nanoseconds(u128::from(bound_ns));
+    add_line(text, Style::Human, &[Field::Word("bound"), bound])
 }
 
 /// Adds the line of the least bound that a certificate carries, in nanoseconds, or that none
@@ -26,11 +23,8 @@ pub(crate) fn add_carried(text: &mut Vec<u8>, least_ns: Option<u64>) -> Result<(
 {
     match least_ns {
         Some(least_ns) => {
-            let fields = [
-                Field::Word("least"),
-                Field::Nanoseconds(u128::from(least_ns)),
-            ];
-            add_line(text, Style::Human, &fields)
+            let least = Field::Nanoseconds(u128::from(least_ns));
+            add_line(text, Style::Human, &[Field::Word("least"), least])
         }
         None => add_line(text, Style::Human, &[Field::Word("least none")]),
     }
@@ -46,11 +40,8 @@ pub(crate) fn add_wider(
     ensures { IfOk result (λ _. text.new.items ≡ text.old.items ++ wider_line bound_ns least_ns) }
 {
     if let Some(least_ns) = least_ns {
-        let fields = [
-            Field::Word("wider by"),
-            Field::Nanoseconds(u128::from(least_ns.saturating_sub(bound_ns))),
-        ];
-        return add_line(text, Style::Human, &fields);
+        let excess = Field::Nanoseconds(u128::from(least_ns.saturating_sub(bound_ns)));
+        return add_line(text, Style::Human, &[Field::Word("wider by"), excess]);
     }
     Ok(())
 }

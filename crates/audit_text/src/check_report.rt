@@ -98,11 +98,8 @@ fn add_sources_advice(text: &mut Vec<u8>, style: Style, count: u8) -> Result<(),
     ensures { IfOk result (λ _. text.new.items ≡ text.old.items ++ sources_advice style count) }
 {
     if count < ENOUGH_SOURCES {
-        let fields = [
-            Field::Word("advice"),
-            Field::Named("sources", u64::from(count)),
-        ];
-        return add_line(text, style, &fields);
+        let sources = Field::Named("sources", u64::from(count));
+        return add_line(text, style, &[Field::Word("advice"), sources]);
     }
     Ok(())
 }
@@ -177,12 +174,9 @@ fn add_verdict(text: &mut Vec<u8>, style: Style, verdict: &Verdict) -> Result<()
     match verdict {
         Verdict::Yes => add_line(text, style, &[Field::Word("verdict yes")]),
         Verdict::No { piece, why } => {
-            let fields = [
-                Field::Word("verdict no"),
-                Field::Named("piece", u64::from(*piece)),
-                Field::Word(why_word(why)),
-            ];
-            add_line(text, style, &fields)
+            let piece = Field::Named("piece", u64::from(*piece));
+            let why = Field::Word(why_word(why));
+            add_line(text, style, &[Field::Word("verdict no"), piece, why])
         }
     }
 }

@@ -190,19 +190,14 @@ fn add_bound(text: &mut Vec<u8>, style: Style, least: LeastBound) -> Result<(), 
 {
     match least {
         LeastBound::Holds { bound_ns, piece } => {
-            let fields = [
-                word_for(style, "bound_ns", "bound"),
-                Field::Nanoseconds(bound_ns),
-                Field::Named("piece", u64::from(piece)),
-            ];
-            add_line(text, style, &fields)
+            let bound = word_for(style, "bound_ns", "bound");
+            let piece = Field::Named("piece", u64::from(piece));
+            add_line(text, style, &[bound, Field::Nanoseconds(bound_ns), piece])
         }
         LeastBound::NoneHolds { piece } => {
-            let fields = [
-                word_for(style, "bound_ns none", "bound none"),
-                Field::Named("piece", u64::from(piece)),
-            ];
-            add_line(text, style, &fields)
+            let none = word_for(style, "bound_ns none", "bound none");
+            let piece = Field::Named("piece", u64::from(piece));
+            add_line(text, style, &[none, piece])
         }
     }
 }

@@ -36,19 +36,14 @@ pub(crate) fn add_least(
     match least {
         LeastLine::NotAsked => Ok(()),
         LeastLine::NoneHolds => {
-            add_line(
-                text,
-                style,
-                &[word_for(style, "least_ns none", "least none")],
-            )
+            let none = word_for(style, "least_ns none", "least none");
+            add_line(text, style, &[none])
         }
         LeastLine::Holds { bound_ns, piece } => {
-            let fields = [
-                word_for(style, "least_ns", "least"),
-                Field::Nanoseconds(u128::from(bound_ns)),
-                Field::Named("piece", u64::from(piece)),
-            ];
-            add_line(text, style, &fields)
+            let least = word_for(style, "least_ns", "least");
+            let bound = Field::Nanoseconds(u128::from(bound_ns));
+            let piece = Field::Named("piece", u64::from(piece));
+            add_line(text, style, &[least, bound, piece])
         }
     }
 }

@@ -35,11 +35,8 @@ fn add_excess(text: &mut Vec<u8>, bound_ns: u64, error: i64) -> Result<(), Alloc
     let size = size_of(error);
     let bound = u128::from(bound_ns);
     if bound < size {
-        let fields = [
-            Field::Word("beyond the bound by"),
-            Field::Nanoseconds(size - bound),
-        ];
-        add_line(text, Style::Human, &fields)
+        let by = Field::Word("beyond the bound by");
+        add_line(text, Style::Human, &[by, Field::Nanoseconds(size - bound)])
     } else {
         add_line(text, Style::Human, &[Field::Word("not beyond the bound")])
     }
@@ -58,10 +55,8 @@ fn add_liar(text: &mut Vec<u8>, claim: &Claim, number: u8) -> Result<(), AllocEr
             add_line(text, Style::Human, &fields)
         }
         None => {
-            let fields = [
-                Field::Named("if wrong server", u64::from(number)),
-                Field::Word("not in the claim"),
-            ];
+            let server = Field::Named("if wrong server", u64::from(number));
+            let fields = [server, Field::Word("not in the claim")];
             add_line(text, Style::Human, &fields)
         }
     }

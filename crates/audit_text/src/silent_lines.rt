@@ -35,11 +35,8 @@ fn add_silent<X: ToExchange>(
     if is_source(exchanges, number) {
         return Ok(());
     }
-    let fields = [
-        Field::Word("no sample"),
-        Field::Address(server_of(claim, number)),
-    ];
-    add_line(text, Style::Human, &fields)
+    let address = Field::Address(server_of(claim, number));
+    add_line(text, Style::Human, &[Field::Word("no sample"), address])
 }
 
 /// Adds the line of each server of the claim that no exchange is with.

@@ -36,15 +36,11 @@ module _ (t a : ℤ) (tick : IsInRange t) (from : pos 0 ≤ℤ a) (to : a ≤ℤ
 -- the lesser and the greater of two timestamps
 pub lesser : (a b m : ℤ) → IsInRange a → IsInRange b → m ≡ int_min (to_z w128 (of_z w128 a)) (to_z w128 (of_z w128 b)) →
     (m ≡ int_min a b) × IsInRange m
-lesser a b m p q is =
-    let kept : m ≡ int_min a b = is ∙ rw (stamp_is a p, stamp_is b q) refl in
-    (kept, record { least = omega (arith, ints, clamps); greatest = omega (arith, ints, clamps) })
+lesser a b m p q is = grind (arith, int_min, stamp_is, clamps)
 
 pub greater : (a b m : ℤ) → IsInRange a → IsInRange b →
     m ≡ int_max (to_z w128 (of_z w128 a)) (to_z w128 (of_z w128 b)) → (m ≡ int_max a b) × IsInRange m
-greater a b m p q is =
-    let kept : m ≡ int_max a b = is ∙ rw (stamp_is a p, stamp_is b q) refl in
-    (kept, record { least = omega (arith, ints, clamps); greatest = omega (arith, ints, clamps) })
+greater a b m p q is = grind (arith, int_max, stamp_is, clamps)
 
 module _ (x : Exchange) (a : ℤ) (h : IsOfSomeClaim x) (from : pos 0 ≤ℤ a) (to : a ≤ℤ pos (2 ^ 32)) where
   pub low_range : IsWithinRange (low_mark a x)
@@ -69,13 +65,11 @@ kept_place a h = w128_keeps a (omega arith)
 -- ---- an exchange by itself
 kept_start : (t a : ℤ) → IsInRange t → pos 0 ≤ℤ a → a ≤ℤ pos (2 ^ 32) →
     to_z w128 (of_z w128 (to_z w128 (of_z w128 t) -ℤ to_z w128 (of_z w128 a))) ≡ t -ℤ a
-kept_start t a p q r = kept_place (to_z w128 (of_z w128 t) -ℤ to_z w128 (of_z w128 a)) (start_small t a p q r)
-    ∙ start_is t a p q r
+kept_start t a p q r = grind (arith, kept_place, to_z, w128, of_z, start_small, start_is)
 
 kept_end : (t a : ℤ) → IsInRange t → pos 0 ≤ℤ a → a ≤ℤ pos (2 ^ 32) →
     to_z w128 (of_z w128 (to_z w128 (of_z w128 t) +ℤ to_z w128 (of_z w128 a))) ≡ t +ℤ a
-kept_end t a p q r = kept_place (to_z w128 (of_z w128 t) +ℤ to_z w128 (of_z w128 a)) (end_small t a p q r)
-    ∙ end_is t a p q r
+kept_end t a p q r = grind (arith, kept_place, to_z, w128, of_z, end_small, end_is)
 
 tick_small : (t : ℤ) → IsInRange t → unsigned_abs t ≤ 2 ^ 100
 tick_small t h = omega (arith, ints)
@@ -105,14 +99,4 @@ module _ (x : Exchange) (a : ℤ) (h : IsOfSomeClaim x) (from : pos 0 ≤ℤ a) 
       IsTrue (le_z
       (to_z w128 (of_z w128 (to_z w128 (of_z w128 x.t1_low) -ℤ to_z w128 (of_z w128 a))))
       (to_z w128 (of_z w128 (to_z w128 (of_z w128 x.t4_high) +ℤ to_z w128 (of_z w128 a))))) ↔ IsPossible a x
-  impossible late =
-      rw (kept_start x.t1_low a h.lawful.t1_low from to, kept_end x.t4_high a h.lawful.t4_high from to)
-      (let test = rw (
-        kept_start x.t1_low a h.lawful.t1_low from to,
-        kept_end x.t4_high a h.lawful.t4_high from to,
-      ) at late in
-      let both = tests (x.t1_low -ℤ a) (x.t4_high +ℤ a) in (
-        λ t. absurd (not_both (x.t1_low -ℤ a) (x.t4_high +ℤ a) (both.0 t)
-            (lt_from_test (x.t1_low -ℤ a) (x.t4_high +ℤ a) test)),
-        λ p. both.1 p.leaves_before_arrival,
-      ))
+  impossible late = grind (arith, kept_start, kept_end, tests, not_both, lt_from_test)

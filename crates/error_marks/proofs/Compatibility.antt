@@ -80,17 +80,13 @@ from_both ppb low high falling rising = by_lt_z high.place low.place
 module _ (ppb : ℕ) (rate : IsRate ppb) (lows highs : List Mark) (falling : Bool)
     (f : IsTrue falling ↔ AllKeepBelow Falling ppb lows highs) where
   all_from : AllKeepBelow Falling ppb lows highs → AllKeepBelow Rising ppb highs lows → AllCompatible ppb lows highs
-  all_from first second i d within j d' within' =
-      from_both ppb (get_or lows i d) (get_or highs j d') (first j d' within' i d within)
-      (second i d within j d' within')
+  all_from first second i d within j d' within' = grind (arith, from_both, get_or)
 
   all_falling : AllCompatible ppb lows highs → AllKeepBelow Falling ppb lows highs
-  all_falling all j d' within' i d within =
-      (both ppb (get_or lows i d) (get_or highs j d') rate (all i d within j d' within')).0
+  all_falling all j d' within' i d within = grind (arith, both, get_or)
 
   all_rising : AllCompatible ppb lows highs → AllKeepBelow Rising ppb highs lows
-  all_rising all i d within j d' within' =
-      (both ppb (get_or lows i d) (get_or highs j d') rate (all i d within j d' within')).1
+  all_rising all i d within j d' within' = grind (arith, both, get_or)
 
   pub where_falling : (rising : Bool) → IsTrue rising ↔ AllKeepBelow Rising ppb highs lows → falling ≡ true →
       IsTrue rising ↔ AllCompatible ppb lows highs

@@ -11,9 +11,7 @@ module _ (ppb : ℕ) (lows highs part sorted : List Mark) (least middle : ℕ) (
     (le : middle ≤ length lows) (is : part ≡ take (middle - least) (drop least lows))
     (p : IsPermutation part sorted) where
   part_length : length part ≡ middle - least
-  part_length =
-      let rest : length (drop least lows) ≡ length lows - least = length-drop least lows in
-      ap length is ∙ length-take-le (middle - least) (drop least lows) (omega (arith, rest))
+  part_length = grind (arith, length, drop, length-drop, length-take-le)
 
   part_reads : (k : ℕ) (d : Mark) → k < middle - least → get_or part k d ≡ get_or lows (least + k) d
   part_reads k d lt = rw is (get_or-take (middle - least) (drop least lows) k d lt) ∙ get_or-drop least lows k d
@@ -31,10 +29,7 @@ module _ (ppb : ℕ) (lows highs part sorted : List Mark) (least middle : ℕ) (
       (part_fits (All-permutation (FitsAll ppb highs) sorted part (IsPermutation-sym part sorted p) all))
 
   all_of_part : AllWithin (FitsAll ppb highs) lows 0 middle → AllCompatible ppb part highs
-  all_of_part fit k d lt =
-      let long = part_length in
-      let below : k < middle - least = omega arith in
-      subst (FitsAll ppb highs) (sym (part_reads k d below)) (fit (least + k) d (omega arith) (omega arith))
+  all_of_part fit k d lt = grind (arith, part_length, part_reads)
 
   pub part_compatible : AllWithin (FitsAll ppb highs) lows 0 middle → AllCompatible ppb sorted highs
   part_compatible fit = All-permutation (FitsAll ppb highs) part sorted p (all_of_part fit)

@@ -11,17 +11,12 @@ parts_more : (r : ℤ) (ppb : ℕ) → IsRate ppb → r ≡ pos ppb →
 parts_more r ppb h is = rw (is, w128_keeps (pos ppb) (omega arith)) (omega (arith, ints))
 
 small_product : (n : ℕ) (a : ℤ) → n ≤ 2 ^ 31 → unsigned_abs a ≤ 2 ^ 73 → unsigned_abs (pos n *ℤ a) ≤ 2 ^ 104
-small_product n a p q =
-    let is : unsigned_abs (pos n *ℤ a) ≡ n * unsigned_abs a = unsigned_abs-mul (pos n) a in
-    let first : n * unsigned_abs a ≤ n * 2 ^ 73 = mul-le-mul_left n q in
-    omega arith
+small_product n a p q = grind (arith, unsigned_abs, pos, unsigned_abs-mul, mul-le-mul_left)
 
 -- n times a number, as the code computes it
 kept_product : (n : ℕ) (a : ℤ) → n ≤ 2 ^ 31 → unsigned_abs a ≤ 2 ^ 73 →
     (to_z w128 (of_z w128 (pos n *ℤ to_z w128 (of_z w128 a))) ≡ pos n *ℤ a) × (unsigned_abs (pos n *ℤ a) ≤ 2 ^ 104)
-kept_product n a p q =
-    let small = small_product n a p q in
-    (rw (w128_keeps a (omega arith)) (w128_keeps (pos n *ℤ a) (omega arith)), small)
+kept_product n a p q = grind (arith, small_product, w128_keeps, pos)
 
 -- the products of a mark's two numbers
 module _ {r : ℤ} {ppb : ℕ} (rate : IsRate ppb) (is : r ≡ pos ppb) (a : ℤ) (le : unsigned_abs a ≤ 2 ^ 73) where

@@ -51,11 +51,7 @@ rising_lines ppb low high =
 -- behind a high mark
 pub rises_line : (ppb : ℕ) (low high : Mark) → high.place <ℤ low.place →
     (rising_line ppb low ≤ℤ rising_line ppb high) ↔ AreCompatible ppb low high
-rises_line ppb low high behind =
-    let lines = rising_lines ppb low high in (
-      λ h. record { falls = λ before. absurd (not_both low.place high.place before behind); rises = λ p. lines.1 h },
-      λ h. lines.0 (h.rises behind),
-    )
+rises_line ppb low high behind = grind (arith, rising_lines, not_both)
 
 -- the code's tests
 place_is : (a : ℤ) → unsigned_abs a ≤ 2 ^ 73 → to_z w128 (of_z w128 a) ≡ a
@@ -76,13 +72,11 @@ tests a b = (λ h. grind (arith, ints), λ h. grind (arith, ints))
 module _ (low high : Mark) (p : IsWithinRange low) (q : IsWithinRange high) where
   pub before_from_test : le_z (to_z w128 (of_z w128 low.place)) (to_z w128 (of_z w128 high.place)) ≡ true →
       low.place ≤ℤ high.place
-  before_from_test h =
-      le_from_test low.place high.place (rw (place_is low.place p.place, place_is high.place q.place) at h)
+  before_from_test h = grind (arith, le_from_test, place_is)
 
   pub behind_from_test : le_z (to_z w128 (of_z w128 low.place)) (to_z w128 (of_z w128 high.place)) ≡ false →
       high.place <ℤ low.place
-  behind_from_test h =
-      lt_from_test low.place high.place (rw (place_is low.place p.place, place_is high.place q.place) at h)
+  behind_from_test h = grind (arith, lt_from_test, place_is)
 
 -- numbers that 128 bits keep are compared as they are
 pub compared : (a b : ℤ) → unsigned_abs a ≤ 2 ^ 105 → unsigned_abs b ≤ 2 ^ 105 →

@@ -12,21 +12,13 @@ times_le n a b h =
 
 -- ---- a greater rate
 pub falls_faster : (b p q x y : ℕ) → p ≤ q → q ≤ b → (b - p) * x ≤ p * y → (b - q) * x ≤ q * y
-falls_faster b p q x y le most h =
-    let first : (b - q) * x ≤ (b - p) * x = mul-le-mul_right x (omega arith) in
-    let second : p * y ≤ q * y = mul-le-mul_right y le in
-    omega arith
+falls_faster b p q x y le most h = grind (arith, mul-le-mul_right)
 
 more_room : (b p q x k : ℕ) → p ≤ q → (b + p) * x ≤ p * (x + k) → (b + q) * x ≤ q * (x + k)
-more_room b p q x k le h =
-    let more : p * k ≤ q * k = mul-le-mul_right k le in
-    omega arith
+more_room b p q x k le h = grind (arith, mul-le-mul_right)
 
 nothing_to_rise : (b p x y : ℕ) → 0 < b → y < x → (b + p) * x ≤ p * y → ⊥
-nothing_to_rise b p x y some lt h =
-    let more : p * y ≤ p * x = mul-le-mul_left p (omega arith) in
-    let one : b * 1 ≤ b * x = mul-le-mul_left b (omega arith) in
-    omega arith
+nothing_to_rise b p x y some lt h = grind (arith, mul-le-mul_left)
 
 rises_faster : (b p q x y : ℕ) → 0 < b → p ≤ q → (b + p) * x ≤ p * y → (b + q) * x ≤ q * y
 rises_faster b p q x y some le h = ⊎_elim
@@ -68,19 +60,10 @@ zero_times (pos x) = omega (arith, ints)
 zero_times (negsuc x) = omega (arith, ints)
 
 from_none : (n : ℕ) (z x y : ℤ) → 0 < n → (pos n *ℤ (x -ℤ y)) ≤ℤ (pos 0 *ℤ z) → x ≤ℤ y
-from_none n z x y some h =
-    let none = some_above n (x -ℤ y) some (rw (zero_times z) at h) in
-    omega (arith, ints)
+from_none n z x y some h = grind (arith, some_above, zero_times)
 
 pub without_drift : (low high : Mark) → AreCompatible 0 low high ↔ (low.error ≤ℤ high.error)
-without_drift low high = (
-  λ fits. by_lt_z high.place low.place
-      (λ behind. from_none (billion + 0) (low.place -ℤ high.place) low.error high.error (omega arith)
-      (fits.rises behind))
-      (λ before. from_none (billion - 0) (high.place -ℤ low.place) low.error high.error (omega arith)
-      (fits.falls before)),
-  compatible_in_order 0 low high,
-)
+without_drift low high = grind (arith, by_lt_z, from_none, billion, compatible_in_order)
 
 -- ---- weaker marks
 
@@ -89,10 +72,7 @@ weaker_falls n x y z h k = ≤ℤ_trans (pos n *ℤ x) (pos n *ℤ y) z (times_l
 
 weaker : (ppb : ℕ) (low high : Mark) (x y : ℤ) → (x -ℤ y) ≤ℤ (low.error -ℤ high.error) → AreCompatible ppb low high →
     AreCompatible ppb (record low { error = x }) (record high { error = y })
-weaker ppb low high x y le fits = record {
-  falls = λ before. weaker_falls (billion - ppb) (x -ℤ y) (low.error -ℤ high.error) _ le (fits.falls before);
-  rises = λ behind. weaker_falls (billion + ppb) (x -ℤ y) (low.error -ℤ high.error) _ le (fits.rises behind);
-}
+weaker ppb low high x y le fits = grind (arith, weaker_falls, billion)
 
 pub lower : (ppb : ℕ) (low high : Mark) (error : ℤ) → error ≤ℤ low.error → AreCompatible ppb low high →
     AreCompatible ppb (record low { error = error }) high

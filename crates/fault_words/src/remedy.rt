@@ -1,4 +1,4 @@
-//! What to do about a fault: remedies that several faults share, and what is filled into each.
+//! What to do about a fault: remedies that have a name, and what is filled into each.
 //!
 //! In a remedy `@` stands for the file that the fault is of, `#` for its place there, `~` for the
 //! claim and the capture, `&` for these and the second input, and `%` for the file of sums.
@@ -18,6 +18,9 @@ use std::alloc::{AllocError, Global};
 pub(crate) const SEE_LIMITS: &str = "see what limits it: ulimit -v, or a container's limit";
 
 pub(crate) const SEE_WHO_MAY_READ: &str = "see what it is and who may read it: ls -l @";
+
+pub(crate) const CUT_BY_RECORDS: &str =
+    "cut it: editcap -F pcap -c 4000000 @ new.pcap (-F nsecpcap for nanoseconds)";
 
 pub(crate) const WRITE_AN_ADDRESS: &str =
     "write an address as \"192.0.2.1\": no host name, no IPv6, no leading zeros";

@@ -73,10 +73,7 @@ fn capture_sentence(fault: &CaptureFault) -> Sentence
             "fetch the file again, or join by mergecap in place of cat: \
              mergecap -F pcap -w new.pcap FIRST SECOND (-F nsecpcap for nanoseconds)",
         ),
-        CaptureFault::TooMany => says(
-            "has over 4000000 records",
-            "cut it: editcap -F pcap -c 4000000 @ new.pcap (-F nsecpcap for nanoseconds)",
-        ),
+        CaptureFault::TooMany => says("has over 4000000 records", remedy::CUT_BY_RECORDS),
         CaptureFault::Read => says("can't be read", remedy::SEE_WHO_MAY_READ),
         CaptureFault::Memory => no_memory(),
         CaptureFault::Failed => says("had a fault before", "read it again from its beginning"),

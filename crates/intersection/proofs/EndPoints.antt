@@ -132,9 +132,7 @@ module _ (list : List Interval) (f : ℕ) (below : f < length list) where
   admissible_stands q few s = filter_stands _ (end_points list) q (grind (arith, nat_tests)) s
 
   stands_admissible : (q : ℤ) → StandsIn (admissible_ends list f) q → IsAdmissible list f q
-  stands_admissible q s =
-      let passed : nat_le (count_leaving_out list q) f ≡ true = (from_filter _ (end_points list) q s).0 in
-      grind (arith, nat_tests)
+  stands_admissible q s = grind (arith, nat_le, count_leaving_out, from_filter, end_points)
 
   ends_beside : (p : ℤ) → IsAdmissible list f p → ((q : ℤ) × StandsIn (admissible_ends list f) q × (q ≤ℤ p))
       × ((q : ℤ) × StandsIn (admissible_ends list f) q × (p ≤ℤ q))

@@ -41,9 +41,7 @@ meet_either below above rises falls a b both lo hi = (
 -- a point is left out by the meet exactly if one of the two leaves it out
 pub meet_leaves_out : (a b both : Interval) → both.lo ≡ int_max a.lo b.lo → both.hi ≡ int_min a.hi b.hi → (point : ℤ)
     → LeavesOut both point ↔ (LeavesOut a point ⊎ LeavesOut b point)
-meet_leaves_out a b both lo hi point =
-    meet_either (λ z. point <ℤ z) (λ z. z <ℤ point) (λ x y le h. omega (arith, ints)) (λ x y le h. omega (arith, ints))
-    a b both lo hi
+meet_leaves_out a b both lo hi point = grind (arith, meet_either)
 
 -- the same for a fraction
 pub meet_leaves_fraction_out : (a b both : Interval) (e : ℤ) (n : ℕ) → both.lo ≡ int_max a.lo b.lo

@@ -20,15 +20,7 @@ balance_one walk interval p = balance_at walk interval.lo interval.hi p (int_le 
 -- what is counted of the ends of a list is what is counted of the first interval's and of the others'
 counted_apart : (f : End → ℕ) (interval : Interval) (list : List Interval)
     → sum_by f (ends_of (interval ∷ list)) ≡ sum_by f (low_end interval ++ high_end interval) + sum_by f (ends_of list)
-counted_apart f interval list =
-    let lows = flat_map low_end list in
-    let highs = flat_map high_end list in
-    let all = sum_by-append f (low_end interval ++ lows) (high_end interval ++ highs) in
-    let low = sum_by-append f (low_end interval) lows in
-    let high = sum_by-append f (high_end interval) highs in
-    let one = sum_by-append f (low_end interval) (high_end interval) in
-    let others = sum_by-append f lows highs in
-    omega arith
+counted_apart f interval list = grind (arith, flat_map, low_end, high_end, sum_by-append)
 
 pub balance : (walk : Side) (list : List Interval) (p : ℤ)
     → left_by walk p (ends_of list) + length list ≡ entered_by walk p (ends_of list) + count_leaving_out list p

@@ -85,11 +85,7 @@ ordered_from_pairs R (x ∷ xs) h = (
 )
 
 pub pairs_reversed : (R : End → End → Type 0) (xs : List End) → AllPairs R xs → AllPairs (λ x y. R y x) (reverse xs)
-pairs_reversed R xs h i j d less below =
-    let n = length-reverse xs in
-    let first = get_or-reverse xs i d (omega arith) in
-    let second = get_or-reverse xs j d (omega arith) in
-    rw (first, second) (h (length xs - 1 - j) (length xs - 1 - i) d (omega arith) (omega arith))
+pairs_reversed R xs h i j d less below = grind (arith, length-reverse, get_or-reverse, length)
 
 -- ---- counts
 none_counted : (q : End → Bool) (xs : List End) → AllByRecursion (λ x. q x ≡ false) xs → count_by q xs ≡ 0
@@ -142,14 +138,12 @@ unmet_rest walk p e es after m =
 -- ---- one step of a walk
 stops : (walk : Side) (needed entered left : ℕ) (e : End) (es : List End) → enters walk e ≡ true
     → nat_le (left + needed) (entered + 1) ≡ true → first_reached walk needed entered left (e ∷ es) ≡ Some e.at
-stops walk needed entered left e es h k =
-    cond-true (enters walk e) _ _ h ∙ cond-true (nat_le (left + needed) (entered + 1)) _ _ k
+stops walk needed entered left e es h k = cc
 
 goes_on : (walk : Side) (needed entered left : ℕ) (e : End) (es : List End) → enters walk e ≡ true
     → nat_le (left + needed) (entered + 1) ≡ false
     → first_reached walk needed entered left (e ∷ es) ≡ first_reached walk needed (entered + 1) left es
-goes_on walk needed entered left e es h k =
-    cond-true (enters walk e) _ _ h ∙ cond-false (nat_le (left + needed) (entered + 1)) _ _ k
+goes_on walk needed entered left e es h k = cc
 
 leaves : (walk : Side) (needed entered left : ℕ) (e : End) (es : List End) → enters walk e ≡ false
     → first_reached walk needed entered left (e ∷ es) ≡ first_reached walk needed entered (left + 1) es
@@ -185,12 +179,7 @@ module _ (walk : Side) (needed : ℕ) where
     not_reached : (entered left : ℕ) (p : ℤ) (r : Option ℤ) → IfSome r (λ q. IsShortOf walk p q)
         → enters walk e ≡ true → is_met walk p e ≡ true → nat_le (left + needed) (entered + 1) ≡ true
         → first_reached walk needed entered left (e ∷ es) ≡ r → ⊥
-    not_reached entered left p r short entering met reached is =
-        let at : Some e.at ≡ r = sym (stops walk needed entered left e es entering reached) ∙ is in
-        let near : IsShortOf walk p e.at =
-        subst (λ (o : Option ℤ). IfSome o (λ q. IsShortOf walk p q)) (sym at) short in
-        let unmet = short_unmet walk p e near entering in
-        absurd cc
+    not_reached entered left p r short entering met reached is = grind (arith, stops, short_unmet)
 
     short_step : (entered left : ℕ) (p : ℤ) (r : Option ℤ) (met entering reached : Bool)
         → is_met walk p e ≡ met → enters walk e ≡ entering → nat_le (left + needed) (entered + 1) ≡ reached
@@ -214,10 +203,7 @@ module _ (walk : Side) (needed : ℕ) where
     -- no end after one that enters is left before its point
     none_left_after : AllByRecursion (Follows walk e) es → left_by walk e.at es ≡ 0
     none_left_after after =
-        none_counted _ es (weaker (Follows walk e) _ (λ y follows. by_test (enters walk y)
-        (λ passes. and_left (not (enters walk y)) (is_met walk e.at y) (not_from_true (enters walk y) passes))
-        (λ fails. and_right (not (enters walk y)) (is_met walk e.at y) (unmet_leaving walk e y follows fails))) es
-        after)
+        grind (arith, none_counted, weaker, by_test, enters, and_left, not, not_from_true, and_right, unmet_leaving)
 
     -- an end that leaves adds one to those left, if it's met, and nothing to those entered
     leaving_adds : (q : ℤ) → enters walk e ≡ false

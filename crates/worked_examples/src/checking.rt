@@ -1,7 +1,6 @@
 //! From samples and certificates to verdicts.
 
 mod certificates;
-mod claims;
 mod finds;
 mod hulls;
 mod pieces;

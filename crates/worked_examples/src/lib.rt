@@ -10,7 +10,5 @@ mod engines;
 #[cfg(test)]
 mod expectation;
 #[cfg(test)]
-mod inputs;
-#[cfg(test)]
 mod readers;
 pub mod uses;

@@ -1,18 +1,17 @@
-//! Inputs that never end, and the longest certificate: how many bytes are taken of each.
+//! Inputs that never end: how many bytes are taken of each.
 
-use crate::engines::trial::Answer;
+use crate::engines::trial::REFUTATION;
 use crate::expectation::{assert_equal_at, assert_ok, table};
-use crate::inputs::REFUTATION;
 use Asked::{Check, List, Refute};
 use audit::{run_check, run_refute};
 use byte_stream::{ReadFeed, Sink, TestSink};
 use listing::run_list;
 use pcap_reader::CaptureFault;
-use report::{Input, Outcome, RunFault};
+use report::{Input, RunFault};
 use std::alloc::Global;
 use std::io::{self, Read};
 use std::process::Abort;
-use vectors::{C1, K1, V1};
+use vectors::{C1, K1};
 
 /// A device that gives a text and then so many blanks, and counts what it gave.
 #[derive(Drop)]
@@ -48,18 +47,21 @@ enum Asked {
 }
 
 /// A text, and how many blanks stand behind it.
-type Text<'a> = (&'a [u8], u64);
+type Text<'a> = (&'a str, u64);
 
-/// A run answers this, and so many bytes are taken of its inputs.
-fn answers(
+/// A run over a capture that never ends is refused, and so many bytes are taken of its inputs.
+fn is_refused(
     rt: &impl Abort,
     alloc: Global,
     asked: Asked,
-    texts: [Text<'_>; 3],
-    (answer, taken): (Answer, [u64; 3]),
+    [claim, second]: [Text<'_>; 2],
+    (fault, taken): (RunFault, [u64; 3]),
 ) {
-    let [mut claim, mut second, mut capture] = texts.map(|(text, blanks)| Device {
+    let [mut claim, mut second, mut capture] = [claim, second, ENDLESS].map(|(
         text,
+        blanks,
+    )| Device {
+        text: text.as_bytes(),
         blanks,
         given: 0,
     });
@@ -77,16 +79,12 @@ fn answers(
         [claim.given, second.given, capture.given],
         out.faults(),
     );
-    assert_equal_at(rt, seen, (answer, taken, 0), asked);
+    assert_equal_at(rt, seen, (Err(fault), taken, 0), asked);
 }
 
-const ENDLESS: (&str, u64) = ("", u64::MAX);
+const ENDLESS: Text<'static> = ("", u64::MAX);
 
 const CLAIM: u64 = C1.len() as u64;
-
-const CERTIFICATE: u64 = K1.len() as u64;
-
-const REFUTATION_LENGTH: u64 = REFUTATION.len() as u64;
 
 /// A header that isn't one.
 const MAGIC: RunFault = RunFault::Capture(CaptureFault::Magic);
@@ -94,39 +92,19 @@ const MAGIC: RunFault = RunFault::Capture(CaptureFault::Magic);
 /// What is asked, a claim, a second input, the refusal, and how many bytes are taken of each input:
 /// one past its limit of a claim, a certificate and a refutation, none of what is read after it,
 /// and one buffer of a capture whose header is refused. No capture ends.
-const ENDLESS_RUNS: [(Asked, [(&str, u64); 2], RunFault, [u64; 3]); 7] = table! {
+const ENDLESS_RUNS: [(Asked, [Text<'static>; 2], RunFault, [u64; 3]); 7] = table! {
     List, [ENDLESS, ENDLESS], MAGIC, [0, 0, 524_288];
     Check, [ENDLESS, ENDLESS], RunFault::TooBig(Input::Claim), [65_537, 0, 0];
     Refute, [ENDLESS, ENDLESS], RunFault::TooBig(Input::Claim), [65_537, 0, 0];
     Check, [(C1, 0), ENDLESS], RunFault::TooBig(Input::Certificate), [CLAIM, 134_217_729, 0];
     Refute, [(C1, 0), ENDLESS], RunFault::TooBig(Input::Refutation), [CLAIM, 65_537, 0];
-    Check, [(C1, 0), (K1, 0)], MAGIC, [CLAIM, CERTIFICATE, 524_288];
-    Refute, [(C1, 0), (REFUTATION, 0)], MAGIC, [CLAIM, REFUTATION_LENGTH, 524_288];
+    Check, [(C1, 0), (K1, 0)], MAGIC, [CLAIM, K1.len() as u64, 524_288];
+    Refute, [(C1, 0), (REFUTATION, 0)], MAGIC, [CLAIM, REFUTATION.len() as u64, 524_288];
 };
 
 #[test]
 fn endless_inputs(rt: HostRuntime) {
-    for (asked, [claim, second], fault, taken) in ENDLESS_RUNS {
-        let texts = [
-            (claim.0.as_bytes(), claim.1),
-            (second.0.as_bytes(), second.1),
-            (b"".as_slice(), u64::MAX),
-        ];
-        answers(&rt, rt.alloc(), asked, texts, (Err(fault), taken));
-    }
-}
-
-/// `K1` with blanks up to the greatest length is read, and with one more refused.
-#[test]
-fn longest_certificate(rt: HostRuntime) {
-    let too_big = RunFault::TooBig(Input::Certificate);
-    for (length, answer, capture) in [
-        (134_217_728, Ok(Outcome::Yes), 236),
-        (134_217_729, Err(too_big), 0),
-    ] {
-        let certificate = (K1.as_bytes(), length - CERTIFICATE);
-        let texts = [(C1.as_bytes(), 0), certificate, (V1.as_slice(), 0)];
-        let taken = [CLAIM, length, capture];
-        answers(&rt, rt.alloc(), Check, texts, (answer, taken));
+    for (asked, texts, fault, taken) in ENDLESS_RUNS {
+        is_refused(&rt, rt.alloc(), asked, texts, (fault, taken));
     }
 }

@@ -3,7 +3,6 @@
 ghost use Rattle.byte_stream.specs.State.{IsWritable};
 
 use crate::expectation::table;
-use crate::inputs::REFUTATION;
 use audit::{At, Check, EnvelopeOptions, Find, PLAIN_ENVELOPE, Refute, Request, Step, Style};
 use byte_stream::{Cut, Feed, Sink, TestFeed, TestSink};
 use listing::run_list;
@@ -74,6 +73,10 @@ const SERVERS: Command<'static> = Command::Ask(Request::Envelope(EnvelopeOptions
     servers: true,
     ..PLAIN_ENVELOPE
 }));
+
+/// A refutation of `C1` with a bound one tick smaller.
+pub(crate) const REFUTATION: &str =
+    "{\"error\":42953968,\"false\":[],\"reading\":4294967296000000000}";
 
 const SAMPLE: &str = "0 192.0.2.1 0 1 offset -4295 1 delay 85895050 85903641 \
     low -42949674 high 42953969\n";

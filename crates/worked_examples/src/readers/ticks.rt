@@ -8,8 +8,6 @@ fn windows_of_microseconds(rt: HostRuntime) {
     for (sec, sub, first, last) in table! {
         0, 0, 0, 4295;
         0, 999_999, 4_294_963_001, 4_294_967_296;
-        1_000_000_000, 0, 4_294_967_296_000_000_000, 4_294_967_296_000_004_295;
-        1_000_000_000, 20_000, 4_294_967_296_085_899_345, 4_294_967_296_085_903_641;
         u32::MAX, 999_999, ERA - 4295, ERA;
     } {
         let window = (low(sec, sub, Unit::Micro), high(sec, sub, Unit::Micro));
@@ -22,7 +20,6 @@ fn windows_of_nanoseconds(rt: HostRuntime) {
     for (sec, sub, first, last) in table! {
         0, 1, 4, 9;
         0, 999_999_999, 4_294_967_291, 4_294_967_296;
-        1_000_000_000, 20_000_000, 4_294_967_296_085_899_345, 4_294_967_296_085_899_351;
         u32::MAX, 999_999_999, ERA - 5, ERA;
     } {
         let window = (low(sec, sub, Unit::Nano), high(sec, sub, Unit::Nano));
@@ -54,7 +51,6 @@ fn stamps_unfold_to_the_nearest_era(rt: HostRuntime) {
         epoch, ERA, ERA;
         // The second tick of era 1, near the last second of era 0.
         1, 2_085_978_495 << 32, (2_085_978_496 << 32) + 1;
-        0x1122_3344_5566_7788, 4_294_967_296_000_000_000, 10_193_815_036_915_775_368;
         // Before 1970.
         epoch - 1, 0, -1;
     } {

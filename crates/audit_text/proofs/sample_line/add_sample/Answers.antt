@@ -21,15 +21,11 @@ returns c =
     Label (codes "delay") ∷ Low (kept delay.0) ∷ High (kept delay.1) ∷
     Label (codes "low") ∷ Low (kept error.low) ∷ Label (codes "high") ∷ High (kept error.high) ∷ [])) =
     c.add_row.ensures in
-    rw (
-      sym c.from.ensures,
-      sym c.from-2.ensures,
-      sym c.from-3.ensures,
+    rw (sym c.from.ensures, sym c.from-2.ensures, sym c.from-3.ensures, sym c.server_of.ensures) (rw (
       sym (to_z-of_z w128 offset.0 (search rules) ∙ c.offset-offset_from.ensures.from ∙ ap (offset_from x) reading),
       sym (to_z-of_z w128 offset.1 (search rules) ∙ c.offset-offset_from.ensures.to ∙ ap (offset_to x) reading),
       sym (to_z-of_z w128 delay.0 (search rules) ∙ c.delay-delay_from.ensures.from ∙ ap (delay_from x) reading),
       sym (to_z-of_z w128 delay.1 (search rules) ∙ c.delay-delay_from.ensures.to ∙ ap (delay_to x) reading),
       sym (w128_keeps error.low (omega (arith, c.sample-error.ensures.lawful.low)) ∙ ap (λ (s : Sample). s.low) exact),
       sym (w128_keeps error.high (omega (arith, c.sample-error.ensures.lawful.high)) ∙ ap (λ (s : Sample). s.high) exact),
-      sym c.server_of.ensures,
-    ) told
+    ) told)

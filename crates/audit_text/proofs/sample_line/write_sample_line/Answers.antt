@@ -19,25 +19,17 @@ returns-clause-text c =
     let reading = w128_keeps claim.reading small in
     let error = c.sample-error.ensures in
     let exact = error.exact ∙ ap (sample_of x) reading in
-    rw (
-      c.put_number.ensures.text,
-      c.put_records.ensures.text,
-      c.put_interval-2.ensures.text,
-      c.put_interval.ensures.text,
-      c.put_errors.ensures.text,
-      c.put_byte.ensures.text,
-      c.clear.ensures,
-      c.server_of.ensures,
-      c.offset.ensures.from ∙ ap (offset_from x) reading,
-      c.offset.ensures.to ∙ ap (offset_to x) reading,
-      c.delay.ensures.from ∙ ap (delay_from x) reading,
-      c.delay.ensures.to ∙ ap (delay_to x) reading,
-      w128_keeps _ (omega (arith, error.lawful.low)) ∙ ap (λ (s : Sample). s.low) exact,
-      w128_keeps _ (omega (arith, error.lawful.high)) ∙ ap (λ (s : Sample). s.high) exact,
-    ) (groups_written (Number c.args.number)
+    rw (c.put_number.ensures.text, c.put_records.ensures.text, c.put_interval-2.ensures.text)
+    (rw (c.put_interval.ensures.text, c.put_errors.ensures.text, c.put_byte.ensures.text, c.clear.ensures)
+    (rw (c.server_of.ensures, c.offset.ensures.from ∙ ap (offset_from x) reading)
+    (rw (c.offset.ensures.to ∙ ap (offset_to x) reading, c.delay.ensures.from ∙ ap (delay_from x) reading)
+    (rw (c.delay.ensures.to ∙ ap (delay_to x) reading)
+    (rw (w128_keeps _ (omega (arith, error.lawful.low)) ∙ ap (λ (s : Sample). s.low) exact)
+    (rw (w128_keeps _ (omega (arith, error.lawful.high)) ∙ ap (λ (s : Sample). s.high) exact)
+    (groups_written (Number c.args.number)
     (Address (server_of claim x.server) ∷ Number x.request ∷ Number x.reply ∷ [])
     (Label (codes "offset") ∷ Low (offset_from x claim.reading) ∷ High (offset_to x claim.reading) ∷ [])
     (Label (codes "delay") ∷ Low (delay_from x claim.reading) ∷ High (delay_to x claim.reading) ∷ [])
     (Label (codes "low") ∷ Low (least_error x claim.reading) ∷
     Label (codes "high") ∷ High (greatest_error x claim.reading) ∷ [])
-    ∙ whole claim c.args.number x)
+    ∙ whole claim c.args.number x)))))))

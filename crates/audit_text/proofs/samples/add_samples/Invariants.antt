@@ -4,5 +4,5 @@ use Rattle.audit_text.proofs.samples.add_samples.Given as goal
 abbrev pub invariant-loop-number : goal.invariant-loop-number
 invariant-loop-number l =
     let row = sample_line l.style (data_of l.claim) in
-    let exchanges = map exchange_shown l.exchanges in
-    l.text.items ++ rows_from row l.number (drop l.number exchanges) ≡ l.initial.text.items ++ rows_from row 0 exchanges
+    l.text.items ++ rows_from row l.number (map exchange_shown (drop l.number l.exchanges))
+    ≡ l.initial.text.items ++ rows_from row 0 (map exchange_shown l.exchanges)

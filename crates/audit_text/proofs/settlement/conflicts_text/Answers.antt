@@ -6,9 +6,5 @@ pub returns : goal.returns
 unfolding conflicts_text
 returns g c =
     let xs = map g.X.ToExchange.shown c.args.exchanges.now in
-    rw (
-      flat_map-map (conflict_line c.args.style (data_of c.args.claim.now) xs) conflict_data c.args.conflicts.now,
-      c.in_ok-add_line.ensures,
-      c.in_ok-add_conflicts.ensures,
-      c.new-text.ensures.items,
-    ) (simp append_assoc refl)
+    rw (flat_map-map (conflict_line c.args.style (data_of c.args.claim.now) xs) conflict_data c.args.conflicts.now)
+    (rw (c.in_ok-add_line.ensures, c.in_ok-add_conflicts.ensures, c.new-text.ensures.items) (simp append_assoc refl))
