@@ -5,7 +5,7 @@ pub use Rattle.std.proofs.Common.{get_or, if◌then◌else◌, inl, inr, is_eq, 
 pub use Rattle.std.proofs.Common.{nat_cmp, nat_le, nat_lt, negsuc, option_and_then, option_map, pos, refl, rules}
 pub use Rattle.std.proofs.Common.{string_bytes, subst, suc, sym, take, true, zero, ℕ, ℤ, ◌&&◌, ◌*◌, ◌++◌, ◌+◌, ◌-◌}
 pub use Rattle.std.proofs.Common.{◌<ℤ◌, ◌<◌, ◌^◌, ◌∙◌, ◌∷◌, ◌≡◌, ◌≢◌, ◌≤ℤ◌, ◌≤◌}
-pub use Rattle.std.proofs.lemmas.Bool.{and_parts, leb-true, ltb-true}
+pub use Rattle.std.proofs.lemmas.Bool.{and_parts, le-leb, leb-true, lt-leb, ltb-true}
 pub use Rattle.std.proofs.lemmas.Bool.Decides.{Decides-eqb, Decides-ltb, nat_tests}
 pub use Rattle.std.proofs.lemmas.Fmt.{IsAscii-decimal, IsAscii-signed, decimal_digit, decimal_step, length-decimal-le}
 pub use Rattle.std.proofs.lemmas.Fmt.{length_signed_le}
@@ -13,7 +13,7 @@ pub use Rattle.std.proofs.lemmas.Grind.{common_steps}
 pub use Rattle.std.proofs.lemmas.List.{length-map, length-take-le, map-append, take_more}
 pub use Rattle.std.proofs.lemmas.List.Elements.{All-push}
 pub use Rattle.std.proofs.lemmas.Slice.Eq.{bytes_eq-Decides, strip_prefix_is}
-pub use Rattle.std.proofs.lemmas.Str.{IsAscii-append, IsUtf8-from_ascii, IsUtf8-from_is_utf8, is_utf8-from_IsUtf8}
+pub use Rattle.std.proofs.lemmas.Str.{IsUtf8-append, IsUtf8-from_ascii, IsUtf8-from_is_utf8, is_utf8-from_IsUtf8}
 pub use Rattle.std.specs.Fmt.{signed_decimal}
 pub use Rattle.std.specs.List.{join_with_byte, list_any}
 pub use Rattle.std.specs.Prelude.{All, IfOk, IfSome, codes}
@@ -32,11 +32,12 @@ pub use Rattle.json_text.proofs.NextToken.{array_ends, element_read, element_ref
 pub use Rattle.json_text.proofs.NextToken.{mapped_none, mapped_same, mapped_some}
 pub use Rattle.json_text.proofs.NextTokens.{key_refused, member_read, member_refused, members_over, value-shorter}
 pub use Rattle.json_text.proofs.NextTokens.{whole_and_more, whole_read, whole_refused}
-pub use Rattle.json_text.proofs.Outline.{IsOutlined, items_depth-map, outlined_array, outlined_items, outlined_number}
-pub use Rattle.json_text.proofs.Outline.{read_tokens}
+pub use Rattle.json_text.proofs.Outline.{IsPlain, items_nesting, nesting, parsed_compact, parsed_tokens, plain_items}
+pub use Rattle.json_text.proofs.Outline.{plain_number, printable, utf8_ascii, utf8_compact}
 pub use Rattle.json_text.specs.Member.{has_only, items_at, members_among, unsigned_at, unsigned_of}
 pub use Rattle.json_text.specs.Next.{next_items, next_members, next_value, rest_after}
 pub use Rattle.json_text.specs.Step.{after, asked, given}
+pub use Rattle.json_text.specs.Text.{parsed}
 unfoldable pub use Rattle.serde_json.proofs.OnLiterals.{serde_json_on_literals}
 pub use Rattle.serde_json.proofs.Texts.{print-outline, unless_float-number_of}
 pub use Rattle.serde_json.proofs.Views.{get_member-put, get_member-put_other, items_len-items_view}
