@@ -5,7 +5,7 @@ pub use Rattle.std.proofs.Common.{if◌then◌else◌, inl, inr, length, length-
 pub use Rattle.std.proofs.Common.{not, option_and_then, option_map, pos, refl, rules, subst, suc, sym, true, true≢false}
 pub use Rattle.std.proofs.Common.{unwrap_or, w64, zero, ℕ, ℤ, ◌%◌, ◌&&◌, ◌*◌, ◌++◌, ◌+◌, ◌-◌, ◌/◌, ◌<◌, ◌==◌, ◌^◌, ◌||◌}
 pub use Rattle.std.proofs.Common.{◌↔◌, ◌∙◌, ◌∷◌, ◌≡◌, ◌≢◌, ◌≤◌}
-pub use Rattle.std.proofs.lemmas.Bool.{leb-true, ltb-false, ltb-true}
+pub use Rattle.std.proofs.lemmas.Bool.{and_parts, le-leb, leb-true, lt-ltb, ltb-false, ltb-true, not-true, or_parts}
 pub use Rattle.std.proofs.lemmas.Bool.Decides.{Decides-eqb, Decides-ltb, nat_tests}
 pub use Rattle.std.proofs.lemmas.Int.{ints, to_z-of_z}
 pub use Rattle.std.proofs.lemmas.List.FromFn.{get_or-map-range_with_len, get_or-range_with_len}
@@ -23,6 +23,7 @@ unfoldable pub use Rattle.era_unfold.specs.Ratio.{ceiling_of, floor_of}
 pub use Rattle.jiff_core.proofs.CalendarLemmas.{days_in_month_bounds}
 pub use Rattle.jiff_core.specs.Calendar.{IsCivilDate, days_in_month}
 unfoldable pub use Rattle.jiff_core.specs.Calendar.{day_count, days_from_civil, days_of_months, days_of_years}
+pub use Rattle.json_text.proofs.Steps.{after_by, asked_by, given_by}
 pub use Rattle.json_text.specs.Step.{after, asked, given}
 pub use Rattle.json_text.specs.Text.{parsed}
 unfoldable pub use Rattle.serde_json.proofs.OnLiterals.{serde_json_on_literals}
