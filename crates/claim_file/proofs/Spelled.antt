@@ -173,73 +173,31 @@ utf8_time text second is =
 
 -- ---- it is read as the value
 
+-- what is known of a member, and of those behind it
+also : {A B C : Type 0} → A → B → C → A × B × C
+also a b c = (a, b, c)
+
 plain_with : (f : FieldsData) (named : NamedData) (n : ℕ) (groups : Option (List (List ℕ))) → Names f named →
     AreSmall f → n < 2 ^ 64 → AreGrouped n groups → IsPlain (claim_value (record f { groups = groups }))
 unfolding serde_json_on_literals
 plain_with f named n None is small fits grouped =
-    let client = utf8_dotted f.client named.client is.client in
-    let servers = plain_items string f.servers (utf8_each f.servers named.servers is.servers) in
-    let begin = utf8_time f.begin named.first is.begin in
-    let end = utf8_time f.end named.last is.end in (
+    let servers = plain_items string f.servers (utf8_each f.servers named.servers is.servers) in (
       refl,
-      (
-        refl,
-        plain_number f.bound_ns small.bound,
-        (
-          refl,
-          client,
-          (
-            refl,
-            plain_number f.drift_ppb small.drift,
-            (
-              refl,
-              plain_number f.false_max small.few,
-              (
-                refl,
-                begin,
-                (
-                  refl,
-                  plain_number f.reading_ns small.reading,
-                  (refl, servers, (refl, end, tt)),
-                ),
-              ),
-            ),
-          ),
-        ),
-      ),
+      also refl (plain_number f.bound_ns small.bound) (also refl (utf8_dotted f.client named.client is.client)
+          (also refl (plain_number f.drift_ppb small.drift) (also refl (plain_number f.false_max small.few)
+          (also refl (utf8_time f.begin named.first is.begin)
+          (also refl (plain_number f.reading_ns small.reading)
+          (also refl servers (also refl (utf8_time f.end named.last is.end) tt))))))),
     )
 plain_with f named n (Some listed) is small fits grouped =
-    let client = utf8_dotted f.client named.client is.client in
     let servers = plain_items string f.servers (utf8_each f.servers named.servers is.servers) in
-    let begin = utf8_time f.begin named.first is.begin in
-    let end = utf8_time f.end named.last is.end in
     let lists = plain_items numbers_value listed (plain_lists n listed fits grouped.1) in (
       refl,
-      (
-        refl,
-        plain_number f.bound_ns small.bound,
-        (
-          refl,
-          client,
-          (
-            refl,
-            plain_number f.drift_ppb small.drift,
-            (
-              refl,
-              plain_number f.false_max small.few,
-              (
-                refl,
-                begin,
-                (
-                  refl,
-                  lists,
-                  (refl, plain_number f.reading_ns small.reading, (refl, servers, (refl, end, tt))),
-                ),
-              ),
-            ),
-          ),
-        ),
-      ),
+      also refl (plain_number f.bound_ns small.bound) (also refl (utf8_dotted f.client named.client is.client)
+          (also refl (plain_number f.drift_ppb small.drift) (also refl (plain_number f.false_max small.few)
+          (also refl (utf8_time f.begin named.first is.begin) (also refl lists
+          (also refl (plain_number f.reading_ns small.reading)
+          (also refl servers (also refl (utf8_time f.end named.last is.end) tt)))))))),
     )
 
 nesting_with : (f : FieldsData) (groups : Option (List (List ℕ))) →
