@@ -56,6 +56,17 @@ place_holds x i (g ∷ gs) some =
           (suc j, rw none (omega arith), omega arith, holds)
     ]
 
+-- each number of a group is below the count of those that are listed
+groups_below : (n : ℕ) (listed : List (List ℕ)) (groups : List ℕ) → groups_of n (Some listed) ≡ Some groups →
+    All (λ g. g < length listed) groups
+groups_below n listed groups e =
+    let (test, same) = given_grouping n listed groups e in
+    let parts = grouping_parts n listed test in
+    subst (λ gs. All (λ g. g < length listed) gs) same (λ k d less.
+    let small : k < n = rw (length-map-range_with_len (group_of listed) 0 n) at less in
+    let (j, place, here, _) = place_holds k 0 listed (omega (arith, parts.once k small)) in
+    rw (get_or-map-range_with_len (group_of listed) 0 n k k d small (omega arith)) (omega arith))
+
 -- each server has a group, whose number is below the count of servers
 pub groups_of-range : (n : ℕ) (listed : Option (List (List ℕ))) (groups : List ℕ) → 1 ≤ n →
     groups_of n listed ≡ Some groups →
@@ -69,24 +80,18 @@ groups_of-range n None groups some e =
     )
 groups_of-range n (Some listed) groups some e =
     let (test, same) = given_grouping n listed groups e in
-    let parts = grouping_parts n listed test in
-    subst (λ gs. (length gs ≡ n) × All (λ g. g < n) gs) same (
-      length-map-range_with_len (group_of listed) 0 n,
-      λ k d less.
-          let small : k < n = rw (length-map-range_with_len (group_of listed) 0 n) at less in
-          let (j, place, here, _) = place_holds k 0 listed (omega (arith, parts.once k small)) in
-          rw (get_or-map-range_with_len (group_of listed) 0 n k k d small (omega arith)) (omega (arith, parts.few)),
+    let parts = grouping_parts n listed test in (
+      ap length (sym same) ∙ length-map-range_with_len (group_of listed) 0 n,
+      λ k d less. omega (arith, groups_below n listed groups e k d less, parts.few),
     )
 
 held_concat : (x : ℕ) (groups : List (List ℕ)) (g : ℕ) → g < length groups →
     list_any (λ s. s == x) (get_or groups g []) ≡ true → 1 ≤ times_listed x (concat groups)
 held_concat x [] g less e = absurd (omega arith)
 held_concat x (h ∷ hs) zero less e =
-    let some = held_times x h e in
-    rw (times-append x h (concat hs)) (omega arith)
+    omega (arith, held_times x h e, times-append x h (concat hs))
 held_concat x (h ∷ hs) (suc g) less e =
-    let some = held_concat x hs g (omega arith) e in
-    rw (times-append x h (concat hs)) (omega arith)
+    omega (arith, held_concat x hs g (omega arith) e, times-append x h (concat hs))
 
 -- a number that stands once has its place at the group that holds it
 place_once : (x : ℕ) (i : ℕ) (groups : List (List ℕ)) (g : ℕ) → g < length groups →
@@ -108,9 +113,7 @@ place_once x i (h ∷ hs) (suc g) less e once =
 group_count-le : (n : ℕ) (groups : List ℕ) → All (λ g. g < n) groups → group_count groups ≤ n
 group_count-le n [] below = omega arith
 group_count-le n (g ∷ gs) below =
-    let first : g < n = below 0 0 (omega arith) in
-    let rest = group_count-le n gs (λ k d less. below (suc k) d (omega arith)) in
-    omega arith
+    omega (arith, below 0 0 (omega arith), group_count-le n gs (λ k d less. below (suc k) d (omega arith)))
 
 -- a group that isn't empty has a server
 first_held : (g : List ℕ) → not (length g == 0) ≡ true → list_any (λ s. s == get_or g 0 0) g ≡ true
@@ -131,14 +134,7 @@ below_concat n (h ∷ hs) (suc g) less some below =
 listed_count : (n : ℕ) (listed : List (List ℕ)) (groups : List ℕ) → groups_of n (Some listed) ≡ Some groups →
     group_count groups ≤ length listed
 listed_count n listed groups e =
-    let (test, same) = given_grouping n listed groups e in
-    let parts = grouping_parts n listed test in
-    subst (λ gs. group_count gs ≤ length listed) same
-    (group_count-le (length listed) (map (group_of listed) (servers_of n))
-    (λ k d within.
-    let small : k < n = rw (length-map-range_with_len (group_of listed) 0 n) at within in
-    let (j, place, less, _) = place_holds k 0 listed (omega (arith, parts.once k small)) in
-    rw (get_or-map-range_with_len (group_of listed) 0 n k k d small (omega arith)) (omega arith)))
+    group_count-le (length listed) groups (groups_below n listed groups e)
 
 -- each of the groups that are listed has a server
 group_held : (n : ℕ) (listed : List (List ℕ)) (groups : List ℕ) → groups_of n (Some listed) ≡ Some groups →

@@ -82,8 +82,7 @@ claim_with_lawful f named groups ranges differ grouped small =
 
 -- groups that were read are those that the lists say
 pub groups_given : {A : Type 0} (groups : Option A) (read : A) → given Groups groups Ok ≡ Ok read → groups ≡ Some read
-groups_given None read e = cc
-groups_given (Some g) read e = cc
+groups_given groups read e = grind arith
 
 -- the last second of the span is one of the 2^32
 named_small : (f : FieldsData) (named : NamedData) → named_of f ≡ Ok named → named.last < 2 ^ 32

@@ -34,13 +34,11 @@ time_of-read {text} {bytes} {slice} {m} {second} {found} same known at unix is s
 -- a second was found, so the date and time exist
 pub found_there : (there : Bool) (known : ℤ) (found : Option ℤ) {second : ℤ} →
     found ≡ (if there then Some known else None) → found ≡ Some second → there ≡ true
-found_there true known found unix is = refl
-found_there false known found unix is = cc
+found_there there known found unix is = grind arith
 
 found_none : (there : Bool) (known : ℤ) (found : Option ℤ) →
     found ≡ (if there then Some known else None) → found ≡ None → there ≡ false
-found_none true known found unix is = cc
-found_none false known found unix is = refl
+found_none there known found unix is = grind arith
 
 -- a date and time that doesn't exist: the text says no second
 pub time_of-missing : {text bytes : List ℕ} {m : DateTime} {found : Option ℤ} {answer : Option ℕ} →
