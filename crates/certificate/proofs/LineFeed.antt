@@ -82,7 +82,8 @@ lex_line_feed c (t ∷ ts) h =
     (lex_token t (rest ++ line_feed) h.0
     (λ e. ap (λ b. ends_word (print_from b ts ++ line_feed)) e ∙ value_ends ts line_feed refl)
     ∙ ap (λ l. token_lexemes t ++ l) (lex_line_feed (ends t) ts h.1)
-    ∙ sym (lex_token t rest h.0 (λ e. ap (λ b. ends_word (print_from b ts)) e ∙ rw append-nil at (value_ends ts [] refl))))
+    ∙ sym (lex_token t rest h.0 (λ e. ap (λ b. ends_word (print_from b ts))
+    e ∙ rw append-nil at (value_ends ts [] refl))))
     ∙ sym (lex_separator some (token_text t ++ rest))
 
 pub tokens-line_feed : (value : Data) → IsPlain value →

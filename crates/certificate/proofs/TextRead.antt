@@ -26,7 +26,8 @@ module _ (certificate : CertificateData) (held : All IsHeld certificate.pieces) 
   shallow = omega (arith, items_nesting piece_value 3 piece-nesting certificate.pieces)
 
   pub utf8_certificate : IsUtf8 (certificate_text certificate)
-  utf8_certificate = subst IsUtf8 (certificate_text-value certificate) (utf8_compact (certificate_value certificate) plain)
+  utf8_certificate =
+      subst IsUtf8 (certificate_text-value certificate) (utf8_compact (certificate_value certificate) plain)
 
   pub parsed_text : parsed (certificate_text certificate) ≡ Some (certificate_value certificate)
   parsed_text = rw (← certificate_text-value certificate) (parsed_compact (certificate_value certificate) plain shallow)
