@@ -1,26 +1,16 @@
 -- What the text of a certificate says, with or without a line feed after it.
-use Rattle.certificate.proofs.Common.{◌≡◌, inl, inr, ℕ, ◌≤◌, List, ◌++◌, length, map, true, Ok, refl, ap, ◌∙◌, append_assoc, IsUtf8-from_ascii, is_utf8-from_IsUtf8, join_with_byte, All, codes, IsAscii, is_utf8, CertificateData, IsHeld, max_pieces, IsEnding, certificate_of, comma, piece_text, certificate_text}
-use Rattle.certificate.proofs.Ascii.{ascii_certificate, ascii_line}
+use Rattle.certificate.proofs.Common.{◌≡◌, inl, inr, ℕ, ◌≤◌, List, ◌++◌, length, map, Ok, refl, ap, ◌∙◌, append_assoc, join_with_byte, All, codes, CertificateData, IsHeld, max_pieces, IsEnding, certificate_of, comma, piece_text, certificate_text}
 use Rattle.certificate.proofs.LineFeed.{line_feed}
 use Rattle.certificate.proofs.ReadBack.{certificate_of-read}
-use Rattle.certificate.proofs.TextRead.{read-certificate_text, read-certificate_line}
-
-is_utf8-ascii : (bytes : List ℕ) → IsAscii bytes → is_utf8 bytes ≡ true
-is_utf8-ascii bytes small = is_utf8-from_IsUtf8 bytes (IsUtf8-from_ascii bytes small)
+use Rattle.certificate.proofs.TextRead.{parsed_text, parsed_line}
 
 module _ (certificate : CertificateData) (few : length certificate.pieces ≤ max_pieces)
     (held : All IsHeld certificate.pieces) where
   pub certificate_of-text : certificate_of (certificate_text certificate) ≡ Ok certificate
-  certificate_of-text =
-      certificate_of-read (certificate_text certificate) certificate
-      (is_utf8-ascii (certificate_text certificate) (ascii_certificate certificate held))
-      (read-certificate_text certificate held) few held
+  certificate_of-text = certificate_of-read _ certificate (parsed_text certificate held) few held
 
   certificate_of-line : certificate_of (certificate_text certificate ++ line_feed) ≡ Ok certificate
-  certificate_of-line =
-      certificate_of-read (certificate_text certificate ++ line_feed) certificate
-      (is_utf8-ascii (certificate_text certificate ++ line_feed) (ascii_line certificate held))
-      (read-certificate_line certificate held) few held
+  certificate_of-line = certificate_of-read _ certificate (parsed_line certificate held) few held
 
   -- what was read up to its end
   pub certificate_of-compact : (bytes rest : List ℕ) →

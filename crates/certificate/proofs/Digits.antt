@@ -1,5 +1,5 @@
 -- A number in decimal, a digit more at a time.
-use Rattle.certificate.proofs.Common.{◌≡◌, ℕ, ◌+◌, ◌*◌, ◌^◌, ◌<◌, ◌≤◌, List, [], ◌∷◌, ◌++◌, arith, sym, ap, ap₂, ◌∙◌, append_assoc, decimal_digit, decimal_step}
+use Rattle.certificate.proofs.Common.{◌≡◌, ℕ, ◌+◌, ◌*◌, ◌^◌, ◌<◌, List, [], ◌∷◌, ◌++◌, arith, sym, ap, ap₂, ◌∙◌, append_assoc, decimal_digit, decimal_step}
 use Rattle.std.proofs.lemmas.Nat.{div-mul-add}
 use Rattle.std.proofs.Math.Nat.{mul-add-mod_self_right, mod-eq_of_lt}
 use Rattle.std.specs.Fmt.{decimal}
@@ -13,8 +13,7 @@ first_digit text more n digit same small read =
 digit_more : (n digit : ℕ) → 0 < n → digit < 10 → n * 10 + digit < 2 ^ 64 →
     decimal (n * 10 + digit) ≡ decimal n ++ (48 + digit) ∷ []
 digit_more n digit some small fits =
-    let ten : 10 ≤ n * 10 + digit = omega arith in
-    decimal_step (n * 10 + digit) ten fits
+    decimal_step (n * 10 + digit) (omega arith) fits
     ∙ ap₂ (λ a b. decimal a ++ (48 + b) ∷ []) (div-mul-add n 10 digit small)
     (mul-add-mod_self_right n 10 digit ∙ mod-eq_of_lt small)
 

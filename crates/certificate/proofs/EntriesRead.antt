@@ -1,5 +1,5 @@
 -- The entries of a piece, read one after another.
-use Rattle.certificate.proofs.Common.{◌≡◌, ℕ, suc, ◌+◌, ◌≤◌, List, [], ◌∷◌, ◌++◌, Bool, true, false, nat_le, Option, Some, None, option_map, option_and_then, Result, Ok, Err, if◌then◌else◌, refl, sym, ap, ap₂, ◌∙◌, arith, append-nil, append_assoc, nat_tests, Data, Items, no_items, item, items_len, parse_map, after_end_array, Token, mapped_same, array_ends, element_read, goes_on, next_value, next_items, rest_after, given, asked, CertificateFault, Shape, TooManyEntries, max_entries, entry_of, entries_of}
+use Rattle.certificate.proofs.Common.{◌≡◌, ℕ, suc, ◌+◌, ◌≤◌, List, [], ◌∷◌, ◌++◌, Bool, false, nat_le, Option, Some, None, option_map, option_and_then, Result, Ok, Err, if◌then◌else◌, refl, ap, ap₂, ◌∙◌, arith, append-nil, append_assoc, le-leb, lt-leb, Data, Items, no_items, item, items_len, parse_map, after_end_array, Token, mapped_same, array_ends, element_read, goes_on, next_value, next_items, rest_after, given, asked, CertificateFault, Shape, TooManyEntries, max_entries, entry_of, entries_of}
 
 -- the entries that were read, unless an element was none
 abbrev pub so_far : Bool → List (ℕ × ℕ) → Option (List (ℕ × ℕ))
@@ -20,10 +20,7 @@ entries_after number count found items =
 one_more : (found : Option (List (ℕ × ℕ))) (entry : Option (ℕ × ℕ)) (more : Option (List (ℕ × ℕ))) →
     and_more found (option_and_then (λ first. option_map (λ others. first ∷ others) more) entry)
     ≡ and_more (and_one found entry) more
-one_more None entry more = refl
-one_more (Some es) None more = refl
-one_more (Some es) (Some e) None = refl
-one_more (Some es) (Some e) (Some others) = ap Some (sym (append_assoc es (e ∷ []) others))
+one_more found entry more = grind (arith, append_assoc)
 
 entries_next : (number count : ℕ) (found : Option (List (ℕ × ℕ))) (value : Data) (rest : Items) →
     entries_after number count found (item value rest)
@@ -34,32 +31,26 @@ entries_next number count found value rest =
     (one_more found (entry_of value) (entries_of rest))
 
 nothing_more : (found : Option (List (ℕ × ℕ))) → and_more found (Some []) ≡ found
-nothing_more None = refl
-nothing_more (Some es) = ap Some (append-nil es)
+nothing_more found = grind (arith, append-nil)
 
 entries_last : (number count : ℕ) (found : Option (List (ℕ × ℕ))) → count ≤ max_entries →
     entries_after number count found no_items ≡ given (Shape number) found Ok
 entries_last number count found few =
-    let fits : nat_le (count + 0) max_entries ≡ true = grind (arith, nat_tests) in
-    ap₂ (λ b more. asked (TooManyEntries number) b (given (Shape number) more Ok)) fits (nothing_more found)
+    rw (nothing_more found, le-leb (count + 0) max_entries (omega arith)) refl
 
 entries_too_many : (number count : ℕ) (found : Option (List (ℕ × ℕ))) (value : Data) (rest : Items) →
     count ≡ max_entries → entries_after number count found (item value rest) ≡ Err (TooManyEntries number)
 entries_too_many number count found value rest full =
-    let over : nat_le (count + suc (items_len rest)) max_entries ≡ false = grind (arith, nat_tests) in
-    ap (λ b. asked (TooManyEntries number) b
-    (given (Shape number) (and_more found (entries_of (item value rest))) Ok)) over
+    rw (lt-leb (count + suc (items_len rest)) max_entries (omega arith)) refl
 
 -- what was pushed, in the program's words
 pub pushed_one : (are_pairs : Bool) (before after : List (ℕ × ℕ)) (entry : ℕ × ℕ) → after ≡ before ++ entry ∷ [] →
     so_far are_pairs after ≡ and_one (so_far are_pairs before) (Some entry)
-pushed_one true before after entry is = ap Some is
-pushed_one false before after entry is = refl
+pushed_one are_pairs before after entry is = grind arith
 
 pub pushed_none : (are_pairs : Bool) (before after : List (ℕ × ℕ)) →
     so_far false after ≡ and_one (so_far are_pairs before) None
-pushed_none true before after = refl
-pushed_none false before after = refl
+pushed_none are_pairs before after = grind arith
 
 -- ---- a turn of the reading
 

@@ -1,5 +1,4 @@
 mod Common
-pub mod Ascii
 pub mod CompactRead
 pub mod Digits
 pub mod EntriesRead

@@ -1,5 +1,5 @@
 -- A line feed after the tokens of a JSON text changes none of them.
-use Rattle.certificate.proofs.Common.{◌≡◌, ℕ, Bool, true, false, cond, ◌&&◌, List, [], ◌∷◌, ◌++◌, refl, sym, ap, ap₂, ◌∙◌, append_assoc, Token, begin_object, end_object, begin_array, end_array, key, string, boolean, null, bad, Lexeme, token, colon, string_token, lex, between, fresh, punctuate, tokens, escape, quoted, token_text, begins, ends, separator, print_from, print, IsPrintable, ArePrintable}
+use Rattle.certificate.proofs.Common.{◌≡◌, ℕ, Bool, true, false, cond, ◌&&◌, List, [], ◌∷◌, ◌++◌, refl, sym, ap, ap₂, ◌∙◌, subst, append-nil, append_assoc, Data, IsPlain, compact_text, print-outline, printable, Token, begin_object, end_object, begin_array, end_array, key, string, boolean, null, bad, Lexeme, token, colon, string_token, lex, between, fresh, punctuate, tokens, escape, quoted, token_text, begins, ends, separator, print_from, IsPrintable, ArePrintable}
 use Rattle.json.specs.Token.{number}
 use Rattle.json.specs.Word.{ends_word, word}
 use Rattle.json.specs.Lex.{comma}
@@ -53,33 +53,19 @@ lex_separator true rest = refl
 lex_separator false rest = refl
 
 -- a word ends where a value does
-value_ends : (ts : List Token) → ends_word (print_from true ts) ≡ true
+value_ends : (ts : List Token) (rest : List ℕ) → ends_word rest ≡ true → ends_word (print_from true ts ++ rest) ≡ true
 unfolding print_from
-value_ends [] = refl
-value_ends (begin_object ∷ ts) = refl
-value_ends (end_object ∷ ts) = refl
-value_ends (begin_array ∷ ts) = refl
-value_ends (end_array ∷ ts) = refl
-value_ends (key s ∷ ts) = refl
-value_ends (string s ∷ ts) = refl
-value_ends (number s ∷ ts) = refl
-value_ends (boolean b ∷ ts) = refl
-value_ends (null ∷ ts) = refl
-value_ends (bad ∷ ts) = refl
-
-value_ends_there : (ts : List Token) → ends_word (print_from true ts ++ line_feed) ≡ true
-unfolding print_from
-value_ends_there [] = refl
-value_ends_there (begin_object ∷ ts) = refl
-value_ends_there (end_object ∷ ts) = refl
-value_ends_there (begin_array ∷ ts) = refl
-value_ends_there (end_array ∷ ts) = refl
-value_ends_there (key s ∷ ts) = refl
-value_ends_there (string s ∷ ts) = refl
-value_ends_there (number s ∷ ts) = refl
-value_ends_there (boolean b ∷ ts) = refl
-value_ends_there (null ∷ ts) = refl
-value_ends_there (bad ∷ ts) = refl
+value_ends [] rest ended = ended
+value_ends (begin_object ∷ ts) rest ended = refl
+value_ends (end_object ∷ ts) rest ended = refl
+value_ends (begin_array ∷ ts) rest ended = refl
+value_ends (end_array ∷ ts) rest ended = refl
+value_ends (key s ∷ ts) rest ended = refl
+value_ends (string s ∷ ts) rest ended = refl
+value_ends (number s ∷ ts) rest ended = refl
+value_ends (boolean b ∷ ts) rest ended = refl
+value_ends (null ∷ ts) rest ended = refl
+value_ends (bad ∷ ts) rest ended = refl
 
 lex_line_feed : (c : Bool) (ts : List Token) → ArePrintable ts →
     lex between (print_from c ts ++ line_feed) ≡ lex between (print_from c ts)
@@ -94,10 +80,14 @@ lex_line_feed c (t ∷ ts) h =
     ∙ lex_separator some (token_text t ++ (rest ++ line_feed))
     ∙ ap (λ l. before ++ l)
     (lex_token t (rest ++ line_feed) h.0
-    (λ e. ap (λ b. ends_word (print_from b ts ++ line_feed)) e ∙ value_ends_there ts)
+    (λ e. ap (λ b. ends_word (print_from b ts ++ line_feed)) e ∙ value_ends ts line_feed refl)
     ∙ ap (λ l. token_lexemes t ++ l) (lex_line_feed (ends t) ts h.1)
-    ∙ sym (lex_token t rest h.0 (λ e. ap (λ b. ends_word (print_from b ts)) e ∙ value_ends ts)))
+    ∙ sym (lex_token t rest h.0 (λ e. ap (λ b. ends_word (print_from b ts))
+    e ∙ rw append-nil at (value_ends ts [] refl))))
     ∙ sym (lex_separator some (token_text t ++ rest))
 
-pub tokens-line_feed : (ts : List Token) → ArePrintable ts → tokens (print ts ++ line_feed) ≡ tokens (print ts)
-tokens-line_feed ts h = ap (punctuate fresh) (lex_line_feed false ts h)
+pub tokens-line_feed : (value : Data) → IsPlain value →
+    tokens (compact_text value ++ line_feed) ≡ tokens (compact_text value)
+tokens-line_feed value plain =
+    subst (λ text. tokens (text ++ line_feed) ≡ tokens text) (print-outline value)
+    (ap (punctuate fresh) (lex_line_feed false _ (printable value plain)))

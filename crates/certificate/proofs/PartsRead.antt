@@ -45,10 +45,6 @@ not_same false xs ys is other = refl
 abbrev pub made : Bool → Option ℕ → Option (Result (List (ℕ × ℕ)) CertificateFault) → PieceParts
 made is_known upto entries = record { is_known = is_known; upto = upto; entries = entries }
 
-same_parts : (a a' : Bool) (u u' : Option ℕ) (e e' : Option (Result (List (ℕ × ℕ)) CertificateFault)) →
-    a ≡ a' → u ≡ u' → e ≡ e' → made a u e ≡ made a' u' e'
-same_parts a a' u u' e e' p q r = ap (λ b. made b u e) p ∙ ap (λ o. made a' o e) q ∙ ap (λ o. made a' u' o) r
-
 abbrev piece_names : List (List ℕ)
 piece_names = codes "entries" ∷ codes "upto" ∷ []
 
@@ -58,37 +54,24 @@ module _ (number : ℕ) (value : Data) (found : Members) (parts : PieceParts)
       option_map (entries_in number) (as_array value) ≡ read →
       made parts.is_known parts.upto read ≡ parts_of number (put (codes "entries") value found)
   parts_entries read is =
-      sym (same_parts _ parts.is_known _ parts.upto _ read
-      (has_only-put piece_names (codes "entries") value found ∙ sym (ap (λ p. p.is_known) known))
-      (ap (option_and_then unsigned_of)
-      (get_member-put_other (codes "upto") (codes "entries") value found (λ same. absurd (cc)))
-      ∙ sym (ap (λ p. p.upto) known))
-      (ap (λ o. option_map (entries_in number) (option_and_then as_array o))
-      (get_member-put (codes "entries") value found)
-      ∙ is))
+      let other = get_member-put_other (codes "upto") (codes "entries") value found (λ same. absurd (cc)) in
+      let here = get_member-put (codes "entries") value found in
+      rw known (rw (has_only-put piece_names _ value found, here, other, is) refl)
 
   pub parts_upto : (read : Option ℕ) → unsigned_of value ≡ read →
       made parts.is_known read parts.entries ≡ parts_of number (put (codes "upto") value found)
   parts_upto read is =
-      sym (same_parts _ parts.is_known _ read _ parts.entries
-      (has_only-put piece_names (codes "upto") value found ∙ sym (ap (λ p. p.is_known) known))
-      (ap (option_and_then unsigned_of) (get_member-put (codes "upto") value found) ∙ is)
-      (ap (λ o. option_map (entries_in number) (option_and_then as_array o))
-      (get_member-put_other (codes "entries") (codes "upto") value found (λ same. absurd (cc)))
-      ∙ sym (ap (λ p. p.entries) known)))
+      let other = get_member-put_other (codes "entries") (codes "upto") value found (λ same. absurd (cc)) in
+      rw known (rw (has_only-put piece_names _ value found, get_member-put (codes "upto") value found, other, is) refl)
 
   pub parts_other : (name : List ℕ) → (name ≡ codes "entries" → ⊥) → (name ≡ codes "upto" → ⊥) →
       made false parts.upto parts.entries ≡ parts_of number (put name value found)
   parts_other name no_entries no_upto =
-      sym (same_parts _ false _ parts.upto _ parts.entries
-      (has_only-put piece_names name value found
-      ∙ rw (not_same _ (codes "entries") name refl no_entries, not_same _ (codes "upto") name refl no_upto))
-      (ap (option_and_then unsigned_of)
-      (get_member-put_other (codes "upto") name value found (λ same. no_upto (sym same)))
-      ∙ sym (ap (λ p. p.upto) known))
-      (ap (λ o. option_map (entries_in number) (option_and_then as_array o))
-      (get_member-put_other (codes "entries") name value found (λ same. no_entries (sym same)))
-      ∙ sym (ap (λ p. p.entries) known)))
+      let upto = get_member-put_other (codes "upto") name value found (λ same. no_upto (sym same)) in
+      let entries = get_member-put_other (codes "entries") name value found (λ same. no_entries (sym same)) in
+      let a = not_same _ (codes "entries") name refl no_entries in
+      let b = not_same _ (codes "upto") name refl no_upto in
+      rw known (rw (has_only-put piece_names name value found, a, b, upto, entries) refl)
 
 after_asked : {A B : Type 0} (few bad : CertificateFault) (fits : Bool) (read : Option A) (more : A → B) →
     after (asked few fits (given bad read Ok)) (λ a. Ok (more a)) ≡ asked few fits (given bad read (λ a. Ok (more a)))

@@ -1,5 +1,5 @@
 -- The pieces of a certificate, read one after another.
-use Rattle.certificate.proofs.Common.{◌≡◌, ℕ, suc, ◌+◌, ◌≤◌, List, [], ◌∷◌, ◌++◌, true, false, nat_le, Some, None, Result, Ok, Err, refl, sym, ap, ap₂, ◌∙◌, arith, append-nil, append_assoc, nat_tests, Data, Items, no_items, item, items_len, parse_map, after_end_array, Token, mapped_same, element_read, goes_on, next_value, next_items, rest_after, asked, after, CertificateFault, TooManyPieces, PieceData, max_pieces, pieces_and, piece_of, pieces_from}
+use Rattle.certificate.proofs.Common.{◌≡◌, ℕ, suc, ◌+◌, ◌≤◌, List, [], ◌∷◌, ◌++◌, nat_le, Some, None, Result, Ok, Err, refl, ap, ap₂, ◌∙◌, arith, append-nil, append_assoc, le-leb, lt-leb, Data, Items, no_items, item, items_len, parse_map, after_end_array, Token, mapped_same, element_read, goes_on, next_value, next_items, rest_after, asked, after, CertificateFault, TooManyPieces, PieceData, max_pieces, pieces_and, piece_of, pieces_from}
 
 abbrev Pieces : Type 0
 Pieces = Result (List PieceData) CertificateFault
@@ -16,10 +16,7 @@ pieces_after count found items =
 one_more : (found : Pieces) (piece : Result PieceData CertificateFault) (more : Pieces) →
     and_more found (after piece λ first. after more λ others. Ok (first ∷ others))
     ≡ and_more (after found λ pieces. after piece λ p. Ok (pieces ++ p ∷ [])) more
-one_more (Err fault) piece more = refl
-one_more (Ok pieces) (Err fault) more = refl
-one_more (Ok pieces) (Ok piece) (Err fault) = refl
-one_more (Ok pieces) (Ok piece) (Ok others) = ap Ok (sym (append_assoc pieces (piece ∷ []) others))
+one_more found piece more = grind (arith, append_assoc)
 
 pieces_next : (count : ℕ) (found : Result (List PieceData) CertificateFault) (value : Data) (rest : Items) →
     pieces_after count found (item value rest) ≡ pieces_after (count + 1) (pieces_and count found value) rest
@@ -29,20 +26,17 @@ pieces_next count found value rest =
     (one_more found (piece_of count value) (pieces_from (count + 1) rest))
 
 nothing_more : (found : Pieces) → and_more found (Ok []) ≡ found
-nothing_more (Err fault) = refl
-nothing_more (Ok pieces) = ap Ok (append-nil pieces)
+nothing_more found = grind (arith, append-nil)
 
 pub pieces_last : (count : ℕ) (found : Result (List PieceData) CertificateFault) → count ≤ max_pieces →
     pieces_after count found no_items ≡ found
 pieces_last count found few =
-    let fits : nat_le (count + 0) max_pieces ≡ true = grind (arith, nat_tests) in
-    ap₂ (λ b more. asked TooManyPieces b more) fits (nothing_more found)
+    rw (nothing_more found, le-leb (count + 0) max_pieces (omega arith)) refl
 
 pieces_too_many : (count : ℕ) (found : Result (List PieceData) CertificateFault) (value : Data) (rest : Items) →
     count ≡ max_pieces → pieces_after count found (item value rest) ≡ Err TooManyPieces
 pieces_too_many count found value rest full =
-    let over : nat_le (count + suc (items_len rest)) max_pieces ≡ false = grind (arith, nat_tests) in
-    ap (λ b. asked TooManyPieces b (and_more found (pieces_from count (item value rest)))) over
+    rw (lt-leb (count + suc (items_len rest)) max_pieces (omega arith)) refl
 
 -- ---- a turn of the reading
 

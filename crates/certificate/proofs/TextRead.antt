@@ -1,72 +1,41 @@
--- The text of a certificate, read as JSON, is the certificate's value.
-use Rattle.certificate.proofs.Common.{◌≡◌, ℕ, List, ◌++◌, map, Some, sym, ap, ◌∙◌, arith, All, tokens, print, ArePrintable, Token, tokens-print, ArePrintable-json_tokens, serde_json_on_literals, print-outline, read, items_of, outline, PieceData, CertificateData, IsHeld, NamesSamples, entry_value, piece_value, certificate_value, certificate_text, IsOutlined, outlined_number, outlined_items, outlined_array, read_tokens}
-use Rattle.json.specs.Tree as tree
+-- The text of a certificate is UTF-8, and read as JSON it is the certificate's value.
+use Rattle.certificate.proofs.Common.{◌≡◌, ℕ, ◌≤◌, ◌++◌, Some, refl, subst, arith, All, IsUtf8, IsUtf8-append, serde_json_on_literals, PieceData, CertificateData, IsHeld, NamesSamples, entry_value, piece_value, certificate_value, certificate_text, IsPlain, items_nesting, nesting, compact_text, parsed, parsed_compact, parsed_tokens, plain_items, plain_number, utf8_ascii, utf8_compact, tokens}
 use Rattle.certificate.proofs.LineFeed.{line_feed, tokens-line_feed}
-use Rattle.certificate.proofs.ReadBack.{certificate-depth}
 use Rattle.certificate.proofs.Texts.{certificate_text-value}
 
-outlined_entry : (entry : ℕ × ℕ) → NamesSamples entry → IsOutlined (entry_value entry)
-outlined_entry (low, high) named =
-    let first = outlined_number low (omega (arith, named.low)) in
-    let second = outlined_number high (omega (arith, named.high)) in
-    record {
-      reads = rw (first.reads, second.reads);
-      stays = rw (first.stays, second.stays);
-      numbers = (first.numbers, (second.numbers, tt));
-      shallow = omega arith;
-    }
+plain_entry : (entry : ℕ × ℕ) → NamesSamples entry → IsPlain (entry_value entry)
+plain_entry (low, high) named =
+    (plain_number low (omega (arith, named.low)), (plain_number high (omega (arith, named.high)), tt))
 
-outlined_piece : (piece : PieceData) → IsHeld piece → IsOutlined (piece_value piece)
+plain_piece : (piece : PieceData) → IsHeld piece → IsPlain (piece_value piece)
 unfolding serde_json_on_literals
-outlined_piece piece held =
-    let entries = outlined_array (items_of (map entry_value piece.entries))
-    (outlined_items entry_value piece.entries
-    (λ k d less. outlined_entry _ (held.readable.named k d less))) in
-    let end = outlined_number piece.upto held.end in
-    record {
-      reads = rw (entries.reads, end.reads);
-      stays = rw (entries.stays, end.stays);
-      numbers = (entries.numbers, (end.numbers, tt));
-      shallow = omega (arith, entries.shallow);
-    }
+plain_piece piece held =
+    let entries = plain_items entry_value piece.entries (λ k d less. plain_entry _ (held.readable.named k d less)) in
+    (refl, (refl, entries, (refl, plain_number piece.upto held.end, tt)))
 
-outlined_certificate : (certificate : CertificateData) → All IsHeld certificate.pieces →
-    IsOutlined (certificate_value certificate)
-unfolding serde_json_on_literals
-outlined_certificate certificate held =
-    let pieces = outlined_array (items_of (map piece_value certificate.pieces))
-    (outlined_items piece_value certificate.pieces (λ k d less. outlined_piece _ (held k d less))) in
-    record {
-      reads = rw pieces.reads;
-      stays = rw pieces.stays;
-      numbers = (pieces.numbers, tt);
-      shallow = omega (arith, pieces.shallow);
-    }
+-- it nests five deep
+piece-nesting : (piece : PieceData) → nesting (piece_value piece) ≤ 3
+piece-nesting piece = omega (arith, items_nesting entry_value 1 (λ e. omega arith) piece.entries)
 
--- the tokens of the text
-abbrev tokens_of : CertificateData → List Token
-tokens_of certificate = tree.json_tokens (outline (certificate_value certificate))
+module _ (certificate : CertificateData) (held : All IsHeld certificate.pieces) where
+  plain : IsPlain (certificate_value certificate)
+  unfolding serde_json_on_literals
+  plain = (refl, (refl, plain_items piece_value certificate.pieces (λ k d less. plain_piece _ (held k d less)), tt))
 
-printed : (certificate : CertificateData) → certificate_text certificate ≡ print (tokens_of certificate)
-printed certificate = sym (print-outline (certificate_value certificate) ∙ certificate_text-value certificate)
+  shallow : nesting (certificate_value certificate) ≤ 127
+  shallow = omega (arith, items_nesting piece_value 3 piece-nesting certificate.pieces)
 
-printable : (certificate : CertificateData) → All IsHeld certificate.pieces → ArePrintable (tokens_of certificate)
-printable certificate held =
-    ArePrintable-json_tokens (outline (certificate_value certificate)) (outlined_certificate certificate held).numbers
+  pub utf8_certificate : IsUtf8 (certificate_text certificate)
+  utf8_certificate =
+      subst IsUtf8 (certificate_text-value certificate) (utf8_compact (certificate_value certificate) plain)
 
-pub read-certificate_text : (certificate : CertificateData) → All IsHeld certificate.pieces →
-    read (certificate_text certificate) ≡ Some (certificate_value certificate)
-read-certificate_text certificate held =
-    read_tokens (certificate_value certificate) (certificate_text certificate)
-    (outlined_certificate certificate held) (certificate-depth certificate)
-    (ap tokens (printed certificate) ∙ tokens-print (tokens_of certificate) (printable certificate held))
+  pub parsed_text : parsed (certificate_text certificate) ≡ Some (certificate_value certificate)
+  parsed_text = rw (← certificate_text-value certificate) (parsed_compact (certificate_value certificate) plain shallow)
 
--- the same with a line feed after it
-pub read-certificate_line : (certificate : CertificateData) → All IsHeld certificate.pieces →
-    read (certificate_text certificate ++ line_feed) ≡ Some (certificate_value certificate)
-read-certificate_line certificate held =
-    let ts = tokens_of certificate in
-    let known = printable certificate held in
-    read_tokens (certificate_value certificate) (certificate_text certificate ++ line_feed)
-    (outlined_certificate certificate held) (certificate-depth certificate)
-    (ap (λ l. tokens (l ++ line_feed)) (printed certificate) ∙ tokens-line_feed ts known ∙ tokens-print ts known)
+  -- the same with a line feed after it
+  pub parsed_line : parsed (certificate_text certificate ++ line_feed) ≡ Some (certificate_value certificate)
+  parsed_line =
+      parsed_tokens (certificate_value certificate) (certificate_text certificate ++ line_feed) plain shallow
+      (IsUtf8-append (certificate_text certificate) line_feed utf8_certificate (utf8_ascii line_feed refl))
+      (subst (λ text. tokens (text ++ line_feed) ≡ tokens (compact_text (certificate_value certificate)))
+      (certificate_text-value certificate) (tokens-line_feed (certificate_value certificate) plain))

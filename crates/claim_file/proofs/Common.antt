@@ -3,10 +3,10 @@ pub use Rattle.std.proofs.Common.{Bool, Err, FitsSigned, Global, IsUtf8, List, N
 pub use Rattle.std.proofs.Common.{add-one, ap, append-nil, append_assoc, arith, cond, drop, drop-cons, false, get_or}
 pub use Rattle.std.proofs.Common.{if◌then◌else◌, inl, inr, length, length-append, lit≤, map, nat_le, nat_lt, negsuc}
 pub use Rattle.std.proofs.Common.{not, option_and_then, option_map, pos, refl, rules, subst, suc, sym, true, true≢false}
-pub use Rattle.std.proofs.Common.{unwrap_or, w64, zero, ℕ, ℤ, ◌%◌, ◌&&◌, ◌*◌, ◌++◌, ◌+◌, ◌-◌, ◌/◌, ◌<◌, ◌==◌, ◌^◌, ◌||◌}
-pub use Rattle.std.proofs.Common.{◌↔◌, ◌∙◌, ◌∷◌, ◌≡◌, ◌≢◌, ◌≤◌}
-pub use Rattle.std.proofs.lemmas.Bool.{leb-true, ltb-false, ltb-true}
-pub use Rattle.std.proofs.lemmas.Bool.Decides.{Decides-eqb, Decides-ltb, nat_tests}
+pub use Rattle.std.proofs.Common.{unwrap_or, w64, zero, ℕ, ℤ, ◌%◌, ◌&&◌, ◌*◌, ◌++◌, ◌+◌, ◌-◌, ◌/◌, ◌<◌, ◌==◌, ◌^◌, ◌↔◌}
+pub use Rattle.std.proofs.Common.{◌∙◌, ◌∷◌, ◌≡◌, ◌≢◌, ◌≤◌}
+pub use Rattle.std.proofs.lemmas.Bool.{and_parts, le-leb, leb-true, lt-ltb, ltb-false, ltb-true, not-true}
+pub use Rattle.std.proofs.lemmas.Bool.Decides.{Decides-eqb, nat_tests}
 pub use Rattle.std.proofs.lemmas.Int.{ints, to_z-of_z}
 pub use Rattle.std.proofs.lemmas.List.FromFn.{get_or-map-range_with_len, get_or-range_with_len}
 pub use Rattle.std.proofs.lemmas.List.FromFn.{length-map-range_with_len, length-range_with_len}
@@ -23,10 +23,11 @@ unfoldable pub use Rattle.era_unfold.specs.Ratio.{ceiling_of, floor_of}
 pub use Rattle.jiff_core.proofs.CalendarLemmas.{days_in_month_bounds}
 pub use Rattle.jiff_core.specs.Calendar.{IsCivilDate, days_in_month}
 unfoldable pub use Rattle.jiff_core.specs.Calendar.{day_count, days_from_civil, days_of_months, days_of_years}
-pub use Rattle.json_text.specs.Step.{after, asked, given}
+pub use Rattle.json_text.proofs.Steps.{after_by, asked_by, given_by}
+pub use Rattle.json_text.specs.Step.{after, given}
 pub use Rattle.json_text.specs.Text.{parsed}
 unfoldable pub use Rattle.serde_json.proofs.OnLiterals.{serde_json_on_literals}
-pub use Rattle.serde_json.specs.Data.{Data, Members, array, depth, member, no_members, string}
+pub use Rattle.serde_json.specs.Data.{array, string}
 pub use Rattle.serde_json.specs.View.{items_of, items_view}
 pub use Rattle.claim_file.specs.Address.{address_of, addresses_of, are_different, whole}
 pub use Rattle.claim_file.specs.Claim.{ClaimData, IsLawful, IsWithoutGap, data_of, group_count, max_bound}
@@ -40,5 +41,4 @@ pub use Rattle.claim_file.specs.Time.{IsTime, date_time_at, exists, in_u32, pair
 pub use Rattle.era_unfold.specs.Digits.{two_digits}
 pub use Rattle.claim_file.specs.Time.{unix_second}
 pub use Rattle.claim_file.specs.declared.fault.ClaimFault.{ClaimFault}
-pub use Rattle.claim_file.specs.declared.fault.ClaimFault.TheVariants.{Address, Groups, Json, Memory, Range}
-pub use Rattle.claim_file.specs.declared.fault.ClaimFault.TheVariants.{RepeatedServer, Time}
+pub use Rattle.claim_file.specs.declared.fault.ClaimFault.TheVariants.{Groups, Json, Memory}

@@ -1,28 +1,14 @@
 -- The numbers of groups that a claim gives to its servers.
-use Rattle.claim_file.proofs.Common.{◌≡◌, ℕ, zero, suc, ◌+◌, ◌<◌, ◌≤◌, ◌==◌, ◌||◌, nat_lt, Bool, true, false, not, cond, if◌then◌else◌, List, [], ◌∷◌, ◌++◌, length, map, get_or, Option, Some, None, unwrap_or, ◌↔◌, refl, sym, ap, ◌∙◌, subst, arith, ltb-true, ltb-false, Decides-eqb, length-range_with_len, get_or-range_with_len, length-map-range_with_len, get_or-map-range_with_len, AllPass-from_list_all, sum_by-cons, sum_by-append, All, Contains, IsSomeAnd, slice_get, concat, list_all, list_any, position_from, IsWithoutGap, group_count, servers_of, times_listed, groups_of, group_of, is_grouping, IsInGroup}
+use Rattle.claim_file.proofs.Common.{◌≡◌, ℕ, zero, suc, ◌+◌, ◌<◌, ◌≤◌, ◌==◌, nat_lt, true, false, not, cond, List, [], ◌∷◌, ◌++◌, length, map, get_or, Option, Some, None, unwrap_or, ◌↔◌, refl, sym, ap, ◌∙◌, subst, arith, inl, inr, nat_tests, and_parts, ltb-true, ltb-false, Decides-eqb, length-range_with_len, get_or-range_with_len, length-map-range_with_len, get_or-map-range_with_len, AllPass-from_list_all, sum_by-append, All, Contains, IsSomeAnd, slice_get, concat, list_all, list_any, position_from, IsWithoutGap, group_count, servers_of, times_listed, groups_of, group_of, is_grouping, IsInGroup}
 use Rattle.std.proofs.lemmas.List.Folds.{list_all-append, Any-from_list_any, list_any-from_Any}
-use Rattle.std.proofs.lemmas.Option.{get_or_from_slice_get, slice_get-get_or, slice_get_within}
-use Rattle.claim_file.proofs.Groups.{both_true, length-groups, once_each}
-
--- a place below n, or 0
-place_small : (p : List ℕ → Bool) (i : ℕ) (groups : List (List ℕ)) (n : ℕ) → i + length groups ≤ n → 1 ≤ n →
-    unwrap_or (position_from p i groups) 0 < n
-place_small p i [] n fits some = omega arith
-place_small p i (g ∷ gs) n fits some =
-    elim (p g) as (λ b. unwrap_or (cond b (Some i) (position_from p (i + 1) gs)) 0 < n) [
-      | true ↦ omega arith
-      | false ↦ place_small p (i + 1) gs n (omega arith) some
-    ]
+use Rattle.std.proofs.lemmas.Bool.{cases_Bool, cases_lt, eq-eqb}
+use Rattle.std.proofs.lemmas.Option.{cond_some, get_or_from_slice_get, slice_get-get_or, slice_get_within}
+use Rattle.claim_file.proofs.Groups.{length-groups, once_each, times_listed-cons}
 
 pub given_grouping : (n : ℕ) (listed : List (List ℕ)) (groups : List ℕ) → groups_of n (Some listed) ≡ Some groups →
     (is_grouping n listed ≡ true) × (map (group_of listed) (servers_of n) ≡ groups)
-given_grouping n listed groups e = at (is_grouping n listed) refl e
-  where
-    at : (b : Bool) → is_grouping n listed ≡ b →
-        (if b then Some (map (group_of listed) (servers_of n)) else None) ≡ Some groups →
-        (is_grouping n listed ≡ true) × (map (group_of listed) (servers_of n) ≡ groups)
-    at true t h = (t, cc)
-    at false t h = cc
+given_grouping n listed groups e =
+    cond_some (is_grouping n listed) (map (group_of listed) (servers_of n)) groups e
 
 -- the parts of the test
 pub record IsGrouping (n : ℕ) (listed : List (List ℕ)) : Type 0 where
@@ -33,15 +19,53 @@ pub record IsGrouping (n : ℕ) (listed : List (List ℕ)) : Type 0 where
 
 pub grouping_parts : (n : ℕ) (listed : List (List ℕ)) → is_grouping n listed ≡ true → IsGrouping n listed
 grouping_parts n listed e =
-    let (front, once) = both_true _ _ e in
-    let (filled, below) = both_true _ _ front in
+    let (front, once) = and_parts _ _ e in
+    let (filled, below) = and_parts _ _ front in
     record {
       filled = filled;
       below = below;
       once = once_each n (concat listed) once;
-      few =
-          length-groups n listed filled below once;
+      few = length-groups n listed filled below once;
     }
+
+-- how often a number stands in two lists, and in one that holds it
+times-append : (x : ℕ) (xs ys : List ℕ) → times_listed x (xs ++ ys) ≡ times_listed x xs + times_listed x ys
+times-append x xs ys = sum_by-append (λ y. cond (y == x) 1 0) xs ys
+
+held_is : (x : ℕ) (ys : List ℕ) → list_any (λ s. s == x) ys ≡ nat_lt 0 (times_listed x ys)
+held_is x [] = refl
+held_is x (y ∷ ys) = rw (times_listed-cons x y ys, held_is x ys) (grind (arith, nat_tests))
+
+held_times : (x : ℕ) (ys : List ℕ) → list_any (λ s. s == x) ys ≡ true → 1 ≤ times_listed x ys
+held_times x ys e = ltb-true 0 _ (sym (held_is x ys) ∙ e)
+
+not_held_times : (x : ℕ) (ys : List ℕ) → list_any (λ s. s == x) ys ≡ false → times_listed x ys ≡ 0
+not_held_times x ys e = omega (arith, ltb-false 0 (times_listed x ys) (sym (held_is x ys) ∙ e))
+
+-- the group at a number's place holds the number
+place_holds : (x : ℕ) (i : ℕ) (groups : List (List ℕ)) → 1 ≤ times_listed x (concat groups) →
+    (j : ℕ) × (unwrap_or (position_from (λ g. list_any (λ s. s == x) g) i groups) 0 ≡ i + j) × (j < length groups)
+    × (list_any (λ s. s == x) (get_or groups j []) ≡ true)
+place_holds x i [] some = absurd (omega arith)
+place_holds x i (g ∷ gs) some =
+    elim (cases_Bool (list_any (λ s. s == x) g)) [
+      | inl held ↦ (0, rw held (omega arith), omega arith, held)
+      | inr none ↦
+          let split = times-append x g (concat gs) in
+          let (j, place, below, holds) = place_holds x (i + 1) gs (omega (arith, split, not_held_times x g none)) in
+          (suc j, rw none (omega arith), omega arith, holds)
+    ]
+
+-- each number of a group is below the count of those that are listed
+groups_below : (n : ℕ) (listed : List (List ℕ)) (groups : List ℕ) → groups_of n (Some listed) ≡ Some groups →
+    All (λ g. g < length listed) groups
+groups_below n listed groups e =
+    let (test, same) = given_grouping n listed groups e in
+    let parts = grouping_parts n listed test in
+    subst (λ gs. All (λ g. g < length listed) gs) same (λ k d less.
+    let small : k < n = rw (length-map-range_with_len (group_of listed) 0 n) at less in
+    let (j, place, here, _) = place_holds k 0 listed (omega (arith, parts.once k small)) in
+    rw (get_or-map-range_with_len (group_of listed) 0 n k k d small (omega arith)) (omega arith))
 
 -- each server has a group, whose number is below the count of servers
 pub groups_of-range : (n : ℕ) (listed : Option (List (List ℕ))) (groups : List ℕ) → 1 ≤ n →
@@ -56,67 +80,18 @@ groups_of-range n None groups some e =
     )
 groups_of-range n (Some listed) groups some e =
     let (test, same) = given_grouping n listed groups e in
-    let parts = grouping_parts n listed test in
-    subst (λ gs. (length gs ≡ n) × All (λ g. g < n) gs) same (
-      length-map-range_with_len (group_of listed) 0 n,
-      λ k d less.
-          let small : k < n = rw (length-map-range_with_len (group_of listed) 0 n) at less in
-          rw (get_or-map-range_with_len (group_of listed) 0 n k k d small (omega arith))
-          (place_small _ 0 listed n (omega (arith, parts.few)) some),
+    let parts = grouping_parts n listed test in (
+      ap length (sym same) ∙ length-map-range_with_len (group_of listed) 0 n,
+      λ k d less. omega (arith, groups_below n listed groups e k d less, parts.few),
     )
-
--- how often a number stands in two lists, and in one that holds it
-times-append : (x : ℕ) (xs ys : List ℕ) → times_listed x (xs ++ ys) ≡ times_listed x xs + times_listed x ys
-times-append x xs ys = sum_by-append (λ y. cond (y == x) 1 0) xs ys
-
-times-cons : (x y : ℕ) (ys : List ℕ) → times_listed x (y ∷ ys) ≡ cond (y == x) 1 0 + times_listed x ys
-times-cons x y ys = sum_by-cons (λ z. cond (z == x) 1 0) y ys
-
-held_times : (x : ℕ) (ys : List ℕ) → list_any (λ s. s == x) ys ≡ true → 1 ≤ times_listed x ys
-held_times x [] e = cc
-held_times x (y ∷ ys) e = rw (times-cons x y ys) (here (y == x) (held_times x ys) e)
-  where
-    here : (b : Bool) → (list_any (λ s. s == x) ys ≡ true → 1 ≤ times_listed x ys) →
-        (b || list_any (λ s. s == x) ys) ≡ true → 1 ≤ cond b 1 0 + times_listed x ys
-    here true later h = omega arith
-    here false later h = let more = later h in omega arith
-
-not_held_times : (x : ℕ) (ys : List ℕ) → list_any (λ s. s == x) ys ≡ false → times_listed x ys ≡ 0
-not_held_times x [] e = refl
-not_held_times x (y ∷ ys) e = rw (times-cons x y ys) (here (y == x) (not_held_times x ys) e)
-  where
-    here : (b : Bool) → (list_any (λ s. s == x) ys ≡ false → times_listed x ys ≡ 0) →
-        (b || list_any (λ s. s == x) ys) ≡ false → cond b 1 0 + times_listed x ys ≡ 0
-    here true later h = cc
-    here false later h = let more = later h in omega arith
-
--- a number that stands somewhere has a place among the groups
-place_found : (x : ℕ) (i : ℕ) (groups : List (List ℕ)) → 1 ≤ times_listed x (concat groups) →
-    unwrap_or (position_from (λ g. list_any (λ s. s == x) g) i groups) 0 < i + length groups
-place_found x i [] some = absurd (omega arith)
-place_found x i (g ∷ gs) some = here (list_any (λ s. s == x) g) (place_found x (i + 1) gs) refl
-  where
-    here : (b : Bool) →
-        (1 ≤ times_listed x (concat gs) →
-        unwrap_or (position_from (λ g. list_any (λ s. s == x) g) (i + 1) gs) 0 < i + 1 + length gs) →
-        list_any (λ s. s == x) g ≡ b →
-        unwrap_or (cond b (Some i) (position_from (λ g. list_any (λ s. s == x) g) (i + 1) gs)) 0 < i + length (g ∷ gs)
-    here true later e = omega arith
-    here false later e =
-        let none = not_held_times x g e in
-        let split = times-append x g (concat gs) in
-        let rest = later (omega arith) in
-        omega arith
 
 held_concat : (x : ℕ) (groups : List (List ℕ)) (g : ℕ) → g < length groups →
     list_any (λ s. s == x) (get_or groups g []) ≡ true → 1 ≤ times_listed x (concat groups)
 held_concat x [] g less e = absurd (omega arith)
 held_concat x (h ∷ hs) zero less e =
-    let some = held_times x h e in
-    rw (times-append x h (concat hs)) (omega arith)
+    omega (arith, held_times x h e, times-append x h (concat hs))
 held_concat x (h ∷ hs) (suc g) less e =
-    let some = held_concat x hs g (omega arith) e in
-    rw (times-append x h (concat hs)) (omega arith)
+    omega (arith, held_concat x hs g (omega arith) e, times-append x h (concat hs))
 
 -- a number that stands once has its place at the group that holds it
 place_once : (x : ℕ) (i : ℕ) (groups : List (List ℕ)) (g : ℕ) → g < length groups →
@@ -127,58 +102,56 @@ place_once x i (h ∷ hs) zero less e once = rw e (omega arith)
 place_once x i (h ∷ hs) (suc g) less e once =
     let later = held_concat x hs g (omega arith) e in
     let split = times-append x h (concat hs) in
-    here (list_any (λ s. s == x) h) (place_once x (i + 1) hs g (omega arith) e) refl later split
-  where
-    here : (b : Bool) →
-        (times_listed x (concat hs) ≡ 1 →
-        unwrap_or (position_from (λ g. list_any (λ s. s == x) g) (i + 1) hs) 0 ≡ i + 1 + g) →
-        list_any (λ s. s == x) h ≡ b → 1 ≤ times_listed x (concat hs) →
-        times_listed x (h ++ concat hs) ≡ times_listed x h + times_listed x (concat hs) →
-        unwrap_or (cond b (Some i) (position_from (λ g. list_any (λ s. s == x) g) (i + 1) hs)) 0 ≡ i + suc g
-    here true rest t later split = let some = held_times x h t in absurd (omega arith)
-    here false rest t later split =
-        let none = not_held_times x h t in
-        let there = rest (omega arith) in
-        omega arith
+    elim (cases_Bool (list_any (λ s. s == x) h)) [
+      | inl held ↦ absurd (omega (arith, held_times x h held))
+      | inr none ↦
+          let rest = place_once x (i + 1) hs g (omega arith) e (omega (arith, not_held_times x h none)) in
+          rw none (omega arith)
+    ]
 
 -- where each number is below n, the count of groups is at most n
 group_count-le : (n : ℕ) (groups : List ℕ) → All (λ g. g < n) groups → group_count groups ≤ n
 group_count-le n [] below = omega arith
 group_count-le n (g ∷ gs) below =
-    let first : g < n = below 0 0 (omega arith) in
-    let rest = group_count-le n gs (λ k d less. below (suc k) d (omega arith)) in
-    omega arith
+    omega (arith, below 0 0 (omega arith), group_count-le n gs (λ k d less. below (suc k) d (omega arith)))
 
 -- a group that isn't empty has a server
 first_held : (g : List ℕ) → not (length g == 0) ≡ true → list_any (λ s. s == get_or g 0 0) g ≡ true
 first_held [] e = cc
-first_held (x ∷ g) e = rw (eqb-self x) refl
-  where
-    eqb-self : (n : ℕ) → (n == n) ≡ true
-    eqb-self n = (Decides-eqb n n).1 refl
+first_held (x ∷ g) e = rw (eq-eqb x x refl) refl
 
 below_concat : (n : ℕ) (groups : List (List ℕ)) (g : ℕ) → g < length groups →
     not (length (get_or groups g []) == 0) ≡ true →
     list_all (λ s. nat_lt s n) (concat groups) ≡ true → get_or (get_or groups g []) 0 0 < n
 below_concat n [] g less some below = absurd (omega arith)
 below_concat n ([] ∷ hs) zero less some below = cc
-below_concat n ((x ∷ h) ∷ hs) zero less some below = ltb-true x n (both_true _ _ below).0
+below_concat n ((x ∷ h) ∷ hs) zero less some below = ltb-true x n (and_parts _ _ below).0
 below_concat n (h ∷ hs) (suc g) less some below =
     below_concat n hs g (omega arith) some
-    (both_true _ _ (sym (list_all-append (λ s. nat_lt s n) h (concat hs)) ∙ below)).1
+    (and_parts _ _ (sym (list_all-append (λ s. nat_lt s n) h (concat hs)) ∙ below)).1
 
 -- there are at most as many groups as are listed
 listed_count : (n : ℕ) (listed : List (List ℕ)) (groups : List ℕ) → groups_of n (Some listed) ≡ Some groups →
     group_count groups ≤ length listed
 listed_count n listed groups e =
+    group_count-le (length listed) groups (groups_below n listed groups e)
+
+-- each of the groups that are listed has a server
+group_held : (n : ℕ) (listed : List (List ℕ)) (groups : List ℕ) → groups_of n (Some listed) ≡ Some groups →
+    (g : ℕ) → g < length listed → Contains groups g
+group_held n listed groups e g less =
     let (test, same) = given_grouping n listed groups e in
     let parts = grouping_parts n listed test in
-    subst (λ gs. group_count gs ≤ length listed) same
-    (group_count-le (length listed) (map (group_of listed) (servers_of n))
-    (λ k d within.
-    let small : k < n = rw (length-map-range_with_len (group_of listed) 0 n) at within in
-    let found = place_found k 0 listed (omega (arith, parts.once k small)) in
-    rw (get_or-map-range_with_len (group_of listed) 0 n k k d small (omega arith)) (omega arith)))
+    let filled = AllPass-from_list_all (λ group. not (length group == 0)) listed parts.filled g [] less in
+    let x = get_or (get_or listed g []) 0 0 in
+    let server : x < n = below_concat n listed g less filled parts.below in
+    let held = first_held (get_or listed g []) filled in
+    let place = place_once x 0 listed g less held (parts.once x server) in
+    subst (λ gs. Contains gs g) same (
+      x,
+      rw (length-map-range_with_len (group_of listed) 0 n) server,
+      get_or-map-range_with_len (group_of listed) 0 n x x g server (omega arith) ∙ place ∙ omega arith,
+    )
 
 -- none of the groups is empty
 pub groups_of-without_gap : (n : ℕ) (listed : Option (List (List ℕ))) (groups : List ℕ) →
@@ -194,23 +167,9 @@ groups_of-without_gap n None groups e =
           let server : g < n = omega arith in
           (g, rw (length-range_with_len 0 n) server, get_or-range_with_len 0 n g g server ∙ omega arith);
     })
-groups_of-without_gap n (Some listed) groups e =
-    let (test, same) = given_grouping n listed groups e in
-    let parts = grouping_parts n listed test in
-    subst IsWithoutGap same (record {
-      none_empty = λ g less.
-          let most = subst (λ gs. group_count gs ≤ length listed) (sym same) (listed_count n listed groups e) in
-          let here : g < length listed = omega arith in
-          let filled = AllPass-from_list_all (λ group. not (length group == 0)) listed parts.filled g [] here in
-          let x = get_or (get_or listed g []) 0 0 in
-          let server : x < n = below_concat n listed g here filled parts.below in
-          let held = first_held (get_or listed g []) filled in
-          let place = place_once x 0 listed g here held (parts.once x server) in (
-            x,
-            rw (length-map-range_with_len (group_of listed) 0 n) server,
-            get_or-map-range_with_len (group_of listed) 0 n x x g server (omega arith) ∙ place ∙ omega arith,
-          );
-    })
+groups_of-without_gap n (Some listed) groups e = record {
+  none_empty = λ g less. group_held n listed groups e g (omega (arith, listed_count n listed groups e));
+}
 
 -- a server's number is that of the group which holds it
 pub group_number : (n : ℕ) (listed : List (List ℕ)) (groups : List ℕ) → groups_of n (Some listed) ≡ Some groups →
@@ -232,51 +191,16 @@ group_count-ge (g ∷ gs) (suc k) d less = let rest = group_count-ge gs k d (ome
 pub group_count-listed : (n : ℕ) (listed : List (List ℕ)) (groups : List ℕ) → groups_of n (Some listed) ≡ Some groups →
     group_count groups ≡ length listed
 group_count-listed n listed groups e =
-    at (nat_lt (group_count groups) (length listed)) refl (listed_count n listed groups e)
-  where
-    at : (b : Bool) → nat_lt (group_count groups) (length listed) ≡ b → group_count groups ≤ length listed →
-        group_count groups ≡ length listed
-    at true t most =
-        let (test, same) = given_grouping n listed groups e in
-        let parts = grouping_parts n listed test in
-        let g = group_count groups in
-        let here : g < length listed = ltb-true g (length listed) t in
-        let filled = AllPass-from_list_all (λ group. not (length group == 0)) listed parts.filled g [] here in
-        let x = get_or (get_or listed g []) 0 0 in
-        let server : x < n = below_concat n listed g here filled parts.below in
-        let held = first_held (get_or listed g []) filled in
-        let number = group_number n listed groups e x g server here held in
-        let sized : length groups ≡ n = ap length (sym same) ∙ length-map-range_with_len (group_of listed) 0 n in
-        let within = group_count-ge groups x 0 (omega arith) in
-        absurd (omega arith)
-    at false t most = let least : length listed ≤ group_count groups =
-        ltb-false (group_count groups) (length listed) t in omega arith
+    let most = listed_count n listed groups e in
+    let count = group_count groups in
+    elim (cases_lt count (length listed)) [
+      | inl less ↦
+          let (x, within, is) = group_held n listed groups e count less in
+          absurd (omega (arith, group_count-ge groups x count within))
+      | inr least ↦ omega arith
+    ]
 
 -- ---- groups as a relation
-
--- the group at a number's place holds the number
-place_holds : (x : ℕ) (i : ℕ) (groups : List (List ℕ)) → 1 ≤ times_listed x (concat groups) →
-    (j : ℕ) × (unwrap_or (position_from (λ g. list_any (λ s. s == x) g) i groups) 0 ≡ i + j) × (j < length groups)
-    × (list_any (λ s. s == x) (get_or groups j []) ≡ true)
-place_holds x i [] some = absurd (omega arith)
-place_holds x i (g ∷ gs) some = here (list_any (λ s. s == x) g) (place_holds x (i + 1) gs) refl
-  where
-    here : (b : Bool) →
-        (1 ≤ times_listed x (concat gs) →
-        (j : ℕ) × (unwrap_or (position_from (λ g. list_any (λ s. s == x) g) (i + 1) gs) 0 ≡ i + 1 + j)
-        × (j < length gs) × (list_any (λ s. s == x) (get_or gs j []) ≡ true)) →
-        list_any (λ s. s == x) g ≡ b →
-        (j : ℕ)
-        × (unwrap_or (cond b (Some i) (position_from (λ g. list_any (λ s. s == x) g) (i + 1) gs)) 0 ≡ i + j)
-        × (j < length (g ∷ gs)) × (list_any (λ s. s == x) (get_or (g ∷ gs) j []) ≡ true)
-    here true later e = (0, omega arith, omega arith, e)
-    here false later e =
-        let none = not_held_times x g e in
-        let split = times-append x g (concat gs) in
-        let rest = later (omega arith) in
-        let place = rest.1 in
-        let below = rest.2 in
-        (suc rest.0, omega arith, omega arith, rest.3)
 
 any_contains : (x : ℕ) (ys : List ℕ) → list_any (λ s. s == x) ys ≡ true → Contains ys x
 any_contains x ys e =
@@ -300,10 +224,10 @@ group_below : (n x : ℕ) (groups : List (List ℕ)) (g : ℕ) → g < length gr
     list_any (λ s. s == x) (get_or groups g []) ≡ true → list_all (λ s. nat_lt s n) (concat groups) ≡ true → x < n
 group_below n x [] g less held below = absurd (omega arith)
 group_below n x (h ∷ hs) zero less held below =
-    held_below n x h held (both_true _ _ (sym (list_all-append (λ s. nat_lt s n) h (concat hs)) ∙ below)).0
+    held_below n x h held (and_parts _ _ (sym (list_all-append (λ s. nat_lt s n) h (concat hs)) ∙ below)).0
 group_below n x (h ∷ hs) (suc g) less held below =
     group_below n x hs g (omega arith) held
-    (both_true _ _ (sym (list_all-append (λ s. nat_lt s n) h (concat hs)) ∙ below)).1
+    (and_parts _ _ (sym (list_all-append (λ s. nat_lt s n) h (concat hs)) ∙ below)).1
 
 -- a place in a list, and what stands there
 some_at : (P : List ℕ → Type 0) (groups : List (List ℕ)) (g : ℕ) → g < length groups → P (get_or groups g []) →

@@ -1,5 +1,6 @@
 -- Lists of server numbers, and groups as they are read.
-use Rattle.claim_file.proofs.Common.{◌≡◌, ℕ, zero, suc, ◌+◌, ◌-◌, ◌<◌, ◌≤◌, ◌==◌, ◌&&◌, nat_lt, Bool, true, false, not, cond, List, [], ◌∷◌, ◌++◌, length, map, Vec, Global, refl, sym, ap, ◌∙◌, arith, length-append, append_assoc, Some, get_or, drop, drop-cons, add-one, nat_tests, get_or-range_with_len, length-range_with_len, AllPass-from_list_all, sum_by-cons, concat, list_all, list_any, position_from, range_with_len, servers_of, times_listed}
+use Rattle.claim_file.proofs.Common.{◌≡◌, ℕ, zero, suc, ◌+◌, ◌-◌, ◌<◌, ◌≤◌, ◌==◌, nat_lt, true, not, cond, List, [], ◌∷◌, ◌++◌, length, map, Vec, Global, refl, sym, ap, ◌∙◌, arith, and_parts, length-append, append_assoc, Some, get_or, drop, drop-cons, add-one, nat_tests, get_or-range_with_len, length-range_with_len, AllPass-from_list_all, sum_by-cons, concat, list_all, list_any, position_from, range_with_len, servers_of, times_listed}
+use Rattle.std.proofs.lemmas.List.{length-map}
 
 -- the numbers from a up to n, with the first apart
 pub range_front : (a n : ℕ) → a < n → range_with_len a (n - a) ≡ a ∷ range_with_len (a + 1) (n - (a + 1))
@@ -22,20 +23,12 @@ pub group_at : (server : ℕ) (groups : List (Vec ℕ Global)) (k : ℕ) (group 
 group_at server groups k group is less =
     rw (drop-cons groups k group less, add-one k, ← is) refl
 
-length_items : (groups : List (Vec ℕ Global)) → length (map (λ list. list.items) groups) ≡ length groups
-length_items [] = refl
-length_items (g ∷ gs) = ap suc (length_items gs)
-
-pub both_true : (a b : Bool) → (a && b) ≡ true → (a ≡ true) × (b ≡ true)
-both_true true b e = (refl, e)
-both_true false b e = cc
-
 -- how many numbers of the list are below n, counted number by number
 abbrev tally : ℕ → List ℕ → ℕ
 tally zero xs = 0
 tally (suc n) xs = tally n xs + times_listed n xs
 
-times_listed-cons : (s x : ℕ) (xs : List ℕ) → times_listed s (x ∷ xs) ≡ cond (x == s) 1 0 + times_listed s xs
+pub times_listed-cons : (s x : ℕ) (xs : List ℕ) → times_listed s (x ∷ xs) ≡ cond (x == s) 1 0 + times_listed s xs
 times_listed-cons s x xs = sum_by-cons (λ y. cond (y == s) 1 0) x xs
 
 tally-cons : (n x : ℕ) (xs : List ℕ) → tally n (x ∷ xs) ≡ cond (nat_lt x n) 1 0 + tally n xs
@@ -50,7 +43,7 @@ tally-nil (suc n) = ap (λ t. t + 0) (tally-nil n)
 tally-below : (n : ℕ) (xs : List ℕ) → list_all (λ s. nat_lt s n) xs ≡ true → tally n xs ≡ length xs
 tally-below n [] below = tally-nil n
 tally-below n (x ∷ xs) below =
-    let (here, others) = both_true (nat_lt x n) _ below in
+    let (here, others) = and_parts (nat_lt x n) _ below in
     rw (tally-cons n x xs, here, tally-below n xs others) (omega arith)
 
 -- where each stands once, n are counted
@@ -62,7 +55,7 @@ length-concat : (groups : List (List ℕ)) → list_all (λ group. not (length g
     length groups ≤ length (concat groups)
 length-concat [] filled = omega arith
 length-concat (g ∷ gs) filled =
-    let (here, others) = both_true (not (length g == 0)) _ filled in
+    let (here, others) = and_parts (not (length g == 0)) _ filled in
     let rest : length gs ≤ length (concat gs) = length-concat gs others in
     let some : 0 < length g = grind (arith, nat_tests) in
     rw (length-append g (concat gs)) (omega arith)
@@ -97,4 +90,4 @@ pub few_groups : (n : ℕ) (groups : List (Vec ℕ Global)) (numbers : List ℕ)
 few_groups n groups numbers known filled below once =
     let here = rw known at below in
     let each = rw known at once in
-    rw (← length_items groups) (length-groups n (map (λ list. list.items) groups) filled here each)
+    rw (← length-map groups (λ list. list.items)) (length-groups n (map (λ list. list.items) groups) filled here each)

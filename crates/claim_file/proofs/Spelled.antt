@@ -1,16 +1,17 @@
 -- The plain spelling of a claim is read as that claim.
-use Rattle.claim_file.proofs.Common.{◌≡◌, ◌≢◌, ◌∙◌, ℕ, zero, suc, pos, ◌+◌, ◌/◌, ◌%◌, ◌^◌, ◌<◌, ◌≤◌, ◌==◌, nat_lt, Bool, true, false, not, List, [], ◌∷◌, ◌++◌, length, map, Option, Some, None, Ok, IsUtf8, refl, sym, ap, subst, arith, length-append, if◌then◌else◌, All, AllPairs, codes, decimal, concat, list_all, list_any, range_with_len, IsDotted, bytes_eq, nat_tests, bytes_eq-Decides, ints, days_in_month_bounds, serde_json_on_literals, Members, array, depth, member, no_members, string, items_of, after, given, Json, addresses_of, are_different, FieldsData, fields_of, number_lists_of, numbers_of, texts_of, group_of, groups_of, is_grouping, servers_of, times_listed, NamedData, claim_from, claim_of, claim_with, is_in_range, named_of, within_limits, IsTime, two_digits}
+use Rattle.claim_file.proofs.Common.{◌≡◌, ◌≢◌, ◌∙◌, ℕ, zero, suc, pos, ◌+◌, ◌/◌, ◌%◌, ◌^◌, ◌<◌, ◌≤◌, ◌==◌, nat_lt, true, false, not, List, [], ◌∷◌, ◌++◌, length, map, Option, Some, None, Ok, IsUtf8, refl, sym, ap, subst, arith, length-append, length-range_with_len, get_or-range_with_len, All, AllPairs, codes, decimal, concat, list_any, IsDotted, bytes_eq, le-leb, lt-ltb, nat_tests, bytes_eq-Decides, ints, days_in_month_bounds, serde_json_on_literals, array, string, items_of, after, given, Json, addresses_of, are_different, FieldsData, fields_of, number_lists_of, numbers_of, texts_of, group_of, groups_of, is_grouping, servers_of, times_listed, NamedData, claim_from, claim_of, claim_with, is_in_range, named_of, within_limits, IsTime, two_digits}
+use Rattle.std.proofs.lemmas.Bool.{eq-eqb, false_from_ne_true}
 use Rattle.std.proofs.lemmas.Fmt.{IsAscii-decimal}
-use Rattle.std.proofs.lemmas.Str.{IsUtf8-append, IsUtf8-from_ascii, is_utf8-from_IsUtf8}
+use Rattle.std.proofs.lemmas.Str.{IsUtf8-append, IsUtf8-from_ascii}
 use Rattle.std.proofs.lemmas.List.{get_or-append-add}
+use Rattle.std.proofs.lemmas.List.Folds.{list_any_none}
+use Rattle.std.proofs.lemmas.List.Sums.{list_all-from_AllPass}
 use Rattle.std.proofs.Math.ListN.{get_or-append}
-use Rattle.serde_json.specs.Read.{read, max_depth}
-use Rattle.serde_json.specs.Written.{compact_text, members_text}
-use Rattle.json_text.proofs.Outline.{IsOutlined, items_depth-map, outlined_array, outlined_items, outlined_number, outlined_string, read_compact}
-use Rattle.json_text.proofs.Utf8.{utf8_array, utf8_ascii, utf8_end, utf8_member, utf8_number, utf8_object, utf8_string}
+use Rattle.serde_json.specs.Read.{max_depth}
+use Rattle.json_text.proofs.Outline.{IsPlain, items_nesting, nesting, parsed_compact, plain_items, plain_number, utf8_ascii}
 use Rattle.claim_file.proofs.Addresses.{address_of-IsDotted}
-use Rattle.claim_file.proofs.Times.{passes, time_of-IsTime}
-use Rattle.claim_file.specs.Spelling.{AreDotted, AreGrouped, groups_then, IsWithinLimits, Names, claim_text, claim_value, number_value, numbers_value}
+use Rattle.claim_file.proofs.Times.{time_of-IsTime}
+use Rattle.claim_file.specs.Spelling.{AreDotted, AreGrouped, IsWithinLimits, Names, claim_text, claim_value, number_value, numbers_value}
 
 -- ---- what the JSON value says
 
@@ -20,27 +21,17 @@ texts_back (t ∷ ts) = rw (texts_back ts) refl
 
 numbers_back : (numbers : List ℕ) → numbers_of (numbers_value numbers) ≡ Some numbers
 numbers_back [] = refl
-numbers_back (n ∷ ns) =
-    let rest = numbers_back ns in
-    rw rest refl
+numbers_back (n ∷ ns) = rw (numbers_back ns) refl
 
 lists_back : (lists : List (List ℕ)) → number_lists_of (array (items_of (map numbers_value lists))) ≡ Some lists
 lists_back [] = refl
-lists_back (l ∷ ls) =
-    let first = numbers_back l in
-    let rest = lists_back ls in
-    rw (first, rest) refl
+lists_back (l ∷ ls) = rw (numbers_back l, lists_back ls) refl
 
 fields_with : (f : FieldsData) (groups : Option (List (List ℕ))) →
     fields_of (claim_value (record f { groups = groups })) ≡ Ok (record f { groups = groups })
 unfolding serde_json_on_literals
-fields_with f None =
-    let texts = texts_back f.servers in
-    rw texts refl
-fields_with f (Some listed) =
-    let texts = texts_back f.servers in
-    let lists = lists_back listed in
-    rw (texts, lists) refl
+fields_with f None = rw (texts_back f.servers) refl
+fields_with f (Some listed) = rw (texts_back f.servers, lists_back listed) refl
 
 fields_back : (f : FieldsData) → fields_of (claim_value f) ≡ Ok f
 fields_back f = fields_with f f.groups
@@ -52,9 +43,7 @@ addresses_back [] [] each = refl
 addresses_back [] (a ∷ rest) each = absurd each
 addresses_back (t ∷ ts) [] each = absurd each
 addresses_back (t ∷ ts) (a ∷ others) each =
-    let first = address_of-IsDotted t a each.0 in
-    let rest = addresses_back ts others each.1 in
-    rw (first, rest) refl
+    rw (address_of-IsDotted t a each.0, addresses_back ts others each.1) refl
 
 named_back : (f : FieldsData) (named : NamedData) → Names f named → named_of f ≡ Ok named
 named_back f named is =
@@ -66,27 +55,20 @@ named_back f named is =
 
 in_range : (f : FieldsData) (named : NamedData) → IsWithinLimits f named → is_in_range f named ≡ true
 in_range f named is =
-    let a = passes 1 (length named.servers) is.some_server in
-    let b = passes (length named.servers) 32 is.few_servers in
-    let d = passes f.false_max 31 is.few_false in
-    let e = passes named.first named.last is.forward in
-    let g = passes f.bound_ns 1000000000000000 is.bound in
-    let h = passes f.drift_ppb 500000000 is.drift in
-    let i = passes f.reading_ns 1000000000 is.reading in
+    let a = le-leb 1 (length named.servers) is.some_server in
+    let b = le-leb (length named.servers) 32 is.few_servers in
+    let d = le-leb f.false_max 31 is.few_false in
+    let e = le-leb named.first named.last is.forward in
+    let g = le-leb f.bound_ns 1000000000000000 is.bound in
+    let h = le-leb f.drift_ppb 500000000 is.drift in
+    let i = le-leb f.reading_ns 1000000000 is.reading in
     rw (a, b, d, e, g, h, i) refl
 
 other : (a b : List ℕ) → a ≢ b → bytes_eq a b ≡ false
-other a b apart = at (bytes_eq a b) refl where
-  at : (r : Bool) → bytes_eq a b ≡ r → r ≡ false
-  at true e = absurd (apart ((bytes_eq-Decides a b).0 e))
-  at false e = refl
+other a b apart = false_from_ne_true (bytes_eq a b) (λ e. apart ((bytes_eq-Decides a b).0 e))
 
 none_is : (x : List ℕ) (xs : List (List ℕ)) → All (λ a. a ≢ x) xs → list_any (λ o. bytes_eq o x) xs ≡ false
-none_is x [] apart = refl
-none_is x (y ∷ ys) apart =
-    let first = other y x (apart 0 y (omega arith)) in
-    let rest = none_is x ys (λ k d less. apart (suc k) d (omega arith)) in
-    rw (first, rest) refl
+none_is x xs apart = list_any_none (λ o. bytes_eq o x) xs (λ k d less. other _ x (apart k d less))
 
 differ : (xs : List (List ℕ)) → AllPairs (λ a b. a ≢ b) xs → are_different xs ≡ true
 differ [] apart = refl
@@ -95,37 +77,20 @@ differ (x ∷ xs) apart =
     let rest = differ xs (λ i j d before less. apart (suc i) (suc j) d (omega arith) (omega arith)) in
     rw (first, rest) refl
 
-all_true : {X : Type 0} (p : X → Bool) (P : X → Type 0) → ((x : X) → P x → p x ≡ true) → (xs : List X) → All P xs →
-    list_all p xs ≡ true
-all_true p P tells [] each = refl
-all_true p P tells (x ∷ xs) each =
-    let first = tells x (each 0 x (omega arith)) in
-    let rest = all_true p P tells xs (λ k d less. each (suc k) d (omega arith)) in
-    rw (first, rest) refl
-
-all_range : (p : ℕ → Bool) (from count : ℕ) → ((s : ℕ) → from ≤ s → s < from + count → p s ≡ true) →
-    list_all p (range_with_len from count) ≡ true
-all_range p from zero each = refl
-all_range p from (suc count) each =
-    let first = each from (omega arith) (omega arith) in
-    let rest = all_range p (from + 1) count (λ s low high. each s (omega arith) (omega arith)) in
-    rw (first, rest) refl
-
 is_grouped : (n : ℕ) (listed : List (List ℕ)) → AreGrouped n (Some listed) → is_grouping n listed ≡ true
 is_grouped n listed (filled, below, once) =
-    let a = all_true (λ group. not (length group == 0)) (λ group. 0 < length group)
-    (λ group some. grind (arith, nat_tests)) listed filled in
-    let b = all_true (λ s. nat_lt s n) (λ s. s < n) (λ s less. grind (arith, nat_tests)) (concat listed) below in
-    let d = all_range (λ s. times_listed s (concat listed) == 1) 0 n
-    (λ s low high. let one = once s (omega arith) in rw one refl) in
-    rw (a, b, d) refl
+    let a = list_all-from_AllPass (λ group. not (length group == 0)) listed
+    (λ k d less. let some = filled k d less in grind (arith, nat_tests)) in
+    let b = list_all-from_AllPass (λ s. nat_lt s n) (concat listed) (λ k d less. lt-ltb _ n (below k d less)) in
+    let e = list_all-from_AllPass (λ s. times_listed s (concat listed) == 1) (servers_of n)
+    (λ k d less. let small : k < n = rw (length-range_with_len 0 n) at less in
+    rw (get_or-range_with_len 0 n k d small) (eq-eqb _ 1 (once (0 + k) (omega arith)))) in
+    rw (a, b, e) refl
 
 groups_back : (n : ℕ) (listed : Option (List (List ℕ))) → AreGrouped n listed →
     (groups : List ℕ) × (groups_of n listed ≡ Some groups)
 groups_back n None is = (servers_of n, refl)
-groups_back n (Some listed) is =
-    let test = is_grouped n listed is in
-    (map (group_of listed) (servers_of n), rw test refl)
+groups_back n (Some listed) is = (map (group_of listed) (servers_of n), rw (is_grouped n listed is) refl)
 
 -- ---- the text
 
@@ -140,17 +105,15 @@ back_small n xs ys small k d less =
     subst (λ v. v < n) (get_or-append-add xs ys k d)
     (small (length xs + k) d (omega (arith, length-append xs ys)))
 
-outlined_numbers : (n : ℕ) (xs : List ℕ) → n < 2 ^ 64 → All (λ s. s < n) xs → IsOutlined (numbers_value xs)
-outlined_numbers n xs fits small =
-    outlined_array (items_of (map number_value xs))
-    (outlined_items number_value xs (λ k d less. outlined_number _ (omega (arith, small k d less))))
+plain_numbers : (n : ℕ) (xs : List ℕ) → n < 2 ^ 64 → All (λ s. s < n) xs → IsPlain (numbers_value xs)
+plain_numbers n xs fits small = plain_items number_value xs (λ k d less. plain_number _ (omega (arith, small k d less)))
 
-outlined_lists : (n : ℕ) (lists : List (List ℕ)) → n < 2 ^ 64 → All (λ s. s < n) (concat lists) →
-    All (λ list. IsOutlined (numbers_value list)) lists
-outlined_lists n [] fits small k d less = absurd (omega arith)
-outlined_lists n (l ∷ ls) fits small zero d less = outlined_numbers n l fits (front_small n l (concat ls) small)
-outlined_lists n (l ∷ ls) fits small (suc k) d less =
-    outlined_lists n ls fits (back_small n l (concat ls) small) k d (omega arith)
+plain_lists : (n : ℕ) (lists : List (List ℕ)) → n < 2 ^ 64 → All (λ s. s < n) (concat lists) →
+    All (λ list. IsPlain (numbers_value list)) lists
+plain_lists n [] fits small k d less = absurd (omega arith)
+plain_lists n (l ∷ ls) fits small zero d less = plain_numbers n l fits (front_small n l (concat ls) small)
+plain_lists n (l ∷ ls) fits small (suc k) d less =
+    plain_lists n ls fits (back_small n l (concat ls) small) k d (omega arith)
 
 -- the numbers of a claim have 64 bits
 pub record AreSmall (f : FieldsData) : Type 0 where
@@ -159,81 +122,7 @@ pub record AreSmall (f : FieldsData) : Type 0 where
   pub few : f.false_max < 2 ^ 64
   pub reading : f.reading_ns < 2 ^ 64
 
-outlined_with : (f : FieldsData) (n : ℕ) (groups : Option (List (List ℕ))) → AreSmall f → n < 2 ^ 64 →
-    AreGrouped n groups → IsOutlined (claim_value (record f { groups = groups }))
-unfolding serde_json_on_literals
-outlined_with f n None small fits grouped =
-    let bound = outlined_number f.bound_ns small.bound in
-    let drift = outlined_number f.drift_ppb small.drift in
-    let few = outlined_number f.false_max small.few in
-    let reading = outlined_number f.reading_ns small.reading in
-    let servers = outlined_array (items_of (map string f.servers))
-    (outlined_items string f.servers (λ k d less. outlined_string _)) in
-    record {
-      reads = rw (bound.reads, drift.reads, few.reads, reading.reads, servers.reads);
-      stays = rw (bound.stays, drift.stays, few.stays, reading.stays, servers.stays);
-      numbers = (
-        bound.numbers,
-        (
-          tt,
-          (
-            drift.numbers,
-            (
-              few.numbers,
-              (tt, (reading.numbers, (servers.numbers, (tt, tt)))),
-            ),
-          ),
-        ),
-      );
-      shallow = omega (arith, servers.shallow);
-    }
-outlined_with f n (Some listed) small fits grouped =
-    let bound = outlined_number f.bound_ns small.bound in
-    let drift = outlined_number f.drift_ppb small.drift in
-    let few = outlined_number f.false_max small.few in
-    let reading = outlined_number f.reading_ns small.reading in
-    let servers = outlined_array (items_of (map string f.servers))
-    (outlined_items string f.servers (λ k d less. outlined_string _)) in
-    let lists = outlined_array (items_of (map numbers_value listed))
-    (outlined_items numbers_value listed (outlined_lists n listed fits grouped.1)) in
-    record {
-      reads = rw (bound.reads, drift.reads, few.reads, reading.reads, servers.reads, lists.reads);
-      stays = rw (bound.stays, drift.stays, few.stays, reading.stays, servers.stays, lists.stays);
-      numbers = (
-        bound.numbers,
-        (
-          tt,
-          (
-            drift.numbers,
-            (
-              few.numbers,
-              (tt, (lists.numbers, (reading.numbers, (servers.numbers, (tt, tt))))),
-            ),
-          ),
-        ),
-      );
-      shallow = omega (arith, servers.shallow, lists.shallow);
-    }
-
-numbers_depth : (xs : List ℕ) → depth (numbers_value xs) ≤ 1
-numbers_depth xs = let items = items_depth-map number_value 0 (λ n. omega arith) xs in omega arith
-
-depth_with : (f : FieldsData) (groups : Option (List (List ℕ))) →
-    depth (claim_value (record f { groups = groups })) ≤ max_depth
-depth_with f None =
-    let servers = items_depth-map string 0 (λ n. omega arith) f.servers in
-    omega arith
-depth_with f (Some listed) =
-    let servers = items_depth-map string 0 (λ n. omega arith) f.servers in
-    let lists = items_depth-map numbers_value 1 numbers_depth listed in
-    omega arith
-
-read_back : (f : FieldsData) (n : ℕ) → AreSmall f → n < 2 ^ 64 → AreGrouped n f.groups →
-    read (claim_text f) ≡ Some (claim_value f)
-read_back f n small fits grouped =
-    read_compact (claim_value f) (outlined_with f n f.groups small fits grouped) (depth_with f f.groups)
-
--- ---- it is UTF-8
+-- ---- its texts are UTF-8
 
 utf8_decimal : (n : ℕ) → n < 2 ^ 64 → IsUtf8 (decimal n)
 utf8_decimal n fits = IsUtf8-from_ascii (decimal n) (IsAscii-decimal n fits)
@@ -282,61 +171,42 @@ utf8_time text second is =
     (IsUtf8-append _ _ (IsUtf8-append _ _ (IsUtf8-append _ _ (IsUtf8-append _ _ (IsUtf8-append _ _ y dash) m) dash) d)
     (utf8_ascii (codes "T") refl)) h) colon) n) colon) s) (utf8_ascii (codes "Z") refl))
 
-utf8_numbers : (n : ℕ) (xs : List ℕ) → n < 2 ^ 64 → All (λ s. s < n) xs → IsUtf8 (compact_text (numbers_value xs))
-utf8_numbers n xs fits small = utf8_array number_value xs (λ k d less. utf8_number _ (omega (arith, small k d less)))
+-- ---- it is read as the value
 
-utf8_lists : (n : ℕ) (lists : List (List ℕ)) → n < 2 ^ 64 → All (λ s. s < n) (concat lists) →
-    All (λ list. IsUtf8 (compact_text (numbers_value list))) lists
-utf8_lists n [] fits small k d less = absurd (omega arith)
-utf8_lists n (l ∷ ls) fits small zero d less = utf8_numbers n l fits (front_small n l (concat ls) small)
-utf8_lists n (l ∷ ls) fits small (suc k) d less =
-    utf8_lists n ls fits (back_small n l (concat ls) small) k d (omega arith)
+-- what is known of a member, and of those behind it
+also : {A B C : Type 0} → A → B → C → A × B × C
+also a b c = (a, b, c)
 
-utf8_groups : (n : ℕ) (groups : Option (List (List ℕ))) (rest : Members) → n < 2 ^ 64 → AreGrouped n groups →
-    IsUtf8 (members_text true rest) → IsUtf8 (members_text true (groups_then groups rest))
-utf8_groups n None rest fits grouped known = known
-utf8_groups n (Some listed) rest fits grouped known =
-    utf8_member true (codes "groups") (array (items_of (map numbers_value listed))) rest
-    (utf8_ascii (codes "groups") refl)
-    (utf8_array numbers_value listed (utf8_lists n listed fits grouped.1)) known
+plain_with : (f : FieldsData) (named : NamedData) (n : ℕ) (groups : Option (List (List ℕ))) → Names f named →
+    AreSmall f → n < 2 ^ 64 → AreGrouped n groups → IsPlain (claim_value (record f { groups = groups }))
+unfolding serde_json_on_literals
+plain_with f named n None is small fits grouped =
+    let servers = plain_items string f.servers (utf8_each f.servers named.servers is.servers) in (
+      refl,
+      also refl (plain_number f.bound_ns small.bound) (also refl (utf8_dotted f.client named.client is.client)
+          (also refl (plain_number f.drift_ppb small.drift) (also refl (plain_number f.false_max small.few)
+          (also refl (utf8_time f.begin named.first is.begin)
+          (also refl (plain_number f.reading_ns small.reading)
+          (also refl servers (also refl (utf8_time f.end named.last is.end) tt))))))),
+    )
+plain_with f named n (Some listed) is small fits grouped =
+    let servers = plain_items string f.servers (utf8_each f.servers named.servers is.servers) in
+    let lists = plain_items numbers_value listed (plain_lists n listed fits grouped.1) in (
+      refl,
+      also refl (plain_number f.bound_ns small.bound) (also refl (utf8_dotted f.client named.client is.client)
+          (also refl (plain_number f.drift_ppb small.drift) (also refl (plain_number f.false_max small.few)
+          (also refl (utf8_time f.begin named.first is.begin) (also refl lists
+          (also refl (plain_number f.reading_ns small.reading)
+          (also refl servers (also refl (utf8_time f.end named.last is.end) tt)))))))),
+    )
 
-utf8_claim : (f : FieldsData) (named : NamedData) (n : ℕ) → Names f named → AreSmall f → n < 2 ^ 64 →
-    AreGrouped n f.groups → IsUtf8 (claim_text f)
-utf8_claim f named n is small fits grouped =
-    let servers = utf8_array string f.servers
-    (λ k d less. utf8_string _ (utf8_each f.servers named.servers is.servers k d less)) in
-    let end_on = member (codes "to") (string f.end) no_members in
-    let end_known = utf8_member true (codes "to") (string f.end) no_members (utf8_ascii (codes "to") refl)
-    (utf8_string f.end (utf8_time f.end named.last is.end)) (utf8_end true) in
-    let servers_on = member (codes "servers") (array (items_of (map string f.servers))) end_on in
-    let servers_known = utf8_member true (codes "servers") (array (items_of (map string f.servers))) end_on
-    (utf8_ascii (codes "servers") refl)
-    servers end_known in
-    let reading_on = member (codes "reading_ns") (number_value f.reading_ns) servers_on in
-    let reading_known = utf8_member true (codes "reading_ns") (number_value f.reading_ns) servers_on
-    (utf8_ascii (codes "reading_ns") refl)
-    (utf8_number f.reading_ns small.reading) servers_known in
-    let groups_on = groups_then f.groups reading_on in
-    let groups_known = utf8_groups n f.groups reading_on fits grouped reading_known in
-    let begin_on = member (codes "from") (string f.begin) groups_on in
-    let begin_known = utf8_member true (codes "from") (string f.begin) groups_on (utf8_ascii (codes "from") refl)
-    (utf8_string f.begin (utf8_time f.begin named.first is.begin)) groups_known in
-    let false_on = member (codes "false_max") (number_value f.false_max) begin_on in
-    let false_known = utf8_member true (codes "false_max") (number_value f.false_max) begin_on
-    (utf8_ascii (codes "false_max") refl)
-    (utf8_number f.false_max small.few) begin_known in
-    let drift_on = member (codes "drift_ppb") (number_value f.drift_ppb) false_on in
-    let drift_known = utf8_member true (codes "drift_ppb") (number_value f.drift_ppb) false_on
-    (utf8_ascii (codes "drift_ppb") refl)
-    (utf8_number f.drift_ppb small.drift) false_known in
-    let client_on = member (codes "client") (string f.client) drift_on in
-    let client_known = utf8_member true (codes "client") (string f.client) drift_on (utf8_ascii (codes "client") refl)
-    (utf8_string f.client (utf8_dotted f.client named.client is.client)) drift_known in
-    let bound_on = member (codes "bound_ns") (number_value f.bound_ns) client_on in
-    let bound_known = utf8_member false (codes "bound_ns") (number_value f.bound_ns) client_on
-    (utf8_ascii (codes "bound_ns") refl)
-    (utf8_number f.bound_ns small.bound) client_known in
-    utf8_object bound_on bound_known
+nesting_with : (f : FieldsData) (groups : Option (List (List ℕ))) →
+    nesting (claim_value (record f { groups = groups })) ≤ max_depth
+nesting_with f None = omega (arith, items_nesting string 0 (λ n. omega arith) f.servers)
+nesting_with f (Some listed) =
+    let lists = items_nesting numbers_value 1 (λ xs. omega (arith, items_nesting number_value 0 (λ n. omega arith) xs))
+    listed in
+    omega (arith, items_nesting string 0 (λ n. omega arith) f.servers, lists)
 
 -- ---- all of it
 
@@ -353,8 +223,8 @@ claim_back f named is within =
     } in
     let fits : n < 2 ^ 64 = omega (arith, within.few_servers) in
     let (groups, grouped) = groups_back n f.groups within.grouped in
-    let valid = is_utf8-from_IsUtf8 (claim_text f) (utf8_claim f named n is small fits within.grouped) in
-    let value = read_back f n small fits within.grouped in
+    let plain = plain_with f named n f.groups is small fits within.grouped in
+    let value = parsed_compact (claim_value f) plain (nesting_with f f.groups) in
     let fields = fields_back f in
     let names = named_back f named is in
     let range = in_range f named within in
@@ -362,8 +232,7 @@ claim_back f named is within =
     let apart = differ named.servers within.addresses_differ in (
       groups,
       grouped,
-      ap (λ b. given Json (if b then read (claim_text f) else None) (λ v. after (fields_of v) claim_from)) valid
-          ∙ ap (λ o. given Json o (λ v. after (fields_of v) claim_from)) value
+      ap (λ o. given Json o (λ v. after (fields_of v) claim_from)) value
           ∙ ap (λ r. after r claim_from) fields
           ∙ ap (λ r. after r (within_limits f)) names
           ∙ rw (range, client, apart, grouped) refl,

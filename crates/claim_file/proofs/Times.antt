@@ -1,6 +1,5 @@
 -- The answers of the reader of times.
-use Rattle.claim_file.proofs.Common.{◌+◌, nat_lt, nat_le, negsuc, ◌*◌, ◌/◌, ◌%◌, ◌≤◌, ◌<◌, arith, ◌≡◌, ◌^◌, ℕ, ℤ, pos, List, Bool, true, false, ◌&&◌, Option, Some, None, if◌then◌else◌, option_and_then, refl, sym, ap, ◌∙◌, leb-true, ltb-true, Decides-ltb, nat_tests, ints, days_in_month_bounds, bytes_eq-Decides, bytes_eq, IsCivilDate, days_in_month, IsTime, exists, spelling, unix_second, pair_value, date_time_at, in_u32, time_of}
-use Rattle.claim_file.proofs.Groups.{both_true}
+use Rattle.claim_file.proofs.Common.{◌+◌, nat_lt, nat_le, negsuc, ◌*◌, ◌/◌, ◌%◌, ◌≤◌, ◌<◌, arith, ◌≡◌, ◌^◌, ℕ, ℤ, pos, List, Bool, true, false, ◌&&◌, Option, Some, None, if◌then◌else◌, option_and_then, refl, sym, ap, ◌∙◌, and_parts, le-leb, leb-true, lt-ltb, ltb-true, ints, days_in_month_bounds, bytes_eq-Decides, bytes_eq, IsCivilDate, days_in_month, IsTime, exists, spelling, unix_second, pair_value, date_time_at, in_u32, time_of}
 use Rattle.claim_file.specs.declared.time.DateTime.{DateTime}
 
 -- a date and time that exist: the text is compared with their spelling
@@ -35,13 +34,11 @@ time_of-read {text} {bytes} {slice} {m} {second} {found} same known at unix is s
 -- a second was found, so the date and time exist
 pub found_there : (there : Bool) (known : ℤ) (found : Option ℤ) {second : ℤ} →
     found ≡ (if there then Some known else None) → found ≡ Some second → there ≡ true
-found_there true known found unix is = refl
-found_there false known found unix is = cc
+found_there there known found unix is = grind arith
 
 found_none : (there : Bool) (known : ℤ) (found : Option ℤ) →
     found ≡ (if there then Some known else None) → found ≡ None → there ≡ false
-found_none true known found unix is = cc
-found_none false known found unix is = refl
+found_none there known found unix is = grind arith
 
 -- a date and time that doesn't exist: the text says no second
 pub time_of-missing : {text bytes : List ℕ} {m : DateTime} {found : Option ℤ} {answer : Option ℕ} →
@@ -61,13 +58,13 @@ pair_value-digits n small = omega arith
 exists_parts : (m : DateTime) → exists m ≡ true →
     IsCivilDate (pos m.year) m.month m.day × (m.hour < 24) × (m.minute < 60) × (m.second < 60)
 exists_parts m there =
-    let (e3, second) = both_true _ _ there in
-    let (e2, minute) = both_true _ _ e3 in
-    let (date, hour) = both_true _ _ e2 in
-    let (d4, last_day) = both_true _ _ date in
-    let (d3, first_day) = both_true _ _ d4 in
-    let (d2, last_month) = both_true _ _ d3 in
-    let (year, first_month) = both_true _ _ d2 in
+    let (e3, second) = and_parts _ _ there in
+    let (e2, minute) = and_parts _ _ e3 in
+    let (date, hour) = and_parts _ _ e2 in
+    let (d4, last_day) = and_parts _ _ date in
+    let (d3, first_day) = and_parts _ _ d4 in
+    let (d2, last_month) = and_parts _ _ d3 in
+    let (year, first_month) = and_parts _ _ d2 in
     let y : m.year < 10000 = ltb-true _ _ year in (
       (
         (omega (arith, ints), omega (arith, ints, y)),
@@ -112,7 +109,7 @@ date_time_at-spelling m there =
 said : (there same : Bool) (z : ℤ) (second : ℕ) → there ≡ true → same ≡ true → z ≡ pos second → second < 2 ^ 32 →
     (if there && same then in_u32 z else None) ≡ Some second
 said there same z second t e counted small =
-    let less : nat_lt second (2 ^ 32) ≡ true = (Decides-ltb second (2 ^ 32)).1 small in
+    let less : nat_lt second (2 ^ 32) ≡ true = lt-ltb second (2 ^ 32) small in
     rw (t, e, counted, less) refl
 
 pub record IsSaid (there same : Bool) (z : ℤ) (second : ℕ) : Type 0 where
@@ -143,23 +140,20 @@ unsaid false same z second e = cc
 
 -- ---- dates and times by their parts
 
-pub passes : (a b : ℕ) → a ≤ b → nat_le a b ≡ true
-passes a b less = grind (arith, nat_tests)
-
 -- a date and time exist if the calendar has the day, and the day the time
 exists_from : (m : DateTime) → IsCivilDate (pos m.year) m.month m.day → m.hour < 24 → m.minute < 60 → m.second < 60 →
     exists m ≡ true
 exists_from m date hour minute second =
     let year : nat_lt m.year 10000 ≡ true = (let d = date.0.1 in
-    (Decides-ltb m.year 10000).1 (omega (arith, ints, d))) in
-    let first_month : nat_le 1 m.month ≡ true = passes 1 m.month date.1.0 in
-    let last_month : nat_le m.month 12 ≡ true = passes m.month 12 date.1.1 in
-    let first_day : nat_le 1 m.day ≡ true = passes 1 m.day date.2.0 in
+    lt-ltb m.year 10000 (omega (arith, ints, d))) in
+    let first_month : nat_le 1 m.month ≡ true = le-leb 1 m.month date.1.0 in
+    let last_month : nat_le m.month 12 ≡ true = le-leb m.month 12 date.1.1 in
+    let first_day : nat_le 1 m.day ≡ true = le-leb 1 m.day date.2.0 in
     let last_day : nat_le m.day (days_in_month (pos m.year) m.month) ≡ true =
-    passes m.day (days_in_month (pos m.year) m.month) date.2.1 in
-    let h : nat_lt m.hour 24 ≡ true = (Decides-ltb m.hour 24).1 hour in
-    let mi : nat_lt m.minute 60 ≡ true = (Decides-ltb m.minute 60).1 minute in
-    let s : nat_lt m.second 60 ≡ true = (Decides-ltb m.second 60).1 second in
+    le-leb m.day (days_in_month (pos m.year) m.month) date.2.1 in
+    let h : nat_lt m.hour 24 ≡ true = lt-ltb m.hour 24 hour in
+    let mi : nat_lt m.minute 60 ≡ true = lt-ltb m.minute 60 minute in
+    let s : nat_lt m.second 60 ≡ true = lt-ltb m.second 60 second in
     rw (year, first_month, last_month, first_day, last_day, h, mi, s) refl
 
 -- a text that writes a date and time says their second

@@ -27,6 +27,7 @@ pub fn claims_are_lawful()
 
 /// Of a claim that was read, the bound in ticks is its nanoseconds rounded down, and the allowance
 /// its nanoseconds rounded up.
+#[tactic(auto, using(crate::proofs::Made::bound_made, crate::proofs::Made::reading_made))]
 pub fn nanoseconds_become_ticks()
     ensures bound { (bytes : List ℕ) (claim : ClaimData) → claim_of bytes ≡ Ok claim →
         claim.bound ≡ pos (ticks_down claim.bound_ns) }
@@ -35,6 +36,7 @@ pub fn nanoseconds_become_ticks()
 {}
 
 /// The worked claim is what its text says.
+#[tactic(auto, using(crate::proofs::WorkedClaim::is_claim))]
 pub fn worked_claim_is_read()
     ensures { claim_of worked_text ≡ Ok worked_claim }
 {}

@@ -83,29 +83,13 @@ module _ (p : Parts) (d : Fields) (fit : Fit p d) where
   header_length_is = omega (arith, fit.header_words)
 
   length-header : length (header_of p d) ≡ 4 * p.header_words
-  length-header =
-      omega (
-        arith,
-        length-append d.source (d.destination ++ p.options),
-        length-append d.destination p.options,
-        fit.source,
-        fit.destination,
-        fit.header,
-      )
+  length-header = grind (arith, length-append)
 
   length-segment : length segment ≡ 8 + length d.payload + length p.rest
   length-segment = omega (arith, length-append d.payload p.rest)
 
   length-packet : length packet ≡ total_length_of p d + length p.padding
-  length-packet =
-      ap length packet_is
-      ∙ omega (
-        arith,
-        length-append (header_of p d) (segment ++ p.padding),
-        length-append segment p.padding,
-        length-header,
-        length-segment,
-      )
+  length-packet = grind (arith, length, packet_is, length-append, segment, length-header, length-segment)
 
   total_is : word packet 2 ≡ total_length_of p d
   total_is = omega (arith, word_is packet 2, fit.total_length)
@@ -114,15 +98,7 @@ module _ (p : Parts) (d : Fields) (fit : Fit p d) where
   fragment_is = omega (arith, word_is packet 6)
 
   packet_tests : IsPacket packet
-  packet_tests = record {
-    shortest = omega (arith, length-packet, fit.header);
-    version = omega (arith, fit.header_words);
-    header = omega (arith, header_length_is, fit.header);
-    total = omega (arith, header_length_is, total_is);
-    whole = omega (arith, length-packet, total_is);
-    unfragmented = omega (arith, fragment_is);
-    protocol = refl;
-  }
+  packet_tests = grind (arith, length-packet, header_length_is, total_is, fragment_is)
 
   segment_is : segment_of packet ≡ segment
   unfolding segment_of
@@ -137,11 +113,7 @@ module _ (p : Parts) (d : Fields) (fit : Fit p d) where
   udp_length_is = omega (arith, word_is segment 4, fit.total_length)
 
   segment_tests : IsSegment segment
-  segment_tests = record {
-    shortest = omega (arith, length-segment);
-    header = omega (arith, udp_length_is);
-    whole = omega (arith, udp_length_is, length-segment);
-  }
+  segment_tests = grind (arith, length-segment, udp_length_is)
 
   source_is : slice_range packet 12 16 ≡ d.source
   source_is =

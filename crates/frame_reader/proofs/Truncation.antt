@@ -9,16 +9,10 @@ use Rattle.frame_reader.proofs.HeaderTests.{IsLinked, IsPacket, link_passes}
 use Rattle.frame_reader.proofs.Completeness.{joined, length_held}
 
 word-take : (n : ℕ) (xs : List ℕ) (i : ℕ) → i + 2 ≤ n → word (take n xs) i ≡ word xs i
-word-take n xs i inside =
-    let first : get_or (take n xs) i 0 ≡ get_or xs i 0 = get_or-take n xs i 0 (omega arith) in
-    let second : get_or (take n xs) (i + 1) 0 ≡ get_or xs (i + 1) 0 = get_or-take n xs (i + 1) 0 (omega arith) in
-    omega (arith, word_is (take n xs) i, word_is xs i, first, second)
+word-take n xs i inside = grind (arith, get_or, take, get_or-take, word_is)
 
 header_end_cases : (frame : List ℕ) → (header_end frame ≡ 14) ⊎ (header_end frame ≡ 18)
-header_end_cases frame = elim (cases_eq (word frame 12) 0x8100) [
-  | inl tagged ↦ inr (rw (eq-eqb (word frame 12) 0x8100 tagged) refl)
-  | inr untagged ↦ inl (rw (ne_eqb (word frame 12) 0x8100 untagged) refl)
-]
+header_end_cases frame = grind (arith, cases_eq, word, inl, inr, eq-eqb, ne_eqb)
 
 header_end_least : (frame : List ℕ) → 14 ≤ header_end frame
 header_end_least frame = elim (header_end_cases frame) [ inl e ↦ omega (arith, e) | inr e ↦ omega (arith, e) ]
@@ -51,22 +45,16 @@ record Left (frame : List ℕ) (n : ℕ) : Type 0 where
   behind : packet_of (take n frame) ≡ take (n - header_end frame) (packet_of frame)
 
 same_end : (frame : List ℕ) (n : ℕ) → 14 ≤ n → header_end (take n frame) ≡ header_end frame
-same_end frame n enough = let same : word (take n frame) 12 ≡ word frame 12 =
-    word-take n frame 12 enough in rw same refl
+same_end frame n enough = grind (arith, word, take, word-take)
 
 torn_link : (frame : List ℕ) (n : ℕ) → n ≤ length frame → 14 ≤ n → n < header_end frame
     → link_skip (take n frame) ≡ Some Short
 unfolding link_skip
-torn_link frame n within enough torn =
-    let long : length (take n frame) ≡ n = length-take-le n frame within in
-    let end = same_end frame n enough in
-    rw (long, end, le-ltb n 14 enough, lt-ltb n (header_end frame) torn) refl
+torn_link frame n within enough torn = grind (arith, length, take, length-take-le, same_end, le-ltb, lt-ltb, header_end)
 
 torn_start : (frame : List ℕ) (n : ℕ) → n ≤ length frame → n < 14 → link_skip (take n frame) ≡ Some Short
 unfolding link_skip
-torn_start frame n within torn =
-    let long : length (take n frame) ≡ n = length-take-le n frame within in
-    rw (long, lt-ltb n 14 torn) refl
+torn_start frame n within torn = grind (arith, length, take, length-take-le, lt-ltb)
 
 left_link : (frame : List ℕ) (n : ℕ) → IsLinked frame → n ≤ length frame → header_end frame ≤ n → Left frame n
 unfolding packet_of
@@ -92,13 +80,7 @@ left_link frame n l within whole =
 
 cut_link : (frame : List ℕ) (n : ℕ) → IsLinked frame → n ≤ length frame → (link_skip (take n frame) ≡ Some Short)
     ⊎ Left frame n
-cut_link frame n l within = elim (cases_lt n 14) [
-  | inl torn ↦ inl (torn_start frame n within torn)
-  | inr enough ↦ elim (cases_lt n (header_end frame)) [
-    | inl torn ↦ inl (torn_link frame n within enough torn)
-    | inr whole ↦ inr (left_link frame n l within whole)
-  ]
-]
+cut_link frame n l within = grind (arith, cases_lt, inl, torn_start, inr, header_end, torn_link, left_link)
 
 length-packet_of : (frame : List ℕ) → length (packet_of frame) ≡ length frame - header_end frame
 unfolding packet_of

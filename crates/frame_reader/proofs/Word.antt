@@ -1,5 +1,5 @@
 -- Bytes, and the numbers that two of them stand for.
-use Rattle.std.proofs.Common.{◌≡◌, ℕ, ◌+◌, ◌*◌, ◌/◌, ◌%◌, ◌^◌, ◌<◌, ◌≤◌, List, ◌∷◌, ◌++◌, length, get_or, take, drop, refl, ap, arith, inl, inr}
+use Rattle.std.proofs.Common.{◌≡◌, ℕ, ◌+◌, ◌*◌, ◌^◌, ◌<◌, ◌≤◌, List, ◌++◌, length, get_or, take, drop, ap, arith, inl, inr}
 use Rattle.std.proofs.lemmas.Bool.{cases_lt}
 use Rattle.std.proofs.lemmas.List.{get_or-drop, get_or-take, get_or_past, get_or_default, drop_more, length-take}
 use Rattle.std.proofs.Math.Seq.{drop-append-add}
@@ -18,21 +18,12 @@ pub ReadsBytes-drop : (n : ℕ) (xs : List ℕ) → ReadsBytes xs → ReadsBytes
 ReadsBytes-drop n xs all i = rw get_or-drop (all (n + i))
 
 pub ReadsBytes-take : (n : ℕ) (xs : List ℕ) → ReadsBytes xs → ReadsBytes (take n xs)
-ReadsBytes-take n xs all i =
-    elim (cases_lt i n) [
-      | inl inside ↦ rw (get_or-take n xs i 0 inside) (all i)
-      | inr past ↦ rw (get_or_past (take n xs) i 0 (omega (arith, length-take n xs))) (omega arith)
-    ]
+ReadsBytes-take n xs all i = grind (arith, cases_lt, inl, get_or-take, inr, get_or_past, take, length-take)
 
 -- a word by its two bytes
 pub word_is : (xs : List ℕ) (i : ℕ) → word xs i ≡ 256 * get_or xs i 0 + get_or xs (i + 1) 0
 unfolding word
-word_is xs i =
-    let first : get_or (drop i xs) 0 0 ≡ get_or xs (i + 0) 0 = get_or-drop i xs 0 0 in
-    let second : get_or (drop i xs) 1 0 ≡ get_or xs (i + 1) 0 = get_or-drop i xs 1 0 in
-    let here : i + 0 ≡ i = omega arith in
-    let first' = rw here at first in
-    omega (arith, first', second)
+word_is xs i = grind (arith, get_or, drop, get_or-drop)
 
 pub word_fits : (xs : List ℕ) (i : ℕ) → ReadsBytes xs → word xs i < 2 ^ 16
 word_fits xs i bytes = omega (arith, word_is xs i, bytes i, bytes (i + 1))
@@ -40,13 +31,7 @@ word_fits xs i bytes = omega (arith, word_is xs i, bytes i, bytes (i + 1))
 -- two bytes are those of the word that they stand for
 pub drop-word : (xs : List ℕ) (i j : ℕ) → ReadsBytes xs → j ≡ i + 2 → j ≤ length xs
     → drop i xs ≡ big_bytes 2 (word xs i) ++ drop j xs
-drop-word xs i j bytes at long =
-    let one : drop i xs ≡ get_or xs i 0 ∷ drop (i + 1) xs = drop_more xs i 0 (omega arith) in
-    let two : drop (i + 1) xs ≡ get_or xs (i + 1) 0 ∷ drop (i + 1 + 1) xs = drop_more xs (i + 1) 0 (omega arith) in
-    let high : word xs i / 256 % 256 ≡ get_or xs i 0 = omega (arith, word_is xs i, bytes i, bytes (i + 1)) in
-    let low : word xs i % 256 ≡ get_or xs (i + 1) 0 = omega (arith, word_is xs i, bytes i, bytes (i + 1)) in
-    let end : i + 1 + 1 ≡ j = omega arith in
-    rw (one, two, end, high, low) refl
+drop-word xs i j bytes at long = grind (arith, drop, get_or, drop_more, word, word_is)
 
 -- the word after a list of known length
 pub word-append : (xs ys : List ℕ) (n i : ℕ) → length xs ≡ n → word (xs ++ ys) (n + i) ≡ word ys i

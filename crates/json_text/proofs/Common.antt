@@ -4,7 +4,7 @@ pub use Rattle.std.proofs.Common.{false, get_or, if◌then◌else◌, length, le
 pub use Rattle.std.proofs.Common.{option_and_then, option_map, refl, string_bytes, suc, sym, take_all, true, zero, ℕ}
 pub use Rattle.std.proofs.Common.{◌&&◌, ◌*◌, ◌++◌, ◌+◌, ◌-◌, ◌<◌, ◌==◌, ◌^◌, ◌||◌, ◌∙◌, ◌∷◌, ◌≡◌, ◌≤◌}
 pub use Rattle.std.proofs.lemmas.Str.{IsUtf8-append, IsUtf8-from_ascii, IsUtf8-from_is_utf8, is_utf8-from_IsUtf8}
-pub use Rattle.std.specs.Prelude.{All, IsUtf8, decimal}
+pub use Rattle.std.specs.Prelude.{All, IsUtf8, decimal, ⊤}
 pub use Rattle.std.specs.Str.{bytes_eq, is_utf8}
 pub use Rattle.std.specs.Str.Parse.{AllDigits, IsNumeral, digits_value, digits_value_after}
 pub use Rattle.fast_float.specs.Text.{IsWellFormed, Parts, digits_of, scan}
@@ -15,7 +15,7 @@ pub use Rattle.json.specs.Json.{Parse, after_end_array, items_step, members_step
 unfoldable pub use Rattle.json.specs.Json.{items, members, value}
 pub use Rattle.json.specs.Lex.{tokens}
 pub use Rattle.json.specs.Token.{Token}
-pub use Rattle.serde_json.specs.Data.{Data, Items, Members, Num, array, boolean, depth, float, item, items_depth}
+pub use Rattle.serde_json.specs.Data.{Data, Items, Members, Num, array, boolean, float, item}
 pub use Rattle.serde_json.specs.Data.{member, negative, no_items, no_members, null, number, object, put, string}
 pub use Rattle.serde_json.specs.Data.{unsigned}
 pub use Rattle.serde_json.specs.Find.{as_object, as_u64}
@@ -23,7 +23,7 @@ pub use Rattle.serde_json.specs.Read.{converted, is_integer, max_depth, number_f
 pub use Rattle.serde_json.specs.Read.{read}
 unfoldable pub use Rattle.serde_json.specs.Read.{number_of}
 pub use Rattle.serde_json.specs.View.{items_of, members_view}
-pub use Rattle.serde_json.specs.Written.{blank, blank_items, comma_if, compact_text, items_outline, items_text}
-pub use Rattle.serde_json.specs.Written.{members_text, outline}
+pub use Rattle.serde_json.specs.Written.{comma_if, compact_text, items_outline, items_text, members_outline}
+pub use Rattle.serde_json.specs.Written.{members_text, number_text, outline}
 pub use Rattle.json_text.specs.Next.{IsOther, rest_after}
 unfoldable pub use Rattle.json_text.specs.Next.{next_items, next_members, next_value}

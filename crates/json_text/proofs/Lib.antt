@@ -5,4 +5,4 @@ pub mod NextToken
 pub mod NextTokens
 pub mod Texts
 pub mod Outline
-pub mod Utf8
+pub mod Steps

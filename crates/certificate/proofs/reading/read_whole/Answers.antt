@@ -16,10 +16,12 @@ members-smaller c =
     let l = c.members in
     let s = c.next_key.new.self in
     let named : read_key l.reader ≡ Some (Some c.in-Some.name.now, s) = grind arith in
-    let first = read_key-shorter l.reader (Some c.in-Some.name.now) s named in
     let done = c.in_ok-read.ensures in
-    let less = value-shorter c.args.depth s c.read.new.reader done.0 done.1 in
-    omega arith
+    omega (
+      arith,
+      read_key-shorter l.reader (Some c.in-Some.name.now) s named,
+      value-shorter c.args.depth s c.read.new.reader done.0 done.1,
+    )
 
 pub members-preserved : goal.members-preserved
 members-preserved c =

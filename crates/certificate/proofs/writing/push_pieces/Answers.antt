@@ -1,7 +1,7 @@
-use Rattle.certificate.proofs.Common.{◌≡◌, ◌<◌, ◌+◌, ◌++◌, length, take, get_or, arith, ap, ◌∙◌, append_assoc, common_steps, piece_data, comma_before, piece_text}
+use Rattle.certificate.proofs.Common.{◌≡◌, ◌<◌, ◌+◌, ◌++◌, length, take, get_or, arith, ap, ◌∙◌, append_assoc, common_steps, IsHeld, piece_data, comma_before, piece_text}
 use Rattle.std.proofs.lemmas.Simd.{map-map}
 use Rattle.certificate.proofs.CommaList.{joined_more}
-use Rattle.certificate.proofs.ReadBack.{held_pieces}
+use Rattle.std.proofs.lemmas.List.Elements.{All-map}
 use Rattle.certificate.proofs.writing.push_pieces.Goals as goal
 
 pub loop-index-preserved : goal.loop-index-preserved
@@ -28,4 +28,5 @@ loop-index-preserved c =
     }
 
 pub returns-clause-held : goal.returns-clause-held
-returns-clause-held c = held_pieces c.args.pieces.now (λ k d less. c.loop-index.invariant.held k d (omega arith))
+returns-clause-held c =
+    All-map IsHeld piece_data c.args.pieces.now (λ k d less. c.loop-index.invariant.held k d (omega arith))

@@ -1,15 +1,13 @@
-use Rattle.certificate.proofs.Common.{◌≡◌, ap, ◌∙◌, subst, sym, string_bytes, length-map, IsUtf8-from_ascii, IfOk, IsUtf8, data_of, piece_data, certificate_of, certificate_text}
+use Rattle.certificate.proofs.Common.{◌≡◌, ap, ◌∙◌, subst, sym, string_bytes, length-map, IfOk, IsUtf8, data_of, piece_data, certificate_of, certificate_text}
 use Rattle.std.specs.String.{string_vec}
-use Rattle.certificate.proofs.Ascii.{ascii_certificate}
+use Rattle.certificate.proofs.TextRead.{utf8_certificate}
 use Rattle.certificate.proofs.CompactRead.{certificate_of-text}
 use Rattle.certificate.proofs.writing.write_certificate.Goals as goal
 
 pub unwrap-requires : goal.unwrap-requires
 unwrap-requires c =
-    let shown = data_of c.args.certificate.now in
-    let ascii = ascii_certificate shown c.in_ok-bytes.ensures.held in
-    c.from_utf8.ensures.succeeds
-    (subst IsUtf8 (sym c.in_ok-bytes.ensures.text) (IsUtf8-from_ascii (certificate_text shown) ascii))
+    let utf8 = utf8_certificate (data_of c.args.certificate.now) c.in_ok-bytes.ensures.held in
+    c.from_utf8.ensures.succeeds (subst IsUtf8 (sym c.in_ok-bytes.ensures.text) utf8)
 
 written : (c : goal.After-unwrap) → string_bytes c.unwrap.result ≡ certificate_text (data_of c.args.certificate.now)
 written c =

@@ -1,4 +1,4 @@
-use Rattle.json_text.proofs.Common.{◌≡◌, ◌-◌, ◌<◌, length, Some, None, refl, ap, ◌∙◌, arith, left_some, left_none, read_key-shorter, after_end_array, read_key, no_members, put, next_value, next_items, next_members, rest_after}
+use Rattle.json_text.proofs.Common.{◌≡◌, ◌<◌, length, Some, None, refl, ap, ◌∙◌, arith, left_some, left_none, read_key-shorter, after_end_array, read_key, no_members, put, next_value, next_items, next_members, rest_after}
 use Rattle.json_text.proofs.NextTokens.{items_over, item_refused, item_passed, members_over, key_refused, member_refused, member_read}
 use Rattle.json_text.proofs.next.+pass.Goals as goal
 

@@ -18,11 +18,8 @@ pub loop-digit-preserved : goal.loop-digit-preserved
 loop-digit-preserved c =
     let n = c.loop-digit.number in
     let digit = c.in-Some.digit in
-    let sum = c.in_ok-number.ensures in
-    let product = c.in_ok-checked_mul.ensures in
-    let wide = c.from.ensures in
-    let is : n * 10 + digit ≡ c.in_ok-number.number = omega (arith, sum, product, wide) in
-    let fits : n * 10 + digit < 2 ^ 64 = omega (arith, sum, product, wide) in
+    let is : n * 10 + digit ≡ c.in_ok-number.number = omega arith in
+    let fits : n * 10 + digit < 2 ^ 64 = omega arith in
     subst (λ m. IsRead c.args.self.now c.digit-in-loop-digit.new.self m) is
     (next_digit c.args.self.now c.loop-digit.self c.digit-in-loop-digit.new.self n digit c.loop-digit.invariant
     c.in-Some.ensures.read (c.in-Some.ensures.digit, fits))
