@@ -1,6 +1,6 @@
 -- How much is taken of an input that is read whole.
 use Rattle.report.proofs.Common.{◌≤◌, ℕ, Result, Ok, Err, arith, FeedState, Input, RunFault, most_read}
-use Rattle.byte_stream.specs.Intake.{TakesAtMost, TakesAtMost-weaker}
+use Rattle.byte_stream.specs.Intake.{TakesAtMost}
 use Rattle.report.specs.declared.fault.RunFault.TheVariants as faults
 
 module _ {X : Type 0} (which : Input) (limit : ℕ) where

@@ -1,6 +1,9 @@
 -- How texts go their way to a sink.
 use Rattle.report.proofs.Common.{◌≡◌, ◌∙◌, ◌++◌, ◌+◌, ℕ, List, [], ◌∷◌, Option, Ok, refl, sym, ap, subst, append_assoc, length, take, length-append, arith, append-nil, concat-append, take-append-add, Appends-nil, Appends-trans, concat, Appends, SinkState, Write, OutputState, HasPut, IsCut, StopsIn, Puts, IsReady, fresh_output, with_text}
-use Rattle.report.proofs.Known.{appends_same}
+
+-- the same bytes under another name
+pub appends_same : (a b : Option (List ℕ)) (xs ys : List ℕ) → xs ≡ ys → Appends a b xs → Appends a b ys
+appends_same a b xs ys e p = subst (Appends a b) e p
 
 -- at the start nothing was put
 pub put_nothing : (sink : SinkState) → HasPut sink.contents (fresh_output sink) []

@@ -2,8 +2,7 @@
 use Rattle.std.proofs.Common.{append-nil}
 use Rattle.report.proofs.Common.{◌≡◌, ◌∙◌, ◌++◌, ◌<◌, ◌^◌, ℕ, List, [], ◌∷◌, Bool, Result, Ok, Err, refl, sym, ap, subst, inl, inr, length, take, arith, append_assoc, length-append, concat, take-append-le, concat-append, SinkState, Input, Outcome, RunFault, Closes, HasRun, StaysOrWrites, HasPut, IsCut, IsReady, OutputState, Puts, fresh_output, put_count, Report, is_device}
 use Rattle.report.specs.Publication.{IsAnswerFor, IsMadeFor, Publishes, PutsReady, Ready}
-use Rattle.report.proofs.Known.{appends_same}
-use Rattle.report.proofs.OutputSteps.{put_nothing}
+use Rattle.report.proofs.OutputSteps.{appends_same, put_nothing}
 
 -- ---- while it goes out
 

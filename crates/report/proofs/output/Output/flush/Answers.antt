@@ -1,4 +1,4 @@
-use Rattle.std.proofs.Common.{◌≡◌, ◌+◌, ap, arith, length}
+use Rattle.std.proofs.Common.{arith, length}
 use Rattle.report.proofs.OutputSteps.{put_flushed, put_stopped}
 use Rattle.report.proofs.output.Output.flush.Goals as goal
 
