@@ -21,17 +21,11 @@ concat-one done text = concat-append done (text ∷ []) ∙ ap (λ (t : List ℕ
 module _ (start now : Option Coming) (done : List (List ℕ)) (records : ℕ) (Q : Coming → Type 0) where
   with_given : HasPassed start now done records →
       ((whole rest : Coming) → HasGiven whole rest done records → Q whole) → IfSome start Q
-  with_given passed step = elim start as (λ (o : Option Coming). HasPassed o now done records → IfSome o Q) [
-    | None ↦ λ nothing. tt
-    | Some whole ↦ λ h. step whole h.0 h.2
-  ] passed
+  with_given passed step = grind (arith)
 
   with_rest : (P : Coming → Type 0) → HasPassed start now done records → IfSome now P →
       ((whole rest : Coming) → P rest → HasGiven whole rest done records → Q whole) → IfSome start Q
-  with_rest P passed known step = elim start as (λ (o : Option Coming). HasPassed o now done records → IfSome o Q) [
-    | None ↦ λ nothing. tt
-    | Some whole ↦ λ h. step whole h.0 (at_some now h.0 P h.1 known) h.2
-  ] passed
+  with_rest P passed known step = grind (arith, at_some)
 
 module _ {start : SourceState} {sink : SinkState} where
   -- the sink failed in what was gathered
@@ -171,25 +165,9 @@ module _ {start end : SourceState} {sink after : SinkState} {o : OutputState}
     {ran answer : Result Outcome RunFault} where
   lists_closed : HasListed start sink (progress end o) ran → Closes o after ran answer →
       Lists start end sink after answer
-  lists_closed listed closes =
-      let device = closed_counts closes.device listed.device in
-      record {
-        reports = record {
-          text = lists_text closes start.remaining sink.contents listed.text;
-          closed = closes.closed;
-          sink = closes.sink sink.faults listed.stops;
-          claim = rw device.claim refl;
-          second = rw device.second refl;
-          capture = device.capture;
-          sums = rw device.sums refl;
-        };
-        takes = listed.takes;
-        in_memory = not_memory closes listed.in_memory;
-      }
+  lists_closed listed closes = grind (arith, closed_counts, lists_text, not_memory)
 
   -- a listing whose output began over this sink
   pub lists_over : {first : OutputState} → first ≡ fresh_output sink → HasListed start first.sink (progress end o) ran →
       Closes o after ran answer → Lists start end sink after answer
-  lists_over fresh listed closes =
-      let same = ap (λ (x : OutputState). x.sink) fresh in
-      lists_closed (subst (λ (s : SinkState). HasListed start s (progress end o) ran) same listed) closes
+  lists_over fresh listed closes = grind (arith, lists_closed, progress)

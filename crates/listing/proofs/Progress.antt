@@ -1,6 +1,5 @@
 -- How a listing of known bytes goes on, record by record, and how it ends.
-use Rattle.listing.proofs.Common.{◌≡◌, ◌∙◌, ◌++◌, ◌+◌, ℕ, List, [], ◌∷◌, length, take, Option, Some, None, Ok, Err, refl, sym, ap, subst, arith, append_assoc, append-nil, length-append, IfSome, concat, concat-append, CaptureFault, RecordHead, Record, Coming, then_coming, whole_end, broken_end, IsNext, IsCut, Report, text_of, line_of, lines_of, closing_line, report_on, listing, HasGiven, HasPassed, texts_of}
-use Rattle.std.specs.Io.KnownBytes.{Appends}
+use Rattle.listing.proofs.Common.{◌≡◌, ◌∙◌, ◌++◌, ◌+◌, ℕ, List, [], ◌∷◌, length, take, Option, Some, None, Ok, Err, refl, subst, arith, append_assoc, append-nil, length-append, IfSome, concat, concat-append, CaptureFault, RecordHead, Record, Coming, then_coming, whole_end, broken_end, IsNext, IsCut, Report, text_of, line_of, lines_of, closing_line, report_on, listing, HasGiven, HasPassed, texts_of}
 use Rattle.std.proofs.lemmas.List.{take-append-le}
 use Rattle.report.specs.declared.fault.Outcome.TheVariants as outcomes
 use Rattle.report.specs.declared.fault.RunFault.TheVariants as faults
@@ -24,11 +23,7 @@ lines_of-cons r rs = lines_by r rs (line_of r) refl
 given_more : {whole now : Coming} {done : List (List ℕ)} {records : ℕ} (rest : Coming) (r : Record) →
     now ≡ then_coming r rest → HasGiven whole now done records →
     HasGiven whole rest (done ++ texts_of (line_of r)) (records + 1)
-given_more {now = now} rest r first given = record {
-  lines = given.lines ∙ rw (first, lines_of-cons r rest.records, append_assoc) refl;
-  fault = given.fault ∙ ap (λ (c : Coming). c.fault) first;
-  given = let e : length now.records ≡ length rest.records + 1 = rw first (omega arith) in omega arith;
-}
+given_more {now = now} rest r first given = grind (arith, lines_of-cons, append_assoc, length)
 
 pub passed_start : (start : Option Coming) (given : ℕ) → given ≡ 0 → HasPassed start start [] given
 passed_start None given none = tt
@@ -79,11 +74,4 @@ lines-listing whole = lines-report_on whole.records whole.fault
 pub cut_in_lines : {before after : Option (List ℕ)} {sent : ℕ} (report : Report) (done others : List (List ℕ)) →
     report.lines ≡ done ++ others → IsCut (concat done) before after sent → IsCut (text_of report) before after sent
 cut_in_lines {before = before} {after = after} {sent = sent} report done others lines cut =
-    let rest = concat others ++ report.closing in
-    let text : text_of report ≡ concat done ++ rest = rw (lines, concat-append done others, append_assoc) refl in
-    let first = take-append-le sent (concat done) rest (omega (arith, cut.short)) in
-    record {
-      short = omega (arith, cut.short, ap length text, length-append (concat done) rest);
-      went = let same : take sent (concat done) ≡ take sent (text_of report) = rw text (sym first) in
-          subst (λ (xs : List ℕ). Appends before after xs) same cut.went;
-    }
+    grind (arith, concat, text_of, concat-append, append_assoc, take-append-le, length, length-append, take)

@@ -58,17 +58,7 @@ module _ {before after : SinkState} {answer : Result Outcome RunFault} (fault : 
       IfSome report (λ r. IsMadeFor r (Err fault)) → Publishes before after (Err fault) answer →
       CountsCapture (Err fault) feed.faults feed'.faults →
       Reports report (capture_state feed before) (capture_state feed' after) answer
-  reports_published report made p counts =
-      let same : answer ≡ Err fault = p.stays in
-      record {
-        text = published_text report made p;
-        closed = p.closed;
-        sink = p.sink;
-        claim = rw (same, counts.claim) refl;
-        second = rw (same, counts.second) refl;
-        capture = rw same counts.capture;
-        sums = rw (same, counts.sums) refl;
-      }
+  reports_published report made p counts = grind (arith, published_text)
 
 -- What was listed of a source is what the bytes' report calls for.
 module _ (answer : Result Outcome RunFault) where
@@ -105,8 +95,7 @@ nothing_made (Some r) = tt
 pub reports_refused_memory : {feed : FeedState} {before after : SinkState} {answer : Result Outcome RunFault}
     (report : Option Report) → Publishes before after (Err faults.Memory) answer →
     Reports report (capture_state feed before) (capture_state feed after) answer
-reports_refused_memory report p = reports_published faults.Memory report (nothing_made report) p
-    (record { claim = refl; second = refl; capture = refl; sums = refl })
+reports_refused_memory report p = grind (arith, reports_published, nothing_made)
 
 -- ---- what a refusal leaves of the feed
 
@@ -118,8 +107,7 @@ fault_is_memory fault is = cc
 -- memory is answered only where the buffer wasn't made
 pub memory_refused : {before after : SinkState} {answer : Result Outcome RunFault} (fault : CaptureFault) →
     Publishes before after (Err (run_fault_of fault)) answer → answer ≡ Err faults.Memory → fault ≡ captures.Memory
-memory_refused fault p is =
-    let same : run_fault_of fault ≡ faults.Memory = cc (p.stays) in fault_is_memory fault same
+memory_refused fault p is = grind (arith, run_fault_of, fault_is_memory)
 
 most_refused-few : (fault : CaptureFault) → most_refused fault ≤ buffer_size
 most_refused-few captures.Read = omega arith
@@ -129,8 +117,7 @@ most_refused-few fault = omega arith
 -- at most one buffer was taken, which is less than a whole capture
 pub refused_takes : (before after : FeedState) (fault : CaptureFault) →
     TakesAtMost (most_refused fault) before after → TakesAtMost buffer_size before after
-refused_takes before after fault =
-    TakesAtMost-weaker (most_refused fault) buffer_size before after (most_refused-few fault)
+refused_takes before after fault = grind (arith, most_refused, buffer_size, most_refused-few)
 
 pub buffer_takes : (before after : FeedState) → TakesAtMost buffer_size before after →
     TakesAtMost most_taken before after

@@ -1,15 +1,12 @@
 -- How a listing goes on, call by call.
-use Rattle.listing.proofs.Common.{◌≡◌, ◌∙◌, ◌++◌, ◌+◌, ◌<◌, ◌≤◌, ◌^◌, ℕ, List, [], length, Option, Some, None, Ok, refl, sym, ap, subst, arith, append-nil, length-append, RecordHead, SourceState, IsFresh, IsStep, TakesFrom-none, TakesFrom-trans, SinkState, OutputState, HasPut, IsReady, Puts, fresh_output, put_count, line_of, HasPassed, IsUnderWay, PutsLine, progress, most_line, texts_of}
+use Rattle.listing.proofs.Common.{◌≡◌, ◌∙◌, ◌++◌, ◌+◌, ◌<◌, ◌≤◌, ◌^◌, ℕ, List, [], length, Option, Some, None, Ok, refl, sym, ap, subst, arith, append-nil, length-append, RecordHead, SourceState, IsFresh, IsStep, TakesFrom-none, TakesFrom-trans, SinkState, OutputState, IsReady, Puts, fresh_output, put_count, line_of, HasPassed, IsUnderWay, PutsLine, progress, most_line, texts_of}
 use Rattle.std.proofs.KnownBytes.{Appends-nil}
 use Rattle.listing.proofs.Progress.{passed_start, passed_more}
 
 -- an output that has just taken texts may take more
 pub ready_after : {o o' : OutputState} {added : List (List ℕ)} → IsReady o → Puts o o' added (Ok tt) →
     put_count o' < 2 ^ 64 → IsReady o'
-ready_after ready puts few = record {
-  sink = record { is_open = puts.is_open; room = rw puts.faults ready.sink.room };
-  few = few;
-}
+ready_after ready puts few = grind (arith)
 
 texts_few : (line : Option (List ℕ)) → length (texts_of line) ≤ 1
 texts_few None = omega arith
@@ -44,21 +41,7 @@ module _ {start : SourceState} {sink : SinkState} where
   pub under_way_flushed : {s : SourceState} {o o' : OutputState} {packets : ℕ} →
       IsUnderWay start sink (progress s o) packets → Puts o o' [] (Ok tt) →
       IsUnderWay start sink (progress s o') packets
-  under_way_flushed {o' = o'} u puts = record {
-    ready = ready_after u.ready puts (omega (arith, puts.count, u.ready.few));
-    unfailed = u.unfailed;
-    same_faults = u.same_faults;
-    takes = u.takes;
-    few = u.few;
-    few_packets = u.few_packets;
-    short = omega (arith, puts.count, u.short);
-    sink_faults = puts.faults ∙ u.sink_faults;
-    done = u.done;
-    packets_are = u.packets_are;
-    put = let put = puts.texts sink.contents u.done u.put in
-        subst (λ (l : List (List ℕ)). HasPut sink.contents o' l) (append-nil u.done) put;
-    passed = u.passed;
-  }
+  under_way_flushed {o' = o'} u puts = grind (arith, ready_after, append-nil)
 
   -- a record was given, and its line was put
   pub under_way_more : {s s' : SourceState} {o o' : OutputState} {packets count : ℕ} (head : RecordHead) →

@@ -3,7 +3,7 @@ pub use Rattle.std.proofs.Common.{Bool, Err, IsOk, IsTrue, List, None, Ok, Optio
 pub use Rattle.std.proofs.Common.{append_assoc, arith, codes, false, if◌then◌else◌, inl, inr, length, length-append}
 pub use Rattle.std.proofs.Common.{nat_lt, refl, rules, subst, suc, sym, take, true, zero, ℕ, ◌%◌, ◌&&◌, ◌++◌, ◌+◌, ◌-◌}
 pub use Rattle.std.proofs.Common.{◌/◌, ◌<◌, ◌==◌, ◌^◌, ◌∙◌, ◌∷◌, ◌≡◌, ◌≤◌, ◌⊎◌}
-pub use Rattle.std.proofs.KnownBytes.{Appends-nil, Appends-trans}
+pub use Rattle.std.proofs.KnownBytes.{Appends-kept, Appends-nil, Appends-trans}
 pub use Rattle.std.proofs.Math.Seq.{take-add, take-append-add, take-length}
 pub use Rattle.std.proofs.lemmas.List.{append-nil, take-append-le}
 pub use Rattle.std.proofs.lemmas.List.Folds.{concat-append}
@@ -21,7 +21,7 @@ pub use Rattle.report.specs.FaultText.{fault_fields, fault_text, input_word}
 pub use Rattle.report.specs.Input.{IsInputFault, ReadsWhole, most_read}
 pub use Rattle.report.specs.Output.{HasPut, IsCut, IsReady, IsWrite, OutputState, Puts, StopsIn, fresh_output}
 pub use Rattle.report.specs.Output.{put_count, with_text}
-pub use Rattle.report.specs.Reading.{IsFromOutside, Reads}
+pub use Rattle.report.specs.Reading.{IsFromOutside, Reads, or_fault}
 unfoldable pub use Rattle.report.specs.Reading.{whole_read}
 pub use Rattle.report.specs.Reports.{CountsSink, GetsText, MayStop, Report, Reports, is_device, refused, text_of}
 pub use Rattle.report.specs.State.{output_state}

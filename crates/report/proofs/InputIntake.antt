@@ -1,6 +1,6 @@
 -- How much is taken of an input that is read whole.
 use Rattle.report.proofs.Common.{◌≤◌, ℕ, Result, Ok, Err, arith, FeedState, Input, RunFault, most_read}
-use Rattle.byte_stream.specs.Intake.{TakesAtMost, TakesAtMost-weaker}
+use Rattle.byte_stream.specs.Intake.{TakesAtMost}
 use Rattle.report.specs.declared.fault.RunFault.TheVariants as faults
 
 module _ {X : Type 0} (which : Input) (limit : ℕ) where
@@ -12,5 +12,4 @@ module _ {X : Type 0} (which : Input) (limit : ℕ) where
   -- what is within the limit is so at every answer
   pub takes_within : (answer : Result X RunFault) (before after : FeedState) →
       TakesAtMost limit before after → TakesAtMost (most_read which limit answer) before after
-  takes_within answer before after =
-      TakesAtMost-weaker limit (most_read which limit answer) before after (limit_is_within answer)
+  takes_within answer before after = grind (arith, most_read, limit_is_within)

@@ -1,5 +1,4 @@
 mod Common
-pub mod Known
 pub mod OutputSteps
 pub mod Closing
 pub mod PartedText

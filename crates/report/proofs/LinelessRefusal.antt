@@ -1,7 +1,7 @@
 -- A refusal with no lines stays.
 use Rattle.report.proofs.Common.{ℕ, List, [], Option, Result, Err, ap, inl, inr, arith, concat, Keeps, Outcome, RunFault, Device, Write, Memory, GetsText, MayStop, refused}
 use Rattle.report.proofs.Closing.{keeps_nothing, left_nil}
-use Rattle.report.proofs.Known.{appends_same}
+use Rattle.report.proofs.OutputSteps.{appends_same}
 
 -- it has no text that could be cut short, and no outcome that could fail to be finished
 pub never_stops : (fault : RunFault) (sent : ℕ) → MayStop (refused fault) sent → ⊥

@@ -1,6 +1,9 @@
 -- How texts go their way to a sink.
 use Rattle.report.proofs.Common.{◌≡◌, ◌∙◌, ◌++◌, ◌+◌, ℕ, List, [], ◌∷◌, Option, Ok, refl, sym, ap, subst, append_assoc, length, take, length-append, arith, append-nil, concat-append, take-append-add, Appends-nil, Appends-trans, concat, Appends, SinkState, Write, OutputState, HasPut, IsCut, StopsIn, Puts, IsReady, fresh_output, with_text}
-use Rattle.report.proofs.Known.{appends_same}
+
+-- the same bytes under another name
+pub appends_same : (a b : Option (List ℕ)) (xs ys : List ℕ) → xs ≡ ys → Appends a b xs → Appends a b ys
+appends_same a b xs ys e p = subst (Appends a b) e p
 
 -- at the start nothing was put
 pub put_nothing : (sink : SinkState) → HasPut sink.contents (fresh_output sink) []
@@ -21,14 +24,7 @@ both_parts before o texts p = rw (p.gathered, p.parts) (sym (concat-append p.gon
 -- a text is gathered
 put_gathered : (before : Option (List ℕ)) (o : OutputState) (texts : List (List ℕ)) (text : List ℕ) →
     HasPut before o texts → HasPut before (with_text o text) (texts ++ text ∷ [])
-put_gathered before o texts text p = record {
-  gone = p.gone;
-  kept = p.kept ++ text ∷ [];
-  parts = rw p.parts (simp append_assoc);
-  gathered = rw p.gathered (sym (concat-append p.kept (text ∷ []) ∙ simp append-nil));
-  went = p.went;
-  counted = p.counted;
-}
+put_gathered before o texts text p = grind (arith, append_assoc, concat-append, append-nil)
 
 -- all that was gathered goes out
 pub put_flushed : (before : Option (List ℕ)) (old new : OutputState) (texts : List (List ℕ)) → HasPut before old texts →
@@ -68,25 +64,11 @@ put_stopped before old after texts k p cut =
 -- a text is gathered after a call that put nothing
 pub puts_one : (old mid : OutputState) (text : List ℕ) → Puts old mid [] (Ok tt) →
     Puts old (with_text mid text) (text ∷ []) (Ok tt)
-puts_one old mid text p = record {
-  texts = λ before texts put.
-      let here = subst (λ (l : List (List ℕ)). HasPut before mid l) (append-nil texts) (p.texts before texts put) in
-      put_gathered before mid texts text here;
-  fault = tt;
-  count = omega (arith, p.count, length-append mid.gathered text, length-append text []);
-  is_open = p.is_open;
-  faults = p.faults;
-}
+puts_one old mid text p = grind (arith, append-nil, put_gathered, length-append)
 
 -- a call that does nothing puts nothing
 pub puts_none : (o : OutputState) → IsReady o → Puts o o [] (Ok tt)
-puts_none o ready = record {
-  texts = λ before texts put. subst (λ (l : List (List ℕ)). HasPut before o l) (sym (append-nil texts)) put;
-  fault = tt;
-  count = omega arith;
-  is_open = ready.sink.is_open;
-  faults = refl;
-}
+puts_none o ready = grind (arith, append-nil)
 
 -- if nothing is gathered, all has gone out
 pub put_all : (before : Option (List ℕ)) (now : OutputState) (texts : List (List ℕ)) → HasPut before now texts →

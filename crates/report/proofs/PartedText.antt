@@ -2,8 +2,7 @@
 use Rattle.std.proofs.Common.{append-nil}
 use Rattle.report.proofs.Common.{◌≡◌, ◌∙◌, ◌++◌, ◌<◌, ◌^◌, ℕ, List, [], ◌∷◌, Bool, Result, Ok, Err, refl, sym, ap, subst, inl, inr, length, take, arith, append_assoc, length-append, concat, take-append-le, concat-append, SinkState, Input, Outcome, RunFault, Closes, HasRun, StaysOrWrites, HasPut, IsCut, IsReady, OutputState, Puts, fresh_output, put_count, Report, is_device}
 use Rattle.report.specs.Publication.{IsAnswerFor, IsMadeFor, Publishes, PutsReady, Ready}
-use Rattle.report.proofs.Known.{appends_same}
-use Rattle.report.proofs.OutputSteps.{put_nothing}
+use Rattle.report.proofs.OutputSteps.{appends_same, put_nothing}
 
 -- ---- while it goes out
 
@@ -18,13 +17,7 @@ pub record IsGoing (text left : List ℕ) (before : SinkState) (now : OutputStat
 -- nothing was put yet
 pub going_start : (text : List ℕ) (before : SinkState) (now : OutputState) → IsReady now →
     now ≡ fresh_output before → IsGoing text text before now
-going_start text before now ready fresh = record {
-  ready = ready;
-  faults = ap (λ (o : OutputState). o.sink.faults) fresh;
-  texts = [];
-  parted = refl;
-  put = subst (λ (o : OutputState). HasPut before.contents o []) (sym fresh) (put_nothing before);
-}
+going_start text before now ready fresh = grind (arith, put_nothing)
 
 module _ {text left : List ℕ} {before : SinkState} {old new : OutputState} (going : IsGoing text left before old)
     (part : List ℕ) where
@@ -32,10 +25,7 @@ module _ {text left : List ℕ} {before : SinkState} {old new : OutputState} (go
   pub going_more : (rest : List ℕ) → left ≡ part ++ rest → Puts old new (part ∷ []) (Ok tt) →
       put_count new < 2 ^ 64 → IsGoing text rest before new
   going_more rest parted puts few = record {
-    ready = record {
-      sink = record { is_open = puts.is_open; room = rw puts.faults going.ready.sink.room };
-      few = few;
-    };
+    ready = grind arith;
     faults = puts.faults ∙ going.faults;
     texts = going.texts ++ part ∷ [];
     parted = rw (going.parted, parted, concat-append going.texts (part ∷ []), append-nil part)
@@ -67,11 +57,7 @@ module _ {text left : List ℕ} {before : SinkState} {old new : OutputState} (go
 -- all of it was put
 pub going_done : {text : List ℕ} {before : SinkState} {now : OutputState} (outcome : Outcome) →
     IsGoing text [] before now → PutsReady (record { text = text; outcome = outcome }) before now (Ok outcome)
-going_done outcome going = record {
-  put = (refl, going.texts, sym (going.parted ∙ append-nil (concat going.texts)), going.put);
-  can_close = going.ready;
-  stops = omega (arith, going.faults);
-}
+going_done outcome going = grind (arith, append-nil)
 
 -- ---- once the output is closed
 
@@ -103,18 +89,10 @@ module _ {ready : Ready} {before : SinkState} {now : OutputState} where
   -- it is published
   pub publishes_parts : (after : SinkState) (ran answer : Result Outcome RunFault) → PutsReady ready before now ran →
       Closes now after ran answer → Publishes before after (Ok ready) answer
-  publishes_parts after ran answer puts closes = record {
-    text = λ report made. closes.text report before.contents (has_run report ran puts made);
-    stays = answers ran answer puts closes.stays;
-    closed = closes.closed;
-    sink = closes.sink before.faults puts.stops;
-    device = λ which. closes.device which ∙ no_device ran puts which;
-  }
+  publishes_parts after ran answer puts closes = grind (arith, has_run, answers, no_device)
 
 -- the same of an output that began over this sink
 pub publishes_over : {ready : Ready} {before : SinkState} {first now : OutputState} (after : SinkState)
     (ran answer : Result Outcome RunFault) → first ≡ fresh_output before → PutsReady ready first.sink now ran →
     Closes now after ran answer → Publishes before after (Ok ready) answer
-publishes_over {ready = ready} {now = now} after ran answer fresh puts closes =
-    let same = ap (λ (o : OutputState). o.sink) fresh in
-    publishes_parts after ran answer (subst (λ (s : SinkState). PutsReady ready s now ran) same puts) closes
+publishes_over after ran answer fresh puts closes = grind (arith, publishes_parts)

@@ -1,28 +1,21 @@
 -- What the bytes of a certificate give.
-use Rattle.std.specs.Prelude.{ℕ, List, Result, Ok, Err}
-use Rattle.certificate.specs.declared.fault.CertificateFault.{CertificateFault}
+use Rattle.std.specs.Prelude.{ℕ, List, Result}
 use Rattle.certificate.specs.Certificate.{CertificateData}
 use Rattle.certificate.specs.Reading.{certificate_of}
 use Rattle.report.specs.declared.fault.Input.TheVariants as inputs
 use Rattle.report.specs.declared.fault.RunFault.{RunFault}
 use Rattle.report.specs.declared.fault.RunFault.TheVariants.{Certificate, TooBig, Device, Memory}
-use Rattle.report.specs.Reading.{whole_read}
+use Rattle.report.specs.Reading.{or_fault, whole_read}
 
 -- the greatest length of a certificate's text, in bytes
 abbrev pub max_certificate : ℕ
 max_certificate = 134217728
 
--- a certificate's fault is the run's
-abbrev pub certificate_or_fault :
-    Result CertificateData CertificateFault → Result CertificateData RunFault
-certificate_or_fault (Ok certificate) = Ok certificate
-certificate_or_fault (Err fault) = Err (Certificate fault)
-
 -- what the bytes of a certificate give
 abbrev pub certificate_read : List ℕ → Result CertificateData RunFault
 certificate_read bytes =
     whole_read max_certificate inputs.Certificate
-    (λ text. certificate_or_fault (certificate_of text)) bytes
+    (λ text. or_fault Certificate (certificate_of text)) bytes
 
 -- the faults of reading a certificate
 abbrev pub IsOfCertificate : RunFault → Type 0

@@ -1,25 +1,19 @@
 -- What the bytes of a claim give.
-use Rattle.std.specs.Prelude.{ℕ, List, Result, Ok, Err}
-use Rattle.claim_file.specs.declared.fault.ClaimFault.{ClaimFault}
+use Rattle.std.specs.Prelude.{ℕ, List, Result}
 use Rattle.claim_file.specs.Claim.{ClaimData}
 use Rattle.claim_file.specs.Reading.{claim_of}
 use Rattle.report.specs.declared.fault.Input.TheVariants as inputs
 use Rattle.report.specs.declared.fault.RunFault.{RunFault}
 use Rattle.report.specs.declared.fault.RunFault.TheVariants.{Claim, TooBig, Device, Memory}
-use Rattle.report.specs.Reading.{whole_read}
+use Rattle.report.specs.Reading.{or_fault, whole_read}
 
 -- the greatest length of a claim's text, in bytes
 abbrev pub max_claim : ℕ
 max_claim = 65536
 
--- a claim's fault is the run's
-abbrev pub claim_or_fault : Result ClaimData ClaimFault → Result ClaimData RunFault
-claim_or_fault (Ok claim) = Ok claim
-claim_or_fault (Err fault) = Err (Claim fault)
-
 -- what the bytes of a claim give
 abbrev pub claim_read : List ℕ → Result ClaimData RunFault
-claim_read bytes = whole_read max_claim inputs.Claim (λ text. claim_or_fault (claim_of text)) bytes
+claim_read bytes = whole_read max_claim inputs.Claim (λ text. or_fault Claim (claim_of text)) bytes
 
 -- the faults of reading a claim
 abbrev pub IsOfClaim : RunFault → Type 0

@@ -10,6 +10,11 @@ unfoldable pub whole_read : {A : Type 0} → ℕ → Input → (List ℕ → Res
 whole_read limit input meaning bytes =
     if nat_lt limit (length bytes) then Err (TooBig input) else meaning bytes
 
+-- a fault of what an input says is the run's
+abbrev pub or_fault : {A F : Type 0} → (F → RunFault) → Result A F → Result A RunFault
+or_fault fault_of (Ok value) = Ok value
+or_fault fault_of (Err fault) = Err (fault_of fault)
+
 -- a fault that says nothing about the inputs' bytes
 abbrev pub IsFromOutside : RunFault → Type 0
 IsFromOutside Memory = Unit {0}

@@ -1,28 +1,21 @@
 -- What the bytes of a refutation give.
-use Rattle.std.specs.Prelude.{ℕ, List, Result, Ok, Err}
-use Rattle.certificate.specs.declared.refutation_fault.RefutationFault.{RefutationFault}
+use Rattle.std.specs.Prelude.{ℕ, List, Result}
 use Rattle.certificate.specs.Refutation.{RefutationData}
 use Rattle.certificate.specs.RefutationReading.{refutation_of}
 use Rattle.report.specs.declared.fault.Input.TheVariants as inputs
 use Rattle.report.specs.declared.fault.RunFault.{RunFault}
 use Rattle.report.specs.declared.fault.RunFault.TheVariants.{Refutation, TooBig, Device, Memory}
-use Rattle.report.specs.Reading.{whole_read}
+use Rattle.report.specs.Reading.{or_fault, whole_read}
 
 -- the greatest length of a refutation's text, in bytes
 abbrev pub max_refutation : ℕ
 max_refutation = 65536
 
--- a refutation's fault is the run's
-abbrev pub refutation_or_fault :
-    Result RefutationData RefutationFault → Result RefutationData RunFault
-refutation_or_fault (Ok refutation) = Ok refutation
-refutation_or_fault (Err fault) = Err (Refutation fault)
-
 -- what the bytes of a refutation give
 abbrev pub refutation_read : List ℕ → Result RefutationData RunFault
 refutation_read bytes =
     whole_read max_refutation inputs.Refutation
-    (λ text. refutation_or_fault (refutation_of text)) bytes
+    (λ text. or_fault Refutation (refutation_of text)) bytes
 
 -- the faults of reading a refutation
 abbrev pub IsOfRefutation : RunFault → Type 0

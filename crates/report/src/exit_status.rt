@@ -14,17 +14,10 @@ pub fn status(answer: &Result<Outcome, RunFault>) -> u8
     match answer {
         Ok(Outcome::Yes) => 0,
         Ok(Outcome::No) => 1,
-        Err(
-            RunFault::Capture(_)
-            | RunFault::Claim(_)
-            | RunFault::Certificate(_)
-            | RunFault::Refutation(_)
-            | RunFault::Exchanges
-            | RunFault::Pieces
-            | RunFault::TooBig(_)
-            | RunFault::Sums(_),
-        ) => 2,
-        Err(RunFault::Memory) => 3,
-        Err(RunFault::Device(_) | RunFault::Write(_)) => 4,
+        Err(fault) => match fault {
+            RunFault::Memory => 3,
+            RunFault::Device(_) | RunFault::Write(_) => 4,
+            _ => 2,
+        },
     }
 }

@@ -1,6 +1,6 @@
 //! The line of a fault.
 
-ghost use Rattle.std.specs.Prelude.{◌≡◌, ◌+◌, ◌≤◌, ◌++◌, [], ◌∷◌, length, map, IfOk, string_bytes};
+ghost use Rattle.std.specs.Prelude.{◌≡◌, ◌+◌, ◌≤◌, ◌++◌, [], ◌∷◌, length, IfOk, string_bytes};
 ghost use Rattle.line_writer.specs.declared.line.TheConstants.{CAPACITY};
 ghost use Rattle.line_writer.specs.declared.field.Style.TheVariants.{Plain};
 ghost use Rattle.line_writer.specs.Field.{Nothing, Word, field_data, fields_text, most_of, room_of};
@@ -87,17 +87,25 @@ fn refutation_words(fault: &RefutationFault) -> (&'static str, Field<'static>)
 }
 
 /// The word for an input.
-fn input_word(input: &Input) -> Field<'static>
+pub fn input_word(input: Input) -> &'static str
+    ensures word { result.now ≡ spec.input_word input }
+    ensures room { length result.now ≤ 15 }
+{
+    match input {
+        Input::Claim => "claim",
+        Input::Capture => "capture",
+        Input::Certificate => "certificate",
+        Input::Refutation => "refutation",
+        Input::Sums => "sums",
+    }
+}
+
+/// The field of that word.
+fn word_of(input: &Input) -> Field<'static>
     ensures word { field_data result ≡ Word (spec.input_word input.now) }
     ensures room { most_of (field_data result) ≤ 16 }
 {
-    match input {
-        Input::Claim => Field::Word("claim"),
-        Input::Capture => Field::Word("capture"),
-        Input::Certificate => Field::Word("certificate"),
-        Input::Refutation => Field::Word("refutation"),
-        Input::Sums => Field::Word("sums"),
-    }
+    Field::Word(input_word(*input))
 }
 
 /// Writes the line of an input that is refused: which one, its fault's number and word, and where.
@@ -109,7 +117,7 @@ fn put_refused(line: &mut Line, input: Input, number: u8, words: (&'static str, 
 {
     let fields = [
         Field::Word("ntpaudit:"),
-        input_word(&input),
+        word_of(&input),
         Field::Number(u64::from(number)),
         Field::Word(words.0),
         words.1,
@@ -117,38 +125,14 @@ fn put_refused(line: &mut Line, input: Input, number: u8, words: (&'static str, 
     put_fields(line, Style::Plain, &fields);
 }
 
-/// What is said of inputs that can't be held to their sums, or differ from them.
-fn sums_fields(fault: &SumsFault) -> [Field<'static>; 2]
-    ensures words { map field_data result ≡ spec.sums_fields fault.now }
-    ensures room { room_of (map field_data result) ≤ 150 }
-{
-    match fault {
-        SumsFault::Form(line) => [
-            Field::Word("ntpaudit: sums form"),
-            Field::Named("line", *line),
-        ],
-        SumsFault::Missing(input) => [Field::Word("ntpaudit: sums missing"), input_word(input)],
-        SumsFault::Differ(input) => [Field::Word("ntpaudit: sums differ"), input_word(input)],
-    }
-}
-
-/// Writes a line of these two fields.
-fn put_both(line: &mut Line, first: Field<'static>, second: Field<'static>)
+/// Writes a line of these words and of what they are said.
+fn put_words(line: &mut Line, words: &'static str, last: Field<'static>)
     requires room { length line.old + 200 ≤ CAPACITY }
-    requires fields { room_of (field_data first ∷ field_data second ∷ []) ≤ 150 }
+    requires words { room_of (Word words.now ∷ field_data last ∷ []) ≤ 150 }
     ensures { line.new ≡ fields_text Plain
-        (field_data first.entry ∷ field_data second.entry ∷ []) ++ line.old }
+        (Word words.now ∷ field_data last.entry ∷ []) ++ line.old }
 {
-    put_fields(line, Style::Plain, &[first, second]);
-}
-
-/// Writes a line of these words.
-fn put_words(line: &mut Line, words: &'static str)
-    requires room { length line.old + 200 ≤ CAPACITY }
-    requires words { length words.now ≤ 66 }
-    ensures { line.new ≡ fields_text Plain (Word words.now ∷ Nothing ∷ []) ++ line.old }
-{
-    put_both(line, Field::Word(words), Field::Nothing);
+    put_fields(line, Style::Plain, &[Field::Word(words), last]);
 }
 
 /// Writes the line of a fault before what stands in `line`, with no line feed, in at most 200
@@ -166,20 +150,17 @@ pub(crate) fn put_fault(line: &mut Line, fault: &RunFault)
         RunFault::Refutation(f) => {
             put_refused(line, Input::Refutation, f.number(), refutation_words(f));
         }
-        RunFault::Exchanges => put_words(line, "ntpaudit: exchanges over 1000000"),
-        RunFault::Pieces => put_words(line, "ntpaudit: pieces over 100000"),
-        RunFault::TooBig(input) => {
-            put_both(line, Field::Word("ntpaudit: too-big"), input_word(input));
-        }
-        RunFault::Device(input) => {
-            put_both(line, Field::Word("ntpaudit: device"), input_word(input));
-        }
-        RunFault::Write(n) => {
-            let sent = Field::Named("ntpaudit: device output after", *n);
-            put_both(line, sent, Field::Nothing);
-        }
-        RunFault::Memory => put_words(line, "ntpaudit: memory"),
-        RunFault::Sums(fault) => put_fields(line, Style::Plain, &sums_fields(fault)),
+        RunFault::Exchanges => put_words(line, "ntpaudit: exchanges over 1000000", Field::Nothing),
+        RunFault::Pieces => put_words(line, "ntpaudit: pieces over 100000", Field::Nothing),
+        RunFault::TooBig(input) => put_words(line, "ntpaudit: too-big", word_of(input)),
+        RunFault::Device(input) => put_words(line, "ntpaudit: device", word_of(input)),
+        RunFault::Write(n) => put_words(line, "ntpaudit: device output", Field::Named("after", *n)),
+        RunFault::Memory => put_words(line, "ntpaudit: memory", Field::Nothing),
+        RunFault::Sums(fault) => match fault {
+            SumsFault::Form(n) => put_words(line, "ntpaudit: sums form", Field::Named("line", *n)),
+            SumsFault::Missing(input) => put_words(line, "ntpaudit: sums missing", word_of(input)),
+            SumsFault::Differ(input) => put_words(line, "ntpaudit: sums differ", word_of(input)),
+        },
     }
 }
 

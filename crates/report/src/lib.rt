@@ -41,7 +41,7 @@ pub use conclusion::{Conclusion, conclude};
 pub use delivery::deliver;
 pub use exit_status::status;
 pub use fault::{Input, Outcome, RunFault, SumsFault};
-pub use fault_text::fault_line;
+pub use fault_text::{fault_line, input_word};
 pub use help::show;
 pub use input::{read_input, read_onto};
 pub use output::{OUTPUT_CAPACITY, Output, output_buffer};

@@ -1,6 +1,6 @@
 //! Text on its way to a sink.
 
-ghost use Rattle.std.specs.Prelude.{◌≡◌, ◌+◌, ◌≤◌, [], ◌∷◌, length, OnOk, IfOk, vec_capacity, Ok, Err};
+ghost use Rattle.std.specs.Prelude.{◌≡◌, ◌+◌, ◌≤◌, [], ◌∷◌, length, OnOk, IfOk, vec_capacity};
 
 use crate::delivery::push_all;
 use crate::fault::{Outcome, RunFault};
@@ -42,7 +42,7 @@ pub fn output_buffer(alloc: Global) -> Result<Vec<u8>, AllocError>
 
 impl<'a, S: Sink> Output<'a, S> {
     ghost use Rattle.report.specs.Output.{IsReady, Puts, fresh_output, with_text};
-    ghost use Rattle.report.specs.Closing.{CanClose, Closes, IsRefusal};
+    ghost use Rattle.report.specs.Closing.{CanClose, Closes};
     ghost use Rattle.report.specs.State.{output_state, sink_name};
 
     /// An output over this sink, with nothing put yet. It gathers in this buffer, in place of what
@@ -125,65 +125,27 @@ impl<'a, S: Sink> Output<'a, S> {
             (output_state S.state self.new).sink ran result }
     {
         match ran {
-            Ok(outcome) => self.end(outcome),
-            Err(fault) => Err(self.give_up(fault)),
-        }
-    }
-
-    /// Ends a run whose text was put whole.
-    fn end(&mut self, outcome: Outcome) -> Result<Outcome, RunFault>
-        requires { IsReady (output_state S.state self.old) }
-        ensures same_sink { sink_name self.new ≡ sink_name self.old }
-        ensures closes { Closes (output_state S.state self.old)
-            (output_state S.state self.new).sink (Ok outcome) result }
-    {
-        match self.flush() {
-            Ok(()) => match self.sink.finish() {
-                Ok(()) => Ok(outcome),
-                Err(_) => Err(RunFault::Write(self.sent)),
+            Ok(_) => match self.flush() {
+                Ok(()) => match self.sink.finish() {
+                    Ok(()) => ran,
+                    Err(_) => Err(RunFault::Write(self.sent)),
+                },
+                Err(failed) => Err(failed),
             },
-            Err(failed) => Err(failed),
-        }
-    }
-
-    /// Ends a run that is given up, and answers its fault, or that the sink failed meanwhile.
-    fn give_up(&mut self, fault: RunFault) -> RunFault
-        requires { CanClose (output_state S.state self.old) (Err fault) }
-        ensures same_sink { sink_name self.new ≡ sink_name self.old }
-        ensures closes { Closes (output_state S.state self.old)
-            (output_state S.state self.new).sink
-            (Err fault) (Err result) }
-    {
-        match fault {
-            RunFault::Write(sent) => RunFault::Write(sent),
-            RunFault::Device(input) => {
-                let _ = self.sink.finish();
-                RunFault::Device(input)
-            }
-            RunFault::Memory => {
-                let _ = self.sink.finish();
-                RunFault::Memory
-            }
-            refusal => self.refuse(refusal),
-        }
-    }
-
-    /// Ends a run whose input is refused, and answers that, or that the sink failed before all
-    /// lines had gone out.
-    fn refuse(&mut self, refusal: RunFault) -> RunFault
-        requires ready { IsReady (output_state S.state self.old) }
-        requires refusal { IsRefusal refusal }
-        ensures same_sink { sink_name self.new ≡ sink_name self.old }
-        ensures closes { Closes (output_state S.state self.old)
-            (output_state S.state self.new).sink
-            (Err refusal) (Err result) }
-    {
-        match self.flush() {
-            Ok(()) => {
-                let _ = self.sink.finish();
-                refusal
-            }
-            Err(failed) => failed,
+            Err(fault) => match fault {
+                RunFault::Write(_) => ran,
+                RunFault::Device(_) | RunFault::Memory => {
+                    let _ = self.sink.finish();
+                    ran
+                }
+                refusal => match self.flush() {
+                    Ok(()) => {
+                        let _ = self.sink.finish();
+                        Err(refusal)
+                    }
+                    Err(failed) => Err(failed),
+                },
+            },
         }
     }
 }

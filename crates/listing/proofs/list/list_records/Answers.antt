@@ -4,11 +4,7 @@ use Rattle.listing.proofs.UnderWay.{under_way_start, under_way_flushed, under_wa
 use Rattle.listing.proofs.list.list_records.Goals as goal
 
 pub records-init : goal.records-init
-records-init g c = record {
-  same_sink = refl;
-  given = sym c.requires.fresh.none_given;
-  under_way = under_way_start c.requires.fresh c.requires.ready c.requires.nothing_put;
-}
+records-init g c = grind (arith, under_way_start)
 
 pub catch_up-requires : goal.catch_up-requires
 catch_up-requires g c = c.records.invariant.under_way.ready
@@ -24,28 +20,16 @@ pub next_record-requires : goal.next_record-requires
 next_record-requires g c = omega (arith, c.records.invariant.under_way.same_faults, c.requires.source_room)
 
 pub list_record-requires-clause-ready : goal.list_record-requires-clause-ready
-list_record-requires-clause-ready g c =
-    (under_way_flushed c.records.invariant.under_way c.in_default.ensures.puts_nothing).ready
+list_record-requires-clause-ready g c = grind (arith, under_way_flushed)
 
 pub overflow_add-packets : goal.overflow_add-packets
-overflow_add-packets g c =
-    let here = under_way_flushed c.records.invariant.under_way c.in_default.ensures.puts_nothing in
-    let step = rw c.in-Ok-Some.field-0-is at c.in-Ok-Some.ensures in
-    let puts = rw c.bytes.ensures at c.in-Ok.ensures.puts in
-    let more = under_way_more _ here step puts c.in-Ok.ensures.at_most in
-    omega (arith, more.few, more.few_packets)
+overflow_add-packets g c = grind (arith, under_way_flushed, under_way_more)
 
 pub overflow_add-records : goal.overflow_add-records
-overflow_add-records g c =
-    let here = under_way_flushed c.records.invariant.under_way c.in_default.ensures.puts_nothing in
-    let step = rw c.in-Ok-Some.field-0-is at c.in-Ok-Some.ensures in
-    omega (arith, step.lawful.number, step.numbers.0, c.records.invariant.given)
+overflow_add-records g c = grind (arith, under_way_flushed)
 
 pub records-smaller : goal.records-smaller
-records-smaller g c =
-    let here = under_way_flushed c.records.invariant.under_way c.in_default.ensures.puts_nothing in
-    let step = rw c.in-Ok-Some.field-0-is at c.in-Ok-Some.ensures in
-    omega (arith, step.lawful.number, step.numbers.0, c.records.invariant.given)
+records-smaller g c = grind (arith, under_way_flushed)
 
 pub records-preserved : goal.records-preserved
 records-preserved g c =
@@ -60,8 +44,7 @@ records-preserved g c =
     }
 
 pub returns-in-Err-list_record-clause-same_sink : goal.returns-in-Err-list_record-clause-same_sink
-returns-in-Err-list_record-clause-same_sink g c =
-    c.in-Err-list_record.ensures.same_sink ∙ (c.in_default.ensures.same_sink ∙ c.records.invariant.same_sink)
+returns-in-Err-list_record-clause-same_sink g c = grind (arith)
 
 pub returns-in-Err-list_record-clause-listed : goal.returns-in-Err-list_record-clause-listed
 returns-in-Err-list_record-clause-listed g c =
@@ -70,12 +53,10 @@ returns-in-Err-list_record-clause-listed g c =
     listed_short here step.counts_fault step.takes c.in-Err-list_record.ensures.puts
 
 pub close_list-requires : goal.close_list-requires
-close_list-requires g c =
-    (under_way_flushed c.records.invariant.under_way c.in_default.ensures.puts_nothing).ready
+close_list-requires g c = grind (arith, under_way_flushed)
 
 pub returns-in-Ok-close_list-clause-same_sink : goal.returns-in-Ok-close_list-clause-same_sink
-returns-in-Ok-close_list-clause-same_sink g c =
-    c.close_list.ensures.same_sink ∙ (c.in_default.ensures.same_sink ∙ c.records.invariant.same_sink)
+returns-in-Ok-close_list-clause-same_sink g c = grind (arith)
 
 pub returns-in-Ok-close_list-clause-listed : goal.returns-in-Ok-close_list-clause-listed
 returns-in-Ok-close_list-clause-listed g c =
@@ -85,8 +66,7 @@ returns-in-Ok-close_list-clause-listed g c =
     (rw c.records.invariant.given at c.in-Ok-close_list.ensures.puts) c.in-Ok-close_list.ensures.at_most
 
 pub returns-in-Err-close_list-clause-same_sink : goal.returns-in-Err-close_list-clause-same_sink
-returns-in-Err-close_list-clause-same_sink g c =
-    c.close_list.ensures.same_sink ∙ (c.in_default.ensures.same_sink ∙ c.records.invariant.same_sink)
+returns-in-Err-close_list-clause-same_sink g c = grind (arith)
 
 pub returns-in-Err-close_list-clause-listed : goal.returns-in-Err-close_list-clause-listed
 returns-in-Err-close_list-clause-listed g c =

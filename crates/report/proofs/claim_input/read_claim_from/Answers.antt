@@ -1,45 +1,31 @@
-use Rattle.report.proofs.Common.{◌≡◌, ◌⊎◌, List, ℕ, Err, sym, ap, subst, inl, inr, IfSome, ClaimFault, RunFault, claim_run_fault_of, IsFromOutside, Reads}
-use Rattle.claim_file.specs.declared.claim.Claim.{Claim}
+use Rattle.report.proofs.Common.{◌≡◌, ◌⊎◌, List, ℕ, Err, ap, inl, inr, ClaimFault, claim_run_fault_of, IsFromOutside, or_fault}
 use Rattle.claim_file.specs.declared.fault.ClaimFault.TheVariants as claims
 use Rattle.claim_file.specs.Claim.{data_of}
 use Rattle.claim_file.specs.Reading.{claim_of}
 use Rattle.report.specs.declared.fault.Input.TheVariants as inputs
-use Rattle.report.specs.ClaimInput.{claim_or_fault, claim_read}
-use Rattle.report.proofs.InputIntake.{takes_within}
+use Rattle.report.specs.declared.fault.RunFault.TheVariants as faults
 use Rattle.report.proofs.Reading.{input_is_read, input_refused, input_unread}
 use Rattle.report.proofs.claim_input.read_claim_from.Goals as goal
 
 -- a claim's refusal is the run's
 refusal : (text : List ℕ) (fault : ClaimFault) → (fault ≡ claims.Memory) ⊎ (claim_of text ≡ Err fault) →
-    IsFromOutside (claim_run_fault_of fault) ⊎ (claim_or_fault (claim_of text) ≡ Err (claim_run_fault_of fault))
+    IsFromOutside (claim_run_fault_of fault) ⊎ (or_fault faults.Claim (claim_of text) ≡ Err (claim_run_fault_of fault))
 refusal text claims.Memory exact = inl tt
 refusal text fault (inl memory) = cc
-refusal text fault (inr exact) = inr (ap claim_or_fault exact)
+refusal text fault (inr exact) = inr (ap (or_fault faults.Claim) exact)
 
 pub returns-clause-known : goal.returns-clause-known
 returns-clause-known g c =
-    input_unread data_of 65536 inputs.Claim (λ b. claim_or_fault (claim_of b)) _ c.in-Err.fault c.in-Err.ensures.fault
+    input_unread data_of 65536 inputs.Claim faults.Claim claim_of _ c.in-Err.fault c.in-Err.ensures.fault
     c.in-Err.ensures.whole
 
 pub returns-in-Ok-read_claim-clause-known : goal.returns-in-Ok-read_claim-clause-known
 returns-in-Ok-read_claim-clause-known g c =
-    input_is_read data_of 65536 inputs.Claim (λ b. claim_or_fault (claim_of b)) _ _ c.in-Ok-read_claim.claim
-    c.in-Ok.ensures.whole (ap claim_or_fault (rw c.as_slice.ensures.value at c.in-Ok-read_claim.ensures.exact))
+    input_is_read data_of 65536 inputs.Claim faults.Claim claim_of _ _ c.in-Ok-read_claim.claim
+    c.in-Ok.ensures.whole (rw c.as_slice.ensures.value at c.in-Ok-read_claim.ensures.exact)
 
 pub returns-in-Ok-clause-known : goal.returns-in-Ok-clause-known
 returns-in-Ok-clause-known g c =
-    let known = (g.C.Feed.state c.args.feed.now).remaining in
-    subst (λ (f : RunFault). IfSome known (λ (bytes : List ℕ). Reads data_of (claim_read bytes) (Err f)))
-    (sym c.from.ensures)
-    (input_refused data_of 65536 inputs.Claim (λ b. claim_or_fault (claim_of b)) _ _ _ c.in-Ok.ensures.whole
+    rw c.from.ensures (input_refused data_of 65536 inputs.Claim faults.Claim claim_of _ _ _
+    c.in-Ok.ensures.whole
     (refusal _ c.in-Err-read_claim.fault (rw c.as_slice.ensures.value at c.in-Err-read_claim.ensures.exact)))
-
-pub returns-in-Ok-read_claim-clause-at_most : goal.returns-in-Ok-read_claim-clause-at_most
-returns-in-Ok-read_claim-clause-at_most g c = c.in-Ok.ensures.at_most
-
-pub returns-in-Ok-clause-at_most : goal.returns-in-Ok-clause-at_most
-returns-in-Ok-clause-at_most g c =
-    takes_within {X = Claim} inputs.Claim 65536 (Err c.from.result) _ _ c.in-Ok.ensures.at_most
-
-pub returns-clause-at_most : goal.returns-clause-at_most
-returns-clause-at_most g c = c.in-Err.ensures.at_most
