@@ -1,5 +1,5 @@
 -- The errors that the entries of an accepted piece admit: there are some, and none is beyond the bound.
-use Rattle.audit.proofs.Common.{◌≡◌, ℕ, zero, suc, ◌-◌, ◌*◌, ◌<◌, ◌≤◌, ℤ, pos, negsuc, neg_ℤ, ◌+ℤ◌, ◌-ℤ◌, ◌*ℤ◌, ◌≤ℤ◌, ◌<ℤ◌, unsigned_abs, Bool, true, false, cond, ◌&&◌, ⊎_elim, List, length, Option, Some, None, count_by, refl, sym, ap, ◌∙◌, subst, arith, IsSomeAnd, slice_get, slice_index, list_any, option_map, mul-le-mul_right, cases_lt, cond-true, cond-false, and_parts, and_from, nat_tests, ints, slice_get-map, slice_get_read, IsCeiling, ClaimData, Exchange, request_start, request_end, reply_start, reply_end, Sample, Stretch, samples_of, by_test, MayChangeBy, Admit}
+use Rattle.audit.proofs.Common.{◌≡◌, ℕ, zero, suc, ◌-◌, ◌*◌, ◌<◌, ◌≤◌, ℤ, pos, negsuc, neg_ℤ, ◌+ℤ◌, ◌-ℤ◌, ◌*ℤ◌, ◌≤ℤ◌, ◌<ℤ◌, unsigned_abs, Bool, true, false, cond, ◌&&◌, ⊎_elim, List, length, Option, Some, None, count_by, refl, sym, ap, ◌∙◌, subst, arith, IsSomeAnd, ◌↔◌, slice_get, slice_index, list_any, option_map, mul-le-mul_right, cases_lt, cond-true, cond-false, and_parts, and_from, nat_tests, ints, slice_get-map, slice_get_read, IsCeiling, ClaimData, Exchange, request_start, request_end, reply_start, reply_end, Sample, Stretch, samples_of, by_test, MayChangeBy, Admit}
 use Rattle.std.specs.Prelude.{◌==◌}
 use Rattle.std.proofs.lemmas.List.Folds.{Any-from_list_any}
 use Rattle.std.proofs.lemmas.List.Sums.{sum_by-le-sum_by}
@@ -104,36 +104,30 @@ module _ (widenings : WideningLaw) (claim : ClaimData) (rate : claim.drift_ppb �
       → IsCeiling (claim.drift_ppb * distance) (billion - claim.drift_ppb) (widening claim.drift_ppb distance)
   widened distance = widenings claim.drift_ppb distance (omega (arith, rate))
 
-  low_room : (x : Exchange) → moved_low (sample_of x claim.reading) begin end claim.drift_ppb ≤ℤ error → LowRoom x
+  -- what is no more than the widening may be
+  reached : (far : ℕ) (z : ℤ) → (z ≤ℤ pos (widening claim.drift_ppb far))
+      ↔ (((z -ℤ pos 1) *ℤ pos (billion - claim.drift_ppb)) <ℤ pos (claim.drift_ppb * far))
+  reached far z = (
+    in_reach (claim.drift_ppb * far) (billion - claim.drift_ppb) (widening claim.drift_ppb far) z (omega (arith, rate))
+        (widened far),
+    from_reach (claim.drift_ppb * far) (billion - claim.drift_ppb) (widening claim.drift_ppb far) z (widened far),
+  )
+
+  low_room : (x : Exchange) → (moved_low (sample_of x claim.reading) begin end claim.drift_ppb ≤ℤ error) ↔ LowRoom x
   unfolding moved_low
-  low_room x h = in_reach (claim.drift_ppb * far_low x) (billion - claim.drift_ppb)
-      (widening claim.drift_ppb (far_low x)) (x.t1_low -ℤ claim.reading -ℤ x.t2 -ℤ x.distance -ℤ error)
-      (omega (arith, rate)) (widened (far_low x))
-      (low_over (x.t1_low -ℤ claim.reading -ℤ x.t2 -ℤ x.distance) error (widening claim.drift_ppb (far_low x)) h)
+  low_room x =
+      let low = x.t1_low -ℤ claim.reading -ℤ x.t2 -ℤ x.distance in
+      let reach = reached (far_low x) (low -ℤ error) in
+      let w = widening claim.drift_ppb (far_low x) in
+      (λ h. reach.0 (low_over low error w h), λ h. low_back low error w (reach.1 h))
 
-  low_held : (x : Exchange) → LowRoom x → moved_low (sample_of x claim.reading) begin end claim.drift_ppb ≤ℤ error
-  unfolding moved_low
-  low_held x h =
-      low_back (x.t1_low -ℤ claim.reading -ℤ x.t2 -ℤ x.distance) error (widening claim.drift_ppb (far_low x))
-      (from_reach (claim.drift_ppb * far_low x) (billion - claim.drift_ppb)
-      (widening claim.drift_ppb (far_low x)) (x.t1_low -ℤ claim.reading -ℤ x.t2 -ℤ x.distance -ℤ error)
-      (widened (far_low x)) h)
-
-  high_room : (y : Exchange) → error ≤ℤ moved_high (sample_of y claim.reading) begin end claim.drift_ppb → HighRoom y
+  high_room : (y : Exchange) → (error ≤ℤ moved_high (sample_of y claim.reading) begin end claim.drift_ppb) ↔ HighRoom y
   unfolding moved_high
-  high_room y h = in_reach (claim.drift_ppb * far_high y) (billion - claim.drift_ppb)
-      (widening claim.drift_ppb (far_high y)) (error -ℤ (y.t4_high +ℤ claim.reading -ℤ y.t3 +ℤ y.distance))
-      (omega (arith, rate)) (widened (far_high y))
-      (high_over error (y.t4_high +ℤ claim.reading -ℤ y.t3 +ℤ y.distance) (widening claim.drift_ppb (far_high y)) h)
-
-  high_held : (y : Exchange) → HighRoom y
-      → error ≤ℤ moved_high (sample_of y claim.reading) begin end claim.drift_ppb
-  unfolding moved_high
-  high_held y h =
-      high_back error (y.t4_high +ℤ claim.reading -ℤ y.t3 +ℤ y.distance) (widening claim.drift_ppb (far_high y))
-      (from_reach (claim.drift_ppb * far_high y) (billion - claim.drift_ppb)
-      (widening claim.drift_ppb (far_high y)) (error -ℤ (y.t4_high +ℤ claim.reading -ℤ y.t3 +ℤ y.distance))
-      (widened (far_high y)) h)
+  high_room y =
+      let high = y.t4_high +ℤ claim.reading -ℤ y.t3 +ℤ y.distance in
+      let reach = reached (far_high y) (error -ℤ high) in
+      let w = widening claim.drift_ppb (far_high y) in
+      (λ h. reach.0 (high_over error high w h), λ h. high_back error high w (reach.1 h))
 
 -- ---- all entries
 
@@ -215,8 +209,8 @@ module _ (widenings : WideningLaw) (claim : ClaimData) (rate : claim.drift_ppb �
         let ends = held_ends part.interval shown.lo held in
         let low = subst (λ (p : Part). p.interval.lo ≤ℤ shown.lo) is ends.0 in
         let high = subst (λ (p : Part). shown.lo ≤ℤ p.interval.hi) is ends.1 in (
-          low_room widenings claim rate stretch.begin stretch.end shown.lo x low,
-          high_room widenings claim rate stretch.begin stretch.end shown.lo y high,
+          (low_room widenings claim rate stretch.begin stretch.end shown.lo x).0 low,
+          (high_room widenings claim rate stretch.begin stretch.end shown.lo y).0 high,
         );
   }
 
@@ -236,8 +230,8 @@ module _ (widenings : WideningLaw) (claim : ClaimData) (rate : claim.drift_ppb �
         let server : part.server ≡ x.server = ap (λ (p : Part). p.server) is in
         let room = admit.room j entry.0 entry.1 x y found.1 low_at.1 high_at.1
         (ap (λ (s : ℕ). admit.is_wrong (slice_index claim.groups s)) (sym server) ∙ fine) in
-        let low = low_held widenings claim rate stretch.begin stretch.end error x room.0 in
-        let high = high_held widenings claim rate stretch.begin stretch.end error y room.1 in
+        let low = (low_room widenings claim rate stretch.begin stretch.end error x).1 room.0 in
+        let high = (high_room widenings claim rate stretch.begin stretch.end error y).1 room.1 in
         held_test part.interval error
         (subst (λ (p : Part). p.interval.lo ≤ℤ error) (sym is) low)
         (subst (λ (p : Part). error ≤ℤ p.interval.hi) (sym is) high)

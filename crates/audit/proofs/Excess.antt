@@ -1,5 +1,5 @@
 -- An error beyond the bound: in parts of a tick, in nanoseconds, and of an accepted refutation.
-use Rattle.audit.proofs.Common.{◌≡◌, ℕ, suc, ◌*◌, ◌<◌, ◌≤◌, ℤ, pos, negsuc, ◌*ℤ◌, unsigned_abs, Bool, true, false, inl, ⊎_elim, List, length, get_or, Some, refl, ap, ◌∙◌, arith, slice_get, mul-le-mul_right, cases_lt, ints, length-map, slice_get-get_or, IsBytes, nanoseconds_per_second, IsFloor, ticks_per_second, Format, Record, IsCapture, RefutationData, ClaimData, AreGiven, Exchange, error_of, Course, FitsInWindows, IsAgainst, HasCourse, SharesRequests, frame_of, IsClaimText, HasCourseBeyond, IsBeyond, IsBeyondNanoseconds, EvidenceData, IsContestedOf}
+use Rattle.audit.proofs.Common.{◌≡◌, ℕ, suc, ◌*◌, ◌<◌, ◌≤◌, ℤ, pos, negsuc, ◌*ℤ◌, unsigned_abs, Bool, true, false, inl, ⊎_elim, List, length, get_or, Some, refl, ap, ◌∙◌, arith, slice_get, mul-le-mul_right, cases_lt, ints, length-map, slice_get-get_or, IsBytes, nanoseconds_per_second, IsFloor, ticks_per_second, Format, Record, IsCapture, RefutationData, ClaimData, AreGiven, Exchange, error_of, Course, FitsInWindows, IsAgainst, HasCourse, SharesRequests, frame_of, IsClaimText, HasCourseBeyond, IsBeyond, IsBeyondNanoseconds, EvidenceData, IsEvidenceOf, CourseContests, ShowsContested, IsContestedOf}
 use Rattle.intersection.specs.Fineness.{times_le}
 use Rattle.audit.proofs.RecordFrames.{captured, each_record}
 use Rattle.audit.proofs.ExchangeRecords.{in_place}
@@ -83,7 +83,7 @@ course_beyond claim xs r against (course, of) =
     (of.off_throughout.one_error course.observation (inl refl))
 
 -- one that stands has a course beyond the bound
-pub standing_beyond : (drift : Bool) (r : RefutationData) (e : EvidenceData) → IsContestedOf drift r e
+standing_beyond : (drift : Bool) (r : RefutationData) (e : EvidenceData) → IsContestedOf drift r e
     → HasCourseBeyond e.claim e.collection.exchanges
 standing_beyond true r e stands =
     let of = stands.course in
@@ -91,6 +91,12 @@ standing_beyond true r e stands =
     of.observed.reading of.observed.error
 standing_beyond false r e stands =
     course_beyond e.claim e.collection.exchanges r stands.accepted.against stands.course
+
+-- which the bytes show that give the evidence
+pub contests : CourseContests → (drift : Bool) (r : RefutationData) (e : EvidenceData) → IsContestedOf drift r e
+    → (b f : List ℕ) → IsEvidenceOf b f e → ShowsContested b f
+contests contested drift r e stands b f is bytes = contested b f e.claim e.collection bytes is.claim_is
+    is.collection_is (standing_beyond drift r e stands)
 
 -- ---- the records of a capture
 
