@@ -104,7 +104,8 @@ module _ (laws : Laws) (claim : ClaimData) (apart : AllPairs (λ a b. a ≢ b) c
 
 -- ---- exchanges
 
-module _ (laws : Laws) (one_tick : (stamp : ℕ) (near s t : ℤ) → IsUnfolded stamp near s → IsUnfolded stamp near t → s ≡ t)
+module _ (laws : Laws)
+    (one_tick : (stamp : ℕ) (near s t : ℤ) → IsUnfolded stamp near s → IsUnfolded stamp near t → s ≡ t)
     (claim : ClaimData) (apart : AllPairs (λ a b. a ≢ b) claim.servers)
     (unit : TimeUnit) (records : List Record) (given : AreInPlace unit records) where
   module _ (x : Exchange) (is : IsExchangeIn claim unit (map frame_of records) x) where

@@ -105,7 +105,8 @@ unwritten : (before after : SinkState) (made : Result Ready RunFault) (answer : 
 unwritten before after (Ok m) answer h p (inl same) = rw same tt
 unwritten before after (Ok m) answer h p (inr (sent, is)) = rw is (inl tt)
 unwritten before after (Err fault) answer h p is =
-    rw is (inr (writes_nothing fault before.contents after.contents answer (p.text (refused fault) (refusal_for fault h))))
+    rw is (inr (writes_nothing fault before.contents after.contents answer
+    (p.text (refused fault) (refusal_for fault h))))
 
 -- ---- what was read
 

@@ -93,7 +93,8 @@ pub record IsUnfound (question : QuestionData) (inputs : InputsData) (fault : Ru
   pub is_made : (style : Style)
       → IsMadeFor (question.report style finding inputs.said inputs.evidence) (Err fault)
 
--- A report is made and published, or isn't, for a reason of making it, and of its outcome this holds.
+-- A report is made and published, or isn't made for a reason of its making, and this holds of its
+-- outcome.
 pub record TellsOf (report : Report) (Shows : Outcome → Type 0) (before after : SinkState)
     (answer : Result Outcome RunFault) : Type 0 where
   pub made : Result Ready RunFault

@@ -27,9 +27,11 @@ pub data SecondData : Type 0 where
 abbrev pub second_read : SecondKind → Option (List ℕ) → Option (Result SecondData RunFault)
 second_read no_second known = Some (Ok nothing_said)
 second_read certificate_second known =
-    option_map (λ bytes. result_map_both certificate_said (λ fault. fault) (certificate_read bytes)) known
+    option_map (λ bytes. result_map_both certificate_said (λ fault. fault) (certificate_read bytes))
+    known
 second_read refutation_second known =
-    option_map (λ bytes. result_map_both refutation_said (λ fault. fault) (refutation_read bytes)) known
+    option_map (λ bytes. result_map_both refutation_said (λ fault. fault) (refutation_read bytes))
+    known
 
 -- The bytes of the second input, if they are known, say what is asked for.
 abbrev pub HasSecond : SecondKind → Option (List ℕ) → Type 0
