@@ -11,17 +11,11 @@ module _ {X Y : Type 0} (f : X → Option Y) where
   module _ (p : Y → Bool) where
     skipped : (o : Option Y) (ys rest : List Y) → ((y : Y) → o ≡ Some y → p y ≡ true → ⊥)
         → filter p ys ≡ rest → filter p (cons_option o ys) ≡ rest
-    skipped None ys rest fails is = is
-    skipped (Some z) ys rest fails is =
-        let test = by_test (p z) (λ passes. absurd (fails z refl passes)) (λ fails'. fails') in
-        cond-false (p z) (z ∷ filter p ys) (filter p ys) test ∙ is
+    skipped x0 ys rest fails is = grind (arith, by_test, cond-false, filter)
 
     taken : (o : Option Y) (ys : List Y) (y : Y) → o ≡ Some y → p y ≡ true → filter p ys ≡ []
         → filter p (cons_option o ys) ≡ y ∷ []
-    taken None ys y is passes none = absurd cc
-    taken (Some z) ys y is passes none =
-        let test : p z ≡ true = cc in
-        cc (cond-true (p z) (z ∷ filter p ys) (filter p ys) test)
+    taken x0 ys y is passes none = grind (arith, cond-true, filter)
 
     -- if nothing that is given passes, nothing is kept
     none_kept : (xs : List X)

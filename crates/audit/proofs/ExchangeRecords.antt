@@ -39,8 +39,7 @@ module _ {X Y : Type 0} (f : X → Option Y) where
   kept_among (Some z) ys y (k, below, is) = (suc k, omega (arith, below), is)
 
   first_among : (o : Option Y) (ys : List Y) (y : Y) → o ≡ Some y → Contains (cons_option o ys) y
-  first_among None ys y is = absurd cc
-  first_among (Some z) ys y is = (0, omega arith, cc)
+  first_among x0 ys y is = grind (arith)
 
   -- what is given of one of these stands in what is given of all
   pub given_among : (xs : List X) (k : ℕ) (x : X) (y : Y) → slice_get xs k ≡ Some x → f x ≡ Some y
@@ -67,8 +66,7 @@ lone q y (suc k, below, is) = absurd (omega arith)
 -- what comes of a value, if there is one
 passed : {A B : Type 0} (f : A → Option B) (o : Option A) (b : B) → option_and_then f o ≡ Some b
     → (a : A) × (o ≡ Some a) × (f a ≡ Some b)
-passed f None b is = absurd cc
-passed f (Some a) b is = (a, refl, is)
+passed f x1 b is = grind (arith)
 
 -- ---- requests and replies
 
@@ -138,8 +136,7 @@ module _ (laws : Laws) (claim : ClaimData) (apart : AllPairs (λ a b. a ≢ b) c
 -- ---- times
 
 some_units : (unit : TimeUnit) → 0 < per_second unit
-some_units Micro = omega arith
-some_units Nano = omega arith
+some_units x0 = grind (arith)
 
 module _ (laws : Laws) where
   window_of : (unit : TimeUnit) (head : RecordHead) → head.unit ≡ unit → (frame : CapturedFrame)

@@ -171,8 +171,7 @@ packet_from (Err skip) = None
 
 packet_is : (frame : List ℕ) (r : Result Fields Skip) → datagram_of frame ≡ r → packet_of frame ≡ packet_from r
 unfolding packet_of
-packet_is frame (Ok d) is = rw (packet_of, is) refl
-packet_is frame (Err skip) is = rw (packet_of, is) refl
+packet_is frame x1 is = grind (arith, packet_of)
 
 given_held : (law : DatagramLaw) (frame : List ℕ) (p : Packet) → IsBytes frame → (r : Result Fields Skip)
     → datagram_of frame ≡ r → packet_from r ≡ Some p → HoldsShown frame p
@@ -229,12 +228,10 @@ module _ {X : Type 0} (p q r s t : X) where
   five_fail : (a b c d e : Bool)
       → cond a (Some p) (cond b (Some q) (cond c (Some r) (cond d (Some s) (cond e (Some t) None)))) ≡ None
       → (a ≡ false) × (b ≡ false) × (c ≡ false) × (d ≡ false) × (e ≡ false)
-  five_fail false false false false false h = (refl, refl, refl, refl, refl)
-  five_fail a b c d e h = absurd cc
+  five_fail a b c d e h = grind (arith)
 
 passes : (a : Bool) → not a ≡ false → a ≡ true
-passes true h = refl
-passes false h = absurd cc
+passes x0 h = grind (arith)
 
 pub usable_from : (header : List ℕ) → refusal_of header ≡ None → IsUsable header
 unfolding refusal_of

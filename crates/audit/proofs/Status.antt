@@ -6,13 +6,7 @@ use Rattle.report.specs.ExitStatus.{status_of}
 -- an answer with the status of an outcome is that outcome
 outcome_is : (answer : Result Outcome RunFault) (outcome : Outcome) →
     status_of answer ≡ status_of (Ok outcome) → answer ≡ Ok outcome
-outcome_is (Ok Yes) Yes same = refl
-outcome_is (Ok No) No same = refl
-outcome_is (Ok a) o same = absurd (omega arith)
-outcome_is (Err Memory) Yes same = absurd (omega arith)
-outcome_is (Err Memory) No same = absurd (omega arith)
-outcome_is (Err fault) Yes same = absurd (omega arith)
-outcome_is (Err fault) No same = absurd (omega arith)
+outcome_is x0 o same = grind (arith)
 
 -- what an outcome shows, by its status
 pub shown_by_status : (P : Outcome → Type 0) (answer : Result Outcome RunFault) (status : ℕ) →

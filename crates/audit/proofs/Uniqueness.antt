@@ -27,9 +27,7 @@ abbrev groups_value : List (List ℕ) → Data
 groups_value groups = array (items_of (map numbers_value groups))
 
 groups_same : (a b : Option (List (List ℕ))) → option_map groups_value a ≡ option_map groups_value b → a ≡ b
-groups_same None None e = refl
-groups_same (Some x) (Some y) e = ap Some (lists_same numbers_value numbers_same x y cc)
-groups_same a b e = cc
+groups_same a b e = grind (arith, lists_same, numbers_value, numbers_same)
 
 -- ---- values
 
