@@ -1,5 +1,5 @@
 -- The errors that the entries of an accepted piece admit: there are some, and none is beyond the bound.
-use Rattle.audit.proofs.Common.{◌≡◌, ℕ, zero, suc, ◌-◌, ◌*◌, ◌<◌, ◌≤◌, ℤ, pos, negsuc, neg_ℤ, ◌+ℤ◌, ◌-ℤ◌, ◌*ℤ◌, ◌≤ℤ◌, ◌<ℤ◌, unsigned_abs, Bool, true, false, cond, ◌&&◌, ⊎_elim, List, length, Option, Some, None, count_by, refl, sym, ap, ◌∙◌, subst, arith, IsSomeAnd, slice_get, slice_index, list_any, option_map, mul-le-mul_right, cases_lt, cond-true, cond-false, and_parts, and_from, nat_tests, ints, slice_get-map, slice_get_read, IsCeiling, ClaimData, Exchange, request_start, request_end, reply_start, reply_end, Sample, Stretch, samples_of, by_test, MayChangeBy, Admit}
+use Rattle.audit.proofs.Common.{◌≡◌, ℕ, zero, suc, ◌-◌, ◌*◌, ◌<◌, ◌≤◌, ℤ, pos, negsuc, neg_ℤ, ◌+ℤ◌, ◌-ℤ◌, ◌*ℤ◌, ◌≤ℤ◌, ◌<ℤ◌, unsigned_abs, Bool, true, false, cond, ◌&&◌, ⊎_elim, List, length, Option, Some, None, count_by, refl, sym, ap, ◌∙◌, subst, arith, IsSomeAnd, ◌↔◌, slice_get, slice_index, list_any, option_map, mul-le-mul_right, cases_lt, cond-true, cond-false, and_parts, and_from, nat_tests, ints, slice_get-map, slice_get_read, IsCeiling, ClaimData, Exchange, request_start, request_end, reply_start, reply_end, Sample, Stretch, samples_of, by_test, MayChangeBy, Admit}
 use Rattle.std.specs.Prelude.{◌==◌}
 use Rattle.std.proofs.lemmas.List.Folds.{Any-from_list_any}
 use Rattle.std.proofs.lemmas.List.Sums.{sum_by-le-sum_by}
@@ -104,36 +104,18 @@ module _ (widenings : WideningLaw) (claim : ClaimData) (rate : claim.drift_ppb �
       → IsCeiling (claim.drift_ppb * distance) (billion - claim.drift_ppb) (widening claim.drift_ppb distance)
   widened distance = widenings claim.drift_ppb distance (omega (arith, rate))
 
-  low_room : (x : Exchange) → moved_low (sample_of x claim.reading) begin end claim.drift_ppb ≤ℤ error → LowRoom x
+  -- what is no more than the widening may be
+  reached : (far : ℕ) (z : ℤ) → (z ≤ℤ pos (widening claim.drift_ppb far))
+      ↔ (((z -ℤ pos 1) *ℤ pos (billion - claim.drift_ppb)) <ℤ pos (claim.drift_ppb * far))
+  reached far z = grind (arith, in_reach, billion, widening, widened, from_reach)
+
+  low_room : (x : Exchange) → (moved_low (sample_of x claim.reading) begin end claim.drift_ppb ≤ℤ error) ↔ LowRoom x
   unfolding moved_low
-  low_room x h = in_reach (claim.drift_ppb * far_low x) (billion - claim.drift_ppb)
-      (widening claim.drift_ppb (far_low x)) (x.t1_low -ℤ claim.reading -ℤ x.t2 -ℤ x.distance -ℤ error)
-      (omega (arith, rate)) (widened (far_low x))
-      (low_over (x.t1_low -ℤ claim.reading -ℤ x.t2 -ℤ x.distance) error (widening claim.drift_ppb (far_low x)) h)
+  low_room x = grind (arith, reached, widening, low_over, low_back)
 
-  low_held : (x : Exchange) → LowRoom x → moved_low (sample_of x claim.reading) begin end claim.drift_ppb ≤ℤ error
-  unfolding moved_low
-  low_held x h =
-      low_back (x.t1_low -ℤ claim.reading -ℤ x.t2 -ℤ x.distance) error (widening claim.drift_ppb (far_low x))
-      (from_reach (claim.drift_ppb * far_low x) (billion - claim.drift_ppb)
-      (widening claim.drift_ppb (far_low x)) (x.t1_low -ℤ claim.reading -ℤ x.t2 -ℤ x.distance -ℤ error)
-      (widened (far_low x)) h)
-
-  high_room : (y : Exchange) → error ≤ℤ moved_high (sample_of y claim.reading) begin end claim.drift_ppb → HighRoom y
+  high_room : (y : Exchange) → (error ≤ℤ moved_high (sample_of y claim.reading) begin end claim.drift_ppb) ↔ HighRoom y
   unfolding moved_high
-  high_room y h = in_reach (claim.drift_ppb * far_high y) (billion - claim.drift_ppb)
-      (widening claim.drift_ppb (far_high y)) (error -ℤ (y.t4_high +ℤ claim.reading -ℤ y.t3 +ℤ y.distance))
-      (omega (arith, rate)) (widened (far_high y))
-      (high_over error (y.t4_high +ℤ claim.reading -ℤ y.t3 +ℤ y.distance) (widening claim.drift_ppb (far_high y)) h)
-
-  high_held : (y : Exchange) → HighRoom y
-      → error ≤ℤ moved_high (sample_of y claim.reading) begin end claim.drift_ppb
-  unfolding moved_high
-  high_held y h =
-      high_back error (y.t4_high +ℤ claim.reading -ℤ y.t3 +ℤ y.distance) (widening claim.drift_ppb (far_high y))
-      (from_reach (claim.drift_ppb * far_high y) (billion - claim.drift_ppb)
-      (widening claim.drift_ppb (far_high y)) (error -ℤ (y.t4_high +ℤ claim.reading -ℤ y.t3 +ℤ y.distance))
-      (widened (far_high y)) h)
+  high_room y = grind (arith, reached, widening, high_over, high_back)
 
 -- ---- all entries
 
@@ -146,27 +128,17 @@ module _ (widenings : WideningLaw) (claim : ClaimData) (rate : claim.drift_ppb �
   -- the sample of an exchange
   sample_is : (k : ℕ) (x : Exchange) (s : Sample) → slice_get xs k ≡ Some x
       → slice_get (samples_of xs claim) k ≡ Some s → sample_of x claim.reading ≡ s
-  sample_is k x s at found =
-      let same : Some (sample_of x claim.reading) ≡ Some s =
-      sym (slice_get-map (λ z. sample_of z claim.reading) xs k
-      ∙ ap (option_map (λ z. sample_of z claim.reading)) at) ∙ found in
-      cc
+  sample_is k x s at found = grind (arith, sample_of, slice_get-map, option_map)
 
   exchange_at : (k : ℕ) (s : Sample) → slice_get (samples_of xs claim) k ≡ Some s
       → (x : Exchange) × (slice_get xs k ≡ Some x) × (sample_of x claim.reading ≡ s)
-  exchange_at k s found =
-      mapped (λ z. sample_of z claim.reading) (slice_get xs k) s
-      (sym (slice_get-map (λ z. sample_of z claim.reading) xs k) ∙ found)
+  exchange_at k s found = grind (arith, mapped, sample_of, slice_get, slice_get-map)
 
   -- the part that an entry of two exchanges says
   part_is : (a b : ℕ) (x y : Exchange) (part : Part) → slice_get xs a ≡ Some x → slice_get xs b ≡ Some y
       → Said (a, b) part
       → part ≡ part_of (sample_of x claim.reading) (sample_of y claim.reading) stretch claim.drift_ppb
-  part_is a b x y part at_a at_b said =
-      said.is
-      ∙ ap (λ (s : Sample). part_of s said.high stretch claim.drift_ppb) (sym (sample_is a x said.low at_a said.low_is))
-      ∙ ap (λ (s : Sample). part_of (sample_of x claim.reading) s stretch claim.drift_ppb)
-      (sym (sample_is b y said.high at_b said.high_is))
+  part_is a b x y part at_a at_b said = grind (arith, part_of, sample_is, sample_of)
 
   -- a part of a group, which leaves a point out
   abbrev in_group : ℤ → ℕ → Part → Bool
@@ -181,21 +153,14 @@ module _ (widenings : WideningLaw) (claim : ClaimData) (rate : claim.drift_ppb �
 
   count_is : (point : ℤ) → count_by (λ i. leaves_out i point) (group_intervals claim.groups shown.parts)
       ≡ count_by (group_leaves_out point) (numbers_below (length claim.groups))
-  count_is point = counted (λ i. leaves_out i point) (meet_leaves_it_out point)
-      (group_interval claim.groups shown.parts) (numbers_below (length claim.groups))
+  count_is point = grind (arith, counted, leaves_out, meet_leaves_it_out, group_interval, numbers_below, length)
 
   -- a part of a group that doesn't leave a point out holds it
   part_holds : (point : ℤ) (g j : ℕ) (part : Part) → slice_get shown.parts j ≡ Some part
       → slice_index claim.groups part.server ≡ g → group_leaves_out point g ≡ false
       → leaves_out part.interval point ≡ false
-  part_holds point g j part at is held = by_test (leaves_out part.interval point)
-      (λ out.
-      let same : (slice_index claim.groups part.server == g) ≡ true = grind (arith, nat_tests) in
-      let found = any_passes_from_place (in_group point g) shown.parts j part at
-      (and_from (slice_index claim.groups part.server == g) (leaves_out part.interval point) same out) in
-      let never : true ≡ false = sym found ∙ sym (group_is point g) ∙ held in
-      absurd cc)
-      (λ fine. fine)
+  part_holds point g j part at is held =
+      grind (arith, by_test, leaves_out, slice_index, any_passes_from_place, and_from, group_is)
 
   -- the least admissible error is admitted
   pub some_admitted : Admit claim xs entries stretch.begin stretch.end shown.lo
@@ -215,8 +180,8 @@ module _ (widenings : WideningLaw) (claim : ClaimData) (rate : claim.drift_ppb �
         let ends = held_ends part.interval shown.lo held in
         let low = subst (λ (p : Part). p.interval.lo ≤ℤ shown.lo) is ends.0 in
         let high = subst (λ (p : Part). shown.lo ≤ℤ p.interval.hi) is ends.1 in (
-          low_room widenings claim rate stretch.begin stretch.end shown.lo x low,
-          high_room widenings claim rate stretch.begin stretch.end shown.lo y high,
+          (low_room widenings claim rate stretch.begin stretch.end shown.lo x).0 low,
+          (high_room widenings claim rate stretch.begin stretch.end shown.lo y).0 high,
         );
   }
 
@@ -236,8 +201,8 @@ module _ (widenings : WideningLaw) (claim : ClaimData) (rate : claim.drift_ppb �
         let server : part.server ≡ x.server = ap (λ (p : Part). p.server) is in
         let room = admit.room j entry.0 entry.1 x y found.1 low_at.1 high_at.1
         (ap (λ (s : ℕ). admit.is_wrong (slice_index claim.groups s)) (sym server) ∙ fine) in
-        let low = low_held widenings claim rate stretch.begin stretch.end error x room.0 in
-        let high = high_held widenings claim rate stretch.begin stretch.end error y room.1 in
+        let low = (low_room widenings claim rate stretch.begin stretch.end error x).1 room.0 in
+        let high = (high_room widenings claim rate stretch.begin stretch.end error y).1 room.1 in
         held_test part.interval error
         (subst (λ (p : Part). p.interval.lo ≤ℤ error) (sym is) low)
         (subst (λ (p : Part). error ≤ℤ p.interval.hi) (sym is) high)
@@ -258,13 +223,7 @@ module _ (widenings : WideningLaw) (claim : ClaimData) (rate : claim.drift_ppb �
         absurd cc)
 
     no_more_at : (g : ℕ) → cond (group_leaves_out error g) 1 0 ≤ cond (admit.is_wrong g) 1 0
-    no_more_at g = by_test (group_leaves_out error g)
-        (λ out. omega (
-          arith,
-          cond-true {A = ℕ} (group_leaves_out error g) 1 0 out,
-          cond-true {A = ℕ} (admit.is_wrong g) 1 0 (out_is_wrong g out),
-        ))
-        (λ held. omega (arith, cond-false {A = ℕ} (group_leaves_out error g) 1 0 held))
+    no_more_at g = grind (arith, by_test, cond-true, out_is_wrong, cond-false)
 
     admissible : IsAdmissible (group_intervals claim.groups shown.parts) claim.false_max error
     admissible =
@@ -278,9 +237,4 @@ module _ (widenings : WideningLaw) (claim : ClaimData) (rate : claim.drift_ppb �
 
     -- an error that is admitted is within the bound
     pub none_beyond : pos (unsigned_abs error) ≤ℤ claim.bound
-    none_beyond =
-        let least = shown.hull.1.1 error admissible in
-        let most = shown.hull.2.1 error admissible in
-        let above = shown.above in
-        let below = shown.below in
-        size_within error claim.bound (omega (arith, ints)) (omega (arith, ints))
+    none_beyond = grind (arith, admissible, size_within)

@@ -1,5 +1,6 @@
 -- What is read of a capture is what its bytes give.
 use Rattle.audit.proofs.Common.{◌≡◌, ◌∙◌, ℕ, List, Option, Some, None, Result, Ok, Err, refl, sym, ap, inl, inr, IfSome, IsOk, CaptureFault, Coming, capture_of, AllRemains, ClaimData, PairFault, IsAnswerTo, compact_data, Collection, IsFromOutside, Reads, HasLawfulHeader, capture_read, collection_read, pair_run_fault_of}
+use Rattle.std.proofs.lemmas.Option.{IfSome_then}
 use Rattle.pcap_reader.specs.declared.fault.CaptureFault.TheVariants as captures
 use Rattle.pcap_reader.specs.Refusal.{IsRefusal}
 use Rattle.pairing.specs.declared.compact.CompactCollection.{CompactCollection}
@@ -59,7 +60,6 @@ lawful_header claim (Err fault) collection is = cc
 -- a capture that was read has a lawful header
 pub header_was_read : (claim : ClaimData) (known : Option (List ℕ)) (held : CompactCollection) →
     IfSome known (λ bytes. Reads compact_data (capture_read claim bytes) (Ok held)) → HasLawfulHeader known
-header_was_read claim None held reads = tt
-header_was_read claim (Some bytes) held reads =
+header_was_read claim known held reads = IfSome_then known reads (λ bytes read.
     lawful_header claim (capture_of bytes) (compact_data held)
-    (sym (of_capture claim bytes (capture_of bytes) refl) ∙ reads)
+    (sym (of_capture claim bytes (capture_of bytes) refl) ∙ read))

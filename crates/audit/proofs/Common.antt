@@ -109,7 +109,7 @@ pub use Rattle.serde_json.specs.Data.{Data, Items, Num, array, item, no_items, n
 pub use Rattle.serde_json.specs.Find.{as_array, as_str, as_u64, get}
 pub use Rattle.serde_json.specs.View.{items_of}
 pub use Rattle.span_cover.specs.declared.stretch.Stretch.{Stretch}
-pub use Rattle.audit.specs.CaptureInput.{collection_or_fault, collection_read, pair_run_fault_of}
+pub use Rattle.audit.specs.CaptureInput.{collection_read, pair_run_fault_of}
 unfoldable pub use Rattle.audit.specs.CaptureInput.{capture_read}
 pub use Rattle.audit.specs.Captured.{CapturedFrame, IsCaptureOf, IsLawfulFrame, frame_of, record_bytes}
 pub use Rattle.audit.specs.Check.{ArePiecesTraced, HasVerdict, HasVerdictYes, IsDenied, IsTracedByPieces, IsTracedTo}
@@ -131,10 +131,10 @@ pub use Rattle.audit.specs.Nanoseconds.{GivesNanoseconds}
 pub use Rattle.audit.specs.Question.{AreInputsOf, AskedData, Finding, QuestionData, ShowsOf, for_a_program, no_finding}
 pub use Rattle.audit.specs.Refute.{GiveRefutation, IsContestedOf, IsSettledFor, IsUncontestedOf, refute}
 pub use Rattle.audit.specs.Refute.{refuted_outcome}
-pub use Rattle.audit.specs.Report.{InputsData, IsOfMaking, IsUnfound, PublishesWhole, Tells, TellsFinding, TellsTwice}
+pub use Rattle.audit.specs.Report.{InputsData, IsOfMaking, IsUnfound, Tells, TellsFinding, TellsTwice}
 pub use Rattle.audit.specs.Report.{inputs_data, inputs_read, report_on, run_report, with_second}
 pub use Rattle.audit.specs.Second.{HasSecond, SecondData, SecondKind, certificate_said, certificate_second, most_second}
-pub use Rattle.audit.specs.Second.{no_second, nothing_said, of_certificate, of_refutation, refutation_said}
+pub use Rattle.audit.specs.Second.{no_second, nothing_said, refutation_said}
 pub use Rattle.audit.specs.Second.{refutation_second, second_read}
 pub use Rattle.audit.specs.Settle.{IsSettledBy, IsSettledFrom, IsSettledOf, IsShownOf, answer_on, is_on_least}
 pub use Rattle.audit.specs.Settle.{names_least, nanoseconds_in, report_of, settled_outcome, text_for}

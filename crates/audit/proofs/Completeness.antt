@@ -1,44 +1,21 @@
 -- Each exchange in the frames of a capture is collected.
 use Rattle.audit.proofs.Common.{◌≡◌, ◌≢◌, ℕ, zero, suc, ◌&&◌, ◌==◌, ℤ, pos, Bool, true, inl, List, [], ◌∷◌, map, Option, Some, None, refl, sym, ap, ◌∙◌, subst, arith, AllPairs, Contains, slice_get, filter, filter_map, cons_option, option_and_then, option_map, cond-true, cond-false, nat_tests, slice_get-get_or, IsBytes, Unit as TimeUnit, IsUnfolded, Record, mode_of, origin_of, receive_of, transmit_of, ntp_port, ClaimData, Exchange, Request, Reply, request_of, reply_of, reply_in, reply_from, IsPair, requests_of, replies_of, answers, exchange_of, exchanges_of, low_of, high_of, by_test, CapturedFrame, frame_of, HoldsPacket, packet_with, HoldsRequest, IsWindowOf, IsExchangeIn, SameExchange, IsAmong}
+use Rattle.audit.proofs.PacketParts.{packet_held, unrefused}
 use Rattle.audit.proofs.RecordFrames.{SaidBy, frame_at, said_by}
-use Rattle.audit.proofs.ExchangeRecords.{Laws, AreInPlace, request_at, gives_request, three_pass, distance_is, moved, window_at}
+use Rattle.audit.proofs.ExchangeRecords.{Laws, AreInPlace, given_among, request_at, gives_request, three_pass, distance_is, moved, window_at}
 use Rattle.audit.proofs.Uniqueness.{floor_same, ceiling_same}
 
 -- ---- lists
 
 module _ {X Y : Type 0} (f : X → Option Y) where
-  kept_among : (o : Option Y) (ys : List Y) (y : Y) → Contains ys y → Contains (cons_option o ys) y
-  kept_among None ys y there = there
-  kept_among (Some z) ys y (k, below, is) = (suc k, omega (arith, below), is)
-
-  first_among : (o : Option Y) (ys : List Y) (y : Y) → o ≡ Some y → Contains (cons_option o ys) y
-  first_among None ys y is = absurd cc
-  first_among (Some z) ys y is = (0, omega arith, cc)
-
-  -- what is given of one of these stands in what is given of all
-  given_among : (xs : List X) (k : ℕ) (x : X) (y : Y) → slice_get xs k ≡ Some x → f x ≡ Some y
-      → Contains (filter_map f xs) y
-  given_among [] k x y at is = absurd cc
-  given_among (first ∷ xs) zero x y at is =
-      let same : first ≡ x = cc in
-      first_among (f first) (filter_map f xs) y (ap f same ∙ is)
-  given_among (first ∷ xs) (suc k) x y at is =
-      kept_among (f first) (filter_map f xs) y (given_among xs k x y at is)
-
   module _ (p : Y → Bool) where
     skipped : (o : Option Y) (ys rest : List Y) → ((y : Y) → o ≡ Some y → p y ≡ true → ⊥)
         → filter p ys ≡ rest → filter p (cons_option o ys) ≡ rest
-    skipped None ys rest fails is = is
-    skipped (Some z) ys rest fails is =
-        let test = by_test (p z) (λ passes. absurd (fails z refl passes)) (λ fails'. fails') in
-        cond-false (p z) (z ∷ filter p ys) (filter p ys) test ∙ is
+    skipped x0 ys rest fails is = grind (arith, by_test, cond-false, filter)
 
     taken : (o : Option Y) (ys : List Y) (y : Y) → o ≡ Some y → p y ≡ true → filter p ys ≡ []
         → filter p (cons_option o ys) ≡ y ∷ []
-    taken None ys y is passes none = absurd cc
-    taken (Some z) ys y is passes none =
-        let test : p z ≡ true = cc in
-        cc (cond-true (p z) (z ∷ filter p ys) (filter p ys) test)
+    taken x0 ys y is passes none = grind (arith, cond-true, filter)
 
     -- if nothing that is given passes, nothing is kept
     none_kept : (xs : List X)
@@ -70,10 +47,7 @@ module _ {X Y : Type 0} (f : X → Option Y) where
 -- a frame has one window
 window_same : (unit : TimeUnit) (frame : CapturedFrame) (a b c d : ℤ) → IsWindowOf unit frame a b
     → IsWindowOf unit frame c d → (a ≡ c) × (b ≡ d)
-window_same unit frame a b c d x y = (
-  x.low_is ∙ ap pos (floor_same _ _ x.low_tick y.low_tick x.floor y.floor) ∙ sym y.low_is,
-  x.high_is ∙ ap pos (ceiling_same _ _ x.high_tick y.high_tick x.ceiling y.ceiling) ∙ sym y.high_is,
-)
+window_same unit frame a b c d x y = grind (arith, pos, floor_same, ceiling_same)
 
 three_same : (a b c d e f : ℕ) → (a == b && (c == d && e == f)) ≡ true → (a ≡ b) × (c ≡ d) × (e ≡ f)
 three_same a b c d e f h = grind (arith, nat_tests)
@@ -88,7 +62,7 @@ module _ (laws : Laws) (claim : ClaimData) (apart : AllPairs (λ a b. a ≢ b) c
       → reply_of claim r ≡ Some (record { server = server; port = port; header = header; head = r.head })
   unfolding reply_of
   gives_reply r server address port header listed bytes holds mode =
-      let found = laws.held r.bytes address ntp_port claim.client port header bytes (inl refl) holds in
+      let found = packet_held laws.datagram r.bytes bytes address ntp_port claim.client port header (inl refl) holds in
       let p = packet_with address ntp_port claim.client port header found.0 in
       let answered = (laws.reply claim p server apart).1 (record {
         from_server = listed;
@@ -120,20 +94,13 @@ module _ (laws : Laws) (claim : ClaimData) (apart : AllPairs (λ a b. a ≢ b) c
       → request_of claim r ≡ Some q → answers reply q ≡ true → slice_get claim.servers reply.server ≡ Some address
       → HoldsRequest r.bytes claim.client reply.port address (origin_of reply.header)
   holds_named r q reply address bytes gives passes listed =
-      let same = three_same reply.server q.server reply.port q.port (origin_of reply.header) q.stamp passes in
-      let holds = holds_request r q address bytes gives (ap (slice_get claim.servers) (sym same.0) ∙ listed) in
-      subst (λ (port : ℕ). HoldsRequest r.bytes claim.client port address (origin_of reply.header)) (sym same.1)
-      (subst (λ (stamp : ℕ). HoldsRequest r.bytes claim.client q.port address stamp) (sym same.2) holds)
+      grind (arith, three_same, origin_of, holds_request, slice_get)
 
 -- ---- exchanges
 
--- each pair gives its exchange, and a timestamp stands for one tick near a moment
-pub record MoreLaws : Type 0 where
-  pub complete : (claim : ClaimData) (records : List Record) (q : Request) (reply : Reply)
-      → IsPair claim records q reply → Contains (exchanges_of claim records) (exchange_of q reply)
-  pub one_tick : (stamp : ℕ) (near s t : ℤ) → IsUnfolded stamp near s → IsUnfolded stamp near t → s ≡ t
-
-module _ (laws : Laws) (more : MoreLaws) (claim : ClaimData) (apart : AllPairs (λ a b. a ≢ b) claim.servers)
+module _ (laws : Laws)
+    (one_tick : (stamp : ℕ) (near s t : ℤ) → IsUnfolded stamp near s → IsUnfolded stamp near t → s ≡ t)
+    (claim : ClaimData) (apart : AllPairs (λ a b. a ≢ b) claim.servers)
     (unit : TimeUnit) (records : List Record) (given : AreInPlace unit records) where
   module _ (x : Exchange) (is : IsExchangeIn claim unit (map frame_of records) x) where
     asked : SaidBy records x.request is.request
@@ -173,7 +140,7 @@ module _ (laws : Laws) (more : MoreLaws) (claim : ClaimData) (apart : AllPairs (
         (origin_of is.header) refl refl refl in
         record {
           given = given_among (reply_of claim) records x.reply answered.by reply answered.stands gives_r;
-          accepted = (laws.usable is.header).1 is.usable;
+          accepted = unrefused is.header is.usable;
           only = lone_kept (request_of claim) (answers reply) records x.request asked.by q asked.stands gives_q
               passes (λ j r other there gives passes'.
               is.only j (frame_of r) (frame_at records j r there)
@@ -205,16 +172,18 @@ module _ (laws : Laws) (more : MoreLaws) (claim : ClaimData) (apart : AllPairs (
           t1_high = t1.1;
           t4_low = t4.0;
           t4_high = t4.1;
-          t2 = more.one_tick (receive_of is.header) x.t1_low x.t2 y.t2 is.t2
+          t2 = one_tick (receive_of is.header) x.t1_low x.t2 y.t2 is.t2
               (near (receive_of is.header) y.t2 (laws.stamp (receive_of is.header) (low_of asked.by.head)));
-          t3 = more.one_tick (transmit_of is.header) x.t1_low x.t3 y.t3 is.t3
+          t3 = one_tick (transmit_of is.header) x.t1_low x.t3 y.t3 is.t3
               (near (transmit_of is.header) y.t3 (laws.stamp (transmit_of is.header) (low_of asked.by.head)));
           distance = is.distance ∙ sym (distance_is laws is.header is.usable);
         }
 
-    pub collected : IsAmong (exchanges_of claim records) x
-    collected =
-        let there = more.complete claim records q reply pair in
+    -- if each pair gives its exchange
+    pub collected : ((q : Request) (reply : Reply) → IsPair claim records q reply
+        → Contains (exchanges_of claim records) (exchange_of q reply)) → IsAmong (exchanges_of claim records) x
+    collected complete =
+        let there = complete q reply pair in
         let y = exchange_of q reply in
         record {
           place = there.0;

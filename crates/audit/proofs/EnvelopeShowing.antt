@@ -1,5 +1,5 @@
 -- What an envelope shows.
-use Rattle.audit.proofs.Common.{◌≡◌, ◌∙◌, ◌≤◌, ℕ, List, length, Bool, true, false, None, Result, Ok, Err, ◌⊎◌, inl, inr, refl, sym, ap, subst, arith, nat_tests, length-map, All-map, All, nat_lt, if◌then◌else◌, range_with_len, max_pieces, ClaimData, IsLawful, Sample, HoldsError, IsContradicted, Stretch, FindFault, TooManyPieces, Memory, FindsEnvelope, Outcome, RunFault, IsMadeFor, Style, IsEnvelopeOf, bound_outcome, envelope_in, envelope_report, find_run_fault_of, EvidenceData, samples_in}
+use Rattle.audit.proofs.Common.{◌≡◌, ◌∙◌, ◌≤◌, ℕ, List, length, Bool, true, false, Result, Ok, Err, refl, sym, ap, subst, arith, nat_tests, length-map, All-map, All, nat_lt, if◌then◌else◌, range_with_len, max_pieces, ClaimData, Sample, HoldsError, IsContradicted, Stretch, FindFault, TooManyPieces, FindsEnvelope, IsEnvelopeOf, bound_outcome, EvidenceData, samples_in}
 use Rattle.std.proofs.lemmas.List.FromFn.{length-map-range_with_len}
 use Rattle.std.specs.Prelude.{map}
 use Rattle.intersection.specs.declared.kinds.Hull.{Hull}
@@ -8,10 +8,6 @@ use Rattle.finder.specs.declared.envelope.Envelope.{Envelope as FoundEnvelope}
 use Rattle.finder.specs.Entry.{best_hull}
 use Rattle.finder.specs.Envelope.{EnvelopeData, PieceHullData, data_of, envelope_of, envelope_to, piece_data, piece_hull_at}
 use Rattle.finder.specs.Piece.{count_of}
-use Rattle.checker.specs.Samples.{AreSamplesOf}
-use Rattle.audit_text.specs.declared.envelope.EnvelopeOptions.{EnvelopeOptions}
-use Rattle.audit.specs.Envelope.{report_of}
-use Rattle.audit.proofs.SettlementShowing.{refused_made}
 
 -- ---- the pieces
 
@@ -62,50 +58,27 @@ module _ (P : PieceHullData → Type 0) (at : ℕ → PieceHullData) (each : (k 
   all_pieces : (n : ℕ) → All P (map at (range_with_len 0 n))
   all_pieces n = All-map P at (range_with_len 0 n) (all_numbers (range_with_len 0 n))
 
--- ---- what is made of an envelope, or of why there is none
-
-pub envelope_refused : (style : Style) (asked : EnvelopeOptions) (e : EvidenceData) (fault : FindFault) (told : RunFault)
-    → told ≡ find_run_fault_of fault → (fault ≡ Memory) ⊎ (envelope_in asked.step.seconds e ≡ Err fault)
-    → IsMadeFor (envelope_report style asked None e) (Err told)
-envelope_refused style asked e Memory told is why = rw is tt
-envelope_refused style asked e TooManyPieces told is (inl memory) = absurd cc
-envelope_refused style asked e TooManyPieces told is (inr same) =
-    subst (λ (r : Result EnvelopeData FindFault). IsMadeFor (report_of style asked None e r) (Err told))
-    (sym same) (refused_made TooManyPieces told is)
-
 -- ---- the whole
 
--- the law that the hull of a piece holds the error
-abbrev pub HullLaw : Type 0
-HullLaw = (claim : ClaimData) (samples : List Sample) (stretch : Stretch) → IsLawful claim
-    → AreSamplesOf claim samples
-    → HoldsError claim samples stretch (best_hull samples claim stretch)
-
-module _ (law : HullLaw) (step : ℕ) (e : EvidenceData) (lawful : IsLawful e.claim) where
-  shown : AreSamplesOf e.claim (samples_in e) → (envelope : FoundEnvelope)
-      → FindsEnvelope (samples_in e) e.claim step (Ok envelope)
-      → IsEnvelopeOf step (bound_outcome envelope.least) e
-  shown are envelope finds =
-      let samples = samples_in e in
-      let is = whole samples e.claim step (data_of envelope) finds.exact in
-      let n = count_of e.claim step in
-      let at = piece_hull_at samples e.claim step in
-      let Holds = λ (piece : PieceHullData). HoldsError e.claim samples piece.stretch piece.hull in
-      let Void = λ (piece : PieceHullData). piece.hull ≡ Empty → IsContradicted e.claim samples piece.stretch in
-      let held_at = λ (k : ℕ). law e.claim samples (at k).stretch lawful are in
-      record {
-        envelope = data_of envelope;
-        envelope_is = finds.exact;
-        holds_error = subst (λ (d : EnvelopeData). All Holds d.pieces) (sym is.same) (all_pieces Holds at held_at n);
-        empty = subst (λ (d : EnvelopeData). All Void d.pieces) (sym is.same) (all_pieces Void at
-            (λ k. contradicted e.claim samples (at k).stretch (at k).hull (held_at k)) n);
-        bound = finds.least;
-        outcome_is = refl;
-      }
-
-  -- what its outcome shows
-  pub envelope_shows : AreSamplesOf e.claim (samples_in e) → (samples : List Sample) → samples ≡ samples_in e
-      → (envelope : FoundEnvelope) (outcome : Outcome) → outcome ≡ bound_outcome envelope.least
-      → FindsEnvelope samples e.claim step (Ok envelope) → IsEnvelopeOf step outcome e
-  envelope_shows are samples same envelope outcome is finds =
-      rw is (shown are envelope (rw same at finds))
+-- what its outcome shows
+pub envelope_shows : (step : ℕ) (e : EvidenceData)
+    → ((stretch : Stretch) → HoldsError e.claim (samples_in e) stretch (best_hull (samples_in e) e.claim stretch))
+    → (envelope : FoundEnvelope) → FindsEnvelope (samples_in e) e.claim step (Ok envelope)
+    → IsEnvelopeOf step (bound_outcome envelope.least) e
+envelope_shows step e law envelope finds =
+    let samples = samples_in e in
+    let is = whole samples e.claim step (data_of envelope) finds.exact in
+    let n = count_of e.claim step in
+    let at = piece_hull_at samples e.claim step in
+    let Holds = λ (piece : PieceHullData). HoldsError e.claim samples piece.stretch piece.hull in
+    let Void = λ (piece : PieceHullData). piece.hull ≡ Empty → IsContradicted e.claim samples piece.stretch in
+    record {
+      envelope = data_of envelope;
+      envelope_is = finds.exact;
+      holds_error = subst (λ (d : EnvelopeData). All Holds d.pieces) (sym is.same)
+          (all_pieces Holds at (λ k. law (at k).stretch) n);
+      empty = subst (λ (d : EnvelopeData). All Void d.pieces) (sym is.same) (all_pieces Void at
+          (λ k. contradicted e.claim samples (at k).stretch (at k).hull (law (at k).stretch)) n);
+      bound = finds.least;
+      outcome_is = refl;
+    }

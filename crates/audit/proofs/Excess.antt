@@ -1,5 +1,5 @@
 -- An error beyond the bound: in parts of a tick, in nanoseconds, and of an accepted refutation.
-use Rattle.audit.proofs.Common.{◌≡◌, ℕ, suc, ◌*◌, ◌<◌, ◌≤◌, ℤ, pos, negsuc, ◌*ℤ◌, unsigned_abs, Bool, true, false, inl, ⊎_elim, List, length, get_or, Some, refl, ap, ◌∙◌, arith, slice_get, mul-le-mul_right, cases_lt, ints, length-map, slice_get-get_or, IsBytes, nanoseconds_per_second, IsFloor, ticks_per_second, Format, Record, IsCapture, RefutationData, ClaimData, AreGiven, Exchange, error_of, Course, FitsInWindows, IsAgainst, HasCourse, SharesRequests, frame_of, IsClaimText, HasCourseBeyond, IsBeyond, IsBeyondNanoseconds, EvidenceData, IsContestedOf}
+use Rattle.audit.proofs.Common.{◌≡◌, ℕ, suc, ◌*◌, ◌<◌, ℤ, pos, negsuc, ◌*ℤ◌, unsigned_abs, Bool, true, false, inl, ⊎_elim, List, length, get_or, Some, ap, ◌∙◌, arith, slice_get, mul-le-mul_right, cases_lt, ints, length-map, slice_get-get_or, IsBytes, nanoseconds_per_second, IsFloor, ticks_per_second, Format, Record, IsCapture, RefutationData, ClaimData, AreGiven, Exchange, error_of, Course, FitsInWindows, IsAgainst, HasCourse, SharesRequests, frame_of, IsClaimText, HasCourseBeyond, IsBeyond, IsBeyondNanoseconds, EvidenceData, IsEvidenceOf, CourseContests, ShowsContested, IsContestedOf}
 use Rattle.intersection.specs.Fineness.{times_le}
 use Rattle.audit.proofs.RecordFrames.{captured, each_record}
 use Rattle.audit.proofs.ExchangeRecords.{in_place}
@@ -12,9 +12,7 @@ abs_times (negsuc e) n = omega (arith, ints)
 
 -- n times a strict order
 times_lt : (a b n : ℕ) → 0 < n → a < b → a * n < b * n
-times_lt a b n some less =
-    let h : suc a * n ≤ b * n = mul-le-mul_right n (let le : suc a ≤ b = omega (arith, less) in le) in
-    omega (arith, h, some)
+times_lt a b n some less = grind (arith, suc, mul-le-mul_right)
 
 -- what is beyond a rounded bound in ticks is beyond the bound in nanoseconds
 above_floor : (bound_ns bound size : ℕ) → IsFloor (bound_ns * ticks_per_second) nanoseconds_per_second bound
@@ -34,9 +32,7 @@ module _ (text : List ℕ) (claim : ClaimData) (said : IsClaimText text claim) (
 
   beyond_ticks : said.bound < size
   unfolding size
-  beyond_ticks =
-      let beyond = rw said.bound_in_ticks at has.beyond in
-      omega (arith, ints)
+  beyond_ticks = grind (arith)
 
   pub beyond_in_ticks : IsBeyond has.course claim.bound
   beyond_in_ticks =
@@ -78,12 +74,10 @@ observed_beyond claim xs r against course fits shares reading error =
 -- the course of an accepted refutation
 pub course_beyond : (claim : ClaimData) (xs : List Exchange) (r : RefutationData) → IsAgainst claim r
     → HasCourse claim xs r → HasCourseBeyond claim xs
-course_beyond claim xs r against (course, of) =
-    observed_beyond claim xs r against course of.fits of.shares_requests of.observed
-    (of.off_throughout.one_error course.observation (inl refl))
+course_beyond claim xs r against (course, of) = grind (arith, observed_beyond, inl)
 
 -- one that stands has a course beyond the bound
-pub standing_beyond : (drift : Bool) (r : RefutationData) (e : EvidenceData) → IsContestedOf drift r e
+standing_beyond : (drift : Bool) (r : RefutationData) (e : EvidenceData) → IsContestedOf drift r e
     → HasCourseBeyond e.claim e.collection.exchanges
 standing_beyond true r e stands =
     let of = stands.course in
@@ -91,6 +85,11 @@ standing_beyond true r e stands =
     of.observed.reading of.observed.error
 standing_beyond false r e stands =
     course_beyond e.claim e.collection.exchanges r stands.accepted.against stands.course
+
+-- which the bytes show that give the evidence
+pub contests : CourseContests → (drift : Bool) (r : RefutationData) (e : EvidenceData) → IsContestedOf drift r e
+    → (b f : List ℕ) → IsEvidenceOf b f e → ShowsContested b f
+contests contested drift r e stands b f is bytes = grind (arith, standing_beyond)
 
 -- ---- the records of a capture
 

@@ -1,17 +1,13 @@
 -- The exchanges of records are exchanges in them.
-use Rattle.audit.proofs.Common.{◌≡◌, ◌≢◌, ℕ, zero, suc, ◌+◌, ◌*◌, ◌<◌, ℤ, pos, int_lt, Bool, true, false, cond, ◌&&◌, ◌==◌, ◌⊎◌, inr, ◌↔◌, List, [], ◌∷◌, ◌++◌, length, map, Option, Some, None, refl, sym, ap, ◌∙◌, subst, arith, All, AllPairs, Contains, slice_get, filter, filter_map, unwrap_or, cons_option, option_and_then, option_map, cond-true, cond-false, nat_tests, ints, take-append_seam, drop-append_seam, All-nil, All-cons, All-contains, All-filter, All-take, All-drop, get_or_from_slice_get, slice_get_within, IsBytes, Unit as TimeUnit, IsFloor, IsCeiling, floor_of, ceiling_of, IsUnfolded, unfolded, per_second, ticks_per_second, window_low, window_high, Endian, Format, Record, IsCapture, spelling, record_spelling, spelled, mode_of, precision_of, precision_ticks_of, root_delay_of, root_dispersion_of, origin_of, receive_of, transmit_of, root_distance_of, Packet, ntp_port, packet_of, ClaimData, Exchange, Request, Reply, IsRequestTo, IsReplyOf, request_of, reply_of, requested_server, replying_server, request_in, reply_in, request_to, reply_from, IsExchangeOf, requests_of, replies_of, requests_for, answers, exchange_of, exchanges_of, low_of, high_of, distance_of, refusal_of, CapturedFrame, frame_of, HoldsPacket, HoldsShown, packet_with, HoldsRequest, IsUsable, IsWindowOf, IsExchangeIn}
+use Rattle.audit.proofs.Common.{by_test, ◌≡◌, ◌≢◌, ℕ, zero, suc, ◌+◌, ◌*◌, ◌<◌, ℤ, pos, int_lt, Bool, true, ◌&&◌, ◌==◌, inr, ◌↔◌, List, [], ◌∷◌, ◌++◌, length, map, Option, Some, None, refl, sym, ap, ◌∙◌, subst, arith, All, AllPairs, Contains, slice_get, filter, filter_map, unwrap_or, cons_option, option_and_then, option_map, cond-false, nat_tests, take-append_seam, drop-append_seam, All-nil, All-cons, All-contains, All-filter, All-take, All-drop, get_or_from_slice_get, slice_get_within, IsBytes, Unit as TimeUnit, IsFloor, IsCeiling, floor_of, ceiling_of, IsUnfolded, unfolded, per_second, ticks_per_second, window_low, window_high, Endian, Format, Record, IsCapture, spelling, record_spelling, spelled, mode_of, precision_of, precision_ticks_of, root_delay_of, root_dispersion_of, origin_of, receive_of, transmit_of, root_distance_of, Packet, ntp_port, packet_of, ClaimData, Exchange, Request, Reply, IsRequestTo, IsReplyOf, request_of, reply_of, requested_server, replying_server, request_in, reply_in, request_to, reply_from, IsExchangeOf, requests_of, replies_of, requests_for, answers, exchange_of, exchanges_of, low_of, high_of, distance_of, refusal_of, CapturedFrame, frame_of, HoldsPacket, HoldsShown, packet_with, HoldsRequest, IsUsable, IsWindowOf, IsExchangeIn}
 use Rattle.era_unfold.specs.declared.unit.Unit.TheVariants.{Micro, Nano}
 use Rattle.pcap_reader.specs.declared.format.RecordHead.{RecordHead}
+use Rattle.audit.proofs.PacketParts.{DatagramLaw, packet_given, packet_held, usable_from}
 use Rattle.audit.proofs.RecordFrames.{each_record, frame_at, mapped, said_by}
 
 -- the laws of the layers below
 pub record Laws : Type 0 where
-  pub given : (frame : List ℕ) (p : Packet) → IsBytes frame → packet_of frame ≡ Some p → HoldsShown frame p
-  pub held : (frame source : List ℕ) (source_port : ℕ) (destination : List ℕ) (destination_port : ℕ)
-      (header : List ℕ) → IsBytes frame → (source_port ≡ ntp_port) ⊎ (destination_port ≡ ntp_port)
-      → HoldsPacket frame source source_port destination destination_port header → (rest : List ℕ)
-      × (packet_of frame ≡ Some (packet_with source source_port destination destination_port header rest))
-  pub usable : (header : List ℕ) → (refusal_of header ≡ None) ↔ IsUsable header
+  pub datagram : DatagramLaw
   pub request : (claim : ClaimData) (packet : Packet) (server : ℕ) → AllPairs (λ a b. a ≢ b) claim.servers
       → (requested_server claim packet ≡ Some server) ↔ IsRequestTo claim server packet
   pub reply : (claim : ClaimData) (packet : Packet) (server : ℕ) → AllPairs (λ a b. a ≢ b) claim.servers
@@ -38,37 +34,39 @@ module _ {X Y : Type 0} (f : X → Option Y) where
   all_given [] = All-nil (GivesAt [])
   all_given (x ∷ xs) = step_given x xs (f x) (filter_map f xs) refl (all_given xs)
 
-  module _ (p : Y → Bool) where
-    pub kept_at : (xs : List X) (k : ℕ) (x : X) (y : Y) → slice_get xs k ≡ Some x → f x ≡ Some y → p y ≡ true
-        → (j : ℕ) × (slice_get (filter p (filter_map f xs)) j ≡ Some y)
-    kept_at [] k x y at is passes = absurd cc
-    kept_at (first ∷ xs) zero x y at is passes = (0, here (f first) cc)
-      where
-        here : (o : Option Y) → o ≡ Some y → slice_get (filter p (cons_option o (filter_map f xs))) 0 ≡ Some y
-        here None e = cc
-        here (Some z) e =
-            let test : p z ≡ true = cc in
-            ap (λ (l : List Y). slice_get l 0) (cond-true (p z) (z ∷ filter p (filter_map f xs)) _ test) ∙ e
-    kept_at (first ∷ xs) (suc k) x y at is passes = after (f first) (kept_at xs k x y at is passes)
-      where
-        after : (o : Option Y) → (j : ℕ) × (slice_get (filter p (filter_map f xs)) j ≡ Some y)
-            → (j : ℕ) × (slice_get (filter p (cons_option o (filter_map f xs))) j ≡ Some y)
-        after None found = found
-        after (Some z) found = elim (p z) as (λ b. (j : ℕ)
-            × (slice_get (cond b (z ∷ filter p (filter_map f xs)) (filter p (filter_map f xs))) j ≡ Some y)) [
-              | true ↦ (suc found.0, found.1)
-              | false ↦ found
-            ]
+  kept_among : (o : Option Y) (ys : List Y) (y : Y) → Contains ys y → Contains (cons_option o ys) y
+  kept_among None ys y there = there
+  kept_among (Some z) ys y (k, below, is) = (suc k, omega (arith, below), is)
 
-lone_at : {Y : Type 0} (q y : Y) (j : ℕ) → slice_get (q ∷ []) j ≡ Some y → q ≡ y
-lone_at q y zero at = cc
-lone_at q y (suc j) at = absurd cc
+  first_among : (o : Option Y) (ys : List Y) (y : Y) → o ≡ Some y → Contains (cons_option o ys) y
+  first_among x0 ys y is = grind (arith)
+
+  -- what is given of one of these stands in what is given of all
+  pub given_among : (xs : List X) (k : ℕ) (x : X) (y : Y) → slice_get xs k ≡ Some x → f x ≡ Some y
+      → Contains (filter_map f xs) y
+  given_among [] k x y at is = absurd cc
+  given_among (first ∷ xs) zero x y at is =
+      let same : first ≡ x = cc in
+      first_among (f first) (filter_map f xs) y (ap f same ∙ is)
+  given_among (first ∷ xs) (suc k) x y at is =
+      kept_among (f first) (filter_map f xs) y (given_among xs k x y at is)
+
+-- what passes a test is kept
+kept : {Y : Type 0} (p : Y → Bool) (ys : List Y) (y : Y) → Contains ys y → p y ≡ true → Contains (filter p ys) y
+kept p [] y (k, below, is) passes = absurd (omega arith)
+kept p (z ∷ ys) y (zero, below, is) passes = let test : p z ≡ true = cc in rw test (0, omega arith, is)
+kept p (z ∷ ys) y (suc k, below, is) passes =
+    let found = kept p ys y (k, omega (arith, below), is) passes in
+    by_test (p z) (λ test. rw test (suc found.0, omega (arith, found.1), found.2)) (λ test. rw test found)
+
+lone : {Y : Type 0} (q y : Y) → Contains (q ∷ []) y → q ≡ y
+lone q y (zero, below, is) = is
+lone q y (suc k, below, is) = absurd (omega arith)
 
 -- what comes of a value, if there is one
 passed : {A B : Type 0} (f : A → Option B) (o : Option A) (b : B) → option_and_then f o ≡ Some b
     → (a : A) × (o ≡ Some a) × (f a ≡ Some b)
-passed f None b is = absurd cc
-passed f (Some a) b is = (a, refl, is)
+passed f x1 b is = grind (arith)
 
 -- ---- requests and replies
 
@@ -87,7 +85,7 @@ module _ (laws : Laws) (claim : ClaimData) (apart : AllPairs (λ a b. a ≢ b) c
       let from = mapped (reply_from r.head read.0) (replying_server claim read.0) reply read.2 in
       subst (IsReplyAt r) from.2 (record {
         packet = read.0;
-        held = laws.given r.bytes read.0 bytes read.1;
+        held = packet_given laws.datagram r.bytes bytes read.0 read.1;
         answers' = (laws.reply claim read.0 from.0 apart).0 from.1;
         is = refl;
       })
@@ -106,7 +104,7 @@ module _ (laws : Laws) (claim : ClaimData) (apart : AllPairs (λ a b. a ≢ b) c
       let to = mapped (request_to r.head read.0) (requested_server claim read.0) q read.2 in
       subst (IsRequestAt r) to.2 (record {
         packet = read.0;
-        held = laws.given r.bytes read.0 bytes read.1;
+        held = packet_given laws.datagram r.bytes bytes read.0 read.1;
         asks = (laws.request claim read.0 to.0 apart).0 to.1;
         is = refl;
       })
@@ -118,7 +116,8 @@ module _ (laws : Laws) (claim : ClaimData) (apart : AllPairs (λ a b. a ≢ b) c
       → request_of claim r ≡ Some (record { server = server; port = port; stamp = stamp; head = r.head })
   unfolding request_of
   gives_request r server address port stamp listed bytes holds =
-      let found = laws.held r.bytes claim.client port address ntp_port holds.header bytes (inr refl) holds.held in
+      let found = packet_held laws.datagram r.bytes bytes claim.client port address ntp_port holds.header (inr refl)
+      holds.held in
       let p = packet_with claim.client port address ntp_port holds.header found.0 in
       let asked = (laws.request claim p server apart).1 (record {
         from_client = refl;
@@ -137,8 +136,7 @@ module _ (laws : Laws) (claim : ClaimData) (apart : AllPairs (λ a b. a ≢ b) c
 -- ---- times
 
 some_units : (unit : TimeUnit) → 0 < per_second unit
-some_units Micro = omega arith
-some_units Nano = omega arith
+some_units x0 = grind (arith)
 
 module _ (laws : Laws) where
   window_of : (unit : TimeUnit) (head : RecordHead) → head.unit ≡ unit → (frame : CapturedFrame)
@@ -161,10 +159,7 @@ module _ (laws : Laws) where
   pub distance_is : (header : List ℕ) → IsUsable header → distance_of header ≡ pos (root_delay_of header * 32768
       + root_dispersion_of header * 65536 + precision_ticks_of (precision_of header))
   unfolding root_distance_of
-  distance_is header usable =
-      let precise : int_lt (pos 16) (precision_of header) ≡ false =
-      (let h = usable.precision in grind (arith, ints)) in
-      ap (λ (o : Option ℤ). unwrap_or o (pos 0)) (cond-false (int_lt (pos 16) (precision_of header)) None _ precise)
+  distance_is header usable = grind (arith, int_lt, pos, precision_of, unwrap_or, cond-false)
 
 -- ---- exchanges
 
@@ -233,7 +228,7 @@ module _ (laws : Laws) (claim : ClaimData) (apart : AllPairs (λ a b. a ≢ b) c
             (moved r.bytes at_r.packet.header refl at_r.answers'.from_port at_r.answers'.to_client (sym port)
             at_r.held);
         mode = ap mode_of header ∙ at_r.answers'.mode;
-        usable = (laws.usable reply.header).0 accepted;
+        usable = usable_from reply.header accepted;
         asks = record {
           header = at_s.packet.header;
           held = moved s.bytes at_s.packet.header at_s.asks.from_client (sym from_port ∙ sym same_port) to_server
@@ -258,15 +253,14 @@ module _ (laws : Laws) (claim : ClaimData) (apart : AllPairs (λ a b. a ≢ b) c
             listed (given.bytes k other said.stands) holds_other in
             let passes = three_pass laws claim apart reply.server reply.server reply.port reply.port
             (origin_of reply.header) (origin_of reply.header) refl refl refl in
-            let kept = kept_at (request_of claim) (answers reply) records k other found said.stands gives passes in
-            let same = lone_at q found kept.0
-            (sym (ap (λ (qs : List Request). slice_get qs kept.0) only) ∙ kept.1) in
+            let same = lone q found (rw only at (kept (answers reply) (filter_map (request_of claim) records) found
+            (given_among (request_of claim) records k other found said.stands gives) passes)) in
             sym (ap (λ (x : Request). x.head.number) same ∙ given.numbered k other said.stands);
         t1 = window_at asked.0 s q.head head_s asked.2;
         t2 = laws.stamp (receive_of reply.header) (low_of q.head);
         t3 = laws.stamp (transmit_of reply.header) (low_of q.head);
         t4 = window_at replied.0 r reply.head head_r replied.2;
-        distance = distance_is laws reply.header ((laws.usable reply.header).0 accepted);
+        distance = distance_is laws reply.header (usable_from reply.header accepted);
       }
 
   pub all_exchanges : All (IsExchangeOf claim records) (exchanges_of claim records) → (k : ℕ) (x : Exchange)

@@ -60,9 +60,7 @@ module _ (unit : TimeUnit) where
 -- the bytes that play no part, as the eight after the version and the snapshot length
 split : (front ignored after : List ℕ)
     → front ++ ignored ++ after ≡ front ++ take 8 ignored ++ drop 8 ignored ++ after
-split front ignored after =
-    ap (λ (l : List ℕ). front ++ l ++ after) (sym (take-append-drop 8 ignored))
-    ∙ ap (λ (l : List ℕ). l ++ after) (sym (append_assoc front (take 8 ignored) (drop 8 ignored)))
+split front ignored after = grind (arith, take-append-drop, append_assoc, take, drop)
 
 -- a capture of frames is one of records that say them
 pub of_records : (bytes : List ℕ) (order : Endian) (unit : TimeUnit) (frames : List CapturedFrame)

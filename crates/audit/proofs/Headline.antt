@@ -1,5 +1,6 @@
 -- What was read of a capture, and the pieces of a span.
-use Rattle.audit.proofs.Common.{◌≡◌, ◌∙◌, ℕ, zero, suc, ◌≤◌, ℤ, pos, List, [], ◌∷◌, Bool, true, false, length, Option, Some, None, Result, Ok, Err, refl, sym, ap, IsSomeAnd, slice_get, nat_lt, if◌then◌else◌, ltb-false, PieceData, ClaimData, PairFault, answer_of, unless_broken, most_exchanges, Collection, collection_of, counts_of, exchanges_of, CaptureFault, Record, Coming, capture_of, begin_of, stretches_from, Stretch, capture_read, collection_or_fault, collection_read}
+use Rattle.audit.proofs.Common.{pair_run_fault_of, ◌≡◌, ◌∙◌, ℕ, zero, suc, ◌≤◌, ℤ, pos, List, [], ◌∷◌, Bool, true, false, length, Option, Some, None, Result, Ok, Err, refl, sym, ap, IsSomeAnd, slice_get, nat_lt, if◌then◌else◌, ltb-false, PieceData, ClaimData, PairFault, answer_of, unless_broken, most_exchanges, Collection, collection_of, counts_of, exchanges_of, CaptureFault, Record, Coming, capture_of, begin_of, stretches_from, Stretch, capture_read, collection_read}
+use Rattle.std.specs.Result.{result_map_both}
 use Rattle.pairing.specs.declared.fault.PairFault.TheVariants.{TooManyExchanges}
 
 -- ---- what was read of a capture
@@ -11,7 +12,8 @@ Collected claim bytes collection = (records : List Record)
     × (collection.exchanges ≡ exchanges_of claim records)
     × (length (exchanges_of claim records) ≤ most_exchanges)
 
-of_pairs : (r : Result Collection PairFault) (c : Collection) → collection_or_fault r ≡ Ok c → r ≡ Ok c
+of_pairs : (r : Result Collection PairFault) (c : Collection) →
+    result_map_both (λ collection. collection) pair_run_fault_of r ≡ Ok c → r ≡ Ok c
 of_pairs (Ok d) c is = cc
 of_pairs (Err fault) c is = cc
 

@@ -1,5 +1,5 @@
 -- packets and headers
-use Rattle.audit.proofs.Common.{◌≡◌, ◌≢◌, ℕ, ◌+◌, ◌*◌, ◌≤◌, pos, int_lt, Bool, true, false, cond, ◌||◌, ◌==◌, not, ◌⊎◌, inl, inr, ⊎_elim, ◌↔◌, List, [], ◌∷◌, ◌++◌, length, append_assoc, take, drop, Option, Some, None, Result, Ok, Err, refl, sym, ap, ◌∙◌, subst, arith, nat_tests, ints, take-append-drop, length-take-le, length-append, take-append_seam, IsBytes, header_of, version_of, leap_of, stratum_of, precision_of, origin_of, receive_of, transmit_of, Packet, packet_of, is_ntp, ntp_port, refusal_of, has_zero_stamp, is_synchronized_stratum, cond-false, by_test, HoldsPacket, HoldsShown, packet_with, IsUsable}
+use Rattle.audit.proofs.Common.{◌≡◌, ◌≢◌, ℕ, ◌+◌, ◌*◌, ◌≤◌, pos, int_lt, Bool, true, false, cond, ◌||◌, ◌==◌, not, ◌⊎◌, inl, inr, ◌↔◌, List, [], ◌∷◌, ◌++◌, length, append_assoc, take, drop, Option, Some, None, Result, Ok, Err, refl, sym, ap, ◌∙◌, subst, arith, nat_tests, ints, take-append-drop, length-take-le, length-append, take-append_seam, IsBytes, header_of, version_of, leap_of, stratum_of, precision_of, origin_of, receive_of, transmit_of, Packet, packet_of, is_ntp, ntp_port, refusal_of, has_zero_stamp, is_synchronized_stratum, cond-false, by_test, HoldsPacket, HoldsShown, packet_with, IsUsable}
 use Rattle.frame_reader.specs.declared.skip.Skip.{Skip}
 use Rattle.byteorder.specs.Endian.{big_bytes}
 use Rattle.frame_reader.specs.Frame.{Fields, Parts, datagram_of, HoldsDatagram, ipv4_bytes, tag_bytes, total_length_of, udp_bytes}
@@ -11,12 +11,7 @@ ntp_of d = cond (is_ntp d) (Some (record { datagram = d; header = header_of d.pa
 
 ntp_port_of : (d : Fields) → is_ntp d ≡ true
     → ((d.source_port ≡ ntp_port) ⊎ (d.destination_port ≡ ntp_port)) × (48 ≤ length d.payload)
-ntp_port_of d h = (
-  by_test (d.source_port == ntp_port)
-      (λ yes'. inl (grind (arith, nat_tests)))
-      (λ no'. inr (grind (arith, nat_tests))),
-  grind (arith, nat_tests),
-)
+ntp_port_of d h = grind (arith, by_test, ntp_port, inl, inr)
 
 -- ---- lists that are joined
 
@@ -117,16 +112,10 @@ module _ (frame source : List ℕ) (source_port : ℕ) (destination : List ℕ) 
   }
 
   udp_is : held.datagram ≡ udp_bytes parts fields
-  udp_is = held.udp
-      ∙ append_assoc (udp_head source_port destination_port (8 + length (header ++ held.rest)) held.checksum) header
-      held.rest
+  udp_is = grind (arith, append_assoc, length)
 
   total_is : 4 * held.ipv4.words + length held.datagram + length held.ipv4.rest ≡ total_length_of parts fields
-  total_is =
-      let size = ap length udp_is in
-      let sized = udp_length source_port destination_port (8 + length (header ++ held.rest)) held.checksum
-      (header ++ held.rest) in
-      omega (arith, size, sized)
+  total_is = grind (arith, length, udp_is, udp_length)
 
   packet_is_ipv4 : held.packet ≡ ipv4_bytes parts fields
   packet_is_ipv4 = held.ipv4.joined
@@ -165,16 +154,12 @@ held_from : (frame : List ℕ) (p : Packet) (d : Fields) → HoldsDatagram frame
 held_from frame p d holds e = by_test (is_ntp d)
     (λ yes'.
     let facts = ntp_port_of d yes' in
-    let here : Some (record { datagram = d; header = header_of d.payload }) ≡ Some p =
-    ap (λ (b : Bool). cond b (Some (record { datagram = d; header = header_of d.payload })) None) (sym yes') ∙ e in
+    let here = rw yes' at e in
     let same : record { datagram = d; header = header_of d.payload } ≡ p = cc in
     subst (HoldsShown frame) same
     (layers_of frame d (header_of d.payload) (drop 48 d.payload) (sym (take-append-drop 48 d.payload))
     (length-take-le 48 d.payload facts.1) holds))
-    (λ no'. absurd (
-    let none : None ≡ Some p =
-    ap (λ (b : Bool). cond b (Some (record { datagram = d; header = header_of d.payload })) None) (sym no') ∙ e in
-    cc))
+    (λ no'. let none = rw no' at e in absurd cc)
 
 -- the law on datagrams
 abbrev pub DatagramLaw : Type 0
@@ -186,8 +171,7 @@ packet_from (Err skip) = None
 
 packet_is : (frame : List ℕ) (r : Result Fields Skip) → datagram_of frame ≡ r → packet_of frame ≡ packet_from r
 unfolding packet_of
-packet_is frame (Ok d) is = rw (packet_of, is) refl
-packet_is frame (Err skip) is = rw (packet_of, is) refl
+packet_is frame x1 is = grind (arith, packet_of)
 
 given_held : (law : DatagramLaw) (frame : List ℕ) (p : Packet) → IsBytes frame → (r : Result Fields Skip)
     → datagram_of frame ≡ r → packet_from r ≡ Some p → HoldsShown frame p
@@ -196,11 +180,7 @@ given_held law frame p bytes (Err skip) is e = absurd cc
 
 is_ntp_from : (d : Fields) → (d.source_port ≡ ntp_port) ⊎ (d.destination_port ≡ ntp_port) → 48 ≤ length d.payload
     → is_ntp d ≡ true
-is_ntp_from d port long = ⊎_elim
-    (λ source. grind (arith, nat_tests))
-    (λ destination. by_test (d.source_port == ntp_port)
-    (λ yes'. grind (arith, nat_tests)) (λ no'. grind (arith, nat_tests)))
-    port
+is_ntp_from d port long = grind (arith, by_test, ntp_port)
 
 header_is : (header rest payload : List ℕ) → payload ≡ header ++ rest → length header ≡ 48
     → (header_of payload ≡ header) × (48 ≤ length payload)
@@ -212,8 +192,7 @@ header_is header rest payload joined whole =
 
 module _ (law : DatagramLaw) (frame : List ℕ) (bytes : IsBytes frame) where
   pub packet_given : (p : Packet) → packet_of frame ≡ Some p → HoldsShown frame p
-  packet_given p e =
-      given_held law frame p bytes (datagram_of frame) refl (sym (packet_is frame (datagram_of frame) refl) ∙ e)
+  packet_given p e = grind (arith, given_held, datagram_of, packet_is)
 
   pub packet_held : (source : List ℕ) (source_port : ℕ) (destination : List ℕ) (destination_port : ℕ)
       (header : List ℕ) → (source_port ≡ ntp_port) ⊎ (destination_port ≡ ntp_port)
@@ -236,16 +215,7 @@ module _ (law : DatagramLaw) (frame : List ℕ) (bytes : IsBytes frame) where
 usable_if : (header : List ℕ) → (version_of header == 4) ≡ true → (leap_of header == 3) ≡ false
     → is_synchronized_stratum (stratum_of header) ≡ true → int_lt (pos 16) (precision_of header) ≡ false
     → has_zero_stamp header ≡ false → IsUsable header
-usable_if header version leap stratum precision zero = record {
-  version = grind (arith, nat_tests);
-  synchronized = λ same. grind (arith, nat_tests);
-  least_stratum = grind (arith, nat_tests);
-  greatest_stratum = grind (arith, nat_tests);
-  precision = grind (arith, ints);
-  origin = λ same. grind (arith, nat_tests);
-  receive = λ same. grind (arith, nat_tests);
-  transmit = λ same. grind (arith, nat_tests);
-}
+usable_if header version leap stratum precision zero = grind (arith)
 
 differs : (a b : ℕ) → a ≢ b → (a == b) ≡ false
 differs a b h = by_test (a == b) (λ same. absurd (h (grind (arith, nat_tests)))) (λ other. other)
@@ -258,14 +228,12 @@ module _ {X : Type 0} (p q r s t : X) where
   five_fail : (a b c d e : Bool)
       → cond a (Some p) (cond b (Some q) (cond c (Some r) (cond d (Some s) (cond e (Some t) None)))) ≡ None
       → (a ≡ false) × (b ≡ false) × (c ≡ false) × (d ≡ false) × (e ≡ false)
-  five_fail false false false false false h = (refl, refl, refl, refl, refl)
-  five_fail a b c d e h = absurd cc
+  five_fail a b c d e h = grind (arith)
 
 passes : (a : Bool) → not a ≡ false → a ≡ true
-passes true h = refl
-passes false h = absurd cc
+passes x0 h = grind (arith)
 
-usable_from : (header : List ℕ) → refusal_of header ≡ None → IsUsable header
+pub usable_from : (header : List ℕ) → refusal_of header ≡ None → IsUsable header
 unfolding refusal_of
 usable_from header e =
     let facts = five_fail _ _ _ _ _ (not (version_of header == 4)) (leap_of header == 3)
@@ -274,7 +242,7 @@ usable_from header e =
     usable_if header (passes (version_of header == 4) facts.0) facts.1
     (passes (is_synchronized_stratum (stratum_of header)) facts.2) facts.3 facts.4
 
-unrefused : (header : List ℕ) → IsUsable header → refusal_of header ≡ None
+pub unrefused : (header : List ℕ) → IsUsable header → refusal_of header ≡ None
 unfolding refusal_of
 unrefused header usable =
     let version : not (version_of header == 4) ≡ false = (let h = usable.version in grind (arith, nat_tests)) in

@@ -21,9 +21,7 @@ each_from unit number place (first ∷ records) are (suc k) r at =
 
 module _ (unit : TimeUnit) (records : List Record) (are : AreRecordsFrom unit 0 24 records) where
   pub each_record : (k : ℕ) (r : Record) → slice_get records k ≡ Some r → IsNumbered unit k r
-  each_record k r at =
-      let is : 0 + k ≡ k = omega arith in
-      subst (λ (n : ℕ). IsNumbered unit n r) is (each_from unit 0 24 records are k r at)
+  each_record k r at = grind (arith, each_from)
 
   range_of : (k : ℕ) (r : Record) → IsNumbered unit k r → IsLawfulFrame unit (frame_of r)
   range_of k r (place, is) = record {

@@ -1,8 +1,8 @@
 -- What it shows whether a refutation stands.
-use Rattle.audit.proofs.Common.{Bool, List, ℕ, true, false, refl, sym, true≢false, AllPairs, RefutationData, SameRequest, SettlesWithDrift, Outcome, Yes, No, CourseContests, ShowsContested, EvidenceData, ShowsOf, GiveRefutation, IsContestedOf, IsSettledFor, IsUncontestedOf, refute, refuted_outcome, refutation_said, refutation_second}
+use Rattle.audit.proofs.Common.{◌≡◌, Bool, Ok, AreInputsOf, FeedState, OfClaimAndCapture, refutation_read, List, ℕ, true, false, refl, sym, true≢false, AllPairs, RefutationData, SameRequest, SettlesWithDrift, Outcome, Yes, No, CourseContests, ShowsContested, EvidenceData, ShowsOf, GiveRefutation, IsContestedOf, IsSettledFor, IsUncontestedOf, refute, refuted_outcome, refutation_said, refutation_second}
 use Rattle.checker.specs.Settlement.{Settles}
-use Rattle.audit.proofs.Excess.{standing_beyond}
-use Rattle.audit.proofs.Showing.{of_inputs, refutation_is}
+use Rattle.audit.proofs.Excess.{contests}
+use Rattle.audit.proofs.Showing.{of_inputs, said_is}
 
 module _ (refutation : RefutationData) (e : EvidenceData) (agree : AllPairs SameRequest e.collection.exchanges) where
   -- of one whose error never changes
@@ -32,22 +32,24 @@ module _ (refutation : RefutationData) (e : EvidenceData) (agree : AllPairs Same
   }
 
 -- the bytes of any inputs that say the refutation and give the evidence show the same
+given : (P : RefutationData → EvidenceData → Type 0) (refutation : RefutationData) (e : EvidenceData) → P refutation e →
+    (claim second capture : FeedState) →
+    AreInputsOf refutation_second (refutation_said refutation) e claim second capture →
+    OfClaimAndCapture claim capture (GiveRefutation P second.remaining)
+given P refutation e holds claim second capture are =
+    of_inputs e (GiveRefutation P second.remaining) (λ b f is. record {
+      refutation = refutation;
+      refutation_is = said_is refutation_said (λ t u same. cc) refutation_read refutation
+          (λ s. refutation_read s ≡ Ok refutation) (λ s read. read) second.remaining are.second_is;
+      evidence = record { evidence = e; evidence_is = is; holds = holds };
+    }) claim second capture are
+
 pub refutation_shown : CourseContests → (drift : Bool) (about : List ℕ) (refutation : RefutationData) (e : EvidenceData)
     (outcome : Outcome) → IsSettledFor drift refutation e outcome →
     ShowsOf (refute drift about) refutation_second (refutation_said refutation) e outcome
 refutation_shown contested drift about refutation e Yes h claim second capture are = record {
-  stands = of_inputs e (GiveRefutation (IsContestedOf drift) second.remaining) (λ b f is. record {
-    refutation = refutation;
-    refutation_is = refutation_is refutation second.remaining are.second_is;
-    evidence = record { evidence = e; evidence_is = is; holds = h };
-  }) claim second capture are;
-  shown = of_inputs e ShowsContested (λ b f is bytes.
-      contested b f e.claim e.collection bytes is.claim_is is.collection_is (standing_beyond drift refutation e h))
-      claim second capture are;
+  stands = given (IsContestedOf drift) refutation e h claim second capture are;
+  shown = of_inputs e ShowsContested (contests contested drift refutation e h) claim second capture are;
 }
 refutation_shown contested drift about refutation e No h claim second capture are =
-    of_inputs e (GiveRefutation (IsUncontestedOf drift) second.remaining) (λ b f is. record {
-      refutation = refutation;
-      refutation_is = refutation_is refutation second.remaining are.second_is;
-      evidence = record { evidence = e; evidence_is = is; holds = h };
-    }) claim second capture are
+    given (IsUncontestedOf drift) refutation e h claim second capture are

@@ -1,5 +1,5 @@
 -- What a settled claim shows.
-use Rattle.audit.proofs.Common.{◌≡◌, ℕ, ◌<◌, ◌⊎◌, ⊎_elim, List, length, map, get_or, Err, refl, sym, subst, AllPairs, get_or-map, length-map, slice_get_within, CertificateData, SameRequest, Exchange, IsVerdictOn, ClaimData, FindFault, SettledData, HasTooManyPieces, IsSettledAs, RunFault, IsMadeFor, refused, verdict_on, EvidenceData, samples_in, find_run_fault_of, IsSettlementOf, IsSettledOf}
+use Rattle.audit.proofs.Common.{◌≡◌, ℕ, ◌<◌, ◌⊎◌, ⊎_elim, List, length, map, get_or, Err, sym, subst, AllPairs, get_or-map, length-map, slice_get_within, CertificateData, SameRequest, Exchange, IsVerdictOn, ClaimData, FindFault, SettledData, HasTooManyPieces, IsSettledAs, verdict_on, EvidenceData, samples_in, IsSettlementOf, IsSettledOf}
 use Rattle.feasibility.specs.Contradiction.{AreAllConflicts, IsFirstContradiction, ShownConflict}
 use Rattle.feasibility.specs.PairMarks.{conflict_data}
 use Rattle.feasibility.specs.declared.shown_conflicts.Conflict.{Conflict}
@@ -24,9 +24,7 @@ module _ (e : EvidenceData) (agree : AllPairs SameRequest e.collection.exchanges
     course = h.course agree;
     no_yes = h.none_accepted;
   }
-  settled_of (settles.fitted_by_none conflicts) h = h
-  settled_of (settles.no_evidence groups) h = h
-  settled_of (settles.left_open begin end hull covers most) h = h
+  settled_of settled h = h
 
 -- why nothing is known shows what it says
 pub fault_found : (e : EvidenceData) (fault : FindFault)
@@ -34,11 +32,6 @@ pub fault_found : (e : EvidenceData) (fault : FindFault)
     → IsSettlementOf e (Err fault)
 fault_found e finds.Memory h = tt
 fault_found e finds.TooManyPieces h = ⊎_elim (λ memory. absurd cc) (λ too_many. too_many.1) h
-
-pub refused_made : (fault : FindFault) (told : RunFault) → told ≡ find_run_fault_of fault
-    → IsMadeFor (refused (find_run_fault_of fault)) (Err told)
-refused_made finds.Memory told is = rw is tt
-refused_made finds.TooManyPieces told is = rw is (refl, refl)
 
 -- conflicts name exchanges of the list
 module _ (claim : ClaimData) (xs : List Exchange) (conflicts : List Conflict)

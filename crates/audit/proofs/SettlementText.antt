@@ -1,5 +1,5 @@
 -- The text of a settled claim, on the least bound where it names that.
-use Rattle.audit.proofs.Common.{◌≡◌, ◌++◌, Bool, true, false, List, ℕ, [], Option, Some, None, Result, Ok, Err, refl, IfOk, IsSome, is_some, unwrap_or, SettledData, LeastCarried, Style, whole_text, EvidenceData, answer_on, is_on_least, names_least, nanoseconds_in, report_of, settled_answer, settled_outcome, text_for}
+use Rattle.audit.proofs.Common.{◌≡◌, ◌++◌, Bool, true, false, List, ℕ, [], Option, Some, None, refl, IsSome, is_some, unwrap_or, SettledData, LeastCarried, Style, whole_text, EvidenceData, answer_on, is_on_least, names_least, nanoseconds_in, report_of, settled_answer, settled_outcome, text_for}
 use Rattle.finder.specs.Settlement as settles
 use Rattle.line_writer.specs.declared.field.Style.TheVariants as styles
 
@@ -8,11 +8,6 @@ pub report_is : (settled : SettledData) (about : List ℕ) (known : Option (List
     report_of settled about known ≡ whole_text (unwrap_or known [] ++ about) (settled_outcome settled)
 report_is settled about (Some text) is = refl
 report_is settled about None is = absurd cc
-
-pub items_known : {T E : Type 0} (text : Result T E) (items : T → List ℕ) (known : Option (List ℕ)) →
-    IfOk text (λ t. known ≡ Some (items t)) → IfOk text (λ t. items t ≡ unwrap_or known [])
-items_known (Ok t) items known is = rw is refl
-items_known (Err fault) items known is = tt
 
 -- ---- a bound is there if it is needed
 

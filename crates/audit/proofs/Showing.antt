@@ -1,30 +1,22 @@
 -- What an outcome shows, from the bytes of the inputs.
-use Rattle.audit.proofs.Common.{◌≡◌, ℕ, true, List, Option, Some, None, Result, Ok, Err, refl, sym, subst, inl, inr, IfSome, IfOk, MatchResult, FeedState, SinkState, CertificateData, RefutationData, SettledData, LeastCarried, FindFault, find_run_fault_of, Outcome, RunFault, certificate_read, claim_read, IsMadeFor, Publishes, Ready, Report, whole_text, refutation_read, capture_read, ArePiecesTraced, HasVerdictYes, IsTracedTo, EvidenceData, GiveEvidence, IsEvidenceOf, OfClaimAndCapture, CourseContests, ShowsHeadline, GivesNanoseconds, AreInputsOf, AskedData, Finding, QuestionData, ShowsOf, no_finding, SecondData, SecondKind, certificate_said, certificate_second, of_certificate, of_refutation, refutation_said, refutation_second, second_read, IsContestedOf, InputsData, IsOfMaking, IsUnfound, PublishesWhole, Tells, IsFindingFrom, IsFindingOf, IsSettlementFrom, IsSettlementOf, ShowsFinding, IsLeastBoundOf, SettlesFit, Bool, IsSettledFrom, IsSettledOf, IsShownOf}
+use Rattle.audit.proofs.Common.{IfOk-weaker, subst, ap, ◌∙◌, CertificateData, ◌⊎◌, ◌≡◌, ℕ, true, List, Option, Some, None, Result, Ok, Err, refl, sym, inl, inr, IfSome, IfOk, option_map, MatchResult, FeedState, SinkState, SettledData, FindFault, find_run_fault_of, Outcome, RunFault, IsMadeFor, Publishes, Ready, Report, refused, whole_text, ArePiecesTraced, HasVerdictYes, IsTracedTo, EvidenceData, GiveEvidence, IsEvidenceOf, OfClaimAndCapture, AreInputsOf, Finding, QuestionData, no_finding, SecondData, SecondKind, IsContestedOf, InputsData, IsOfMaking, IsUnfound, IsFindingFrom, IsFindingOf, IsSettlementFrom, IsSettlementOf, ShowsFinding, IsLeastBoundOf, SettlesFit, IsSettledFrom, IsSettledOf, IsShownOf}
 use Rattle.finder.specs.Settlement as settles
 use Rattle.finder.specs.declared.fault.FindFault.TheVariants as finds
 use Rattle.report.specs.declared.fault.RunFault.TheVariants as faults
-use Rattle.audit.proofs.Excess.{standing_beyond}
-
--- the laws on bytes that a yes needs
-pub record BytesLaws : Type 0 where
-  pub nanoseconds : GivesNanoseconds
-  pub headline : ShowsHeadline
-  pub contested : CourseContests
+use Rattle.std.proofs.lemmas.Option.{IfSome_then}
+use Rattle.std.specs.Result.{result_map_both}
+use Rattle.audit.specs.Contested.{BytesLaws}
+use Rattle.audit.specs.Report.{TellsOf}
+use Rattle.audit.proofs.Excess.{contests}
 
 -- ---- what evidence shows, the bytes that give it show
-
-module _ (e : EvidenceData) (R : List ℕ → List ℕ → Type 0) (shows : (b f : List ℕ) → IsEvidenceOf b f e → R b f) where
-  both : (claim capture : Option (List ℕ)) → IfSome claim (λ b. claim_read b ≡ Ok e.claim) →
-      IfSome capture (λ f. capture_read e.claim f ≡ Ok e.collection) → IfSome claim (λ b. IfSome capture (R b))
-  both None capture claim_is capture_is = tt
-  both (Some b) None claim_is capture_is = tt
-  both (Some b) (Some f) claim_is capture_is = shows b f (record { claim_is = claim_is; collection_is = capture_is })
 
 pub of_inputs : {kind : SecondKind} {said : SecondData} (e : EvidenceData) (R : List ℕ → List ℕ → Type 0) →
     ((b f : List ℕ) → IsEvidenceOf b f e → R b f) → (claim second capture : FeedState) →
     AreInputsOf kind said e claim second capture → OfClaimAndCapture claim capture R
 of_inputs e R shows claim second capture are =
-    both e R shows claim.remaining capture.remaining are.claim_is are.capture_is
+    IfSome_then claim.remaining are.claim_is (λ b claim_is. IfSome_then capture.remaining are.capture_is
+    (λ f capture_is. shows b f (record { claim_is = claim_is; collection_is = capture_is })))
 
 -- of what only evidence is asked of
 pub of_evidence : {kind : SecondKind} {said : SecondData} (P : EvidenceData → Type 0) (e : EvidenceData) → P e →
@@ -36,31 +28,23 @@ of_evidence P e holds claim second capture are =
 
 -- ---- what a second input says, its bytes say
 
-certificate_of : (read : Result CertificateData RunFault) (c : CertificateData) →
-    of_certificate read ≡ Ok (certificate_said c) → read ≡ Ok c
-certificate_of (Ok d) c is = cc
-certificate_of (Err fault) c is = cc
+-- a value that was made of another, and no fault
+pub mapped_ok : {T U E D : Type 0} (f : T → U) (g : E → D) (r : Result T E) (u : U) → result_map_both f g r ≡ Ok u →
+    (t : T) × (r ≡ Ok t) × (f t ≡ u)
+mapped_ok f g (Ok t) u is = (t, refl, cc)
+mapped_ok f g (Err fault) u is = absurd cc
 
-pub of_certificate_bytes : (c : CertificateData) (R : List ℕ → Type 0) →
-    ((s : List ℕ) → certificate_read s ≡ Ok c → R s) → (known : Option (List ℕ)) →
-    IfSome (second_read certificate_second known) (λ read. read ≡ Ok (certificate_said c)) → IfSome known R
-of_certificate_bytes c R shows None is = tt
-of_certificate_bytes c R shows (Some s) is = shows s (certificate_of (certificate_read s) c is)
-
-refutation_of : (read : Result RefutationData RunFault) (r : RefutationData) →
-    of_refutation read ≡ Ok (refutation_said r) → read ≡ Ok r
-refutation_of (Ok other) r is = cc
-refutation_of (Err fault) r is = cc
-
-pub refutation_is : (r : RefutationData) (known : Option (List ℕ)) →
-    IfSome (second_read refutation_second known) (λ read. read ≡ Ok (refutation_said r)) →
-    IfSome known (λ bytes. refutation_read bytes ≡ Ok r)
-refutation_is r None is = tt
-refutation_is r (Some s) is = refutation_of (refutation_read s) r is
+pub said_is : {T : Type 0} (said : T → SecondData) → ((t u : T) → said t ≡ said u → t ≡ u) →
+    (read : List ℕ → Result T RunFault) (t : T) (R : List ℕ → Type 0) → ((s : List ℕ) → read s ≡ Ok t → R s) →
+    (known : Option (List ℕ)) → IfSome (option_map (λ s. result_map_both said (λ fault. fault) (read s)) known)
+    (λ r. r ≡ Ok (said t)) → IfSome known R
+said_is said one read t R shows None is = tt
+said_is said one read t R shows (Some s) is =
+    let found = mapped_ok said (λ fault. fault) (read s) (said t) is in shows s (cc (one found.0 t found.2))
 
 -- ---- a yes, and what was found
 
-module _ (nanoseconds : GivesNanoseconds) (b f : List ℕ) (e : EvidenceData) (is : IsEvidenceOf b f e)
+module _ (laws : BytesLaws) (b f : List ℕ) (e : EvidenceData) (is : IsEvidenceOf b f e)
     (certificate : CertificateData) (h : HasVerdictYes certificate e) where
   -- at a verdict of yes the clock is traced to UTC, whole and piece by piece
   pub traced_to : IsTracedTo b f
@@ -71,12 +55,12 @@ module _ (nanoseconds : GivesNanoseconds) (b f : List ℕ) (e : EvidenceData) (i
     collection_is = is.collection_is;
     within = λ course. h.whole e.collection.exchanges course refl;
     in_nanoseconds = λ course fits observed.
-        nanoseconds b e.claim course is.claim_is (h.whole e.collection.exchanges course refl fits observed);
+        laws.nanoseconds b e.claim course is.claim_is (h.whole e.collection.exchanges course refl fits observed);
   }
 
   pub pieces_traced : ArePiecesTraced certificate e
   pieces_traced = λ k piece course stands fits observed.
-      nanoseconds b e.claim course is.claim_is
+      laws.nanoseconds b e.claim course is.claim_is
       (h.by_pieces e.collection.exchanges k piece course refl stands fits observed)
 
 module _ (laws : BytesLaws) (b f : List ℕ) (e : EvidenceData) (is : IsEvidenceOf b f e) where
@@ -87,62 +71,42 @@ module _ (laws : BytesLaws) (b f : List ℕ) (e : EvidenceData) (is : IsEvidence
   pub settled_from : (settled : SettledData) → IsSettledOf e settled → IsSettledFrom settled b f
   settled_from (settles.shown certificate) h = record {
     evidence = give_of (IsShownOf certificate) h;
-    whole = traced_to laws.nanoseconds b f e is certificate h.yes;
+    whole = traced_to laws b f e is certificate h.yes;
     in_relations = λ bytes.
         laws.headline b f e.claim e.collection certificate bytes is.claim_is is.collection_is h.yes.verdict_is;
-    by_pieces = give_of (ArePiecesTraced certificate) (pieces_traced laws.nanoseconds b f e is certificate h.yes);
+    by_pieces = give_of (ArePiecesTraced certificate) (pieces_traced laws b f e is certificate h.yes);
   }
   settled_from (settles.refuted refutation) h = record {
     evidence = give_of (IsContestedOf true refutation) h;
-    in_relations = λ bytes. laws.contested b f e.claim e.collection bytes is.claim_is is.collection_is
-        (standing_beyond true refutation e h);
+    in_relations = contests laws.contested true refutation e h b f is;
   }
-  settled_from (settles.fitted_by_none conflicts) h =
-      give_of (λ evidence. IsSettledOf evidence (settles.fitted_by_none conflicts)) h
-  settled_from (settles.no_evidence groups) h =
-      give_of (λ evidence. IsSettledOf evidence (settles.no_evidence groups)) h
-  settled_from (settles.left_open begin end hull covers most) h =
-      give_of (λ evidence. IsSettledOf evidence (settles.left_open begin end hull covers most)) h
+  settled_from settled h = give_of (λ evidence. IsSettledOf evidence settled) h
 
   settlement_of : (settled : Result SettledData FindFault) → IsSettlementOf e settled → IsSettlementFrom settled b f
   settlement_of (Ok settled) h = settled_from settled h
   settlement_of (Err fault) h = inr (give_of (λ evidence. IsSettlementOf evidence (Err fault)) h)
 
-  least_of : (least : Option (Option LeastCarried)) → IfSome least (IsLeastBoundOf e)
-      → IfSome least (λ found. GiveEvidence (λ evidence. IsLeastBoundOf evidence found) b f)
-  least_of None h = tt
-  least_of (Some found) h = give_of (λ evidence. IsLeastBoundOf evidence found) h
-
-  fits_of : (fits : Option Bool) → IfSome fits (SettlesFit e.claim e.collection.exchanges)
-      → IfSome fits (λ told. GiveEvidence (λ evidence. SettlesFit evidence.claim evidence.collection.exchanges told) b f)
-  fits_of None h = tt
-  fits_of (Some fits) h = give_of (λ evidence. SettlesFit evidence.claim evidence.collection.exchanges fits) h
-
   finding_of : (finding : Finding) → IsFindingOf e finding → IsFindingFrom finding b f
   finding_of finding h = record {
     settled = settlement_of finding.settled h.settled;
-    least = least_of finding.least h.least;
-    fits = fits_of finding.fits h.fits;
+    least = IfSome_then finding.least h.least (λ found. give_of (λ evidence. IsLeastBoundOf evidence found));
+    fits = IfSome_then finding.fits h.fits
+        (λ fits. give_of (λ evidence. SettlesFit evidence.claim evidence.collection.exchanges fits));
   }
 
 -- ---- a run
 
 -- what a run found is shown of the bytes of its inputs
-pub finding_shown : (laws : BytesLaws) (e : EvidenceData) (finding : Finding) (claim capture : FeedState) →
-    IfSome claim.remaining (λ b. claim_read b ≡ Ok e.claim) →
-    IfSome capture.remaining (λ f. capture_read e.claim f ≡ Ok e.collection) → IsFindingOf e finding →
+pub finding_shown : {kind : SecondKind} {said : SecondData} (laws : BytesLaws) (e : EvidenceData) (finding : Finding)
+    (claim second capture : FeedState) → AreInputsOf kind said e claim second capture → IsFindingOf e finding →
     ShowsFinding finding claim capture
-finding_shown laws e finding claim capture claim_is capture_is found =
-    both e (IsFindingFrom finding) (λ b f is. finding_of laws b f e is finding found)
-    claim.remaining capture.remaining claim_is capture_is
+finding_shown laws e finding claim second capture are found =
+    of_inputs e (IsFindingFrom finding) (λ b f is. finding_of laws b f e is finding found) claim second capture are
 
-nothing_of : (claim capture : Option (List ℕ)) → IfSome claim (λ b. IfSome capture (IsFindingFrom no_finding b))
-nothing_of None capture = tt
-nothing_of (Some b) None = tt
-nothing_of (Some b) (Some f) = record { settled = inl refl; least = tt; fits = tt }
-
-pub nothing_shown : (claim capture : FeedState) → ShowsFinding no_finding claim capture
-nothing_shown claim capture = nothing_of claim.remaining capture.remaining
+pub nothing_shown : (claim capture : Option (List ℕ)) → IfSome claim (λ b. IfSome capture (IsFindingFrom no_finding b))
+nothing_shown None capture = tt
+nothing_shown (Some b) None = tt
+nothing_shown (Some b) (Some f) = record { settled = inl refl; least = tt; fits = tt }
 
 -- ---- what is told
 
@@ -165,36 +129,38 @@ pub made_whole_is : {T E : Type 0} (text : Result T E) (items : T → List ℕ) 
 made_whole_is (Ok t) items outcome made expected is same = rw is (sym same, refl)
 made_whole_is (Err e) items outcome made expected is same = rw is tt
 
-pub outcome_shows : (made : Result Ready RunFault) (outcome : Outcome) (P : Outcome → Type 0) → P outcome →
-    IfOk made (λ m. m.outcome ≡ outcome) → IfOk made (λ m. P m.outcome)
-outcome_shows (Ok m) outcome P holds is = subst P (sym is) holds
-outcome_shows (Err fault) outcome P holds is = tt
-
 -- a text that was made whole, or wasn't, is told
-pub told_whole : {asked : AskedData} {report : Report} {inputs : InputsData} {expected : List ℕ} {outcome : Outcome}
+pub told_whole : {report : Report} {Shows : Outcome → Type 0} {expected : List ℕ} {outcome : Outcome}
     {before after : SinkState} {answer : Result Outcome RunFault} → report ≡ whole_text expected outcome →
-    ShowsOf asked.question asked.second inputs.said inputs.evidence outcome →
-    PublishesWhole (whole_text expected outcome) outcome before after answer →
-    Tells asked report inputs before after answer
-told_whole {asked} {report} {inputs} {expected} {outcome} is shows whole = record {
+    Shows outcome → TellsOf (whole_text expected outcome) (λ o. o ≡ outcome) before after answer →
+    TellsOf report Shows before after answer
+told_whole is shows whole = record {
   made = whole.made;
   is_made = rw is whole.is_made;
   of_making = whole.of_making;
-  shows = outcome_shows whole.made outcome
-      (ShowsOf asked.question asked.second inputs.said inputs.evidence) shows whole.outcome_is;
+  shows = IfOk-weaker whole.made _ _ (λ m is. rw is shows) whole.shows;
   publishes = whole.publishes;
 }
 
 -- why nothing is made is told
-pub told_fault : {asked : AskedData} {report : Report} {inputs : InputsData} {fault : RunFault}
-    {before after : SinkState} {answer : Result Outcome RunFault} → IsOfMaking fault → IsMadeFor report (Err fault) →
-    Publishes before after (Err fault) answer → Tells asked report inputs before after answer
+pub told_fault : {report : Report} {Shows : Outcome → Type 0} {fault : RunFault} {before after : SinkState}
+    {answer : Result Outcome RunFault} → IsOfMaking fault → IsMadeFor report (Err fault) →
+    Publishes before after (Err fault) answer → TellsOf report Shows before after answer
 told_fault {fault = fault} making is publishes =
     record { made = Err fault; is_made = is; of_making = making; shows = tt; publishes = publishes }
 
 pub making_fault : (fault : FindFault) (told : RunFault) → told ≡ find_run_fault_of fault → IsOfMaking told
 making_fault finds.TooManyPieces told is = rw is tt
 making_fault finds.Memory told is = rw is tt
+
+-- why nothing could be looked for is the report on what is found
+pub refused_as : {D : Type 0} (report : Result D FindFault → Report) (found : Result D FindFault) (fault : FindFault)
+    (told : RunFault) → report (Err fault) ≡ refused (find_run_fault_of fault) → told ≡ find_run_fault_of fault →
+    (fault ≡ finds.Memory) ⊎ (found ≡ Err fault) → IsMadeFor (report found) (Err told)
+refused_as report found finds.Memory told refuses is why = rw is tt
+refused_as report found finds.TooManyPieces told refuses is (inl memory) = absurd cc
+refused_as report found finds.TooManyPieces told refuses is (inr same) =
+    rw is (subst (λ (r : Report). IsMadeFor r (Err faults.Pieces)) (sym (ap report same ∙ refuses)) (refl, refl))
 
 -- a fault is told, and nothing behind it
 pub refused_twice : (P : Outcome → Type 0) (X : Type 0) (fault : RunFault) (answer : Result Outcome RunFault) →

@@ -1,5 +1,5 @@
 -- A text says one claim at most.
-use Rattle.audit.proofs.Common.{◌≡◌, ℕ, suc, ◌*◌, ℤ, pos, ◌↔◌, List, [], ◌∷◌, length, map, codes, Option, Some, None, refl, sym, ap, ◌∙◌, subst, arith, slice_get, AllZip, option_map, IsDotted, nanoseconds_per_second, IsFloor, IsCeiling, ticks_per_second, Data, number, string, unsigned, array, get, items_of, address_of, ClaimData, IsTime, time_of, IsClaimText, IsTimeAt, numbers_value}
+use Rattle.audit.proofs.Common.{◌≡◌, ℕ, suc, ◌*◌, ℤ, pos, ◌↔◌, List, [], ◌∷◌, length, map, codes, Option, Some, None, refl, sym, ap, ◌∙◌, arith, slice_get, AllZip, option_map, IsDotted, nanoseconds_per_second, IsFloor, IsCeiling, ticks_per_second, Data, number, string, unsigned, array, get, items_of, address_of, ClaimData, IsTime, time_of, IsClaimText, IsTimeAt, numbers_value}
 
 -- the laws of the layers below
 pub record Laws : Type 0 where
@@ -27,23 +27,15 @@ abbrev groups_value : List (List ℕ) → Data
 groups_value groups = array (items_of (map numbers_value groups))
 
 groups_same : (a b : Option (List (List ℕ))) → option_map groups_value a ≡ option_map groups_value b → a ≡ b
-groups_same None None e = refl
-groups_same (Some x) (Some y) e = ap Some (lists_same numbers_value numbers_same x y cc)
-groups_same a b e = cc
+groups_same a b e = grind (arith, lists_same, numbers_value, numbers_same)
 
 -- ---- values
 
 pub floor_same : (n d a b : ℕ) → IsFloor n d a → IsFloor n d b → a ≡ b
-floor_same n d a b x y =
-    let least = x.greatest b y.not_above in
-    let most = y.greatest a x.not_above in
-    omega (arith, least, most)
+floor_same n d a b x y = grind (arith)
 
 pub ceiling_same : (n d a b : ℕ) → IsCeiling n d a → IsCeiling n d b → a ≡ b
-ceiling_same n d a b x y =
-    let most = x.least b y.not_below in
-    let least = y.least a x.not_below in
-    omega (arith, least, most)
+ceiling_same n d a b x y = grind (arith)
 
 -- lists of one length are the same, if what stands in the first stands at the same places in the second
 same_list : (a b : List ℕ) → length a ≡ length b
@@ -84,8 +76,7 @@ module _ (laws : Laws) where
     number_at name m n in_x in_y = cc value_same
 
     time_at : (name : List ℕ) (s t : ℤ) → IsTimeAt x.value name s → IsTimeAt y.value name t → s ≡ t
-    time_at name s t in_x in_y =
-        time_same y.value name s t (subst (λ (v : Data). IsTimeAt v name s) value_same in_x) in_y
+    time_at name s t in_x in_y = grind (arith, time_same, value_same)
 
     client_same : c.client ≡ d.client
     client_same =
@@ -93,10 +84,7 @@ module _ (laws : Laws) where
         dotted_same y.client_text c.client d.client (rw texts at x.client) y.client
 
     servers_same : c.servers ≡ d.servers
-    servers_same =
-        let texts = lists_same string (λ s t is. cc) x.server_texts y.server_texts
-        (cc (value_same, x.servers_stand, y.servers_stand)) in
-        all_dotted_same y.server_texts c.servers d.servers (rw texts at x.servers) y.servers
+    servers_same = grind (arith, lists_same, string, value_same, all_dotted_same)
 
     bound_ns_same : c.bound_ns ≡ d.bound_ns
     bound_ns_same = number_at (codes "bound_ns") c.bound_ns d.bound_ns x.bound_ns y.bound_ns
@@ -117,8 +105,7 @@ module _ (laws : Laws) where
         x.reading_in_ticks ∙ ap pos is ∙ sym y.reading_in_ticks
 
     listed_same : x.listed ≡ y.listed
-    listed_same = groups_same x.listed y.listed
-        (sym x.groups_stand ∙ ap (get (codes "groups")) value_same ∙ y.groups_stand)
+    listed_same = grind (arith, groups_same, get, codes, value_same)
 
     counts_same : length c.servers ≡ length d.servers
     counts_same = ap length servers_same

@@ -1,11 +1,12 @@
 -- What a verdict shows.
-use Rattle.audit.proofs.Common.{◌≡◌, Bool, List, ℕ, Some, refl, sym, ap, subst, CertificateData, IsVerdictOn, IsBytes, Outcome, Yes, No, HasVerdict, IsDenied, IsTracedByPieces, IsTracedTo, check, outcome_of, EvidenceData, samples_in, ShowsOf, OfClaimAndCapture, IsShown, ShowsHeadline, GivesNanoseconds, certificate_said, certificate_second}
+use Rattle.audit.proofs.Common.{Bool, List, ℕ, Some, refl, sym, ap, CertificateData, certificate_read, IsVerdictOn, IsBytes, Outcome, Yes, No, HasVerdict, IsDenied, IsTracedByPieces, IsTracedTo, check, outcome_of, EvidenceData, samples_in, ShowsOf, OfClaimAndCapture, IsShown, certificate_said, certificate_second}
 use Rattle.checker.specs.declared.verdict.Verdict.{Verdict}
 use Rattle.checker.specs.declared.verdict.Verdict.TheVariants as verdicts
 use Rattle.line_writer.specs.declared.field.Style.{Style}
 use Rattle.line_writer.specs.declared.field.Style.TheVariants as styles
 use Rattle.audit.specs.Check.{IsEnoughFor}
-use Rattle.audit.proofs.Showing.{of_certificate_bytes, of_inputs, pieces_traced, traced_to}
+use Rattle.audit.specs.Contested.{BytesLaws}
+use Rattle.audit.proofs.Showing.{of_inputs, pieces_traced, said_is, traced_to}
 
 -- that it is known whether any course fits is enough in any style
 pub fits_known : (style : Style) (fits : Bool) → IsEnoughFor style (Some fits)
@@ -14,14 +15,15 @@ fits_known styles.Human fits = refl
 fits_known styles.Columns fits = refl
 
 module _ (certificate : CertificateData) (e : EvidenceData) where
-  shown : (verdict : Verdict) → IsVerdictOn e.claim (samples_in e) certificate verdict →
+  -- what the outcome of a verdict shows
+  pub verdict_shows : (verdict : Verdict) → IsVerdictOn e.claim (samples_in e) certificate verdict →
       HasVerdict certificate e (outcome_of verdict)
-  shown verdicts.Yes settled = record {
+  verdict_shows verdicts.Yes settled = record {
     verdict_is = sym settled.exact;
     whole = settled.yes refl;
     by_pieces = settled.by_pieces refl;
   }
-  shown (verdicts.No piece why) settled = record {
+  verdict_shows (verdicts.No piece why) settled = record {
     piece = piece;
     why = why;
     verdict_is = sym settled.exact;
@@ -29,31 +31,27 @@ module _ (certificate : CertificateData) (e : EvidenceData) where
     held = settled.held piece why refl;
   }
 
-  -- what the outcome of a verdict shows
-  pub verdict_shows : (verdict : Verdict) (outcome : Outcome) → outcome ≡ outcome_of verdict →
-      IsVerdictOn e.claim (samples_in e) certificate verdict → HasVerdict certificate e outcome
-  verdict_shows verdict outcome is settled = subst (HasVerdict certificate e) (sym is) (shown verdict settled)
-
   -- the bytes of any inputs that say the certificate and give the evidence show the same
-  pub verdict_shown : (about : List ℕ) → GivesNanoseconds → ShowsHeadline → (outcome : Outcome) →
-      HasVerdict certificate e outcome → ShowsOf (check about) certificate_second (certificate_said certificate) e outcome
-  verdict_shown about nanoseconds headline Yes h claim second capture are = record {
-    whole = of_inputs e IsTracedTo (λ b f is. traced_to nanoseconds b f e is certificate h) claim second capture are;
-    shown = of_inputs e (λ b f. IsBytes f → IsShown b f)
-        (λ b f is bytes. headline b f e.claim e.collection certificate bytes is.claim_is is.collection_is h.verdict_is)
+  pub verdict_shown : (about : List ℕ) → BytesLaws → (outcome : Outcome) → HasVerdict certificate e outcome →
+      ShowsOf (check about) certificate_second (certificate_said certificate) e outcome
+  verdict_shown about laws Yes h claim second capture are = record {
+    whole = of_inputs e IsTracedTo (λ b f is. traced_to laws b f e is certificate h) claim second capture are;
+    shown = of_inputs e (λ b f. IsBytes f → IsShown b f) (λ b f is bytes.
+        laws.headline b f e.claim e.collection certificate bytes is.claim_is is.collection_is h.verdict_is)
         claim second capture are;
-    by_pieces = of_certificate_bytes certificate (λ s. OfClaimAndCapture claim capture (λ b. IsTracedByPieces b s))
+    by_pieces = said_is certificate_said (λ t u same. cc) certificate_read certificate
+        (λ s. OfClaimAndCapture claim capture (λ b. IsTracedByPieces b s))
         (λ s read. of_inputs e (λ b. IsTracedByPieces b s) (λ b f is. record {
           certificate = certificate;
           evidence = e;
           certificate_is = read;
           evidence_is = is;
           accepted = h.verdict_is;
-          within = pieces_traced nanoseconds b f e is certificate h;
+          within = pieces_traced laws b f e is certificate h;
         }) claim second capture are) second.remaining are.second_is;
   }
-  verdict_shown about nanoseconds headline No h claim second capture are =
-      of_certificate_bytes certificate (λ s. OfClaimAndCapture claim capture (λ b. IsDenied b s))
+  verdict_shown about laws No h claim second capture are = said_is certificate_said (λ t u same. cc) certificate_read
+      certificate (λ s. OfClaimAndCapture claim capture (λ b. IsDenied b s))
       (λ s read. of_inputs e (λ b. IsDenied b s) (λ b f is. record {
         certificate = certificate;
         evidence = e;

@@ -2,10 +2,8 @@
 -- over the groups, which holds the error.
 use Rattle.std.specs.Prelude.{ℕ, ◌*◌, ◌^◌, ℤ, pos, List}
 use Rattle.byte_stream.specs.State.{FeedState}
-use Rattle.claim_file.specs.Claim.{ClaimData}
 use Rattle.span_cover.specs.Group.{piece_hull}
 use Rattle.checker.specs.Traceability.{HoldsError}
-use Rattle.span_cover.specs.declared.part.Part.{Part}
 use Rattle.span_cover.specs.declared.stretch.Stretch.{Stretch}
 use Rattle.intersection.specs.declared.kinds.Hull.{Hull}
 use Rattle.finder.specs.TickParts.{best_parts}
@@ -20,15 +18,17 @@ use Rattle.audit.specs.Question.{QuestionData}
 abbrev pub tick_of : ℕ → ℤ
 tick_of unix_second = pos (unix_second * 2 ^ 32)
 
--- the text for what these servers say, with the hull over the groups
-abbrev pub hull_text : Style → ClaimData → List Part → List ℕ
-hull_text style claim parts =
-    parts_text style claim parts (piece_hull claim.groups claim.false_max parts)
+-- the hull that is shown
+abbrev pub hull_at : ℕ → EvidenceData → Hull
+hull_at unix_second e =
+    piece_hull e.claim.groups e.claim.false_max
+    (best_parts (samples_in e) e.claim (tick_of unix_second))
 
--- the whole text for a Unix second
+-- the whole text for a Unix second: what these servers say, with the hull over the groups
 abbrev pub at_text : Style → ℕ → EvidenceData → List ℕ
 at_text style unix_second e =
-    hull_text style e.claim (best_parts (samples_in e) e.claim (tick_of unix_second))
+    parts_text style e.claim (best_parts (samples_in e) e.claim (tick_of unix_second))
+    (hull_at unix_second e)
 
 -- the report of `at` on a claim and the exchanges of a capture
 abbrev pub at_report : Style → ℕ → EvidenceData → Report
@@ -37,12 +37,6 @@ at_report style unix_second e = whole_text (at_text style unix_second e) Yes
 -- a Unix second's first tick, as a stretch of readings
 abbrev pub stretch_at : ℕ → Stretch
 stretch_at unix_second = record { begin = tick_of unix_second; end = tick_of unix_second }
-
--- the hull that is shown
-abbrev pub hull_at : ℕ → EvidenceData → Hull
-hull_at unix_second e =
-    piece_hull e.claim.groups e.claim.false_max
-    (best_parts (samples_in e) e.claim (tick_of unix_second))
 
 -- In every course of events that fits the exchanges, the error lies in that hull at every moment
 -- at which the clock reads the second's first tick. An unbounded hull says nothing, and an empty

@@ -1,5 +1,6 @@
 -- What the bytes of a capture give under a claim.
 use Rattle.std.specs.Prelude.{List, ℕ, Result, Ok, Err}
+use Rattle.std.specs.Result.{result_map_both}
 use Rattle.pcap_reader.specs.declared.fault.CaptureFault.{CaptureFault}
 use Rattle.pcap_reader.specs.Remaining.{Coming, capture_of}
 use Rattle.claim_file.specs.Claim.{ClaimData}
@@ -18,14 +19,10 @@ pair_run_fault_of (pairs.Capture fault) = run_fault_of fault
 pair_run_fault_of pairs.TooManyExchanges = Exchanges
 pair_run_fault_of pairs.Memory = Memory
 
--- a fault of the exchanges is the run's
-abbrev pub collection_or_fault : Result Collection PairFault → Result Collection RunFault
-collection_or_fault (Ok collection) = Ok collection
-collection_or_fault (Err fault) = Err (pair_run_fault_of fault)
-
 -- what a capture gives whose header was read, or wasn't lawful
 abbrev pub collection_read : ClaimData → Result Coming CaptureFault → Result Collection RunFault
-collection_read claim (Ok coming) = collection_or_fault (answer_of claim coming)
+collection_read claim (Ok coming) =
+    result_map_both (λ collection. collection) pair_run_fault_of (answer_of claim coming)
 collection_read claim (Err fault) = Err (Capture fault)
 
 -- what the bytes of a capture give

@@ -18,7 +18,8 @@ use Rattle.audit.specs.CaptureInput.{capture_read}
 use Rattle.audit.specs.Captured.{CapturedFrame, IsCaptureOf}
 use Rattle.audit.specs.Claimed.{IsClaimText, IsWithinLimits}
 use Rattle.audit.specs.Exchanged.{IsExchangeIn, IsAmong}
-use Rattle.audit.specs.Headline.{IsShown}
+use Rattle.audit.specs.Headline.{IsShown, ShowsHeadline}
+use Rattle.audit.specs.Nanoseconds.{GivesNanoseconds}
 
 -- the clock's error, when it is observed, is more than a bound to one side
 abbrev pub IsBeyond : Course → ℤ → Type 0
@@ -92,3 +93,9 @@ RefutationContests = (claim_bytes capture_bytes : List ℕ) (claim : ClaimData)
 abbrev pub NeverBoth : Type 0
 NeverBoth = (claim_bytes capture_bytes : List ℕ) → IsShown claim_bytes capture_bytes
     → ¬ (IsContestedShown claim_bytes capture_bytes)
+
+-- the laws on bytes that tell what an answer shows of them
+pub record BytesLaws : Type 0 where
+  pub nanoseconds : GivesNanoseconds
+  pub headline : ShowsHeadline
+  pub contested : CourseContests

@@ -102,8 +102,8 @@ pub record IsFoundBy (step : ℕ) (e : EvidenceData) (found : FoundData) : Type 
   pub shows : IsSearchOf step e (found_outcome found)
 
 abbrev pub ShowsSearch : ℕ → FeedState → FeedState → Outcome → Type 0
-ShowsSearch step claim capture outcomes.Yes = IsFound step claim capture
-ShowsSearch step claim capture outcomes.No = IsNotFound step claim capture
+ShowsSearch step claim capture outcome =
+    OfClaimAndCapture claim capture (GiveEvidence (λ e. IsSearchOf step e outcome))
 
 -- is there a certificate with pieces of this many seconds?
 abbrev pub find : ℕ → QuestionData

@@ -93,25 +93,22 @@ pub record IsUnfound (question : QuestionData) (inputs : InputsData) (fault : Ru
   pub is_made : (style : Style)
       → IsMadeFor (question.report style finding inputs.said inputs.evidence) (Err fault)
 
--- The report on a text that was made whole, or wasn't for want of memory, is published.
-pub record PublishesWhole (report : Report) (outcome : Outcome) (before after : SinkState)
+-- A report is made and published, or isn't made for a reason of its making, and this holds of its
+-- outcome.
+pub record TellsOf (report : Report) (Shows : Outcome → Type 0) (before after : SinkState)
     (answer : Result Outcome RunFault) : Type 0 where
   pub made : Result Ready RunFault
   pub is_made : IsMadeFor report made
   pub of_making : IfErr made IsOfMaking
-  pub outcome_is : IfOk made (λ m. m.outcome ≡ outcome)
+  pub shows : IfOk made (λ m. Shows m.outcome)
   pub publishes : Publishes before after made answer
 
--- A report on what the inputs say is made and published, and its outcome shows what the question
--- says.
-pub record Tells (asked : AskedData) (report : Report) (inputs : InputsData)
-    (before after : SinkState) (answer : Result Outcome RunFault) : Type 0 where
-  pub made : Result Ready RunFault
-  pub is_made : IsMadeFor report made
-  pub of_making : IfErr made IsOfMaking
-  pub shows : IfOk made (λ m.
-      ShowsOf asked.question asked.second inputs.said inputs.evidence m.outcome)
-  pub publishes : Publishes before after made answer
+-- A report on what the inputs say is told, and its outcome shows what the question says.
+abbrev pub Tells : AskedData → Report → InputsData → SinkState → SinkState → Result Outcome RunFault
+    → Type 0
+Tells asked report inputs before after answer =
+    TellsOf report (ShowsOf asked.question asked.second inputs.said inputs.evidence)
+    before after answer
 
 -- the same of a question of claim and capture alone, before whose text nothing is found
 abbrev pub TellsAlone : QuestionData → Style → EvidenceData → SinkState → SinkState

@@ -1,5 +1,5 @@
 -- What is asked of a claim and a capture alone, without a second input.
-use Rattle.std.specs.Prelude.{◌≡◌, [], Option, Some, None, IsSomeAnd}
+use Rattle.std.specs.Prelude.{[]}
 use Rattle.finder.specs.Found.{data_of}
 use Rattle.line_writer.specs.declared.field.Style.{Style}
 use Rattle.audit.specs.At.{at}
@@ -11,27 +11,25 @@ use Rattle.audit.specs.Question.{Finding, QuestionData, no_finding}
 use Rattle.audit.specs.Samples.{samples}
 use Rattle.audit.specs.Settle.{IsEnoughFor, finding_of, settle}
 use Rattle.audit.specs.declared.question.RequestFinding.{RequestFinding}
-use Rattle.audit.specs.declared.question.envelope.EnvelopeFinding.{EnvelopeFinding}
-use Rattle.audit.specs.declared.question.settle.Settlement.{Settlement}
+use Rattle.audit.specs.declared.question.RequestFinding.TheVariants.{Settlement, Search, Envelope}
 use Rattle.audit.specs.declared.question.Request.{Request}
 use Rattle.audit.specs.declared.question.Request.TheVariants as requests
 
 -- what the report of a request is on
-abbrev pub finding_among : Option Settlement → Option EnvelopeFinding → Finding
-finding_among (Some settlement) envelope = finding_of settlement
-finding_among None (Some envelope) = envelope_finding envelope
-finding_among None None = no_finding
-
 abbrev pub finding_in : RequestFinding → Finding
-finding_in found = finding_among found.settlement found.envelope
+finding_in (Settlement found) = finding_of found
+finding_in (Envelope found) = envelope_finding found
+finding_in found = no_finding
 
 -- What was found is what a request asks for, and enough for a text in this style.
 abbrev pub IsFoundFor : Request → Style → EvidenceData → RequestFinding → Type 0
-IsFoundFor requests.Settle style e found = IsSomeAnd found.settlement (IsEnoughFor style e)
-IsFoundFor (requests.Find asked) style e found =
-    IsSomeAnd found.search (λ f. IsFoundBy asked.step.seconds e (data_of f))
-IsFoundFor (requests.Envelope asked) style e found =
-    IsSomeAnd found.envelope (IsEnvelopeFor asked e) × (found.settlement ≡ None)
+IsFoundFor requests.Settle style e (Settlement found) = IsEnoughFor style e found
+IsFoundFor (requests.Find asked) style e (Search found) =
+    IsFoundBy asked.step.seconds e (data_of found)
+IsFoundFor (requests.Envelope asked) style e (Envelope found) = IsEnvelopeFor asked e found
+IsFoundFor requests.Settle style e found = ⊥
+IsFoundFor (requests.Find asked) style e found = ⊥
+IsFoundFor (requests.Envelope asked) style e found = ⊥
 IsFoundFor request style e found = Unit {0}
 
 -- the question of a request, of which nothing is told about the inputs

@@ -1,6 +1,7 @@
 -- The second input of a question: none, a certificate or a refutation.
-use Rattle.std.specs.Prelude.{ℕ, List, Option, IfSome, Some, Result, IsOk, Ok, Err}
+use Rattle.std.specs.Prelude.{ℕ, List, Option, IfSome, Some, Result, IsOk, Ok}
 use Rattle.std.specs.Option.{option_map}
+use Rattle.std.specs.Result.{result_map_both}
 use Rattle.certificate.specs.Certificate.{CertificateData}
 use Rattle.certificate.specs.Refutation.{RefutationData}
 use Rattle.report.specs.CertificateInput.{certificate_read, max_certificate}
@@ -22,23 +23,15 @@ pub data SecondData : Type 0 where
   certificate_said : CertificateData → SecondData
   refutation_said : RefutationData → SecondData
 
--- a certificate that was read, or refused, as a second input
-abbrev pub of_certificate : Result CertificateData RunFault → Result SecondData RunFault
-of_certificate (Ok certificate) = Ok (certificate_said certificate)
-of_certificate (Err fault) = Err fault
-
--- a refutation that was
-abbrev pub of_refutation : Result RefutationData RunFault → Result SecondData RunFault
-of_refutation (Ok refutation) = Ok (refutation_said refutation)
-of_refutation (Err fault) = Err fault
-
 -- what the bytes of a second input say, as far as they are known
 abbrev pub second_read : SecondKind → Option (List ℕ) → Option (Result SecondData RunFault)
 second_read no_second known = Some (Ok nothing_said)
 second_read certificate_second known =
-    option_map (λ bytes. of_certificate (certificate_read bytes)) known
+    option_map (λ bytes. result_map_both certificate_said (λ fault. fault) (certificate_read bytes))
+    known
 second_read refutation_second known =
-    option_map (λ bytes. of_refutation (refutation_read bytes)) known
+    option_map (λ bytes. result_map_both refutation_said (λ fault. fault) (refutation_read bytes))
+    known
 
 -- The bytes of the second input, if they are known, say what is asked for.
 abbrev pub HasSecond : SecondKind → Option (List ℕ) → Type 0

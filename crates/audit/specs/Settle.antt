@@ -79,11 +79,6 @@ abbrev pub text_for : Style → EvidenceData → Option (Option LeastCarried) �
 text_for Plain e found settled = Some (settled_text e settled)
 text_for style e found settled = answer_on e settled (names_least settled) found
 
--- the answer for a person on what was found, if it is known
-abbrev pub answer_in : EvidenceData → Settlement → Option (List ℕ)
-answer_in e found = answer_on e (settled_data found.settled)
-    (names_least (settled_data found.settled)) found.least
-
 -- a text in this style is on the least bound
 abbrev pub is_on_least : Style → SettledData → Bool
 is_on_least Plain settled = false

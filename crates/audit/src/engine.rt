@@ -15,10 +15,7 @@ ghost use Rattle.audit.specs.Run.{AnswersFor, HasRead, MayRun, RunsFor, RunsTwic
 
 use crate::capture_input::read_capture_from;
 use crate::evidence::Evidence;
-use crate::laws::{
-    bounds_of_bytes_hold_in_nanoseconds, course_beyond_the_bound_contests_the_claim,
-    yes_shows_the_headline,
-};
+use crate::laws::bytes_tell_what_they_show;
 use crate::question::Question;
 use crate::second::{SecondInput, SecondSource};
 use byte_stream::{Feed, Sink};
@@ -169,9 +166,7 @@ pub fn run<
         (C.state claim.old) (T.state second.old) (F.state capture)) }
 {
     let (capture, inputs) = read_inputs(alloc, claim, second, capture, hasher);
-    bounds_of_bytes_hold_in_nanoseconds();
-    yes_shows_the_headline();
-    course_beyond_the_bound_contests_the_claim();
+    bytes_tell_what_they_show();
     match inputs {
         Ok(inputs) => (capture, tell_finding(alloc, question, style, &inputs, out)),
         Err(fault) => (capture, publish(out, &Err(fault))),
@@ -211,9 +206,7 @@ pub fn run_twice<
         second.old second.new capture result.0 (S.state out.old) (S.state out.new) result.1 }
 {
     let (capture, inputs) = read_inputs(alloc, claim, second, capture, hasher);
-    bounds_of_bytes_hold_in_nanoseconds();
-    yes_shows_the_headline();
-    course_beyond_the_bound_contests_the_claim();
+    bytes_tell_what_they_show();
     match inputs {
         Ok(inputs) => {
             let answer = tell_finding_twice(alloc, question, style, &inputs, draft, out);
@@ -253,15 +246,7 @@ pub fn answer<
     ensures shows { ShowsAt result.1.code (Q.asks question)
         (C.state claim.old) (T.state second.old) (F.state capture) }
 {
-    let (capture, answer) = run(
-        alloc,
-        question,
-        style,
-        claim,
-        second,
-        capture,
-        &mut to.out,
-        hasher,
-    );
+    let out = &mut to.out;
+    let (capture, answer) = run(alloc, question, style, claim, second, capture, out, hasher);
     (capture, conclude(&answer, &mut to.err))
 }

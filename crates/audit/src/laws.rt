@@ -15,7 +15,7 @@ ghost use Rattle.pcap_reader.specs.declared.format.Endian.{Endian};
 ghost use Rattle.pcap_reader.specs.declared.format.Format.{Format};
 ghost use Rattle.pcap_reader.specs.Capture.{Record, IsCapture};
 ghost use Rattle.audit.specs.Headline.{ShowsHeadline};
-ghost use Rattle.audit.specs.Contested.{CourseContests, NeverBoth, RefutationContests};
+ghost use Rattle.audit.specs.Contested.{BytesLaws, CourseContests, NeverBoth, RefutationContests};
 ghost use Rattle.audit.specs.Claimed.{IsClaimText};
 ghost use Rattle.audit.specs.Exchanged.{IsUsable, IsExchangeIn, IsAmong};
 ghost use Rattle.audit.specs.Captured.{CapturedFrame, IsCaptureOf, frame_of};
@@ -103,8 +103,7 @@ pub fn exchanges_are_in_the_frames()
         (k : ℕ) (x : Exchange) → slice_get (exchanges_of claim records) k ≡ Some x →
         IsExchangeIn claim format.unit (map frame_of records) x }
 {
-    packet_is_given_where_held();
-    usable_replies_are_not_refused();
+    given_where_held();
     request_is_to_one_server();
     reply_is_of_one_server();
     ratios_are_rounded_as_little_as_can_be();
@@ -121,8 +120,7 @@ pub fn exchanges_in_the_frames_are_collected()
         IsExchangeIn claim format.unit (map frame_of records) x →
         IsAmong (exchanges_of claim records) x }
 {
-    packet_is_given_where_held();
-    usable_replies_are_not_refused();
+    given_where_held();
     request_is_to_one_server();
     reply_is_of_one_server();
     ratios_are_rounded_as_little_as_can_be();
@@ -181,6 +179,15 @@ pub fn course_beyond_the_bound_contests_the_claim()
     records_are_frames();
     exchanges_are_in_the_frames();
     exchanges_in_the_frames_are_collected();
+}
+
+/// What these three tell of the bytes of a claim and of a capture.
+pub(crate) fn bytes_tell_what_they_show()
+    ensures { BytesLaws }
+{
+    bounds_of_bytes_hold_in_nanoseconds();
+    yes_shows_the_headline();
+    course_beyond_the_bound_contests_the_claim();
 }
 
 /// The same if some refutation is accepted, whose error doesn't change.

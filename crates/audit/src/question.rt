@@ -114,28 +114,17 @@ pub enum Request {
     Envelope(EnvelopeOptions),
 }
 
-/// What is found for a request, if its finding isn't `()`.
+/// What is found for a request.
 #[derive(Drop)]
-pub struct RequestFinding {
-    /// What settles the claim.
-    pub(crate) settlement: Option<Settlement>,
-    /// What was found in pieces of one length.
-    pub(crate) search: Option<Found>,
-    /// The hulls.
-    pub(crate) envelope: Option<EnvelopeFinding>,
-}
-
-impl RequestFinding {
+pub enum RequestFinding {
     /// Nothing was looked for.
-    fn none() -> RequestFinding
-        ensures { result ≡ record { settlement = None; search = None; envelope = None } }
-    {
-        RequestFinding {
-            settlement: None,
-            search: None,
-            envelope: None,
-        }
-    }
+    Nothing,
+    /// What settles the claim.
+    Settlement(Settlement),
+    /// What was found in pieces of one length.
+    Search(Found),
+    /// The hulls.
+    Envelope(EnvelopeFinding),
 }
 
 impl Question for Request {
@@ -156,31 +145,23 @@ impl Question for Request {
         second: &(),
         evidence: &Evidence,
     ) -> Result<RequestFinding, RunFault> {
-        let none = RequestFinding::none();
         let unnamed = Settle { about: &[] };
         match self {
-            Request::Settle => match unnamed.find(alloc, style, second, evidence) {
-                Ok(found) => Ok(RequestFinding {
-                    settlement: Some(found),
-                    ..none
-                }),
-                Err(fault) => Err(fault),
-            },
-            Request::Find(find) => match find.find(alloc, style, second, evidence) {
-                Ok(found) => Ok(RequestFinding {
-                    search: Some(found),
-                    ..none
-                }),
-                Err(fault) => Err(fault),
-            },
-            Request::Envelope(envelope) => match envelope.find(alloc, style, second, evidence) {
-                Ok(found) => Ok(RequestFinding {
-                    envelope: Some(found),
-                    ..none
-                }),
-                Err(fault) => Err(fault),
-            },
-            Request::Samples | Request::At(_) | Request::FindRefutation => Ok(none),
+            Request::Settle => {
+                let found = unnamed.find(alloc, style, second, evidence)?;
+                Ok(RequestFinding::Settlement(found))
+            }
+            Request::Find(find) => {
+                let found = find.find(alloc, style, second, evidence)?;
+                Ok(RequestFinding::Search(found))
+            }
+            Request::Envelope(envelope) => {
+                let found = envelope.find(alloc, style, second, evidence)?;
+                Ok(RequestFinding::Envelope(found))
+            }
+            Request::Samples | Request::At(_) | Request::FindRefutation => {
+                Ok(RequestFinding::Nothing)
+            }
         }
     }
 
@@ -197,18 +178,24 @@ impl Question for Request {
         match self {
             Request::Samples => samples::tell(alloc, style, evidence, out),
             Request::At(asked) => at::tell(alloc, asked, style, evidence, out),
-            Request::Settle => match &found.settlement {
-                Some(found) => unnamed.tell(alloc, style, second, evidence, found, out),
-                None => unreachable!(),
+            Request::Settle => match found {
+                RequestFinding::Settlement(found) => {
+                    unnamed.tell(alloc, style, second, evidence, found, out)
+                }
+                _ => unreachable!(),
             },
-            Request::Find(find) => match &found.search {
-                Some(found) => find.tell(alloc, style, second, evidence, found, out),
-                None => unreachable!(),
+            Request::Find(find) => match found {
+                RequestFinding::Search(found) => {
+                    find.tell(alloc, style, second, evidence, found, out)
+                }
+                _ => unreachable!(),
             },
             Request::FindRefutation => find_refutation::tell(alloc, style, evidence, out),
-            Request::Envelope(envelope) => match &found.envelope {
-                Some(found) => envelope.tell(alloc, style, second, evidence, found, out),
-                None => unreachable!(),
+            Request::Envelope(envelope) => match found {
+                RequestFinding::Envelope(found) => {
+                    envelope.tell(alloc, style, second, evidence, found, out)
+                }
+                _ => unreachable!(),
             },
         }
     }

@@ -5,7 +5,7 @@ ghost use Rattle.audit_text.specs.CheckReport.{about_told};
 ghost use Rattle.byte_stream.specs.State.{IsWritable};
 ghost use Rattle.report.specs.Publication.{IsUnwritten};
 ghost use Rattle.report.specs.Reports.{whole_text};
-ghost use Rattle.audit.specs.Report.{IsOfMaking, PublishesWhole};
+ghost use Rattle.audit.specs.Report.{IsOfMaking, TellsOf};
 
 use audit_text::add_about;
 use byte_stream::Sink;
@@ -54,7 +54,7 @@ pub(crate) fn publish_text<S: Sink>(
 ) -> Result<Outcome, RunFault>
     requires { IsWritable (S.state out.old) }
     ensures { (expected : List ℕ) → IfOk text (λ t. t.items ≡ expected) →
-        PublishesWhole (whole_text expected outcome) outcome
+        TellsOf (whole_text expected outcome) (λ o. o ≡ outcome)
         (S.state out.old) (S.state out.new) result }
 {
     let made = made_whole(text, outcome);

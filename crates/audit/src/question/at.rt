@@ -1,8 +1,7 @@
 //! What is made for `at`.
 
-ghost use Rattle.std.specs.Prelude.{◌≡◌, ◌<◌, IfOk, length, All};
+ghost use Rattle.std.specs.Prelude.{◌≡◌, IfOk};
 ghost use Rattle.byte_stream.specs.State.{IsWritable};
-ghost use Rattle.claim_file.specs.Claim.{data_of};
 ghost use Rattle.span_cover.specs.Piece.{IsPiece};
 ghost use Rattle.audit.specs.At as spec;
 ghost use Rattle.audit.specs.At.{at};
@@ -15,12 +14,11 @@ use crate::whole_text::publish_text;
 use audit_text::parts_text;
 use byte_stream::Sink;
 use checker::laws::hulls_hold_the_error;
-use claim_file::Claim;
 use era_unfold::TICKS_PER_SECOND;
 use finder::best_parts;
 use line_writer::Style;
 use report::{Outcome, RunFault};
-use span_cover::{Part, piece_hull};
+use span_cover::piece_hull;
 use std::alloc::{AllocError, Global};
 
 /// What does each server say about the clock at a moment?
@@ -38,21 +36,6 @@ fn tick_of(unix_second: u32) -> i128
     i128::from(unix_second) * TICKS_PER_SECOND as i128
 }
 
-/// The text for what these servers say, with the hull over the groups.
-fn hull_text(
-    alloc: Global,
-    style: Style,
-    claim: &Claim,
-    parts: &[Part],
-) -> Result<Vec<u8>, AllocError>
-    requires listed { All (λ part. part.server < length claim.now.servers.items) parts.now }
-    ensures { IfOk result (λ text.
-        text.items ≡ spec.hull_text style (data_of claim.now) parts.now) }
-{
-    let hull = piece_hull(parts, claim.groups.as_slice(), claim.false_max);
-    parts_text(alloc, style, claim, parts, hull)
-}
-
 /// The whole text for a Unix second.
 fn at_text(
     alloc: Global,
@@ -65,8 +48,10 @@ fn at_text(
         text.items ≡ spec.at_text style unix_second (evidence_data evidence.now)) }
 {
     let claim = &evidence.claim;
-    let parts = best_parts(samples_of(evidence), claim, tick_of(unix_second));
-    hull_text(alloc, style, claim, parts.as_slice())
+    let found = best_parts(samples_of(evidence), claim, tick_of(unix_second));
+    let parts = found.as_slice();
+    let hull = piece_hull(parts, claim.groups.as_slice(), claim.false_max);
+    parts_text(alloc, style, claim, parts, hull)
 }
 
 /// Tells what each server says about the clock at a moment.

@@ -9,7 +9,7 @@ ghost use Rattle.audit.specs.Check.{IsEnoughFor, check, fit_finding};
 ghost use Rattle.audit.specs.Evidence.{IsLawfulEvidence, evidence_data, samples_in};
 
 use crate::evidence::Evidence;
-use crate::laws::{bounds_of_bytes_hold_in_nanoseconds, yes_shows_the_headline};
+use crate::laws::bytes_tell_what_they_show;
 use crate::question::Question;
 use crate::whole_text::publish_text;
 use audit_text::{Findings, check_text};
@@ -112,8 +112,7 @@ impl<'a> Question for Check<'a> {
         found: &Option<bool>,
         out: &mut S,
     ) -> Result<Outcome, RunFault> {
-        bounds_of_bytes_hold_in_nanoseconds();
-        yes_shows_the_headline();
+        bytes_tell_what_they_show();
         let findings = findings_on(second, evidence, fits_told(style, found));
         let (claim, held) = (&evidence.claim, &evidence.held);
         let text = check_text(alloc, style, claim, held, &findings, self.about);

@@ -1,17 +1,15 @@
 //! What is made for `settle`.
 
-ghost use Rattle.std.specs.Prelude.{◌≡◌, Some, IfOk, IfSome, IsSome};
+ghost use Rattle.std.specs.Prelude.{◌≡◌, Some, IfOk, IfSome};
 ghost use Rattle.finder.specs.Settlement.{settled_data};
+ghost use Rattle.line_writer.specs.declared.field.Style.TheVariants.{Human};
 ghost use Rattle.audit.specs.Evidence.{IsLawfulEvidence, evidence_data};
 ghost use Rattle.audit.specs.Least.{IsLeastBoundOf};
 ghost use Rattle.audit.specs.Settle as spec;
 ghost use Rattle.audit.specs.Settle.{IsEnoughFor, IsSettledOf, finding_of, settled_outcome};
 
 use crate::evidence::Evidence;
-use crate::laws::{
-    bounds_of_bytes_hold_in_nanoseconds, course_beyond_the_bound_contests_the_claim,
-    yes_shows_the_headline,
-};
+use crate::laws::bytes_tell_what_they_show;
 use crate::least_line::{least_if, nanoseconds_of};
 use crate::question::Question;
 use crate::question::find::{certificate_line, run_fault_of};
@@ -123,23 +121,13 @@ fn settled_answer(
     }
 }
 
-/// Whether the answer for a person is on the least bound.
-fn names_least(settled: &Settled) -> bool
-    ensures { result ≡ spec.names_least (settled_data settled.now) }
-{
-    match settled {
-        Settled::Shown(_) | Settled::Open { .. } => true,
-        Settled::Refuted(_) | Settled::NothingFits(_) | Settled::NoEvidence { .. } => false,
-    }
-}
-
 /// Whether a text in this style is on the least bound.
 fn is_on_least(style: Style, settled: &Settled) -> bool
     ensures { result ≡ spec.is_on_least style (settled_data settled.now) }
 {
     match style {
         Style::Plain => false,
-        _ => names_least(settled),
+        _ => matches!(settled, Settled::Shown(_) | Settled::Open { .. }),
     }
 }
 
@@ -174,9 +162,9 @@ fn nanoseconds_in(least: Option<Option<LeastCarried>>) -> Option<u64>
 fn answer_for(alloc: Global, evidence: &Evidence, found: &Settlement) -> Result<Vec<u8>, AllocError>
     requires evidence { IsLawfulEvidence evidence.now }
     requires settled { IsSettledOf (evidence_data evidence.now) (settled_data found.now.settled) }
-    requires enough { IsSome (spec.answer_in (evidence_data evidence.now) found.now) }
-    ensures { IfOk result (λ text.
-        spec.answer_in (evidence_data evidence.now) found.now ≡ Some text.items) }
+    requires enough { IsEnoughFor Human (evidence_data evidence.now) found.now }
+    ensures { IfOk result (λ text. spec.text_for Human (evidence_data evidence.now)
+        found.now.least (settled_data found.now.settled) ≡ Some text.items) }
 {
     settled_answer(alloc, evidence, nanoseconds_in(found.least), &found.settled)
 }
@@ -238,9 +226,7 @@ impl<'a> Question for Settle<'a> {
         found: &Settlement,
         out: &mut S,
     ) -> Result<Outcome, RunFault> {
-        bounds_of_bytes_hold_in_nanoseconds();
-        yes_shows_the_headline();
-        course_beyond_the_bound_contests_the_claim();
+        bytes_tell_what_they_show();
         let text = text_for(alloc, style, evidence, found);
         let text = with_about(text, style, self.about);
         publish_text(out, text, outcome_of(&found.settled))

@@ -4,13 +4,8 @@ use Rattle.audit.proofs.engine.run.Goals as goal
 
 pub returns-in-Ok-clause-runs : goal.returns-in-Ok-clause-runs
 returns-in-Ok-clause-runs g c =
-    told_runs (record {
-      nanoseconds = c.bounds_of_bytes_hold_in_nanoseconds.ensures;
-      headline = c.yes_shows_the_headline.ensures;
-      contested = c.course_beyond_the_bound_contests_the_claim.ensures;
-    }) (asked_of (g.Q.Question.asks c.args.question) g.Q.Second.SecondInput.kind c.args.style)
-    g.Q.Second.SecondInput.said _ _ _ _ _ _ _ c.read_inputs-capture.result.1
-    (c.read_inputs-capture.ensures.has_read _ _) (rw c.in-Ok.is c.tell_finding.ensures)
+    told_runs c.bytes_tell_what_they_show.ensures _ g.Q.Second.SecondInput.said _ _ _ _ _ _ _
+    c.read_inputs-capture.result.1 (c.read_inputs-capture.ensures.has_read _ _) (rw c.in-Ok.is c.tell_finding.ensures)
 
 pub returns-in-Ok-clause-shows : goal.returns-in-Ok-clause-shows
 returns-in-Ok-clause-shows g c =
@@ -26,13 +21,8 @@ publish-requires-clause-unwritten g c =
 
 pub returns-in-Err-clause-runs : goal.returns-in-Err-clause-runs
 returns-in-Err-clause-runs g c =
-    told_runs (record {
-      nanoseconds = c.bounds_of_bytes_hold_in_nanoseconds.ensures;
-      headline = c.yes_shows_the_headline.ensures;
-      contested = c.course_beyond_the_bound_contests_the_claim.ensures;
-    }) (asked_of (g.Q.Question.asks c.args.question) g.Q.Second.SecondInput.kind c.args.style)
-    g.Q.Second.SecondInput.said _ _ _ _ _ _ _ c.read_inputs-capture.result.1
-    (c.read_inputs-capture.ensures.has_read _ _) (rw c.in-Err.is c.publish.ensures)
+    told_runs c.bytes_tell_what_they_show.ensures _ g.Q.Second.SecondInput.said _ _ _ _ _ _ _
+    c.read_inputs-capture.result.1 (c.read_inputs-capture.ensures.has_read _ _) (rw c.in-Err.is c.publish.ensures)
 
 pub returns-in-Err-clause-shows : goal.returns-in-Err-clause-shows
 returns-in-Err-clause-shows g c = rw c.publish.ensures.stays tt

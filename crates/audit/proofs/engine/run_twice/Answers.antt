@@ -1,17 +1,12 @@
 use Rattle.std.proofs.Common.{refl}
-use Rattle.audit.specs.Question.{asked_of}
 use Rattle.audit.proofs.RunSteps.{told_twice}
 use Rattle.audit.proofs.engine.run_twice.Goals as goal
 
 pub returns-in-Ok : goal.returns-in-Ok
 returns-in-Ok g c =
-    told_twice (record {
-      nanoseconds = c.bounds_of_bytes_hold_in_nanoseconds.ensures;
-      headline = c.yes_shows_the_headline.ensures;
-      contested = c.course_beyond_the_bound_contests_the_claim.ensures;
-    }) (asked_of (g.Q.Question.asks c.args.question) g.Q.Second.SecondInput.kind c.args.style)
-    g.Q.Second.SecondInput.said _ _ _ _ _ _ _ _ _ c.read_inputs-capture.result.1
-    (c.read_inputs-capture.ensures.has_read _ _) (rw c.in-Ok.is c.tell_finding_twice-answer.ensures)
+    told_twice c.bytes_tell_what_they_show.ensures _ g.Q.Second.SecondInput.said _ _ _ _ _ _ _ _ _
+    c.read_inputs-capture.result.1 (c.read_inputs-capture.ensures.has_read _ _)
+    (rw c.in-Ok.is c.tell_finding_twice-answer.ensures)
 
 pub publish-requires-clause-unwritten : goal.publish-requires-clause-unwritten
 publish-requires-clause-unwritten g c =
@@ -20,10 +15,6 @@ publish-requires-clause-unwritten g c =
 
 pub returns-in-Err : goal.returns-in-Err
 returns-in-Err g c =
-    told_twice (record {
-      nanoseconds = c.bounds_of_bytes_hold_in_nanoseconds.ensures;
-      headline = c.yes_shows_the_headline.ensures;
-      contested = c.course_beyond_the_bound_contests_the_claim.ensures;
-    }) (asked_of (g.Q.Question.asks c.args.question) g.Q.Second.SecondInput.kind c.args.style)
-    g.Q.Second.SecondInput.said _ _ _ _ _ _ _ _ _ c.read_inputs-capture.result.1
-    (c.read_inputs-capture.ensures.has_read _ _) (rw c.in-Err.is (c.publish.ensures, refl))
+    told_twice c.bytes_tell_what_they_show.ensures _ g.Q.Second.SecondInput.said _ _ _ _ _ _ _ _ _
+    c.read_inputs-capture.result.1 (c.read_inputs-capture.ensures.has_read _ _)
+    (rw c.in-Err.is (c.publish.ensures, refl))

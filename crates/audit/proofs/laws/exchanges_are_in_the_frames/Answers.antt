@@ -4,9 +4,7 @@ use Rattle.audit.proofs.laws.exchanges_are_in_the_frames.Goals as goal
 pub returns : goal.returns
 returns c bytes format records claim all capture apart =
     let laws : Laws = record {
-      given = c.packet_is_given_where_held.ensures.given;
-      held = c.packet_is_given_where_held.ensures.held;
-      usable = c.usable_replies_are_not_refused.ensures;
+      datagram = c.given_where_held.ensures;
       request = c.request_is_to_one_server.ensures;
       reply = c.reply_is_of_one_server.ensures;
       down = c.ratios_are_rounded_as_little_as_can_be.ensures.down;

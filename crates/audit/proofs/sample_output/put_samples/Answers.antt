@@ -1,21 +1,12 @@
 use Rattle.std.proofs.Common.{length-append}
-use Rattle.audit.proofs.Common.{◌≡◌, ◌≤◌, ◌<◌, ◌∙◌, ◌+◌, ◌++◌, List, ℕ, ap, append-nil, arith, get_or, length, map, refl, subst, sym, [], length-map, Plain, exchange_shown, Yes, put_count, output_state, IsGoing, going_start, going_more, going_short, going_done, sample_line, samples_text, evidence_data}
+use Rattle.audit.proofs.Common.{◌≡◌, ◌≤◌, ◌<◌, ◌∙◌, ◌+◌, ◌++◌, List, ℕ, ap, append-nil, arith, get_or, length, map, subst, sym, [], length-map, Plain, exchange_shown, Yes, put_count, output_state, going_start, going_more, going_short, going_done, sample_line, samples_text, evidence_data}
 use Rattle.pairing.specs.declared.compact.CompactExchange.{CompactExchange}
 use Rattle.audit_text.proofs.Shown.{keeps_limits, stands_at}
 use Rattle.audit.proofs.SampleLines.{all_left, counts_left, left_after, next_line}
 use Rattle.audit.proofs.sample_output.put_samples.Goals as goal
 
 pub loop-number-init : goal.loop-number-init
-loop-number-init g c =
-    let e = evidence_data c.args.evidence.now in
-    let output = output_state g.S.Sink.state c.args.out.now in
-    let text = samples_text Plain e.claim e.collection in
-    record {
-      same_sink = refl;
-      few = omega (arith, ap put_count c.requires.nothing_put);
-      going = subst (λ (left : List ℕ). IsGoing text left output.sink output) (all_left e.claim e.collection)
-          (going_start text output.sink output c.requires.ready c.requires.nothing_put);
-    }
+loop-number-init g c = grind (arith, evidence_data, output_state, samples_text, put_count, all_left, going_start)
 
 pub write_sample_line-requires-clause-exchange : goal.write_sample_line-requires-clause-exchange
 write_sample_line-requires-clause-exchange g c = record {

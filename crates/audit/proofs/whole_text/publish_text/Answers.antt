@@ -7,6 +7,6 @@ returns g c = λ expected is. record {
   is_made = made_whole_is c.args.text (λ t. t.items) c.args.outcome c.made_whole-made.result expected
       c.made_whole-made.ensures.made is;
   of_making = c.made_whole-made.ensures.fault;
-  outcome_is = c.made_whole-made.ensures.outcome;
+  shows = c.made_whole-made.ensures.outcome;
   publishes = c.publish.ensures;
 }

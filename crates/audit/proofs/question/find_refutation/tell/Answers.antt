@@ -10,15 +10,12 @@ returns g c =
     let e = evidence_data c.args.evidence.now in
     let exact = rw c.deref.ensures.value at found.ensures.exact in
     told_whole (rw (c.outcome_of.ensures, exact) refl)
-    (search_shown c.course_beyond_the_bound_contests_the_claim.ensures e c.outcome_of.result (search_shows (record {
-      course = c.accepted_refutations_have_a_course.ensures;
-      never_meet = c.yes_and_refutation_never_meet.ensures;
-    }) e (record {
-      lawful = lawful.claim;
-      each = lawful.exchanges.each;
-      agree = lawful.exchanges.agree;
-    }) found.result c.outcome_of.result c.outcome_of.ensures (record {
-      exact = exact;
-      nearest = rw c.deref.ensures.value at found.ensures.found;
-      none = rw c.deref.ensures.value at found.ensures.none;
-    }))) (c.publish_text.ensures _ c.found_refutation_text-text.ensures)
+    (search_shown c.course_beyond_the_bound_contests_the_claim.ensures e c.outcome_of.result
+    (rw c.outcome_of.ensures (search_shows e (λ refutation accepted. record {
+      accepted = accepted;
+      course = c.accepted_refutations_have_a_course.ensures e.claim e.collection.exchanges refutation lawful.claim
+          lawful.exchanges.each lawful.exchanges.agree accepted;
+      no_yes = λ certificate told. c.yes_and_refutation_never_meet.ensures e.claim e.collection.exchanges certificate
+          refutation lawful.claim lawful.exchanges.each told accepted;
+    }) found.result exact (rw c.deref.ensures.value at found.ensures.found)
+    (rw c.deref.ensures.value at found.ensures.none)))) (c.publish_text.ensures _ c.found_refutation_text-text.ensures)

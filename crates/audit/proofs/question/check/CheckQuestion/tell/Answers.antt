@@ -10,6 +10,6 @@ returns g c =
     let certificate = certificate_data c.args.second.now in
     let e = evidence_data c.args.evidence.now in
     told_whole (rw (c.outcome_of.ensures, findings.ensures.exact, c.fits_told.ensures) refl)
-    (verdict_shown certificate e c.args.self.about.now c.bounds_of_bytes_hold_in_nanoseconds.ensures
-    c.yes_shows_the_headline.ensures c.outcome_of.result (verdict_shows certificate e findings.result.verdict c.outcome_of.result c.outcome_of.ensures
-    findings.ensures.verdict)) (c.publish_text.ensures _ c.check_text-text.ensures)
+    (verdict_shown certificate e c.args.self.about.now c.bytes_tell_what_they_show.ensures c.outcome_of.result
+    (rw c.outcome_of.ensures (verdict_shows certificate e findings.result.verdict findings.ensures.verdict)))
+    (c.publish_text.ensures _ c.check_text-text.ensures)

@@ -1,6 +1,6 @@
-use Rattle.audit.proofs.Common.{evidence_data, no_finding}
-use Rattle.audit.proofs.EnvelopeShowing.{envelope_refused}
-use Rattle.audit.proofs.Showing.{making_fault, memory_unfound, nothing_found}
+use Rattle.audit.proofs.Common.{None, refl, evidence_data, no_finding}
+use Rattle.audit.specs.Envelope.{report_of}
+use Rattle.audit.proofs.Showing.{making_fault, memory_unfound, nothing_found, refused_as}
 use Rattle.audit.proofs.question.envelope.EnvelopeOptionsQuestion.find.Goals as goal
 
 pub returns-in-Ok-least_if-clause-found : goal.returns-in-Ok-least_if-clause-found
@@ -33,6 +33,6 @@ returns-in-Err-clause-fault c =
       finding = no_finding;
       found = nothing_found e;
       of_making = making_fault fault c.run_fault_of.result c.run_fault_of.ensures;
-      is_made = λ style. envelope_refused style c.args.self e fault c.run_fault_of.result c.run_fault_of.ensures
-          (rw c.samples_of.ensures.samples at c.in-Err.ensures.exact);
+      is_made = λ style. refused_as (report_of style c.args.self None e) _ fault c.run_fault_of.result refl
+          c.run_fault_of.ensures (rw c.samples_of.ensures.samples at c.in-Err.ensures.exact);
     }

@@ -1,6 +1,7 @@
-use Rattle.audit.proofs.Common.{Err, None, refl, settled_data, evidence_data, samples_in, IsSettledOf}
-use Rattle.audit.proofs.SettlementShowing.{fault_found, refused_made, settled_of}
-use Rattle.audit.proofs.Showing.{making_fault, memory_unfound}
+use Rattle.audit.proofs.Common.{Err, Finding, None, inr, refl, settled_data, evidence_data, samples_in, IsSettledOf}
+use Rattle.audit.specs.Settle.{settle_report}
+use Rattle.audit.proofs.SettlementShowing.{fault_found, settled_of}
+use Rattle.audit.proofs.Showing.{making_fault, memory_unfound, refused_as}
 use Rattle.audit.proofs.question.settle.SettleQuestion.find.Goals as goal
 
 pub returns-in-Ok-with_least : goal.returns-in-Ok-with_least
@@ -28,14 +29,14 @@ returns-in-Err-with_least-clause-fault c = memory_unfound _ _
 
 pub returns-in-Err-clause-fault : goal.returns-in-Err-clause-fault
 returns-in-Err-clause-fault c =
+    let e = evidence_data c.args.evidence.now in
+    let fault = c.in-Err.fault in
+    let finding : Finding = record { settled = Err fault; least = None; fits = None } in
     let settles = rw c.deref.ensures.value at c.in-Err.ensures in
     record {
-      finding = record { settled = Err c.in-Err.fault; least = None; fits = None };
-      found = record {
-        settled = fault_found (evidence_data c.args.evidence.now) c.in-Err.fault settles.refused;
-        least = tt;
-        fits = tt;
-      };
-      of_making = making_fault c.in-Err.fault c.run_fault_of.result c.run_fault_of.ensures;
-      is_made = λ style. refused_made c.in-Err.fault c.run_fault_of.result c.run_fault_of.ensures;
+      finding = finding;
+      found = record { settled = fault_found e fault settles.refused; least = tt; fits = tt };
+      of_making = making_fault fault c.run_fault_of.result c.run_fault_of.ensures;
+      is_made = λ style. refused_as (settle_report style c.args.self.about.now finding e) (Err fault) fault
+          c.run_fault_of.result refl c.run_fault_of.ensures (inr refl);
     }

@@ -1,6 +1,6 @@
-use Rattle.audit.proofs.Common.{about_told, settled_data, evidence_data, IsSettledBy, text_for}
-use Rattle.audit.proofs.Showing.{BytesLaws, of_inputs, settled_from, told_whole}
-use Rattle.audit.proofs.SettlementText.{items_known, report_is}
+use Rattle.audit.proofs.Common.{◌≡◌, [], unwrap_or, IfOk-weaker, refl, about_told, settled_data, evidence_data, IsSettledBy, text_for}
+use Rattle.audit.proofs.Showing.{of_inputs, settled_from, told_whole}
+use Rattle.audit.proofs.SettlementText.{report_is}
 use Rattle.audit.proofs.question.settle.SettleQuestion.tell.Goals as goal
 
 pub returns : goal.returns
@@ -10,15 +10,11 @@ returns g c =
     let settled = settled_data found.settled in
     let known = text_for c.args.style e found.least settled in
     let about = about_told c.args.style c.args.self.about.now in
-    let laws : BytesLaws = record {
-      nanoseconds = c.bounds_of_bytes_hold_in_nanoseconds.ensures;
-      headline = c.yes_shows_the_headline.ensures;
-      contested = c.course_beyond_the_bound_contests_the_claim.ensures;
-    } in
     told_whole (rw c.outcome_of.ensures (report_is settled about known c.requires.found))
     (of_inputs e (IsSettledBy c.outcome_of.result) (λ b f is. record {
       settled = settled;
       outcome_is = c.outcome_of.ensures;
-      holds = settled_from laws b f e is settled c.requires.finding.settled;
-    })) (c.publish_text.ensures _ (c.with_about-text.ensures _
-    (items_known c.text_for-text.result (λ t. t.items) known c.text_for-text.ensures)))
+      holds = settled_from c.bytes_tell_what_they_show.ensures b f e is settled c.requires.finding.settled;
+    })) (c.publish_text.ensures _ (c.with_about-text.ensures (unwrap_or known [])
+    (IfOk-weaker c.text_for-text.result _ (λ t. t.items ≡ unwrap_or known []) (λ t is. rw is refl)
+    c.text_for-text.ensures)))
