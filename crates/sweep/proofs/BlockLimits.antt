@@ -1,5 +1,6 @@
 -- The limits of blocks, and the first block that reaches a height.
-use Rattle.sweep.proofs.Common.{◌≡◌, ℕ, ◌+◌, ◌*◌, ◌/◌, ◌<◌, ◌≤◌, max, List, length, Some, refl, set, get_or, arith, subst, sym, ◌∙◌, ap, ◌⊎◌, inl, inr, ⊎_elim, slice_get, cases_lt, cases_eq, length-set, length-set, get_or-set_same, get_or-set_other, same_Some, slice_get-get_or, get_or_from_slice_get, div-div-eq-div-mul, IsReached, IsFirstBlock, IsLimitOf, AreLimitsOf, AreUpto, Arrival}
+use Rattle.sweep.proofs.Common.{◌≡◌, ℕ, ◌+◌, ◌*◌, ◌/◌, ◌<◌, ◌≤◌, max, List, length, Some, refl, set, get_or, arith, subst, sym, ◌∙◌, ap, ◌⊎◌, inl, inr, ⊎_elim, slice_get, cases_lt, cases_eq, length-set, length-set, get_or-set_same, get_or-set_other, slice_get-get_or, get_or_from_slice_get, div-div-eq-div-mul, IsReached, IsFirstBlock, IsLimitOf, AreLimitsOf, AreUpto, Arrival}
+use Rattle.sweep.proofs.List.{below_next}
 
 -- ---- one arrival more
 
@@ -24,16 +25,11 @@ module _ (queue : List Arrival) (n width : ℕ) (limits : List ℕ) (are : AreLi
 
   above : (turn : ℕ) (x : Arrival) → turn < n + 1 → slice_get queue turn ≡ Some x →
       x.height < get_or (set limits block limit) (x.index / width) 0
-  above turn x before stands = ⊎_elim
-      (λ old. omega (arith, are.above turn x old stands, grows (x.index / width)))
-      (λ le.
-      let same : n ≡ turn = omega arith in
-      let one : a ≡ x = same_Some a x (sym here ∙ ap (slice_get queue) same ∙ stands) in
-      let high : a.height < get_or (set limits block limit) block 0 =
-      omega (arith, is, get_or-set_same limits block limit 0 within) in
-      subst (λ (y : Arrival). y.height < get_or (set limits block limit) (y.index / width) 0) one
-      (subst (λ (k : ℕ). a.height < get_or (set limits block limit) k 0) (sym in_block) high))
-      (cases_lt turn n)
+  above =
+      below_next (λ turn x. x.height < get_or (set limits block limit) (x.index / width) 0) queue n a here
+      (λ turn x old stands. omega (arith, are.above turn x old stands, grows (x.index / width)))
+      (subst (λ (k : ℕ). a.height < get_or (set limits block limit) k 0) (sym in_block)
+      (omega (arith, is, get_or-set_same limits block limit 0 within)))
 
   one_later : (b height : ℕ) → IsLimitOf queue n width b height → IsLimitOf queue (n + 1) width b height
   one_later b height old = record {

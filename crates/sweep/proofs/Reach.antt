@@ -34,9 +34,6 @@ module _ (widens : (ppb distance : ℕ) → ppb < billion → IsWidening ppb dis
 
   module _ (extreme : Extreme) (stretch : UnsignedStretch) (b : IsLawfulExtreme extreme) (s : IsLawfulStretch stretch)
       (level : ℕ) where
-    wide : ℕ
-    wide = widening ppb (distance extreme stretch)
-
     early_height : IsEarly extreme stretch → level + widening ppb (distance extreme stretch) ≤ extreme.end →
         height_for ppb stretch.end level ≤ height ppb extreme
     early_height early =

@@ -5,8 +5,8 @@ use Rattle.sweep.proofs.prefix_maximum.maxima_of.Goals.{then-is_higher+in_ok-pus
 
 pub loop-turn-init : goal.loop-turn-init
 loop-turn-init c =
-    subst (MaximaSoFar c.in_ok-queue.queue.items 0) (sym c.new-maxima.ensures.items)
-    (MaximaSoFar-none c.in_ok-queue.queue.items)
+    subst (MaximaSoFar c.args.drift_ppb (seen c.args.backwards c.args.extremes.now) c.in_ok-queue.queue.items 0)
+    (sym c.new-maxima.ensures.items) (MaximaSoFar-none _ _ c.in_ok-queue.queue.items)
 
 pub loop-turn-preserved : goal.loop-turn-preserved
 loop-turn-preserved c =
@@ -20,7 +20,7 @@ loop-turn-preserved c =
     let passed = c.as_slice.ensures.value in
     elim c.if-is_higher.branch [
       | then-is_higher+in_ok-push w ↦
-          subst (MaximaSoFar queue _)
+          subst (MaximaSoFar _ _ queue _)
           (sym (ap (λ (v : Vec PrefixMaximum Global). v.items) w.maxima-is ∙ w.in_ok-push.ensures.items))
           (MaximaSoFar-more c.args.drift_ppb (seen c.args.backwards c.args.extremes.now) queue
           c.in_ok-queue.ensures turn maxima
@@ -29,7 +29,7 @@ loop-turn-preserved c =
           (subst (λ (xs : List PrefixMaximum). slice_get xs (length xs - 1) ≡ Some last) (sym passed) at)))
       | else-is_higher w ↦
           let low = c.is_higher.ensures.no_higher (λ t. true≢false (sym t ∙ w.if-is_higher.false)) in
-          subst (MaximaSoFar queue _) (sym (ap (λ (v : Vec PrefixMaximum Global). v.items) w.maxima-is))
+          subst (MaximaSoFar _ _ queue _) (sym (ap (λ (v : Vec PrefixMaximum Global). v.items) w.maxima-is))
           (MaximaSoFar-kept c.args.drift_ppb (seen c.args.backwards c.args.extremes.now) queue
           c.in_ok-queue.ensures turn maxima
           c.loop-turn.invariant arrival here low.0
