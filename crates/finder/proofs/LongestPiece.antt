@@ -1,6 +1,7 @@
 -- Where the longest piece ends, by halving; and the longest pieces, one after another.
-use Rattle.finder.proofs.Common.{◌≡◌, ℕ, zero, suc, ◌+◌, ◌-◌, ◌<◌, ◌≤◌, ◌^◌, ℤ, pos, ◌+ℤ◌, ◌≤ℤ◌, ◌<ℤ◌, unsigned_abs, true, false, true≢false, List, [], ◌∷◌, ◌++◌, length, take, vec_len, length-append, Vec, Global, get_or, Some, refl, sym, ap, ◌∙◌, subst, arith, to_z, of_z, Fits, w64, int_min, ints, clamps, w128, T, take_more, non_neg, yes_non_neg, PieceData, max_pieces, ClaimData, IsLawful, Sample, IsPiece, ArePieces, IsPieceAt, best_entries, AreLongest, IsLongest, end_after, next_tick, piece_over, pieces_over, shows, stretch_over, AreSamplesOf, by_test, w128_keeps, first_kept, last_kept}
+use Rattle.finder.proofs.Common.{◌≡◌, ℕ, zero, suc, ◌+◌, ◌-◌, ◌<◌, ◌≤◌, ◌^◌, ℤ, pos, ◌+ℤ◌, ◌≤ℤ◌, ◌<ℤ◌, unsigned_abs, true, false, true≢false, List, [], ◌∷◌, ◌++◌, length, take, vec_len, length-append, Vec, Global, get_or, refl, sym, ap, ◌∙◌, subst, arith, to_z, of_z, Fits, w64, int_min, ints, clamps, w128, T, take_more, non_neg, yes_non_neg, PieceData, max_pieces, ClaimData, IsLawful, Sample, IsPiece, ArePieces, IsPieceAt, best_entries, AreLongest, IsLongest, end_after, next_tick, piece_over, pieces_over, shows, stretch_over, AreSamplesOf, by_test, w128_keeps, first_kept, last_kept}
 use Rattle.finder.proofs.FewestPieces.{InSpan, end_in_span, longest_forward, piece_to, shown_before}
+use Rattle.finder.proofs.SpanPieces.{one_piece}
 use Rattle.finder.proofs.Verdict.{from_zero_kept}
 
 -- ---- ticks as 128 bits hold them
@@ -150,12 +151,6 @@ piece_at_take p (q ∷ ends) zero d below = record { begins = refl; ends_at = re
 piece_at_take p (q ∷ ends) (suc k) d below =
     let rest = piece_at_take q ends k d (omega arith) in
     record { begins = rest.begins; ends_at = rest.ends_at }
-
-one_piece : (a b p q : ℤ) → IsPiece a b → Some a ≡ Some p → Some b ≡ Some q → IsPiece p q
-one_piece a b p q is e f =
-    let begins : a ≡ p = cc in
-    let ends : b ≡ q = cc in
-    subst (λ (x : ℤ). IsPiece x q) begins (subst (λ (y : ℤ). IsPiece a y) ends is)
 
 module _ (samples : List Sample) (claim : ClaimData) (lawful : IsLawful claim)
     (are : AreSamplesOf claim samples) where
