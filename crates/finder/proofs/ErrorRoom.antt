@@ -1,14 +1,9 @@
 -- The errors for which exchanges leave room.
-use Rattle.finder.proofs.Common.{◌≡◌, ◌⊎◌, inl, inr, ◌^◌, ℤ, pos, neg_ℤ, ◌≤ℤ◌, ◌<ℤ◌, int_lt, true, false, true≢false, not, ◌||◌, refl, sym, ◌∙◌, ⊎_elim, arith, int_max, int_min, ints, clamps, leaves_out, Exchange, Admits, admits, high_mark, low_mark, IsNear, by_test, or_from}
+use Rattle.finder.proofs.Common.{◌≡◌, ◌^◌, ℤ, pos, neg_ℤ, ◌≤ℤ◌, int_lt, true, false, true≢false, not, ◌||◌, refl, sym, ◌∙◌, arith, int_max, int_min, ints, clamps, leaves_out, Exchange, Admits, admits, high_mark, low_mark, IsNear, by_test, or_from}
 use Rattle.error_marks.specs.Mark.{IsPossible}
 use Rattle.checker.proofs.RefutationTests.{admits_from, admits_to}
 
 -- ---- one interval
-
-is_left_out : (lo hi e : ℤ) → leaves_out (record { lo = lo; hi = hi }) e ≡ true → (e <ℤ lo) ⊎ (hi <ℤ e)
-is_left_out lo hi e h = by_test (int_lt e lo)
-    (λ below. inl (grind (arith, ints)))
-    (λ not_below. inr (let above : int_lt hi e ≡ true = rw not_below at h in grind (arith, ints)))
 
 pub is_inside : (lo hi e : ℤ) → lo ≤ℤ e → e ≤ℤ hi → leaves_out (record { lo = lo; hi = hi }) e ≡ false
 is_inside lo hi e from to =
@@ -25,25 +20,7 @@ not_left_out lo hi e h = by_test (int_lt e lo)
 pub left_out_of_either : (al ah bl bh e : ℤ)
     → leaves_out (record { lo = int_max al bl; hi = int_min ah bh }) e
     ≡ (leaves_out (record { lo = al; hi = ah }) e || leaves_out (record { lo = bl; hi = bh }) e)
-left_out_of_either al ah bl bh e =
-    by_test (leaves_out (record { lo = int_max al bl; hi = int_min ah bh }) e)
-    (λ out. out ∙ sym (by_test (leaves_out (record { lo = al; hi = ah }) e)
-    (λ a. rw a refl)
-    (λ a.
-    let in_a = not_left_out al ah e a in
-    let out_of = is_left_out (int_max al bl) (int_min ah bh) e out in
-    by_test (leaves_out (record { lo = bl; hi = bh }) e)
-    (λ b. rw (a, b) refl)
-    (λ b.
-    let in_b = not_left_out bl bh e b in
-    absurd (⊎_elim
-    (λ below. let low = below in omega (arith, ints, clamps))
-    (λ above. let high = above in omega (arith, ints, clamps))
-    out_of)))))
-    (λ inside.
-    let ends = not_left_out (int_max al bl) (int_min ah bh) e inside in
-    inside ∙ sym (or_from _ _ (is_inside al ah e (omega (arith, ints, clamps)) (omega (arith, ints, clamps)))
-    (is_inside bl bh e (omega (arith, ints, clamps)) (omega (arith, ints, clamps)))))
+left_out_of_either al ah bl bh e = grind (arith, ints, clamps)
 
 -- ---- one exchange
 

@@ -39,16 +39,10 @@ module _ (test : Part → Bool) (xs : List Part) (i : ℕ) (d : Part) (old : Lis
     (so_far : old ≡ filter test (take i xs)) (within : i < length xs) where
   pub one_more_kept : (new : List Part) → test (get_or xs i d) ≡ true → new ≡ old ++ get_or xs i d ∷ []
       → new ≡ filter test (take (i + 1) xs)
-  one_more_kept new passes pushed =
-      pushed ∙ ap (λ (ps : List Part). ps ++ get_or xs i d ∷ []) so_far
-      ∙ ap (λ (b : Bool). filter test (take i xs) ++ cond b (get_or xs i d ∷ []) []) (sym passes)
-      ∙ sym (filter_more test xs i d within)
+  one_more_kept new passes pushed = grind (arith, filter_more test xs i d within, append-nil)
 
   pub one_passed_over : test (get_or xs i d) ≡ false → old ≡ filter test (take (i + 1) xs)
-  one_passed_over fails =
-      so_far ∙ sym (append-nil (filter test (take i xs)))
-      ∙ ap (λ (b : Bool). filter test (take i xs) ++ cond b (get_or xs i d ∷ []) []) (sym fails)
-      ∙ sym (filter_more test xs i d within)
+  one_passed_over fails = grind (arith, filter_more test xs i d within, append-nil)
 
 -- ---- the hull
 

@@ -1,7 +1,6 @@
 -- The nearest error that few enough groups refuse.
 use Rattle.std.proofs.Common.{below_more}
-use Rattle.finder.proofs.Common.{◌≡◌, ℕ, zero, suc, ◌+◌, ◌-◌, ◌<◌, ◌≤◌, ◌^◌, ℤ, pos, neg_ℤ, to_z, of_z, w128, w128_keeps, ◌+ℤ◌, ◌-ℤ◌, ◌≤ℤ◌, ◌<ℤ◌, int_lt, unsigned_abs, Bool, true, false, true≢false, List, length, sym, ap, ◌∙◌, ◌⊎◌, inl, inr, ⊎_elim, arith, ints, leaves_out, ClaimData, Interval, room_at, refused_by, possible_by, IsFirstBeyond, after, Side, Above, Below, least_on, turned, by_test, leb-true, le-leb}
-use Rattle.finder.proofs.ErrorRoom.{is_inside, not_left_out}
+use Rattle.finder.proofs.Common.{◌≡◌, ℕ, zero, suc, ◌+◌, ◌-◌, ◌<◌, ◌≤◌, ◌^◌, ℤ, pos, neg_ℤ, to_z, of_z, w128, w128_keeps, ◌+ℤ◌, ◌-ℤ◌, ◌≤ℤ◌, ◌<ℤ◌, int_lt, unsigned_abs, Bool, true, false, true≢false, List, length, sym, ap, ◌∙◌, ◌⊎◌, inl, inr, arith, ints, leaves_out, ClaimData, Interval, room_at, refused_by, possible_by, IsFirstBeyond, after, Side, Above, Below, least_on, turned, by_test, leb-true, le-leb}
 use Rattle.finder.proofs.Group.{no_more_groups}
 
 pub int_cases : (a b : ℤ) → (a <ℤ b) ⊎ (b ≤ℤ a)
@@ -14,14 +13,8 @@ after_is bound number beyond = omega (arith, ints)
 inside_before : (side : Side) (room : Interval) (before error : ℤ) → error ≡ before +ℤ pos 1
     → (least_on side room ≡ error → ⊥) → leaves_out room (turned side error) ≡ false
     → leaves_out room (turned side before) ≡ false
-inside_before Above room before error is later inside =
-    let ends = not_left_out room.lo room.hi error inside in
-    is_inside room.lo room.hi before
-    (⊎_elim (λ less. absurd (later (omega (arith, ints)))) (λ le. le) (int_cases before room.lo)) (omega (arith, ints))
-inside_before Below room before error is later inside =
-    let ends = not_left_out room.lo room.hi (turned Below error) inside in
-    is_inside room.lo room.hi (turned Below before) (omega (arith, ints))
-    (⊎_elim (λ less. absurd (later (omega (arith, ints)))) (λ le. le) (int_cases room.hi (turned Below before)))
+inside_before Above room before error is later inside = grind (arith, ints)
+inside_before Below room before error is later inside = grind (arith, ints)
 
 pub turned_kept : (side : Side) (ticks now : ℤ) → now ≡ turned side ticks → unsigned_abs ticks ≤ 2 ^ 100
     → to_z w128 (of_z w128 now) ≡ turned side ticks

@@ -1,5 +1,5 @@
 -- The best samples of each server in each piece, table by table.
-use Rattle.finder.proofs.Common.{◌≡◌, ℕ, zero, suc, ◌+◌, ◌<◌, ◌≤◌, ◌^◌, ℤ, pos, ◌≤ℤ◌, ◌<ℤ◌, List, [], ◌∷◌, ◌++◌, length, Option, Some, refl, sym, ap, ◌∙◌, le_trans, arith, Vec, Global, All, slice_get, filter_map, cons_option, range_with_len, filter_map-append, length-map-range_with_len, get_or-map-range_with_len, slice_get-get_or, slice_get_within, piece_end_of, IsPieceAt, ArePieces, piece_begin_of, ends_of}
+use Rattle.finder.proofs.Common.{◌≡◌, ℕ, zero, suc, ◌+◌, ◌<◌, ◌≤◌, ◌^◌, ℤ, pos, ◌≤ℤ◌, ◌<ℤ◌, List, [], ◌∷◌, ◌++◌, length, Option, Some, refl, sym, ap, ◌∙◌, le_trans, arith, Vec, Global, All, slice_get, filter_map, range_with_len, filter_map-append, length-map-range_with_len, get_or-map-range_with_len, slice_get-get_or, slice_get_within, piece_end_of, IsPieceAt, ArePieces, piece_begin_of, ends_of}
 use Rattle.finder.proofs.List.{one_more}
 use Rattle.finder.proofs.SpanPieces.{each_is_piece, one_piece}
 
@@ -37,9 +37,7 @@ module _ (first last : ℤ) (step n : ℕ) where
 pub table_more : {X Y : Type 0} (g : X → Option Y) (h : ℕ → Option Y) (n : ℕ) (old : List X) (x : X)
     → filter_map g old ≡ filter_map h (range_with_len 0 n) → g x ≡ h n
     → filter_map g (old ++ x ∷ []) ≡ filter_map h (range_with_len 0 (n + 1))
-table_more g h n old x so_far same =
-    filter_map-append g old (x ∷ []) ∙ ap (λ ys. ys ++ cons_option (g x) []) so_far
-    ∙ ap (λ o. filter_map h (range_with_len 0 n) ++ cons_option o []) same ∙ sym (one_more h n)
+table_more g h n old x so_far same = grind (arith, filter_map-append g old (x ∷ []), one_more h n)
 
 -- ---- the tables as they are passed on
 
