@@ -41,11 +41,8 @@ pub servers_more : (samples : List Sample) (n : ℕ) (sample : Sample) → slice
     sample.server ∷ [] →
     pushed ≡ map (λ s. s.server) (take (n + 1) samples)
 servers_more samples n sample is servers pushed so_far more =
-    let within = slice_get_within samples n sample is in
     let here : get_or samples n sample ≡ sample = get_or_from_slice_get samples n sample sample is in
-    more ∙ ap (λ (xs : List ℕ). xs ++ sample.server ∷ []) so_far
-    ∙ sym (map_more (λ (s : Sample). s.server) samples n sample within
-    ∙ ap (λ (s : Sample). map (λ (s : Sample). s.server) (take n samples) ++ s.server ∷ []) here)
+    grind (arith, map_more (λ (s : Sample). s.server) samples n sample (slice_get_within samples n sample is))
 
 -- the extremes of the samples below number n
 pub record ExtremesSoFar (side : Side) (samples : List Sample) (server n : ℕ) (extremes : List Extreme) : Type 0 where

@@ -169,25 +169,16 @@ module _ (ppb : ℕ) (slow : IsRate ppb) (extremes : List Extreme) (stretch : Un
   reached : (level : ℕ) → level ≡ (greatest - ppb * stretch.end) / (billion - ppb) →
       (level ≡ 0) ⊎ ((index : ℕ) × IsEarlyAtLeast ppb extremes stretch index level)
   reached level level_is =
-      let fits : (greatest - ppb * stretch.end) / (billion - ppb) * (billion - ppb) ≤ greatest - ppb * stretch.end =
-      div-mul-le_self (greatest - ppb * stretch.end) (billion - ppb) in
       let under : level * (billion - ppb) ≤ greatest - ppb * stretch.end =
-      subst (λ (l : ℕ). l * (billion - ppb) ≤ greatest - ppb * stretch.end) (sym level_is) fits in
+      rw level_is (div-mul-le_self (greatest - ppb * stretch.end) (billion - ppb)) in
       ⊎_elim
-      (λ positive. ⊎_elim
-      (λ none.
+      (λ positive.
       let least : 1 * (billion - ppb) ≤ level * (billion - ppb) = mul-le-mul_right (billion - ppb) positive in
-      absurd (omega arith))
+      ⊎_elim
+      (λ none. absurd (omega arith))
       (λ one. inr (
         one.index,
-        record {
-          extreme = one.extreme;
-          stands = one.stands;
-          early = one.no_later;
-          at_least =
-              let least : 1 * (billion - ppb) ≤ level * (billion - ppb) = mul-le-mul_right (billion - ppb) positive in
-              omega arith;
-        },
+        record { extreme = one.extreme; stands = one.stands; early = one.no_later; at_least = omega arith },
       ))
       is.of_one)
       (λ none. inl (omega arith))
@@ -199,6 +190,5 @@ module _ (ppb : ℕ) (slow : IsRate ppb) (extremes : List Extreme) (stretch : Un
     reached = reached level level_is;
     highest = λ index other there.
         let lower = is.no_lower index there.extreme there.stands there.early in
-        subst (λ (l : ℕ). other ≤ l) (sym level_is)
-        (le-div other (greatest - ppb * stretch.end) (billion - ppb) (omega arith) (omega arith));
+        rw level_is (le-div other (greatest - ppb * stretch.end) (billion - ppb) (omega arith) (omega arith));
   }

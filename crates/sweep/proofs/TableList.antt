@@ -41,20 +41,12 @@ module _ (samples : List Sample) (n : ℕ) (tables : List BestTable)
   -- a server without a sample
   pub servers_without : has_sample samples n ≡ false →
       map (λ table. table.server) tables ≡ filter (has_sample samples) (range_with_len 0 (n + 1))
-  servers_without none =
-      so_far ∙ sym (one_more
-      ∙ ap (λ (b : Bool). filter (has_sample samples) (range_with_len 0 n) ++ cond b (n ∷ []) []) none
-      ∙ append-nil (filter (has_sample samples) (range_with_len 0 n)))
+  servers_without none = grind (arith, one_more, append-nil)
 
   -- a server with its table
   pub servers_more : (table : BestTable) → table.server ≡ n → has_sample samples n ≡ true →
       map (λ table. table.server) (tables ++ table ∷ []) ≡ filter (has_sample samples) (range_with_len 0 (n + 1))
-  servers_more table of has =
-      map-append (λ (t : BestTable). t.server) tables (table ∷ [])
-      ∙ ap (λ (ns : List ℕ). ns ++ table.server ∷ []) so_far
-      ∙ ap (λ (k : ℕ). filter (has_sample samples) (range_with_len 0 n) ++ k ∷ []) of
-      ∙ sym (one_more
-      ∙ ap (λ (b : Bool). filter (has_sample samples) (range_with_len 0 n) ++ cond b (n ∷ []) []) has)
+  servers_more table of has = grind (arith, one_more, map-append (λ (t : BestTable). t.server) tables (table ∷ []))
 
 -- ---- what they say
 
@@ -63,10 +55,7 @@ pub filter_map_more : {X Y : Type 0} (h : X → Option Y) (xs : List X) (i : ℕ
     old ≡ filter_map h (take i xs) → i < length xs → h (get_or xs i d) ≡ Some y →
     old ++ y ∷ [] ≡ filter_map h (take (i + 1) xs)
 filter_map_more h xs i d y old so_far within gives =
-    ap (λ ys. ys ++ y ∷ []) so_far
-    ∙ ap (λ o. filter_map h (take i xs) ++ cons_option o []) (sym gives)
-    ∙ sym (filter_map-append h (take i xs) (get_or xs i d ∷ []))
-    ∙ ap (filter_map h) (sym (take_more xs i d within))
+    grind (arith, take_more xs i d within, filter_map-append h (take i xs) (get_or xs i d ∷ []))
 
 module _ (f : ℕ → Option Part) where
   of_servers : (tables : List BestTable) →
