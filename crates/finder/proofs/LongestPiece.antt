@@ -96,19 +96,12 @@ module _ (samples : List Sample) (claim : ClaimData) where
   module _ (ends items : List ℤ) (b q : ℕ) (z : ℤ) (are : AreLongest samples claim claim.first ends)
       (begins : pos b ≡ end_after claim.first ends) (long : IsLongest samples claim (pos b) (pos q)) (same : z ≡ pos q)
       (pushed : items ≡ ends ++ z ∷ []) where
-    items_are : items ≡ ends ++ pos q ∷ []
-    items_are = pushed ∙ ap (λ (x : ℤ). ends ++ x ∷ []) same
-
-    long_after : IsLongest samples claim (end_after claim.first ends) (pos q)
-    long_after = subst (λ (x : ℤ). IsLongest samples claim x (pos q)) begins long
-
     pub reach_more : pos q <ℤ claim.last → AreLongest samples claim claim.first items
     reach_more before =
-        subst (AreLongest samples claim claim.first) (sym items_are)
-        (longest_more claim.first ends (pos q) are long_after before)
+        rw (pushed, same) (longest_more claim.first ends (pos q) are (rw begins at long) before)
 
     pub reach_begins : pos q ≡ end_after claim.first items
-    reach_begins = sym (ap (end_after claim.first) items_are ∙ end_after_more claim.first ends (pos q))
+    reach_begins = sym (rw (pushed, same) (end_after_more claim.first ends (pos q)))
 
   -- one more piece of a certificate
   pub taken_more : (ends : List ℤ) (k : ℕ) (old : List PieceData) (entries : List (ℕ × ℕ)) (upto : ℕ)
@@ -119,13 +112,8 @@ module _ (samples : List Sample) (claim : ClaimData) where
       → old ++ record { entries = entries; upto = upto } ∷ []
       ≡ pieces_over samples claim claim.first (take (k + 1) ends)
   taken_more ends k old entries upto below so_far a b =
-      let make : List (ℕ × ℕ) → ℕ → PieceData = λ es n. record { entries = es; upto = n } in
-      ap (λ (ps : List PieceData). ps ++ make entries upto ∷ []) so_far
-      ∙ ap (λ (es : List (ℕ × ℕ)). pieces_over samples claim claim.first (take k ends) ++ make es upto ∷ []) a
-      ∙ ap (λ (n : ℕ). pieces_over samples claim claim.first (take k ends) ++ make (best_entries samples claim
-      (stretch_over (end_after claim.first (take k ends)) (get_or ends k (pos 0)))) n ∷ []) b
-      ∙ sym (pieces_more claim.first (take k ends) (get_or ends k (pos 0)))
-      ∙ ap (pieces_over samples claim claim.first) (sym (take_more ends k (pos 0) below))
+      rw (so_far, a, b) (sym (pieces_more claim.first (take k ends) (get_or ends k (pos 0)))
+      ∙ ap (pieces_over samples claim claim.first) (sym (take_more ends k (pos 0) below)))
 
 -- an end that is a Unix tick, as it is cast
 pub end_kept : (p q : ℤ) → IsPiece p q → to_z w128 (of_z w128 q) ≡ q

@@ -1,5 +1,5 @@
 -- The longest pieces end in one of three ways, and in no two of them.
-use Rattle.finder.proofs.Common.{◌≡◌, ◌⊎◌, inl, inr, ⊎_elim, ℕ, zero, suc, ◌<◌, ◌≤◌, ℤ, pos, ◌+ℤ◌, ◌-ℤ◌, ◌≤ℤ◌, ◌<ℤ◌, unsigned_abs, Bool, true, false, true≢false, List, [], ◌∷◌, ◌++◌, length, refl, sym, ap, ◌∙◌, subst, arith, ints, clamps, CertificateData, PieceData, max_pieces, ClaimData, Hull, Sample, is_inside, GetStuck, IsCarried, AreLongest, IsLongest, IsOfLongest, IsStuck, IsTooLong, end_after, hull_over, next_tick, pieces_over, shows, by_test, lt_next_cases, ≤ℤ_antisymm}
+use Rattle.finder.proofs.Common.{◌≡◌, ◌⊎◌, inl, inr, ⊎_elim, ℕ, zero, suc, ◌<◌, ◌≤◌, ℤ, pos, ◌+ℤ◌, ◌-ℤ◌, ◌≤ℤ◌, ◌<ℤ◌, unsigned_abs, Bool, true, false, true≢false, List, [], ◌∷◌, ◌++◌, length, refl, sym, ap, ◌∙◌, subst, arith, ints, clamps, CertificateData, PieceData, max_pieces, ClaimData, Hull, Sample, GetStuck, IsCarried, AreLongest, IsLongest, IsOfLongest, IsStuck, IsTooLong, end_after, hull_over, next_tick, pieces_over, shows, by_test, lt_next_cases, ≤ℤ_antisymm}
 use Rattle.finder.proofs.Nearest.{int_cases}
 
 -- ---- the greatest number that passes a test
@@ -202,10 +202,7 @@ module _ (samples : List Sample) (claim : ClaimData) where
   -- what is stuck fails at its tick
   fails_at : {begin end : ℤ} {hull : Hull} (stuck : IsStuck samples claim begin end hull)
       → Fails claim.first stuck.earlier
-  fails_at {begin} {end} {hull} stuck =
-      subst (λ (p : ℤ). shows samples claim p (next_tick samples claim p) ≡ false) stuck.begins
-      (subst (λ (q : ℤ). shows samples claim begin q ≡ false) stuck.ends
-      (subst (λ (h : Hull). is_inside claim.bound h ≡ false) stuck.its_hull stuck.fails))
+  fails_at stuck = rw (stuck.its_hull, stuck.ends, stuck.begins) at stuck.fails
 
   carried_halts : {certificate : CertificateData} (is : IsOfLongest samples claim certificate)
       → Halts (end_after claim.first is.earlier)

@@ -1,6 +1,6 @@
 -- What servers say at one reading of the clock, one server after another.
 use Rattle.std.specs.Prelude.{filter_map}
-use Rattle.finder.proofs.Common.{◌≡◌, ◌∙◌, ℕ, ℤ, ◌+◌, ◌<◌, ◌≤◌, ◌++◌, List, [], ◌∷◌, length, take, Option, Some, None, sym, ap, subst, arith, length-append, slice_get, All, cons_option, range_with_len, take_more, All-push, get_or_from_slice_get, slice_get_within, Sample, Gathered, Gathering, Part, numbers_below, piece_hull, ClaimData, best_entries, best_hull, parts_named, stretch_over, best_part, best_parts}
+use Rattle.finder.proofs.Common.{◌≡◌, ◌∙◌, ℕ, ℤ, ◌+◌, ◌<◌, ◌≤◌, ◌++◌, List, [], ◌∷◌, length, take, Option, Some, None, ap, arith, length-append, slice_get, All, take_more, All-push, get_or_from_slice_get, slice_get_within, Sample, Gathered, Gathering, Part, numbers_below, piece_hull, ClaimData, best_entries, best_hull, parts_named, stretch_over, best_part, best_parts}
 use Rattle.checker.proofs.PieceFit.{all_numbers}
 use Rattle.finder.proofs.List.{one_more, without}
 use Rattle.finder.proofs.Part.{parts_said}
@@ -10,10 +10,7 @@ pub gathered_more : (samples : List Sample) (i : ℕ) (s : Sample) (tick : ℤ) 
     → slice_get samples i ≡ Some s → Gathered (take i samples ++ s ∷ []) tick tick ppb best
     → Gathered (take (i + 1) samples) tick tick ppb best
 gathered_more samples i s tick ppb best is gathered =
-    let same : take i samples ++ s ∷ [] ≡ take (i + 1) samples =
-    ap (λ (x : Sample). take i samples ++ x ∷ []) (sym (get_or_from_slice_get samples i s s is))
-    ∙ sym (take_more samples i s (slice_get_within samples i s is)) in
-    subst (λ (ts : List Sample). Gathered ts tick tick ppb best) same gathered
+    rw (take_more samples i s (slice_get_within samples i s is), get_or_from_slice_get samples i s s is) gathered
 
 -- the parts of the servers whose number is below `server`, of a claim with this many servers
 pub record StandsFor (says : ℕ → Option Part) (servers server : ℕ) (parts : List Part) : Type 0 where
@@ -25,12 +22,9 @@ module _ (says : ℕ → Option Part) (servers server : ℕ) (within : server < 
   pub one_stands : (old new : List Part) (part : Part) → StandsFor says servers server old → says server ≡ Some part →
       part.server ≡ server → new ≡ old ++ part ∷ [] → StandsFor says servers (server + 1) new
   one_stands old new part stands is same pushed = record {
-    so_far = rw (all_numbers (server + 1)) (pushed
-        ∙ ap (λ (ps : List Part). ps ++ part ∷ []) (rw (all_numbers server) at stands.so_far)
-        ∙ ap (λ (o : Option Part). filter_map says (range_with_len 0 server) ++ cons_option o []) (sym is)
-        ∙ sym (one_more says server));
+    so_far = grind (arith, all_numbers server, all_numbers (server + 1), one_more says server);
     fits = omega (arith, ap length pushed, length-append old (part ∷ []), stands.fits);
-    listed = subst (All (λ p. p.server < servers)) (sym pushed)
+    listed = rw pushed
         (All-push (λ (p : Part). p.server < servers) old part stands.listed (omega (arith, same, within)));
   }
 
@@ -40,7 +34,7 @@ module _ (says : ℕ → Option Part) (servers server : ℕ) (within : server < 
     so_far = rw (all_numbers (server + 1))
         (same ∙ without says server old (rw (all_numbers server) at stands.so_far) is);
     fits = omega (arith, ap length same, stands.fits);
-    listed = subst (All (λ p. p.server < servers)) (sym same) stands.listed;
+    listed = rw same stands.listed;
   }
 
 -- ---- the same by the best entries
