@@ -18,8 +18,7 @@ module _ (queue : List Arrival) (n width : ℕ) (limits : List ℕ) (are : AreLi
 
   grows : (b : ℕ) → get_or limits b 0 ≤ get_or (set limits block limit) b 0
   grows b = ⊎_elim
-      (λ same. subst (λ (k : ℕ). get_or limits k 0 ≤ get_or (set limits block limit) k 0) same
-      (omega (arith, is, get_or-set_same limits block limit 0 within)))
+      (λ same. rw (← same) (omega (arith, is, get_or-set_same limits block limit 0 within)))
       (λ other. omega (arith, get_or-set_other limits block b limit 0 (λ same. other (sym same))))
       (cases_eq block b)
 
@@ -61,23 +60,15 @@ module _ (queue : List Arrival) (n width : ℕ) (limits : List ℕ) (are : AreLi
       }))
       (λ le.
       let same : get_or limits block 0 ≡ limit = omega (arith, is) in
-      subst (λ (x : ℕ). (x ≡ 0) ⊎ IsLimitOf queue (n + 1) width block x) same (kept block))
+      rw (← same) (kept block))
       (cases_lt (get_or limits block 0) (a.height + 1))
 
   of_one : (b : ℕ) → (get_or (set limits block limit) b 0 ≡ 0)
       ⊎ IsLimitOf queue (n + 1) width b (get_or (set limits block limit) b 0)
   unfolding Of
   of_one b = ⊎_elim
-      (λ same.
-      subst (λ (k : ℕ). (get_or (set limits block limit) k 0 ≡ 0)
-      ⊎ IsLimitOf queue (n + 1) width k (get_or (set limits block limit) k 0)) same
-      (subst (λ (x : ℕ). (x ≡ 0) ⊎ IsLimitOf queue (n + 1) width block x)
-      (sym (get_or-set_same limits block limit 0 within))
-      raised))
-      (λ other.
-      subst (λ (x : ℕ). (x ≡ 0) ⊎ IsLimitOf queue (n + 1) width b x)
-      (sym (get_or-set_other limits block b limit 0 (λ same. other (sym same))))
-      (kept b))
+      (λ same. rw (← same, get_or-set_same limits block limit 0 within) raised)
+      (λ other. rw (get_or-set_other limits block b limit 0 (λ same. other (sym same))) (kept b))
       (cases_eq block b)
 
   pub AreLimitsOf-more : AreLimitsOf queue (n + 1) width (set limits block limit)

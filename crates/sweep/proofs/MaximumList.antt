@@ -1,5 +1,5 @@
 -- The maxima of extremes.
-use Rattle.sweep.proofs.Common.{◌≡◌, ℕ, ◌+◌, ◌-◌, ◌*◌, ◌/◌, ◌<◌, ◌≤◌, List, [], ◌∷◌, ◌++◌, length, Some, refl, arith, subst, sym, ◌∙◌, ap, ◌⊎◌, inl, inr, ⊎_elim, le_trans, slice_get, cases_lt, le-div, slice_get_within, same_Some, div-mul-le_self, mul-le-mul_right, IsRate, billion, IsMaximumOf, IsTopped, MaximaRise, AreMaximaOf, IsHeightUpto, IsEarlyLevel, IsQueueOf, IsEarlyAtLeast, height, Extreme, PrefixMaximum, Arrival, UnsignedStretch, slice_get-below}
+use Rattle.sweep.proofs.Common.{◌≡◌, ℕ, ◌+◌, ◌-◌, ◌*◌, ◌/◌, ◌<◌, ◌≤◌, List, [], ◌∷◌, ◌++◌, length, Some, refl, arith, sym, ◌∙◌, ap, ◌⊎◌, inl, inr, ⊎_elim, le_trans, slice_get, cases_lt, le-div, slice_get_within, same_Some, div-mul-le_self, mul-le-mul_right, IsRate, billion, IsMaximumOf, IsTopped, MaximaRise, AreMaximaOf, IsHeightUpto, IsEarlyLevel, IsQueueOf, IsEarlyAtLeast, height, Extreme, PrefixMaximum, Arrival, UnsignedStretch, slice_get-below}
 use Rattle.sweep.proofs.List.{below_next, each_pushed, rises_pushed, slice_get-front, slice_get-last}
 
 -- the maxima of the first n arrivals of these extremes: none comes after an arrival that is still to come
@@ -106,9 +106,7 @@ module _ (ppb : ℕ) (extremes : List Extreme) (queue : List Arrival) (are : IsQ
           let same : own.extreme ≡ extreme =
           same_Some own.extreme extreme (sym own.stands ∙ ap (slice_get extremes) came.3 ∙ is) in
           let top = so_far.all came.0 came.1 (omega arith) came.2 in
-          subst (λ (x : Extreme). IsTopped maxima (x.from + x.to) (height ppb x)) same
-          (subst (λ (h : ℕ). IsTopped maxima (own.extreme.from + own.extreme.to) h) own.height
-          (subst (λ (p : ℕ). IsTopped maxima p came.1.height) own.at top))
+          rw (← same, ← own.height, ← own.at) top
 
 -- ---- asked up to a place
 

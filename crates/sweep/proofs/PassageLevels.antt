@@ -1,5 +1,5 @@
 -- The highest level that is reached over each stretch, and the first index that reaches it.
-use Rattle.sweep.proofs.Common.{◌≡◌, ℕ, ◌+◌, ◌-◌, ◌*◌, ◌<◌, ◌≤◌, List, Option, Some, max, arith, subst, sym, ◌∙◌, ap, inl, inr, ⊎_elim, slice_get, cases_lt, same_Some, mul-le-mul_right, div-one, IsRate, billion, IsReached, IsFirstBlock, AreUpto, IsLead, IsWantedBelow, Reaches, IsQueueOf, IsTopOf, IsEarlyAtLeast, AreEarlyTops, AreTopsOver, height, height_for, Lead, Wanted, Extreme, Arrival, Top, UnsignedStretch}
+use Rattle.sweep.proofs.Common.{◌≡◌, ℕ, ◌+◌, ◌-◌, ◌*◌, ◌<◌, ◌≤◌, List, Option, Some, max, arith, sym, ◌∙◌, ap, inl, inr, ⊎_elim, slice_get, cases_lt, same_Some, mul-le-mul_right, div-one, IsRate, billion, IsReached, IsFirstBlock, AreUpto, IsLead, IsWantedBelow, Reaches, IsQueueOf, IsTopOf, IsEarlyAtLeast, AreEarlyTops, AreTopsOver, height, height_for, Lead, Wanted, Extreme, Arrival, Top, UnsignedStretch}
 use Rattle.sweep.proofs.BlockLimits.{has_come, reached_by}
 use Rattle.sweep.proofs.List.{below_next}
 use Rattle.sweep.proofs.TopOrder.{same_top}
@@ -63,10 +63,7 @@ module _ (ppb : ℕ) (slow : IsRate ppb) (queue : List Arrival) (stretch : Unsig
       IsTopOf (Reaches ppb queue stretch) (Some (record { level = wanted.level; index = index }))
   top_some wanted is index block =
       record {
-        reached =
-            subst (λ (h : ℕ). IsReached queue (stretch.begin + stretch.end) h index) is.height
-            (subst (IsReached queue (stretch.begin + stretch.end) wanted.height)
-            (sym (div-one block.index) ∙ block.in_block) block.reached);
+        reached = rw (← is.height, ← (sym (div-one block.index) ∙ block.in_block)) block.reached;
         highest = λ other level reached.
             let less = below (height_for ppb stretch.end level) other reached in
             ⊎_elim
@@ -77,8 +74,7 @@ module _ (ppb : ℕ) (slow : IsRate ppb) (queue : List Arrival) (stretch : Unsig
             (λ le. le)
             (cases_lt wanted.level level);
         first = λ other reached.
-            let least = block.first other
-            (subst (λ (h : ℕ). IsReached queue (stretch.begin + stretch.end) h other) (sym is.height) reached) in
+            let least = block.first other (rw (← is.height) at reached) in
             omega (arith, div-one other);
       }
 

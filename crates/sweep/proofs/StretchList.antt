@@ -56,8 +56,7 @@ module _ (first : ℤ) (ends : List ℤ) (n : ℕ) (begin : ℤ) (stretches : Li
           (λ there.
           let begins = rw so_far.as_many at there.begins in
           let ends_at = rw so_far.as_many at there.ends_at in
-          subst (λ (x : ℤ). IsStretchOf x q stretch) (same_Some begin p (sym at.begins ∙ begins))
-          (subst (λ (x : ℤ). IsStretchOf begin x stretch) (same_Some end q (sym at.ends_at ∙ ends_at)) is))
+          rw (← same_Some begin p (sym at.begins ∙ begins), ← same_Some end q (sym at.ends_at ∙ ends_at)) is)
           k s stands there
 
       behind : (k : ℕ) (s : UnsignedStretch) → slice_get (stretches ++ stretch ∷ []) k ≡ Some s →
