@@ -167,19 +167,15 @@ module _ (claim : ClaimData) (lawful : IsLawful claim) (xs : List Exchange)
     all_are_false k is = ⊎_elim
         (λ same.
         let here : k ≡ bounded.0 = grind (arith, nat_tests) in
-        subst (λ (n : ℕ). holds_false claim.groups course.is_false n ≡ true) (sym here)
-        (is_false bounded.0 bounded.1.below bounded.2))
+        rw here (is_false bounded.0 bounded.1.below bounded.2))
         (λ in_found. ⊎_elim
         (λ in_cover. all_false k in_cover)
         (λ in_added.
         let at = Any-from_list_any (λ a. a == k) narrowed.added in_added in
         let here : at.1 ≡ k = grind (arith, nat_tests) in
-        subst (λ (n : ℕ). holds_false claim.groups course.is_false n ≡ true) here
-        (is_false at.1 (subst (λ (n : ℕ). n < 32) at.3 (narrowed.below at.0 at.1 at.2))
-        (let least = subst (λ (n : ℕ). (other : ℕ) → other < 32 → found other ≡ false
-        → leeway_in leeways n ≤ℤ leeway_in leeways other) at.3 (narrowed.least at.0 at.1 at.2)
-        bounded.0 bounded.1.below bounded.1.outside in
-        omega (arith, ints, least))))
+        subst (λ (n : ℕ). holds_false claim.groups course.is_false n ≡ true) (at.3 ∙ here)
+        (is_false (get_or narrowed.added at.0 at.1) (narrowed.below at.0 at.1 at.2)
+        (omega (arith, ints, narrowed.least at.0 at.1 at.2 bounded.0 bounded.1.below bounded.1.outside))))
         (or_cases (cover k) (list_any (λ a. a == k) narrowed.added) (sym (narrowed.join k) ∙ in_found)))
         (or_cases (k == bounded.0) (found k) is)
 

@@ -46,11 +46,9 @@ module _ (samples : List Sample) (claim : ClaimData) (lawful : IsLawful claim)
       → shows samples claim (pos begin) (pos middle) ≡ false → IsHalved samples claim begin next low (middle - 1)
   halved_down low high middle is from_low to_high least not_shown =
       let some = is.some in
-      let least_shown : shows samples claim (pos begin) (next_tick samples claim (pos begin)) ≡ true =
-      subst (λ (z : ℤ). shows samples claim (pos begin) z ≡ true) next_is least in
+      let least_shown = rw next_is at least in
       let up : next ≤ middle = omega arith in
-      let after : next_tick samples claim (pos begin) ≤ℤ pos middle =
-      subst (λ (z : ℤ). z ≤ℤ pos middle) next_is (omega (arith, ints)) in
+      let after : next_tick samples claim (pos begin) ≤ℤ pos middle = rw (← next_is) (omega (arith, ints)) in
       record {
         some = some;
         in_order = omega arith;

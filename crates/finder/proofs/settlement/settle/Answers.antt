@@ -1,4 +1,4 @@
-use Rattle.finder.proofs.Common.{◌≤◌, Err, Ok, List, inr, ⊎_elim, map, refl, subst, arith, data_of as claim_data, Sample, FindsFewest, TooManyPieces}
+use Rattle.finder.proofs.Common.{◌≤◌, inr, ⊎_elim, map, refl, arith, data_of as claim_data}
 use Rattle.finder.specs.declared.fewest.Fewest.TheVariants as found
 use Rattle.finder.proofs.SettlementAnswer.{contested_by, fits_if, fits_not, heard, left_open, none_fits, settled_as, shown_by, stuck_within, unheard}
 use Rattle.finder.proofs.settlement.settle.Goals as goal
@@ -34,10 +34,8 @@ returns-in-Ok-Certificate g c =
     (λ reading. c.some_course_is_observed_at_any_reading.ensures claim xs reading c.args.claim.now.lawful
     c.requires.exchanges (fits_if c.has_cover.result c.if-not-has_cover.false c.has_cover.ensures.exact
     c.in_ok-conflicts.ensures.covers))
-    (subst (λ (samples : List Sample).
-    FindsFewest samples claim (Ok (found.Certificate c.in-Ok-Certificate.certificate)))
-    c.exchange_samples-samples.ensures.samples
-    (rw (c.in-Ok-Certificate.is, c.in-Ok-Certificate.field-0-is) at c.fewest_by.ensures))) refl
+    (rw (c.exchange_samples-samples.ensures.samples, c.in-Ok-Certificate.is, c.in-Ok-Certificate.field-0-is) at
+    c.fewest_by.ensures)) refl
 
 -- the tick where the longest pieces stop lies in the span
 pub overflow_cast-ends : goal.overflow_cast-ends
@@ -76,9 +74,8 @@ pub returns-in-Err-TooManyPieces : goal.returns-in-Err-TooManyPieces
 returns-in-Err-TooManyPieces g c =
     let claim = claim_data c.args.claim.now in
     let xs = map g.X.ToExchange.shown c.args.exchanges.now in
-    let finds = subst (λ (samples : List Sample). FindsFewest samples claim (Err TooManyPieces))
-    c.exchange_samples-samples.ensures.samples
-    (rw (c.in-Err-TooManyPieces.is, c.in-Err-TooManyPieces.field-0-is) at c.fewest_by.ensures) in
+    let finds = rw (c.exchange_samples-samples.ensures.samples, c.in-Err-TooManyPieces.is,
+      c.in-Err-TooManyPieces.field-0-is) at c.fewest_by.ensures in
     let searched = rw c.in-Nothing-2.is at c.in_ok-refutation-in-Err-TooManyPieces.ensures in
     record {
       settled = tt;
@@ -105,10 +102,8 @@ returns-in-Ok-Nothing g c =
     let end = c.in-Ok-Nothing.end in
     let course = fits_if c.has_cover.result c.if-not-has_cover.false c.has_cover.ensures.exact
     c.in_ok-conflicts.ensures.covers in
-    let finds = subst (λ (samples : List Sample).
-    FindsFewest samples claim (Ok (found.Nothing begin end c.in-Ok-Nothing.hull)))
-    c.exchange_samples-samples.ensures.samples
-    (rw (c.in-Ok-Nothing.is, c.in-Ok-Nothing.field-0-is) at c.fewest_by.ensures) in
+    let finds = rw (c.exchange_samples-samples.ensures.samples, c.in-Ok-Nothing.is, c.in-Ok-Nothing.field-0-is) at
+    c.fewest_by.ensures in
     let tick = stuck_within claim c.args.claim.now.lawful _ begin end c.in-Ok-Nothing.hull finds.stuck in
     let searched = rw (c.in-Nothing.is, tick.begin_kept, tick.end_kept)
     at c.in_ok-refutation-in-Ok-Nothing.ensures in
