@@ -1,12 +1,11 @@
-use Rattle.sweep.proofs.Common.{rules, ℤ, length, ◌<◌, subst, sym, to_z-of_z, w128, ArePieces, AreStretchesOf, MiddlesRise, Low, High}
+use Rattle.sweep.proofs.Common.{rules, length, ◌<◌, subst, sym, to_z-of_z, w128, MiddlesRise, Low, High}
 use Rattle.sweep.proofs.ExtremeList.{lawful_extremes, some_sample, some_extreme}
 use Rattle.sweep.proofs.Piece.{AreBestOfPieces-tops}
 use Rattle.sweep.proofs.pieces.best_of_pieces.Goals as goal
 
 pub stretches_of-requires : goal.stretches_of-requires
 stretches_of-requires g c =
-    subst (λ (first : ℤ). ArePieces first c.args.ends.now) (sym (to_z-of_z w128 c.args.first c.ranges.first))
-    c.requires.pieces
+    rw (to_z-of_z w128 c.args.first c.ranges.first) c.requires.pieces
 
 pub top_numbers-requires-clause-extremes : goal.top_numbers-requires-clause-extremes
 top_numbers-requires-clause-extremes g c =
@@ -48,8 +47,7 @@ returns-clause-best g c =
     AreBestOfPieces-tops (g.S.SampleSource.samples c.args.samples) c.args.server
     c.args.first c.args.ends.now c.args.drift_ppb c.in_ok-lows.lows.items c.in_ok-lows.highs.items
     c.in_ok-lows.ensures.lows c.in_ok-lows.ensures.highs c.in_ok-stretches.stretches.items
-    (subst (λ (first : ℤ). AreStretchesOf first c.args.ends.now c.in_ok-stretches.stretches.items)
-    (to_z-of_z w128 c.args.first c.ranges.first) c.in_ok-stretches.ensures)
+    (rw (to_z-of_z w128 c.args.first c.ranges.first) at c.in_ok-stretches.ensures)
     c.in_ok-low_numbers.low_numbers.items c.in_ok-high_numbers.high_numbers.items c.in_ok-chosen.chosen.items
     (rw (c.as_slice.ensures.value, c.as_slice-2.ensures.value) at c.in_ok-low_numbers.ensures)
     (rw (c.as_slice-3.ensures.value, c.as_slice-4.ensures.value) at c.in_ok-high_numbers.ensures)
