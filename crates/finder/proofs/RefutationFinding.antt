@@ -133,6 +133,4 @@ module _ (claim : ClaimData) (lawful : IsLawful claim) (xs : List Exchange)
       let near : unsigned_abs found ≤ 2 ^ 64 = omega (arith, ints) in
       let same = a ∙ same_passing_test (refused_by rooms found) (refuses claim.reading xs found) (length claim.servers)
       (λ server within. (are server (omega (arith, within))).leaves_out_refused found near) in
-      let make : List ℕ → ℕ → RefutationData = λ l r. record { error = found; liars = l; reading = r } in
-      ap (λ (l : List ℕ). make l reading) same
-      ∙ ap (make (filter (refuses claim.reading xs found) (numbers_below (length claim.servers)))) b
+      rw (same, b) refl

@@ -39,18 +39,12 @@ module _ (allowance : ℤ) (xs : List Exchange) (x : Exchange) where
       → refuses allowance (xs ++ x ∷ []) error server
       ≡ (refuses allowance xs error server || not (admits allowance error x))
   of_server error server same =
-      refuses_more error server
-      ∙ ap (λ b. refuses allowance xs error server || ((b && not (admits allowance error x)) || false))
-      (eq-eqb x.server server same)
-      ∙ ap (λ b. refuses allowance xs error server || b) (or-false (not (admits allowance error x)))
+      rw (refuses_more error server, eq-eqb x.server server same, or-false (not (admits allowance error x))) refl
 
   of_other : (error : ℤ) (server : ℕ) → x.server ≢ server
       → refuses allowance (xs ++ x ∷ []) error server ≡ refuses allowance xs error server
   of_other error server other =
-      refuses_more error server
-      ∙ ap (λ b. refuses allowance xs error server || ((b && not (admits allowance error x)) || false))
-      (ne_eqb x.server server other)
-      ∙ or-false (refuses allowance xs error server)
+      rw (refuses_more error server, ne_eqb x.server server other, or-false (refuses allowance xs error server)) refl
 
   module _ (rooms : List Interval) (count : length rooms ≡ 32) (are : AreRooms allowance xs rooms)
       (listed : x.server < 32) (new : Interval)
@@ -60,9 +54,8 @@ module _ (allowance : ℤ) (xs : List Exchange) (x : Exchange) where
     new_room : IsRoom allowance (xs ++ x ∷ []) x.server new
     new_room = record {
       leaves_out_refused = λ error near.
-          narrows error near
-          ∙ ap (λ b. b || not (admits allowance error x)) ((are x.server listed).leaves_out_refused error near)
-          ∙ sym (of_server error x.server refl);
+          rw (of_server error x.server refl, ← (are x.server listed).leaves_out_refused error near)
+          (narrows error near);
       low = low;
       high = high;
     }

@@ -134,9 +134,7 @@ module _ (first last : ℤ) (step n : ℕ) where
       → end ≡ piece_end_of first last step n → kept ≡ end → items ≡ ends ++ kept ∷ []
       → items ≡ ends_of first last step (n + 1)
   ends_more ends items end kept a b same e =
-      e ∙ ap (λ (z : ℤ). ends ++ z ∷ []) (same ∙ b)
-      ∙ ap (λ (zs : List ℤ). zs ++ piece_end_of first last step n ∷ []) a
-      ∙ sym (map-range_with_len_more (piece_end_of first last step) 0 n n (omega arith))
+      rw (e, same, b, a) (sym (map-range_with_len_more (piece_end_of first last step) 0 n n (omega arith)))
 
 -- ---- the pieces of a claim's span
 
