@@ -1,4 +1,4 @@
-use Rattle.finder.proofs.Common.{ℕ, ◌-◌, ◌<◌, List, length, ap, ◌∙◌, All-filter, filter, data_of, holds, has_say, Part, piece_hull}
+use Rattle.finder.proofs.Common.{ℕ, ◌-◌, ◌<◌, length, ap, ◌∙◌, All-filter, data_of, holds, has_say, piece_hull}
 use Rattle.finder.proofs.HullWithout.{hull_said}
 use Rattle.finder.proofs.neediest.hull_without.Goals as goal
 
@@ -18,11 +18,9 @@ pub returns : goal.returns
 returns c = record {
   exact = λ samples tabled.
       (let claim = data_of c.args.claim.now in
-      c.piece_hull.ensures ∙ ap (λ (groups : List ℕ).
-      piece_hull groups c.saturating_sub-false_max.result c.as_slice-2.result.now) c.as_slice-3.ensures.value
+      rw c.as_slice-3.ensures.value at c.piece_hull.ensures
       ∙ hull_said samples claim (holds c.args.cover) _ c.as_slice-2.result.now c.saturating_sub-false_max.result
-      (c.as_slice-2.ensures.value ∙ c.parts_without-parts.ensures.exact
-      ∙ ap (λ (all : List Part). filter (has_say claim.groups (holds c.args.cover)) all)
-      (c.as_slice.ensures.value ∙ c.parts_over-all.ensures.exact samples tabled))
+      (rw (c.as_slice.ensures.value, c.parts_over-all.ensures.exact samples tabled) at
+      (c.as_slice-2.ensures.value ∙ c.parts_without-parts.ensures.exact))
       (c.saturating_sub-false_max.ensures ∙ ap (λ (n : ℕ). claim.false_max - n) c.count.ensures.exact));
 }
