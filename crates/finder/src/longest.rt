@@ -39,6 +39,7 @@ pub(crate) fn tables_for<S: SampleSource>(
 
 /// What the best entries of a stretch say, by the tables of the servers. The places are hints: what
 /// lies near the last stretch that was asked for with them is found in the fewer steps.
+#[inline(always)]
 pub(crate) fn parts_over(
     tables: &[BestTable],
     places: &mut Places,

@@ -68,8 +68,8 @@ fn nearest_error(rooms: &[Interval; 32], claim: &Claim) -> Option<i128>
     }
 }
 
-/// The first error on a side of zero beyond the claim's bound, of those up to a limit, that at most
-/// `false_max` groups refuse.
+/// How far from zero the first error on this side is, of those beyond the claim's bound and up to a
+/// limit, that at most `false_max` groups refuse.
 ///
 /// If an error has this property, then so has the one before it, unless some server's room begins
 /// at the error: each server that refuses the one before refuses the error too. So only the first

@@ -1,4 +1,4 @@
-use Rattle.finder.proofs.Common.{◌≡◌, ◌∙◌, ◌+ℤ◌, pos, true, false, true≢false, sym, arith, to_z, of_z, ints, to_z-of_z, w128, ClaimData, IsLawful, data_of as claim_data, possible_by, turned, w128_keeps, bound_kept}
+use Rattle.finder.proofs.Common.{◌≡◌, ◌∙◌, ◌+ℤ◌, pos, true≢false, sym, arith, to_z, of_z, ints, to_z-of_z, w128, ClaimData, IsLawful, data_of as claim_data, possible_by, turned, w128_keeps, bound_kept}
 use Rattle.finder.proofs.Claim.{few_groups}
 use Rattle.finder.proofs.Nearest.{first_is_nearest, next_is_nearest, nothing_so_far, none_is_nearest, passed, taken, turned_kept}
 use Rattle.finder.proofs.nearest_refutation.nearest.Goals as goal

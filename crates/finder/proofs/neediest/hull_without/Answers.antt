@@ -1,4 +1,4 @@
-use Rattle.finder.proofs.Common.{ℕ, ◌-◌, ◌<◌, length, ap, ◌∙◌, All-filter, data_of, holds, has_say, piece_hull}
+use Rattle.finder.proofs.Common.{ℕ, ◌-◌, ◌<◌, length, ap, ◌∙◌, All-filter, data_of, holds, has_say}
 use Rattle.finder.proofs.HullWithout.{hull_said}
 use Rattle.finder.proofs.neediest.hull_without.Goals as goal
 

@@ -1,5 +1,4 @@
 use Rattle.finder.proofs.Common.{◌≤◌, inr, ⊎_elim, map, refl, arith, data_of as claim_data}
-use Rattle.finder.specs.declared.fewest.Fewest.TheVariants as found
 use Rattle.finder.proofs.SettlementAnswer.{contested_by, fits_if, fits_not, heard, left_open, none_fits, settled_as, shown_by, stuck_within, unheard}
 use Rattle.finder.proofs.settlement.settle.Goals as goal
 
@@ -74,8 +73,11 @@ pub returns-in-Err-TooManyPieces : goal.returns-in-Err-TooManyPieces
 returns-in-Err-TooManyPieces g c =
     let claim = claim_data c.args.claim.now in
     let xs = map g.X.ToExchange.shown c.args.exchanges.now in
-    let finds = rw (c.exchange_samples-samples.ensures.samples, c.in-Err-TooManyPieces.is,
-      c.in-Err-TooManyPieces.field-0-is) at c.fewest_by.ensures in
+    let finds = rw (
+      c.exchange_samples-samples.ensures.samples,
+      c.in-Err-TooManyPieces.is,
+      c.in-Err-TooManyPieces.field-0-is,
+    ) at c.fewest_by.ensures in
     let searched = rw c.in-Nothing-2.is at c.in_ok-refutation-in-Err-TooManyPieces.ensures in
     record {
       settled = tt;
