@@ -13,7 +13,8 @@ unwrap-number-requires c =
 
 pub loop-k-preserved : goal.loop-k-preserved
 loop-k-preserved c =
-    rw c.in_ok-push.ensures.items (number_more c.widening_is_one_number.ensures.is c.args.drift_ppb c.requires.rate c.args.extremes.now
+    rw c.in_ok-push.ensures.items
+    (number_more c.widening_is_one_number.ensures.is c.args.drift_ppb c.requires.rate c.args.extremes.now
     c.requires.extremes c.args.stretches.now c.requires.stretches c.in_ok-early.early.items c.in_ok-late.late.items
     c.in_ok-early.ensures c.in_ok-late.ensures c.loop-k.k c.loop-k-test.true c.index.result.now
     c.index-in-loop-k.result.now c.index.ensures c.index-in-loop-k.ensures c.number_of.result c.number_of.ensures

@@ -30,7 +30,8 @@ loop-k-preserved c =
     λ s. IsTopOf (Reaches c.args.drift_ppb queue s) in
     record {
       so_far =
-          rw c.in_ok-push.ensures.items (AreOver-more holds stretches k c.loop-k.tops.items c.loop-k.invariant.so_far stretch here
+          rw c.in_ok-push.ensures.items
+          (AreOver-more holds stretches k c.loop-k.tops.items c.loop-k.invariant.so_far stretch here
           c.top_over-top.result c.top_over-top.ensures.top);
       within = upto.within;
       leads = c.lead_upto-next.ensures.leads;

@@ -24,7 +24,8 @@ top_numbers-requires-2-clause-extremes g c =
 pub top_numbers-requires-2-clause-some : goal.top_numbers-requires-2-clause-some
 top_numbers-requires-2-clause-some g c =
     let some : 0 < length c.in_ok-lows.lows.items = search rules in
-    rw c.as_slice-3.ensures.value (some_extreme High (g.S.SampleSource.samples c.args.samples) c.args.server c.in_ok-lows.highs.items
+    rw c.as_slice-3.ensures.value
+    (some_extreme High (g.S.SampleSource.samples c.args.samples) c.args.server c.in_ok-lows.highs.items
     c.in_ok-lows.ensures.highs
     (some_sample Low (g.S.SampleSource.samples c.args.samples) c.args.server c.in_ok-lows.lows.items
     c.in_ok-lows.ensures.lows some))

@@ -12,6 +12,7 @@ returns-clause-level c extremes are lawful some =
     lawful c.requires.stretch some (early / m) (late / m)
     (c.early_rise-early.ensures extremes
     (subst (AreMaximaOf ppb extremes) (sym c.as_slice.ensures.value) are.early))
-    (rw (c.mirrored_tick.ensures, c.mirrored_tick-2.ensures) at (c.early_rise-late.ensures (map mirrored_extreme extremes)
+    (rw (c.mirrored_tick.ensures, c.mirrored_tick-2.ensures) at
+    (c.early_rise-late.ensures (map mirrored_extreme extremes)
     (subst (AreMaximaOf ppb (map mirrored_extreme extremes)) (sym c.as_slice-2.ensures.value) are.late)))
     _ (c.level_of-level.ensures ∙ ap (λ (n : ℕ). n / m) c.max.ensures ∙ higher_quotient early late m (omega arith))

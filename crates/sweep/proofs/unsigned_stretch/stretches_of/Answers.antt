@@ -21,7 +21,8 @@ loop-reading-preserved c =
     let fits : FitsSigned w128 (get_or c.args.ends.now c.loop-reading.reading-index (pos 0)) = search rules in
     let piece = piece_here c.args.first c.args.ends.now c.loop-reading.reading-index _ c.requires c.ranges.first fits
     c.loop-reading.invariant.begins c.loop-reading-test.true in
-    rw c.in_ok-push.ensures.items (StretchesSoFar-more _ c.args.ends.now c.loop-reading.reading-index _ c.loop-reading.stretches.items
+    rw c.in_ok-push.ensures.items
+    (StretchesSoFar-more _ c.args.ends.now c.loop-reading.reading-index _ c.loop-reading.stretches.items
     c.loop-reading.invariant _ _
     (piece_at _ _ c.args.ends.now c.loop-reading.reading-index _ _ refl c.loop-reading.invariant.begins
     c.loop-reading-test.true (to_z-of_z w128 _ fits))
