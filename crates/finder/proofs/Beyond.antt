@@ -1,5 +1,5 @@
 -- Accepted certificates reach no further than the longest pieces.
-use Rattle.finder.proofs.Common.{◌≡◌, ℕ, zero, suc, ℤ, pos, ◌≤ℤ◌, List, [], ◌∷◌, Some, refl, subst, arith, slice_get, ints, PieceData, CertificateData, ClaimData, IsLawful, Sample, verdict_of, Yes, AreLongest, AreSamplesOf}
+use Rattle.finder.proofs.Common.{◌≡◌, ℕ, zero, suc, ℤ, pos, ◌≤ℤ◌, List, [], ◌∷◌, Some, refl, arith, slice_get, ints, PieceData, CertificateData, ClaimData, IsLawful, Sample, verdict_of, Yes, AreLongest, AreSamplesOf}
 use Rattle.finder.proofs.FewestPieces.{InSpan, end_in_span, first_in_span, no_further, pass_of}
 use Rattle.finder.proofs.Refusal.{Pass}
 
@@ -13,9 +13,8 @@ module _ (samples : List Sample) (claim : ClaimData) (lawful : IsLawful claim)
   no_further_each a p (t ∷ theirs) (q ∷ ours) is earlier longest pass zero end piece at at' =
       let end_is : q ≡ end = cc in
       let piece_is : t ≡ piece = cc in
-      subst (λ (x : ℤ). pos piece.upto ≤ℤ x) end_is
-      (subst (λ (x : PieceData). pos x.upto ≤ℤ q) piece_is
-      (no_further samples claim lawful are a p q t is earlier longest.0 (pass 0 t refl)))
+      rw (← end_is, ← piece_is)
+      (no_further samples claim lawful are a p q t is earlier longest.0 (pass 0 t refl))
   no_further_each a p (t ∷ theirs) (q ∷ ours) is earlier longest pass (suc k) end piece at at' =
       no_further_each (pos t.upto) q theirs ours (end_in_span samples claim lawful are p q is longest.0)
       (no_further samples claim lawful are a p q t is earlier longest.0 (pass 0 t refl)) longest.2

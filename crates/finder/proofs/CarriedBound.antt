@@ -1,5 +1,5 @@
 -- The least bound that a certificate carries.
-use Rattle.finder.proofs.Common.{◌≡◌, ◌⊎◌, inl, inr, ⊎_elim, ℕ, ◌+◌, ◌*◌, ◌<◌, ◌≤◌, ◌^◌, ℤ, pos, ◌≤ℤ◌, ◌<ℤ◌, false, cond, is_some, ◌||◌, int_lt, List, [], ◌∷◌, ◌++◌, length, Option, Some, None, Result, Ok, Err, refl, sym, ap, ◌∙◌, subst, arith, rules, ints, clamps, MatchOption, ticks_down, CertificateData, PieceData, max_pieces, ClaimData, IsLawful, max_bound, max_bound_ns, Sample, Part, Stretch, parts_after, parts_fault, piece_fault, verdict_after, verdict_from, verdict_of, Verdict, Yes, Why, Cut, FindsLeastBound, IsCarried, IsFirst, IsNeverEmpty, IsTick, StopsAt, with_bound, AreLongest, IsOfLongest, NoneOfFewIsAccepted, end_after, hull_over, next_tick, pieces_over, stretch_over, AreEnds, AreTablesFor, IsReach, AreSamplesOf}
+use Rattle.finder.proofs.Common.{◌≡◌, ◌⊎◌, inl, inr, ⊎_elim, ℕ, ◌+◌, ◌*◌, ◌<◌, ◌≤◌, ◌^◌, ℤ, pos, ◌≤ℤ◌, ◌<ℤ◌, false, cond, is_some, ◌||◌, int_lt, List, [], ◌∷◌, ◌++◌, length, Option, Some, None, Result, Ok, Err, refl, sym, ap, ◌∙◌, arith, rules, ints, clamps, MatchOption, ticks_down, CertificateData, PieceData, max_pieces, ClaimData, IsLawful, max_bound, max_bound_ns, Sample, Part, Stretch, parts_after, parts_fault, piece_fault, verdict_after, verdict_from, verdict_of, Verdict, Yes, Why, Cut, FindsLeastBound, IsCarried, IsFirst, IsNeverEmpty, IsTick, StopsAt, with_bound, AreLongest, IsOfLongest, NoneOfFewIsAccepted, end_after, hull_over, next_tick, pieces_over, stretch_over, AreEnds, AreTablesFor, IsReach, AreSamplesOf}
 use Rattle.era_unfold.proofs.NanosecondTicks.{IsFloor-ticks_down, ticks_down-mono}
 use Rattle.checker.proofs.Comparison.{wider_bound}
 use Rattle.sweep.specs.declared.table.BestTable.{BestTable}
@@ -63,9 +63,7 @@ tables_for_other samples claim m tables tabled = search (rules, samples_of_other
 pub reached_by : (samples : List Sample) (a b : ClaimData) (tables : List BestTable) (reach : Reach) → a ≡ b
     → (AreTablesFor samples a tables → IsReach samples a reach) → AreTablesFor samples b tables
     → IsReach samples b reach
-reached_by samples a b tables reach same reaches tabled =
-    subst (λ (x : ClaimData). IsReach samples x reach) same
-    (reaches (subst (λ (x : ClaimData). AreTablesFor samples x tables) (sym same) tabled))
+reached_by samples a b tables reach same reaches tabled = (rw same at reaches) tabled
 
 pub carried_by_ends : (samples : List Sample) (claim : ClaimData) (ends : List ℤ) → AreEnds samples claim ends
     → IsCarried samples claim

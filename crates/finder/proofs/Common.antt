@@ -102,7 +102,7 @@ pub use Rattle.finder.specs.Found.{piece_at, pieces_from}
 unfoldable pub use Rattle.finder.specs.Found.{found_of}
 pub use Rattle.finder.specs.Leeway.{AreHeld, AreLeeways, DoLet, HasFalse, HoldsFor, IsBounded, IsCandidate, IsHeld}
 pub use Rattle.finder.specs.Leeway.{IsHeldAtAll, IsMade, IsNarrowed, IsOff, IsRounded, IsTightest, IsUnlimited, Lets}
-pub use Rattle.finder.specs.Leeway.{greatest_of, leeway_in, mark_at, no_limit, turned}
+pub use Rattle.finder.specs.Leeway.{greatest_of, leeway_in, least_on, mark_at, no_limit, turned}
 pub use Rattle.finder.specs.NearestRefutation.{IsErrorOf64Bits, IsFirstBeyond, IsNearest, IsNearestRefutation}
 pub use Rattle.finder.specs.NearestRefutation.{NoneIsRefuted, after, greatest_error, is_possible, least_error_below}
 pub use Rattle.finder.specs.NearestRefutation.{nearest, refutation_at}
@@ -114,7 +114,7 @@ pub use Rattle.finder.specs.Piece.{IsPieceCount, count_of, ends_of, piece_begin_
 unfoldable pub use Rattle.finder.specs.Piece.{piece_count_of}
 pub use Rattle.finder.specs.Reach.{AreEnds, AreTablesFor, IsReach, OfTables}
 pub use Rattle.finder.specs.Refusal.{HoldsWhole, NoneIsAcceptedOver}
-pub use Rattle.finder.specs.Room.{AreMirrored, AreRooms, IsNear, IsRoom, possible_by, refused_by, refuses, room_at}
+pub use Rattle.finder.specs.Room.{AreRooms, IsNear, IsRoom, possible_by, refused_by, refuses, room_at}
 pub use Rattle.finder.specs.TickParts.{best_part, best_parts}
 pub use Rattle.finder.specs.declared.fault.FindFault.{FindFault}
 pub use Rattle.finder.specs.declared.fault.FindFault.TheVariants.{Memory, TooManyPieces}

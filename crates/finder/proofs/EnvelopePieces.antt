@@ -21,23 +21,17 @@ module _ (samples : List Sample) (claim : ClaimData) (step : ℕ) where
       → old ≡ piece_hulls samples claim step k → piece ≡ piece_hull_at samples claim step k
       → old ++ piece ∷ [] ≡ piece_hulls samples claim step (k + 1)
   piece_hulls_more k old piece so_far is =
-      ap (λ (ps : List PieceHullData). ps ++ piece ∷ []) so_far
-      ∙ ap (λ (p : PieceHullData). piece_hulls samples claim step k ++ p ∷ []) is
-      ∙ sym (map-range_with_len_more (piece_hull_at samples claim step) 0 k k (omega arith))
+      rw (so_far, is) (sym (map-range_with_len_more (piece_hull_at samples claim step) 0 k k (omega arith)))
 
   pub least_more : (k : ℕ) (old : LeastBound) (hull : Hull) → old ≡ least_of (hull_at samples claim step) k
       → hull ≡ hull_at samples claim step k
       → with_piece old k hull ≡ least_of (hull_at samples claim step) (k + 1)
-  least_more k old hull a b =
-      rw add-one (ap (λ (l : LeastBound). with_piece l k hull) a
-      ∙ ap (with_piece (least_of (hull_at samples claim step) k) k) b)
+  least_more k old hull a b = rw (add-one, a, b) refl
 
   pub envelope_is : (n : ℕ) (pieces : List PieceHullData) (least : LeastBound)
       → pieces ≡ piece_hulls samples claim step n → least ≡ least_of (hull_at samples claim step) n
       → ◌≡◌ {A = EnvelopeData} (record { pieces = pieces; least = least }) (envelope_to samples claim step n)
-  envelope_is n pieces least a b =
-      let make : List PieceHullData → LeastBound → EnvelopeData = λ ps l. record { pieces = ps; least = l } in
-      ap (λ (ps : List PieceHullData). make ps least) a ∙ ap (make (piece_hulls samples claim step n)) b
+  envelope_is n pieces least a b = rw (a, b) refl
 
   -- ---- each piece is lawful
 

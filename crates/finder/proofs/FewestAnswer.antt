@@ -40,8 +40,7 @@ module _ (samples : List Sample) (claim : ClaimData) (lawful : IsLawful claim)
   finds_nothing begin end hull is =
       let span = first_in_span samples claim lawful are in
       let inside : InSpan claim begin =
-      subst (InSpan claim) (sym is.begins)
-      (end_after_in_span samples claim lawful are claim.first is.earlier span is.longest) in
+      rw is.begins (end_after_in_span samples claim lawful are claim.first is.earlier span is.longest) in
       let later = end_after_later samples claim lawful are claim.first is.earlier span is.longest in
       let stretch = stretch_over begin end in
       let holds : HoldsError claim samples stretch hull =
@@ -68,8 +67,7 @@ module _ (samples : List Sample) (claim : ClaimData) (lawful : IsLawful claim)
   finds_nothing_kept begin end b e hull begins ends is =
       let span = first_in_span samples claim lawful are in
       let inside : InSpan claim (pos begin) =
-      subst (InSpan claim) (sym is.begins)
-      (end_after_in_span samples claim lawful are claim.first is.earlier span is.longest) in
+      rw is.begins (end_after_in_span samples claim lawful are claim.first is.earlier span is.longest) in
       let within : pos end ≤ℤ claim.last =
       rw is.ends (next_within samples claim lawful are (pos begin)) in
       rw (

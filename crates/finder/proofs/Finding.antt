@@ -9,10 +9,7 @@ module _ (samples : List Sample) (claim : ClaimData) (step : ℕ) where
       → hull ≡ piece_hull claim.groups claim.false_max (parts_named samples claim stretch entries)
       → hull ≡ hull_at samples claim step k
   unfolding best_hull
-  hull_is k stretch entries hull a b e =
-      e ∙ ap (λ (s : Stretch). piece_hull claim.groups claim.false_max (parts_named samples claim s entries)) a
-      ∙ ap (λ (es : List (ℕ × ℕ)). piece_hull claim.groups claim.false_max
-      (parts_named samples claim (stretch_at claim step k) es)) b
+  hull_is k stretch entries hull a b e = rw (a, b) at e
 
   pub found_failing : (k : ℕ) (hull : Hull) → k < count_of claim step → hull ≡ hull_at samples claim step k
       → is_inside claim.bound hull ≡ false → ((j : ℕ) → j < k → passes samples claim step j ≡ true)
@@ -41,12 +38,7 @@ module _ (samples : List Sample) (claim : ClaimData) (step : ℕ) where
       → old ++ record { entries = entries; upto = unsigned_abs end } ∷ []
       ≡ pieces_from samples claim step 0 (k + 1)
   pieces_more k old entries end so_far a b =
-      let make : List (ℕ × ℕ) → ℤ → PieceData = λ es z. record { entries = es; upto = unsigned_abs z } in
-      ap (λ (ps : List PieceData). ps ++ make entries end ∷ []) so_far
-      ∙ ap (λ (es : List (ℕ × ℕ)). pieces_from samples claim step 0 k ++ make es end ∷ []) a
-      ∙ ap (λ (z : ℤ). pieces_from samples claim step 0 k
-      ++ make (best_entries samples claim (stretch_at claim step k)) z ∷ []) b
-      ∙ sym (map-range_with_len_more (piece_at samples claim step) 0 k k (omega arith))
+      rw (so_far, a, b) (sym (map-range_with_len_more (piece_at samples claim step) 0 k k (omega arith)))
 
   pub passed_more : (k : ℕ) → ((j : ℕ) → j < k → passes samples claim step j ≡ true)
       → passes samples claim step k ≡ true → (j : ℕ) → j < k + 1 → passes samples claim step j ≡ true

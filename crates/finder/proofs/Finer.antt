@@ -3,7 +3,7 @@ use Rattle.finder.proofs.Common.{◌≡◌, ◌≢◌, inl, inr, ℕ, zero, suc,
 use Rattle.finder.proofs.Bound.{none_inside}
 use Rattle.finder.proofs.OtherBounds.{least_is, same_hull}
 use Rattle.finder.proofs.Narrow.{shows_as_much}
-use Rattle.finder.proofs.SpanPieces.{IsPieceCount-piece_count_of, begin_from_first, piece_of_claim}
+use Rattle.finder.proofs.SpanPieces.{IsPieceCount-piece_count_of, begin_from_first, piece_of_claim, scaled}
 use Rattle.finder.proofs.Verdict.{entries_fault, inside_passes}
 
 -- ---- a stretch inside another
@@ -34,9 +34,7 @@ module _ (first last : ℤ) (in_order : first ≤ℤ last) (step times k q : ℕ
     (to : k < (q + 1) * times) where
   end_inside : piece_end_of first last step k ≤ℤ piece_end_of first last (step * times) q
   end_inside =
-      let more : (k + 1) * step ≤ (q + 1) * times * step = mul-le-mul_right step (omega (arith, to)) in
-      let ticks : (k + 1) * step * ticks_per_second ≤ (q + 1) * times * step * ticks_per_second =
-      mul-le-mul_right ticks_per_second more in
+      let ticks = scaled step (k + 1) ((q + 1) * times) (omega (arith, to)) in
       let same : (q + 1) * times * step * ticks_per_second ≡ (q + 1) * (step * times) * ticks_per_second =
       omega arith in
       omega (arith, ints, clamps, ticks, same)
@@ -46,9 +44,7 @@ module _ (first last : ℤ) (in_order : first ≤ℤ last) (step times k q : ℕ
       → piece_end_of first last (step * times) p ≤ℤ piece_end_of first last step l
   earlier_end p l e f =
       let less : (p + 1) * times ≤ l + 1 = rw (← e, ← f) from in
-      let more : (p + 1) * times * step ≤ (l + 1) * step = mul-le-mul_right step less in
-      let ticks : (p + 1) * times * step * ticks_per_second ≤ (l + 1) * step * ticks_per_second =
-      mul-le-mul_right ticks_per_second more in
+      let ticks = scaled step ((p + 1) * times) (l + 1) less in
       let same : (p + 1) * times * step * ticks_per_second ≡ (p + 1) * (step * times) * ticks_per_second =
       omega arith in
       omega (arith, ints, clamps, ticks, same)
@@ -71,9 +67,7 @@ module _ (first last : ℤ) (in_order : first ≤ℤ last) (step times k q : ℕ
       (let h = rw before at short in omega (arith, ints, clamps)) in
       let far : last ≤ℤ (first +ℤ pos (few * (step * times) * ticks_per_second)) =
       (let h = rw last_piece at whole in omega (arith, ints, clamps)) in
-      let more : few * times * step ≤ k * step = mul-le-mul_right step later in
-      let ticks : few * times * step * ticks_per_second ≤ k * step * ticks_per_second =
-      mul-le-mul_right ticks_per_second more in
+      let ticks = scaled step (few * times) k later in
       let same : few * times * step * ticks_per_second ≡ few * (step * times) * ticks_per_second = omega arith in
       omega (arith, ints, near, far, ticks, same)))
       (cases_lt q few)

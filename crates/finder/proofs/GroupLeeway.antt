@@ -1,7 +1,7 @@
 -- The leeways of groups, from one exchange to the next.
-use Rattle.std.proofs.Common.{get_or-set_other, get_or-set_same}
+use Rattle.std.proofs.Common.{below_more, get_or-set_other, get_or-set_same}
 use Rattle.std.proofs.lemmas.List.{get_or-replicate}
-use Rattle.finder.proofs.Common.{◌≡◌, ℕ, ◌+◌, ◌-◌, ◌*◌, ◌/◌, ◌<◌, ◌≤◌, ℤ, pos, negsuc, neg_ℤ, ◌+ℤ◌, ◌-ℤ◌, ◌*ℤ◌, ◌≤ℤ◌, ◌<ℤ◌, unsigned_abs, Bool, true, false, ◌||◌, inl, inr, ⊎_elim, List, [], ◌∷◌, Some, replicate, length, set, refl, sym, ap, ap₂, ◌∙◌, subst, arith, to_z, of_z, ◌^◌, w128, ◌↔◌, ◌==◌, slice_get, int_min, list_any, All-cons, All-nil, ints, nat_tests, le-div_iff_mul-le, ClaimData, group_of, low_mark, AreCompatible, Mark, Exchange, billion, Side, Below, Lets, DoLet, AreLeeways, IsNarrowed, IsTightest, IsUnlimited, leeway_in, mark_at, no_limit, turned, by_test, not_lt_zero, lt_next_cases, or_parts, w128_keeps, or-false}
+use Rattle.finder.proofs.Common.{◌≡◌, ℕ, ◌+◌, ◌-◌, ◌*◌, ◌/◌, ◌<◌, ◌≤◌, ℤ, pos, negsuc, neg_ℤ, ◌+ℤ◌, ◌-ℤ◌, ◌*ℤ◌, ◌≤ℤ◌, ◌<ℤ◌, unsigned_abs, Bool, true, false, ◌||◌, inl, inr, ⊎_elim, List, [], ◌∷◌, Some, replicate, length, set, refl, sym, ap, ap₂, ◌∙◌, subst, arith, to_z, of_z, ◌^◌, w128, ◌↔◌, ◌==◌, slice_get, int_min, list_any, All-cons, All-nil, ints, nat_tests, le-div_iff_mul-le, ClaimData, group_of, low_mark, AreCompatible, Mark, Exchange, billion, Side, Below, Lets, DoLet, AreLeeways, IsNarrowed, IsTightest, IsUnlimited, leeway_in, mark_at, no_limit, turned, by_test, not_lt_zero, or_parts, w128_keeps, or-false}
 
 -- ---- the greatest error under one mark
 
@@ -107,17 +107,10 @@ module _ (claim : ClaimData) (x : Exchange) (reading ticks : ℤ) where
 
   pub let_below : (place error : ℤ) → place ≡ neg_ℤ low.place → error ≡ neg_ℤ low.error
       → Agree (mark_at (turned Below reading) ticks) (mark_at place error) ↔ Lets claim Below reading ticks x
-  let_below place error at_place at_error = (
-    λ agree. subst (λ (m : Mark). Agree m (mark_at reading (neg_ℤ ticks)))
-        (ap₂ mark_at (negated low.place) (negated low.error))
-        (subst (λ (m : Mark). Agree (mark_at (neg_ℤ (neg_ℤ low.place)) (neg_ℤ (neg_ℤ low.error))) m)
-        (ap (λ (r : ℤ). mark_at r (neg_ℤ ticks)) (negated reading))
-        (mirrored_to claim.drift_ppb (mark_at (neg_ℤ reading) ticks) (mark_at (neg_ℤ low.place) (neg_ℤ low.error))
-        (subst (Agree (mark_at (neg_ℤ reading) ticks)) (ap₂ mark_at at_place at_error) agree))),
-    λ lets. subst (Agree (mark_at (neg_ℤ reading) ticks)) (sym (ap₂ mark_at at_place at_error))
-        (subst (λ (m : Mark). Agree m (mark_at (neg_ℤ low.place) (neg_ℤ low.error)))
-        (ap (mark_at (neg_ℤ reading)) (negated ticks))
-        (mirrored_to claim.drift_ppb low (mark_at reading (neg_ℤ ticks)) lets)),
+  let_below place error at_place at_error = rw (at_place, at_error) (
+    λ agree. rw (negated low.place, negated low.error, negated reading) at (mirrored_to claim.drift_ppb
+        (mark_at (neg_ℤ reading) ticks) (mark_at (neg_ℤ low.place) (neg_ℤ low.error)) agree),
+    λ lets. rw (negated ticks) at (mirrored_to claim.drift_ppb low (mark_at reading (neg_ℤ ticks)) lets),
   )
 
 -- ---- lists of leeways
@@ -160,20 +153,15 @@ module _ (claim : ClaimData) (xs : List Exchange) (side : Side) (reading : ℤ) 
       (most now : ℤ) (leaves : (ticks : ℤ) → (ticks ≤ℤ most) ↔ Lets claim side reading ticks x)
       (least : now ≡ int_min (leeway_in leeways (group_of claim x)) most)
       (in_range : group_of claim x < 32) where
-    same_exchange : (k : ℕ) (y : Exchange) → k ≡ n → slice_get xs k ≡ Some y → x ≡ y
-    same_exchange k y same at_k =
-        let both : Some x ≡ Some y = sym at ∙ subst (λ (i : ℕ). slice_get xs i ≡ Some y) same at_k in
-        cc
-
     one_more : (group : ℕ) (ticks : ℤ) → DoLet claim xs n side reading group ticks
         → (group_of claim x ≡ group → Lets claim side reading ticks x)
         → DoLet claim xs (n + 1) side reading group ticks
-    one_more group ticks first last k y below at_k of_group = ⊎_elim
-        (λ earlier. first k y earlier at_k of_group)
-        (λ same.
-        let is = same_exchange k y same at_k in
-        subst (Lets claim side reading ticks) is (last (ap (group_of claim) is ∙ of_group)))
-        (lt_next_cases k n below)
+    one_more group ticks first last k y = below_more
+        (λ k. slice_get xs k ≡ Some y → group_of claim y ≡ group → Lets claim side reading ticks y) n (λ k. first k y)
+        (λ at_n of_group.
+        let both : Some x ≡ Some y = sym at ∙ at_n in
+        let is : x ≡ y = cc in
+        subst (Lets claim side reading ticks) is (last (ap (group_of claim) is ∙ of_group))) k
 
     one_fewer : (group : ℕ) (ticks : ℤ) → DoLet claim xs (n + 1) side reading group ticks
         → DoLet claim xs n side reading group ticks
@@ -190,31 +178,22 @@ module _ (claim : ClaimData) (xs : List Exchange) (side : Side) (reading : ℤ) 
       exact = λ group below ticks few. by_test (group == group_of claim x)
           (λ test.
           let same : group ≡ group_of claim x = grind (arith, nat_tests) in
-          let is : leeway_in (set leeways (group_of claim x) now) group ≡ now =
-          subst (λ (g : ℕ). leeway_in (set leeways (group_of claim x) now) g ≡ now) (sym same)
-          (get_or-set_same leeways (group_of claim x) now no_limit (omega (arith, all, in_range))) in
-          let earlier : (ticks ≤ℤ leeway_in leeways (group_of claim x))
-          ↔ DoLet claim xs n side reading group ticks =
-          subst (λ (g : ℕ). (ticks ≤ℤ leeway_in leeways (group_of claim x))
-          ↔ DoLet claim xs n side reading g ticks) (sym same) (before.exact (group_of claim x) in_range ticks few) in (
+          let is = get_or-set_same leeways (group_of claim x) now no_limit (omega (arith, all, in_range)) in
+          let earlier = before.exact (group_of claim x) in_range ticks few in
+          rw (same, is) (
             λ le.
-                let both = min_le (leeway_in leeways (group_of claim x)) most now least ticks
-                (subst (λ (z : ℤ). ticks ≤ℤ z) is le) in
-                one_more group ticks (earlier.0 both.0) (λ _. (leaves ticks).0 both.1),
-            λ lets. subst (λ (z : ℤ). ticks ≤ℤ z) (sym is)
-                (le_min (leeway_in leeways (group_of claim x)) most now least ticks
-                (earlier.1 (one_fewer group ticks lets))
-                ((leaves ticks).1 (lets n x (omega arith) at (sym same)))),
+                let both = min_le (leeway_in leeways (group_of claim x)) most now least ticks le in
+                one_more (group_of claim x) ticks (earlier.0 both.0) (λ _. (leaves ticks).0 both.1),
+            λ lets. le_min (leeway_in leeways (group_of claim x)) most now least ticks
+                (earlier.1 (one_fewer (group_of claim x) ticks lets))
+                ((leaves ticks).1 (lets n x (omega arith) at refl)),
           ))
           (λ test.
           let other : group ≡ group_of claim x → ⊥ = grind (arith, nat_tests) in
-          let is : leeway_in (set leeways (group_of claim x) now) group
-          ≡ leeway_in leeways group =
-          get_or-set_other leeways (group_of claim x) group now no_limit other in
-          let earlier = before.exact group below ticks few in (
-            λ le. one_more group ticks (earlier.0 (subst (λ (z : ℤ). ticks ≤ℤ z) is le))
-                (λ of_group. absurd (other (sym of_group))),
-            λ lets. subst (λ (z : ℤ). ticks ≤ℤ z) (sym is) (earlier.1 (one_fewer group ticks lets)),
+          let earlier = before.exact group below ticks few in
+          rw (get_or-set_other leeways (group_of claim x) group now no_limit other) (
+            λ le. one_more group ticks (earlier.0 le) (λ of_group. absurd (other (sym of_group))),
+            λ lets. earlier.1 (one_fewer group ticks lets),
           ));
     }
 
@@ -232,10 +211,9 @@ module _ (leeways : List ℤ) (left_out : ℕ → Bool) where
     tighter outside less = record {
       at_most = omega (arith, ints, less);
       its_own = λ _. (outside, refl);
-      least_of = λ other below out. ⊎_elim
-          (λ earlier. let le = before.least_of other earlier out in omega (arith, ints, less, le))
-          (λ same. subst (λ (k : ℕ). leeway_in leeways n ≤ℤ leeway_in leeways k) (sym same) (omega (arith, ints)))
-          (lt_next_cases other n below);
+      least_of = below_more (λ other. left_out other ≡ false → leeway_in leeways n ≤ℤ leeway_in leeways other) n
+          (λ other earlier out. let le = before.least_of other earlier out in omega (arith, ints, less, le))
+          (λ out. omega (arith, ints));
     }
 
     pub no_tighter : (left_out n ≡ false → least ≤ℤ leeway_in leeways n)
@@ -243,11 +221,7 @@ module _ (leeways : List ℤ) (left_out : ℕ → Bool) where
     no_tighter last = record {
       at_most = before.at_most;
       its_own = before.its_own;
-      least_of = λ other below out. ⊎_elim
-          (λ earlier. before.least_of other earlier out)
-          (λ same. subst (λ (k : ℕ). least ≤ℤ leeway_in leeways k) (sym same)
-          (last (subst (λ (k : ℕ). left_out k ≡ false) same out)))
-          (lt_next_cases other n below);
+      least_of = below_more (λ other. left_out other ≡ false → least ≤ℤ leeway_in leeways other) n before.least_of last;
     }
 
 -- ---- groups that are added to a cover

@@ -1,8 +1,10 @@
 -- Where nothing beyond the bound is let be, no course is beyond it.
-use Rattle.std.proofs.Common.{◌==◌}
+use Rattle.std.proofs.Common.{below_more, ◌==◌}
 use Rattle.std.proofs.lemmas.List.{get_or_default}
+use Rattle.std.proofs.lemmas.List.Folds.{Any-from_list_any}
 use Rattle.std.specs.Prelude.{nat_lt}
-use Rattle.finder.proofs.Common.{◌≡◌, ℕ, zero, suc, ◌+◌, ◌-◌, ◌<◌, ◌≤◌, ℤ, pos, neg_ℤ, ◌+ℤ◌, ◌-ℤ◌, ◌*ℤ◌, ◌≤ℤ◌, ◌<ℤ◌, Bool, true, false, not, ◌&&◌, ◌||◌, inl, inr, ◌⊎◌, ⊎_elim, Option, None, Some, List, [], ◌∷◌, length, get_or, refl, sym, ap, ◌∙◌, subst, arith, ◌↔◌, All, Any, IfNone, count_by, slice_index, AllPairs, int_min, list_any, clamps, ints, and_parts, lt-ltb, or_cases, nat_tests, All-cons, All-head, All-nil, All-tail, list_any-append, slice_get_within, RefutationData, ClaimData, IsLawful, max_bound, Exchange, low_mark, high_mark, Course, holds_false, are_different, IsCover, size_of, AreApart, HoldsOne, HoldsOneOr64, holds, numbers_below, AreHeld, AreLeeways, DoLet, HasFalse, HoldsFor, IsBounded, IsCandidate, IsHeld, IsHeldAtAll, IsMade, IsNarrowed, IsOff, IsRounded, greatest_of, leeway_in, mark_at, no_limit, turned, IsErrorOf64Bits, Side, Above, Below, by_test, not-true, lt_next_cases, ≤ℤ-from_equal, or_from, and_from, or-false}
+use Rattle.finder.proofs.Common.{◌≡◌, ℕ, suc, ◌+◌, ◌-◌, ◌<◌, ◌≤◌, ℤ, pos, neg_ℤ, ◌+ℤ◌, ◌-ℤ◌, ◌*ℤ◌, ◌≤ℤ◌, ◌<ℤ◌, Bool, true, false, not, ◌&&◌, ◌||◌, inl, inr, ◌⊎◌, ⊎_elim, Option, None, Some, List, [], ◌∷◌, length, get_or, refl, sym, ap, ◌∙◌, subst, arith, ◌↔◌, All, Any, IfNone, count_by, slice_index, AllPairs, int_min, list_any, clamps, ints, and_parts, lt-ltb, or_cases, nat_tests, All-cons, All-head, All-nil, All-tail, slice_get_within, RefutationData, ClaimData, IsLawful, max_bound, Exchange, low_mark, high_mark, Course, holds_false, are_different, IsCover, size_of, AreApart, HoldsOne, HoldsOneOr64, holds, numbers_below, AreHeld, AreLeeways, DoLet, HasFalse, HoldsFor, IsBounded, IsCandidate, IsHeld, IsHeldAtAll, IsMade, IsNarrowed, IsOff, IsRounded, greatest_of, leeway_in, mark_at, no_limit, turned, IsErrorOf64Bits, Side, Above, Below, by_test, not-true, ≤ℤ-from_equal, or_from, and_from, or-false}
+use Rattle.finder.proofs.Group.{any_at}
 use Rattle.pairing.specs.Exchange.{IsLawful as IsLawfulExchange}
 use Rattle.checker.specs.Course.{Fits}
 use Rattle.feasibility.specs.Conflicts.{ConflictData, group_count, HoldsNoLess as HoldsNoLessBy, IsCover as IsCoverBy}
@@ -68,16 +70,6 @@ module _ (claim : ClaimData) (lawful : IsLawful claim) (xs : List Exchange)
       )
 
   -- such a group has a server, and so a number that is below theirs
-  any_at : (q : ℕ → Bool) (n : ℕ) → list_any q (numbers_below n) ≡ true → (k : ℕ) × (k < n) × (q k ≡ true)
-  any_at q zero some = absurd cc
-  any_at q (suc n) some =
-      elim (or_cases (list_any q (numbers_below n)) (q n || false)
-      (sym (list_any-append q (numbers_below n) (n ∷ [])) ∙ some)) [
-        | inl before ↦ (let rest = any_at q n before in (rest.0, omega arith, rest.2))
-        | inr here ↦
-            (n, omega arith, elim (or_cases (q n) false here) [ inl is ↦ is | inr none ↦ absurd cc ])
-      ]
-
   in_range : (group : ℕ) → false_in group ≡ true → group < length claim.groups
   in_range group is =
       let found = any_at (λ server. (slice_index claim.groups server == group) && course.is_false server)
@@ -94,19 +86,6 @@ module _ (claim : ClaimData) (lawful : IsLawful claim) (xs : List Exchange)
       (λ k is. and_from (false_in k) (nat_lt k (length claim.groups)) is
       (lt-ltb k (length claim.groups) (in_range k is))) in
       omega arith
-
--- ---- too many groups let less be
-
-any_of : (q : ℕ → Bool) (xs : List ℕ) → list_any q xs ≡ true
-    → (k : ℕ) × (x : ℕ) × (k < length xs) × (q x ≡ true) × (get_or xs k x ≡ x)
-any_of q [] some = absurd cc
-any_of q (x ∷ xs) some =
-    elim (or_cases (q x) (list_any q xs) some) [
-      | inl here ↦ (0, x, omega arith, here, refl)
-      | inr later ↦
-          (let rest = any_of q xs later in
-          (suc rest.0, rest.1, omega arith, rest.3, rest.4))
-    ]
 
 -- ---- 64 bits
 
@@ -188,19 +167,15 @@ module _ (claim : ClaimData) (lawful : IsLawful claim) (xs : List Exchange)
     all_are_false k is = ⊎_elim
         (λ same.
         let here : k ≡ bounded.0 = grind (arith, nat_tests) in
-        subst (λ (n : ℕ). holds_false claim.groups course.is_false n ≡ true) (sym here)
-        (is_false bounded.0 bounded.1.below bounded.2))
+        rw here (is_false bounded.0 bounded.1.below bounded.2))
         (λ in_found. ⊎_elim
         (λ in_cover. all_false k in_cover)
         (λ in_added.
-        let at = any_of (λ a. a == k) narrowed.added in_added in
+        let at = Any-from_list_any (λ a. a == k) narrowed.added in_added in
         let here : at.1 ≡ k = grind (arith, nat_tests) in
-        subst (λ (n : ℕ). holds_false claim.groups course.is_false n ≡ true) here
-        (is_false at.1 (subst (λ (n : ℕ). n < 32) at.4 (narrowed.below at.0 at.1 at.2))
-        (let least = subst (λ (n : ℕ). (other : ℕ) → other < 32 → found other ≡ false
-        → leeway_in leeways n ≤ℤ leeway_in leeways other) at.4 (narrowed.least at.0 at.1 at.2)
-        bounded.0 bounded.1.below bounded.1.outside in
-        omega (arith, ints, least))))
+        subst (λ (n : ℕ). holds_false claim.groups course.is_false n ≡ true) (at.3 ∙ here)
+        (is_false (get_or narrowed.added at.0 at.1) (narrowed.below at.0 at.1 at.2)
+        (omega (arith, ints, narrowed.least at.0 at.1 at.2 bounded.0 bounded.1.below bounded.1.outside))))
         (or_cases (cover k) (list_any (λ a. a == k) narrowed.added) (sym (narrowed.join k) ∙ in_found)))
         (or_cases (k == bounded.0) (found k) is)
 
@@ -280,11 +255,9 @@ module _ {X : Type 0} (IsTried : X → Type 0) (xs : List X) where
 
   pub one_more_tried : (n : ℕ) (other : X) → n < length xs → IsTried (get_or xs n other) → AreTriedTo n
       → AreTriedTo (n + 1)
-  one_more_tried n other within tried before k d below = ⊎_elim
-      (λ earlier. before k d earlier)
-      (λ same.
-      subst IsTried (get_or_default xs n other d within ∙ ap (λ (i : ℕ). get_or xs i d) (sym same)) tried)
-      (lt_next_cases k n below)
+  one_more_tried n other within tried before k d =
+      below_more (λ k. IsTried (get_or xs k d)) n (λ k. before k d)
+      (subst IsTried (get_or_default xs n other d within) tried) k
 
   pub all_tried : (n : ℕ) → length xs ≤ n → AreTriedTo n → All IsTried xs
   all_tried n past tried k d below = tried k d (omega (arith, past, below))

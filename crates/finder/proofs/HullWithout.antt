@@ -1,9 +1,7 @@
 -- The hull over a stretch where the groups of a cover have no say.
-use Rattle.finder.proofs.Common.{◌≡◌, ℕ, zero, suc, ◌+◌, ◌<◌, ◌≤◌, ℤ, Bool, true, false, cond, not, List, [], ◌∷◌, ◌++◌, length, take, append-nil, get_or, refl, sym, ap, ◌∙◌, subst, arith, ints, clamps, slice_index, All-filter, filter, Any, max_drift_ppb, Hull, Unbounded, Empty, Bounded, Sample, ClaimData, IsPiece, Part, Stretch, AreNarrower, IsNarrower, numbers_below, best_entries, parts_named, piece_hull, stretch_over, HoldsWhole, AreSamplesOf, IsNoWider, NeedsAtMost, has_say, hull_without}
+use Rattle.finder.proofs.Common.{◌≡◌, ℕ, zero, suc, ◌+◌, ◌<◌, ◌≤◌, Bool, true, false, cond, not, List, [], ◌∷◌, ◌++◌, length, take, append-nil, get_or, refl, sym, ap, ◌∙◌, subst, arith, ints, clamps, slice_index, All-filter, filter, Any, max_drift_ppb, Hull, Unbounded, Empty, Bounded, Sample, ClaimData, IsPiece, Part, Stretch, AreNarrower, IsNarrower, numbers_below, best_entries, parts_named, piece_hull, HoldsWhole, AreSamplesOf, IsNoWider, NeedsAtMost, has_say, hull_without}
 use Rattle.std.specs.Prelude.{count_by, ◌-◌}
 use Rattle.std.proofs.lemmas.List.Elements.{filter_more, filter_passes}
-use Rattle.sweep.specs.Table.{best_parts}
-use Rattle.finder.proofs.Part.{parts_said}
 use Rattle.finder.proofs.GroupHull.{narrower_is_no_wider}
 use Rattle.finder.proofs.Narrow.{parts_narrow}
 
@@ -41,16 +39,10 @@ module _ (test : Part → Bool) (xs : List Part) (i : ℕ) (d : Part) (old : Lis
     (so_far : old ≡ filter test (take i xs)) (within : i < length xs) where
   pub one_more_kept : (new : List Part) → test (get_or xs i d) ≡ true → new ≡ old ++ get_or xs i d ∷ []
       → new ≡ filter test (take (i + 1) xs)
-  one_more_kept new passes pushed =
-      pushed ∙ ap (λ (ps : List Part). ps ++ get_or xs i d ∷ []) so_far
-      ∙ ap (λ (b : Bool). filter test (take i xs) ++ cond b (get_or xs i d ∷ []) []) (sym passes)
-      ∙ sym (filter_more test xs i d within)
+  one_more_kept new passes pushed = grind (arith, filter_more test xs i d within, append-nil)
 
   pub one_passed_over : test (get_or xs i d) ≡ false → old ≡ filter test (take (i + 1) xs)
-  one_passed_over fails =
-      so_far ∙ sym (append-nil (filter test (take i xs)))
-      ∙ ap (λ (b : Bool). filter test (take i xs) ++ cond b (get_or xs i d ∷ []) []) (sym fails)
-      ∙ sym (filter_more test xs i d within)
+  one_passed_over fails = grind (arith, filter_more test xs i d within, append-nil)
 
 -- ---- the hull
 
@@ -68,22 +60,14 @@ no_wider_without samples claim cover outer inner rate are piece whole =
     (λ a b server. ap (λ (s : ℕ). not (cover (slice_index claim.groups s))) server) parts next
     (parts_narrow samples claim outer inner rate are piece whole))
 
--- the tables of servers say it too
-pub hull_said : (samples : List Sample) (claim : ClaimData) (cover : ℕ → Bool) (p q a b : ℤ)
-    (all parts : List Part) (left : ℕ) (hull : Hull) → a ≡ p → b ≡ q
-    → all ≡ best_parts samples (length claim.servers) a b claim.drift_ppb
-    → parts ≡ filter (has_say claim.groups cover) all → left ≡ claim.false_max - count_by cover (numbers_below 32)
-    → hull ≡ piece_hull claim.groups left parts → hull ≡ hull_without samples claim cover (stretch_over p q)
+-- what is kept of what the best entries say has it
+pub hull_said : (samples : List Sample) (claim : ClaimData) (cover : ℕ → Bool) (stretch : Stretch) (parts : List Part)
+    (left : ℕ) → parts ≡ filter (has_say claim.groups cover)
+    (parts_named samples claim stretch (best_entries samples claim stretch))
+    → left ≡ claim.false_max - count_by cover (numbers_below 32)
+    → piece_hull claim.groups left parts ≡ hull_without samples claim cover stretch
 unfolding hull_without
-hull_said samples claim cover p q a b all parts left hull begins ends are kept few is =
-    is
-    ∙ ap (λ (n : ℕ). piece_hull claim.groups n parts) few
-    ∙ ap (piece_hull claim.groups (claim.false_max - count_by cover (numbers_below 32)))
-    (kept
-    ∙ ap (filter (has_say claim.groups cover)) (are
-    ∙ ap (λ (x : ℤ). best_parts samples (length claim.servers) x b claim.drift_ppb) begins
-    ∙ ap (λ (y : ℤ). best_parts samples (length claim.servers) p y claim.drift_ppb) ends
-    ∙ parts_said samples claim p q))
+hull_said samples claim cover stretch parts left kept few = rw (kept, few) refl
 
 -- what is no wider needs no more
 pub needs_no_more : (most : ℕ) (outer inner : Hull) → IsNoWider outer inner → NeedsAtMost most outer

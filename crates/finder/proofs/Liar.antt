@@ -1,6 +1,6 @@
 -- The servers that a refutation has to name.
-use Rattle.finder.proofs.Common.{◌≡◌, ◌≢◌, ℕ, zero, suc, ◌<◌, ◌≤◌, ℤ, pos, ◌<ℤ◌, unsigned_abs, Bool, true, false, true≢false, cond, not, ◌&&◌, List, [], ◌∷◌, ◌++◌, length, get_or, refl, sym, ap, ◌∙◌, arith, ◌==◌, filter, All, AllPairs, Any-from_list_any, list_any-from_Any, list_any, nat_tests, ints, append-nil, All-nil, All-cons, All-append, All-filter, filter-append, get_or_from_slice_get, slice_get-get_or, RefutationData, ClaimData, IsLawful, Exchange, false_group_count, numbers_below, Admits, IsRefuted, is_liar, admits, refuses, is_possible, refutation_at, by_test, and_parts, and_from, found_below, leb-true, le-leb}
-use Rattle.std.specs.List.{Any}
+use Rattle.finder.proofs.Common.{◌≡◌, ◌≢◌, ℕ, zero, suc, ◌<◌, ◌≤◌, ℤ, pos, ◌<ℤ◌, unsigned_abs, Bool, true, false, true≢false, cond, not, ◌&&◌, List, [], ◌∷◌, ◌++◌, length, get_or, refl, sym, ap, ◌∙◌, arith, ◌==◌, filter, All, AllPairs, Any-from_list_any, list_any, nat_tests, ints, append-nil, All-nil, All-cons, All-append, All-filter, filter-append, RefutationData, ClaimData, IsLawful, Exchange, false_group_count, numbers_below, Admits, IsRefuted, is_liar, admits, refuses, is_possible, refutation_at, by_test, and_parts, and_from, found_below, leb-true, le-leb}
+use Rattle.std.proofs.lemmas.List.Folds.{list_any_at}
 use Rattle.std.proofs.lemmas.List.Quantifiers.{all_pairs_push}
 use Rattle.std.proofs.lemmas.Map.Views.{any-filter_same}
 use Rattle.pairing.specs.Exchange.{IsLawful as IsLawfulExchange}
@@ -86,15 +86,8 @@ module _ (allowance error : ℤ) where
   refused_at xs k d within fails =
       let x = get_or xs k d in
       let same : (x.server == x.server) ≡ true = grind (arith, nat_tests) in
-      let test : Exchange → Bool = λ y. (y.server == x.server) && not (admits allowance error y) in
-      let here : test x ≡ true = and_from (x.server == x.server) (not (admits allowance error x)) same
-      (rw fails refl) in
-      let at = get_or_from_slice_get xs k x x (slice_get-get_or xs k d within) in
-      list_any-from_Any test xs (k, x, within, at, here)
-
-  pub refused_by_one : (xs : List Exchange) (server : ℕ) → refuses allowance xs error server ≡ true
-      → Any (λ x. ((x.server == server) && not (admits allowance error x)) ≡ true) xs
-  refused_by_one xs server e = Any-from_list_any (λ x. (x.server == server) && not (admits allowance error x)) xs e
+      list_any_at (λ y. (y.server == x.server) && not (admits allowance error y)) xs k d within
+      (and_from (x.server == x.server) (not (admits allowance error x)) same (rw fails refl))
 
 -- ---- a refutation by just the servers that refuse its error
 
@@ -139,7 +132,7 @@ module _ (claim : ClaimData) (lawful : IsLawful claim) (xs : List Exchange)
   named_by : (other : RefutationData) → IsRefuted claim xs other → (server : ℕ)
       → refuses claim.reading xs other.error server ≡ true → is_liar other.liars server ≡ true
   named_by other refuted server refused =
-      let one = refused_by_one claim.reading other.error xs server refused in
+      let one = Any-from_list_any (λ x. (x.server == server) && not (admits claim.reading other.error x)) xs refused in
       let x = one.1 in
       let parts = and_parts (x.server == server) (not (admits claim.reading other.error x)) one.4 in
       let same : x.server ≡ server = grind (arith, nat_tests) in

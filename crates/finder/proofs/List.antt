@@ -6,10 +6,7 @@ pub filter_map_more : {X Y : Type 0} (h : X → Option Y) (xs : List X) (i : ℕ
     → old ≡ filter_map h (take i xs) → i < length xs → h (get_or xs i d) ≡ Some y → new ≡ old ++ y ∷ []
     → new ≡ filter_map h (take (i + 1) xs)
 filter_map_more h xs i d y old new so_far within gives pushed =
-    pushed ∙ ap (λ ys. ys ++ y ∷ []) so_far
-    ∙ ap (λ o. filter_map h (take i xs) ++ cons_option o []) (sym gives)
-    ∙ sym (filter_map-append h (take i xs) (get_or xs i d ∷ []))
-    ∙ ap (filter_map h) (sym (take_more xs i d within))
+    grind (arith, take_more xs i d within, filter_map-append h (take i xs) (get_or xs i d ∷ []))
 
 -- ---- numbers from one on
 
@@ -20,9 +17,7 @@ module _ {Y : Type 0} (h : ℕ → Option Y) (n : ℕ) where
 
   pub without : (old : List Y) → old ≡ filter_map h (range_with_len 0 n) → h n ≡ None
       → old ≡ filter_map h (range_with_len 0 (n + 1))
-  without old so_far gives =
-      so_far ∙ sym (append-nil (filter_map h (range_with_len 0 n)))
-      ∙ ap (λ o. filter_map h (range_with_len 0 n) ++ cons_option o []) (sym gives) ∙ sym one_more
+  without old so_far gives = grind (arith, one_more, append-nil)
 
 -- ---- the first that passes a test
 

@@ -1,6 +1,7 @@
 -- Where the longest piece ends, by halving; and the longest pieces, one after another.
-use Rattle.finder.proofs.Common.{◌≡◌, ℕ, zero, suc, ◌+◌, ◌-◌, ◌<◌, ◌≤◌, ◌^◌, ℤ, pos, ◌+ℤ◌, ◌≤ℤ◌, ◌<ℤ◌, unsigned_abs, true, false, true≢false, List, [], ◌∷◌, ◌++◌, length, take, vec_len, length-append, Vec, Global, get_or, Some, refl, sym, ap, ◌∙◌, subst, arith, to_z, of_z, Fits, w64, int_min, ints, clamps, w128, T, take_more, non_neg, yes_non_neg, PieceData, max_pieces, ClaimData, IsLawful, Sample, IsPiece, ArePieces, IsPieceAt, best_entries, AreLongest, IsLongest, end_after, next_tick, piece_over, pieces_over, shows, stretch_over, AreSamplesOf, by_test, w128_keeps, first_kept, last_kept}
+use Rattle.finder.proofs.Common.{◌≡◌, ℕ, zero, suc, ◌+◌, ◌-◌, ◌<◌, ◌≤◌, ◌^◌, ℤ, pos, ◌+ℤ◌, ◌≤ℤ◌, ◌<ℤ◌, unsigned_abs, true, false, true≢false, List, [], ◌∷◌, ◌++◌, length, take, vec_len, length-append, Vec, Global, get_or, refl, sym, ap, ◌∙◌, subst, arith, to_z, of_z, Fits, w64, int_min, ints, clamps, w128, T, take_more, non_neg, yes_non_neg, PieceData, max_pieces, ClaimData, IsLawful, Sample, IsPiece, ArePieces, IsPieceAt, best_entries, AreLongest, IsLongest, end_after, next_tick, piece_over, pieces_over, shows, stretch_over, AreSamplesOf, by_test, w128_keeps, first_kept, last_kept}
 use Rattle.finder.proofs.FewestPieces.{InSpan, end_in_span, longest_forward, piece_to, shown_before}
+use Rattle.finder.proofs.SpanPieces.{one_piece}
 use Rattle.finder.proofs.Verdict.{from_zero_kept}
 
 -- ---- ticks as 128 bits hold them
@@ -45,11 +46,9 @@ module _ (samples : List Sample) (claim : ClaimData) (lawful : IsLawful claim)
       → shows samples claim (pos begin) (pos middle) ≡ false → IsHalved samples claim begin next low (middle - 1)
   halved_down low high middle is from_low to_high least not_shown =
       let some = is.some in
-      let least_shown : shows samples claim (pos begin) (next_tick samples claim (pos begin)) ≡ true =
-      subst (λ (z : ℤ). shows samples claim (pos begin) z ≡ true) next_is least in
+      let least_shown = rw next_is at least in
       let up : next ≤ middle = omega arith in
-      let after : next_tick samples claim (pos begin) ≤ℤ pos middle =
-      subst (λ (z : ℤ). z ≤ℤ pos middle) next_is (omega (arith, ints)) in
+      let after : next_tick samples claim (pos begin) ≤ℤ pos middle = rw (← next_is) (omega (arith, ints)) in
       record {
         some = some;
         in_order = omega arith;
@@ -95,19 +94,12 @@ module _ (samples : List Sample) (claim : ClaimData) where
   module _ (ends items : List ℤ) (b q : ℕ) (z : ℤ) (are : AreLongest samples claim claim.first ends)
       (begins : pos b ≡ end_after claim.first ends) (long : IsLongest samples claim (pos b) (pos q)) (same : z ≡ pos q)
       (pushed : items ≡ ends ++ z ∷ []) where
-    items_are : items ≡ ends ++ pos q ∷ []
-    items_are = pushed ∙ ap (λ (x : ℤ). ends ++ x ∷ []) same
-
-    long_after : IsLongest samples claim (end_after claim.first ends) (pos q)
-    long_after = subst (λ (x : ℤ). IsLongest samples claim x (pos q)) begins long
-
     pub reach_more : pos q <ℤ claim.last → AreLongest samples claim claim.first items
     reach_more before =
-        subst (AreLongest samples claim claim.first) (sym items_are)
-        (longest_more claim.first ends (pos q) are long_after before)
+        rw (pushed, same) (longest_more claim.first ends (pos q) are (rw begins at long) before)
 
     pub reach_begins : pos q ≡ end_after claim.first items
-    reach_begins = sym (ap (end_after claim.first) items_are ∙ end_after_more claim.first ends (pos q))
+    reach_begins = sym (rw (pushed, same) (end_after_more claim.first ends (pos q)))
 
   -- one more piece of a certificate
   pub taken_more : (ends : List ℤ) (k : ℕ) (old : List PieceData) (entries : List (ℕ × ℕ)) (upto : ℕ)
@@ -118,13 +110,8 @@ module _ (samples : List Sample) (claim : ClaimData) where
       → old ++ record { entries = entries; upto = upto } ∷ []
       ≡ pieces_over samples claim claim.first (take (k + 1) ends)
   taken_more ends k old entries upto below so_far a b =
-      let make : List (ℕ × ℕ) → ℕ → PieceData = λ es n. record { entries = es; upto = n } in
-      ap (λ (ps : List PieceData). ps ++ make entries upto ∷ []) so_far
-      ∙ ap (λ (es : List (ℕ × ℕ)). pieces_over samples claim claim.first (take k ends) ++ make es upto ∷ []) a
-      ∙ ap (λ (n : ℕ). pieces_over samples claim claim.first (take k ends) ++ make (best_entries samples claim
-      (stretch_over (end_after claim.first (take k ends)) (get_or ends k (pos 0)))) n ∷ []) b
-      ∙ sym (pieces_more claim.first (take k ends) (get_or ends k (pos 0)))
-      ∙ ap (pieces_over samples claim claim.first) (sym (take_more ends k (pos 0) below))
+      rw (so_far, a, b) (sym (pieces_more claim.first (take k ends) (get_or ends k (pos 0)))
+      ∙ ap (pieces_over samples claim claim.first) (sym (take_more ends k (pos 0) below)))
 
 -- an end that is a Unix tick, as it is cast
 pub end_kept : (p q : ℤ) → IsPiece p q → to_z w128 (of_z w128 q) ≡ q
@@ -150,12 +137,6 @@ piece_at_take p (q ∷ ends) zero d below = record { begins = refl; ends_at = re
 piece_at_take p (q ∷ ends) (suc k) d below =
     let rest = piece_at_take q ends k d (omega arith) in
     record { begins = rest.begins; ends_at = rest.ends_at }
-
-one_piece : (a b p q : ℤ) → IsPiece a b → Some a ≡ Some p → Some b ≡ Some q → IsPiece p q
-one_piece a b p q is e f =
-    let begins : a ≡ p = cc in
-    let ends : b ≡ q = cc in
-    subst (λ (x : ℤ). IsPiece x q) begins (subst (λ (y : ℤ). IsPiece a y) ends is)
 
 module _ (samples : List Sample) (claim : ClaimData) (lawful : IsLawful claim)
     (are : AreSamplesOf claim samples) where

@@ -1,5 +1,5 @@
 -- The longest pieces end in one of three ways, and in no two of them.
-use Rattle.finder.proofs.Common.{◌≡◌, ◌⊎◌, inl, inr, ⊎_elim, ℕ, zero, suc, ◌<◌, ◌≤◌, ℤ, pos, ◌+ℤ◌, ◌-ℤ◌, ◌≤ℤ◌, ◌<ℤ◌, unsigned_abs, Bool, true, false, true≢false, List, [], ◌∷◌, ◌++◌, length, refl, sym, ap, ◌∙◌, subst, arith, ints, clamps, CertificateData, PieceData, max_pieces, ClaimData, Hull, Sample, is_inside, GetStuck, IsCarried, AreLongest, IsLongest, IsOfLongest, IsStuck, IsTooLong, end_after, hull_over, next_tick, pieces_over, shows, by_test, lt_next_cases, ≤ℤ_antisymm}
+use Rattle.finder.proofs.Common.{◌≡◌, ◌⊎◌, inl, inr, ⊎_elim, ℕ, zero, suc, ◌<◌, ◌≤◌, ℤ, pos, ◌+ℤ◌, ◌-ℤ◌, ◌≤ℤ◌, ◌<ℤ◌, unsigned_abs, Bool, true, false, true≢false, List, [], ◌∷◌, ◌++◌, length, refl, sym, ap, ◌∙◌, subst, arith, ints, clamps, CertificateData, PieceData, max_pieces, ClaimData, Hull, Sample, GetStuck, IsCarried, AreLongest, IsLongest, IsOfLongest, IsStuck, IsTooLong, end_after, hull_over, next_tick, pieces_over, shows, by_test, lt_next_cases, ≤ℤ_antisymm}
 use Rattle.finder.proofs.Nearest.{int_cases}
 
 -- ---- the greatest number that passes a test
@@ -162,87 +162,77 @@ module _ (samples : List Sample) (claim : ClaimData) where
       (int_cases r q))
       (int_cases q r)
 
-  -- a longest piece that ends before the span isn't the one that ends with it
-  no_end : (p r : ℤ) → IsLongest samples claim p claim.last → IsLongest samples claim p r → r <ℤ claim.last → ⊥
-  no_end p r last long before = omega (arith, ints, same_end p claim.last r last long, before)
+  -- no longest piece from here ends before the span
+  abbrev Halts : ℤ → Type 0
+  Halts p = (r : ℤ) → IsLongest samples claim p r → r <ℤ claim.last → ⊥
+
+  halts_at_end : (p : ℤ) → IsLongest samples claim p claim.last → Halts p
+  halts_at_end p last r long before = omega (arith, ints, same_end p claim.last r last long, before)
+
+  halts_stuck : (p : ℤ) → shows samples claim p (next_tick samples claim p) ≡ false → Halts p
+  halts_stuck p fails r long before = true≢false (sym long.tick_shown ∙ fails)
 
   moved : (q r : ℤ) (ends : List ℤ) → q ≡ r → AreLongest samples claim r ends → AreLongest samples claim q ends
   moved q r ends same are = subst (λ (z : ℤ). AreLongest samples claim z ends) (sym same) are
 
-  end_or_stuck : (p : ℤ) (xs ys : List ℤ) → AreLongest samples claim p xs
-      → IsLongest samples claim (end_after p xs) claim.last → AreLongest samples claim p ys → Fails p ys → ⊥
-  end_or_stuck p [] [] a last b fails = true≢false (sym last.tick_shown ∙ fails)
-  end_or_stuck p [] (r ∷ ys) a last b fails = no_end p r last b.0 b.1
-  end_or_stuck p (q ∷ xs) [] a last b fails = true≢false (sym a.0.tick_shown ∙ fails)
-  end_or_stuck p (q ∷ xs) (r ∷ ys) a last b fails =
-      let same = same_end p q r a.0 b.0 in
-      end_or_stuck q xs ys a.2 last (moved q r ys same b.2) (subst (λ (z : ℤ). Fails z ys) (sym same) fails)
+  -- where the pieces of one list halt, another list has no more
+  no_more : (p : ℤ) (xs ys : List ℤ) → AreLongest samples claim p xs → Halts (end_after p xs)
+      → AreLongest samples claim p ys → length ys ≤ length xs
+  no_more p xs [] a halts b = omega arith
+  no_more p [] (r ∷ ys) a halts b = absurd (halts r b.0 b.1)
+  no_more p (q ∷ xs) (r ∷ ys) a halts b =
+      omega (arith, no_more q xs ys a.2 halts (moved q r ys (same_end p q r a.0 b.0) b.2))
 
-  end_or_more : (p : ℤ) (xs ys : List ℤ) → AreLongest samples claim p xs
-      → IsLongest samples claim (end_after p xs) claim.last → AreLongest samples claim p ys
-      → length xs < length ys → ⊥
-  end_or_more p xs [] a last b less = absurd (omega arith)
-  end_or_more p [] (r ∷ ys) a last b less = no_end p r last b.0 b.1
-  end_or_more p (q ∷ xs) (r ∷ ys) a last b less =
+  same_list : (p : ℤ) (xs ys : List ℤ) → AreLongest samples claim p xs → AreLongest samples claim p ys
+      → length xs ≡ length ys → xs ≡ ys
+  same_list p [] [] a b count = refl
+  same_list p [] (r ∷ ys) a b count = absurd (omega (arith, count))
+  same_list p (q ∷ xs) [] a b count = absurd (omega (arith, count))
+  same_list p (q ∷ xs) (r ∷ ys) a b count =
       let same = same_end p q r a.0 b.0 in
-      end_or_more q xs ys a.2 last (moved q r ys same b.2) (omega (arith, less))
+      let rest = same_list q xs ys a.2 (moved q r ys same b.2) (omega (arith, count)) in
+      ap (λ (z : ℤ). z ∷ xs) same ∙ ap (λ (zs : List ℤ). r ∷ zs) rest
 
-  stuck_or_more : (p : ℤ) (xs ys : List ℤ) → AreLongest samples claim p xs → Fails p xs
-      → AreLongest samples claim p ys → length xs < length ys → ⊥
-  stuck_or_more p xs [] a fails b less = absurd (omega arith)
-  stuck_or_more p [] (r ∷ ys) a fails b less = true≢false (sym b.0.tick_shown ∙ fails)
-  stuck_or_more p (q ∷ xs) (r ∷ ys) a fails b less =
-      let same = same_end p q r a.0 b.0 in
-      stuck_or_more q xs ys a.2 fails (moved q r ys same b.2) (omega (arith, less))
+  -- if both halt they are one
+  halt_once : (p : ℤ) (xs ys : List ℤ) → AreLongest samples claim p xs → Halts (end_after p xs)
+      → AreLongest samples claim p ys → Halts (end_after p ys) → xs ≡ ys
+  halt_once p xs ys a x b y =
+      same_list p xs ys a b (omega (arith, no_more p xs ys a x b, no_more p ys xs b y a))
 
   -- what is stuck fails at its tick
   fails_at : {begin end : ℤ} {hull : Hull} (stuck : IsStuck samples claim begin end hull)
       → Fails claim.first stuck.earlier
-  fails_at {begin} {end} {hull} stuck =
-      subst (λ (p : ℤ). shows samples claim p (next_tick samples claim p) ≡ false) stuck.begins
-      (subst (λ (q : ℤ). shows samples claim begin q ≡ false) stuck.ends
-      (subst (λ (h : Hull). is_inside claim.bound h ≡ false) stuck.its_hull stuck.fails))
+  fails_at stuck = rw (stuck.its_hull, stuck.ends, stuck.begins) at stuck.fails
+
+  carried_halts : {certificate : CertificateData} (is : IsOfLongest samples claim certificate)
+      → Halts (end_after claim.first is.earlier)
+  carried_halts is = halts_at_end (end_after claim.first is.earlier) is.last
+
+  stuck_halts : {begin end : ℤ} {hull : Hull} (stuck : IsStuck samples claim begin end hull)
+      → Halts (end_after claim.first stuck.earlier)
+  stuck_halts stuck = halts_stuck (end_after claim.first stuck.earlier) (fails_at stuck)
 
   pub never_carried_and_stuck : IsCarried samples claim → ¬ (GetStuck samples claim)
   never_carried_and_stuck (certificate, is) (begin, end, hull, stuck) =
-      end_or_stuck claim.first is.earlier stuck.earlier is.longest is.last stuck.longest (fails_at stuck)
+      let same = halt_once claim.first is.earlier stuck.earlier is.longest (carried_halts is) stuck.longest
+      (stuck_halts stuck) in
+      true≢false (sym is.last.tick_shown ∙ subst (Fails claim.first) (sym same) (fails_at stuck))
 
   pub never_carried_and_too_long : IsCarried samples claim → ¬ (IsTooLong samples claim)
   never_carried_and_too_long (certificate, is) long =
-      end_or_more claim.first is.earlier long.earlier is.longest is.last long.longest (omega arith)
+      let fewer = no_more claim.first is.earlier long.earlier is.longest (carried_halts is) long.longest in
+      omega (arith, is.few, long.as_many)
 
   pub never_stuck_and_too_long : GetStuck samples claim → ¬ (IsTooLong samples claim)
   never_stuck_and_too_long (begin, end, hull, stuck) long =
-      stuck_or_more claim.first stuck.earlier long.earlier stuck.longest (fails_at stuck) long.longest
-      (omega arith)
+      let fewer = no_more claim.first stuck.earlier long.earlier stuck.longest (stuck_halts stuck) long.longest in
+      omega (arith, stuck.few, long.as_many)
 
   -- ---- and each in only one way
 
-  same_ends : (p : ℤ) (xs ys : List ℤ) → AreLongest samples claim p xs
-      → IsLongest samples claim (end_after p xs) claim.last → AreLongest samples claim p ys
-      → IsLongest samples claim (end_after p ys) claim.last → xs ≡ ys
-  same_ends p [] [] a x b y = refl
-  same_ends p [] (r ∷ ys) a x b y = absurd (no_end p r x b.0 b.1)
-  same_ends p (q ∷ xs) [] a x b y = absurd (no_end p q y a.0 a.1)
-  same_ends p (q ∷ xs) (r ∷ ys) a x b y =
-      let same = same_end p q r a.0 b.0 in
-      let rest = same_ends q xs ys a.2 x (moved q r ys same b.2)
-      (subst (λ (z : ℤ). IsLongest samples claim (end_after z ys) claim.last) (sym same) y) in
-      ap (λ (z : ℤ). z ∷ xs) same ∙ ap (λ (zs : List ℤ). r ∷ zs) rest
-
-  same_stop : (p : ℤ) (xs ys : List ℤ) → AreLongest samples claim p xs → Fails p xs
-      → AreLongest samples claim p ys → Fails p ys → xs ≡ ys
-  same_stop p [] [] a x b y = refl
-  same_stop p [] (r ∷ ys) a x b y = absurd (true≢false (sym b.0.tick_shown ∙ x))
-  same_stop p (q ∷ xs) [] a x b y = absurd (true≢false (sym a.0.tick_shown ∙ y))
-  same_stop p (q ∷ xs) (r ∷ ys) a x b y =
-      let same = same_end p q r a.0 b.0 in
-      let rest = same_stop q xs ys a.2 x (moved q r ys same b.2) (subst (λ (z : ℤ). Fails z ys) (sym same) y) in
-      ap (λ (z : ℤ). z ∷ xs) same ∙ ap (λ (zs : List ℤ). r ∷ zs) rest
-
   pub one_certificate : (a b : CertificateData) → IsOfLongest samples claim a → IsOfLongest samples claim b → a ≡ b
   one_certificate a b x y =
-      let ends = same_ends claim.first x.earlier y.earlier x.longest x.last y.longest y.last in
+      let ends = halt_once claim.first x.earlier y.earlier x.longest (carried_halts x) y.longest (carried_halts y) in
       ap (λ (pieces : List PieceData). record { pieces = pieces })
       (x.pieces ∙ ap (λ (es : List ℤ). pieces_over samples claim claim.first (es ++ claim.last ∷ [])) ends
       ∙ sym y.pieces)
@@ -251,4 +241,4 @@ module _ (samples : List Sample) (claim : ClaimData) where
       → p ≡ p'
   one_tick p q p' q' h h' x y =
       x.begins ∙ ap (end_after claim.first)
-      (same_stop claim.first x.earlier y.earlier x.longest (fails_at x) y.longest (fails_at y)) ∙ sym y.begins
+      (halt_once claim.first x.earlier y.earlier x.longest (stuck_halts x) y.longest (stuck_halts y)) ∙ sym y.begins

@@ -1,5 +1,5 @@
 -- What the tables of servers say of a piece is what its best entries say.
-use Rattle.finder.proofs.Common.{◌≡◌, ℕ, ◌<◌, ℤ, List, [], ◌∷◌, length, Option, Some, None, refl, sym, ap, ◌∙◌, All, filter_map, cons_option, ClaimData, servers_of, Hull, Sample, piece_hull, piece_interval_of, Part, best_over, best_entries, best_hull, part_named, parts_named, stretch_over, AreSamplesOf}
+use Rattle.finder.proofs.Common.{◌≡◌, ℕ, ◌<◌, ℤ, List, [], ◌∷◌, length, Option, Some, None, refl, sym, ap, ◌∙◌, All, filter_map, cons_option, ClaimData, servers_of, Sample, Stretch, piece_hull, piece_interval_of, Part, best_over, best_entries, best_hull, part_named, parts_named, stretch_over, AreSamplesOf}
 use Rattle.sweep.specs.Table.{best_part, best_parts, said_by}
 use Rattle.finder.proofs.Best.{best_of_is}
 use Rattle.finder.proofs.EntryList.{listed_parts}
@@ -39,14 +39,9 @@ module _ (samples : List Sample) (claim : ClaimData) (p q : ℤ) where
       rw parts_said (listed_parts samples claim (stretch_over p q) (best_entries samples claim (stretch_over p q))
       (length claim.servers) are.listed)
 
-  -- and their hull is that of the best entries
-  pub hull_said : (a b : ℤ) (parts : List Part) (hull : Hull) → a ≡ p → b ≡ q
-      → parts ≡ best_parts samples (length claim.servers) a b claim.drift_ppb
-      → hull ≡ piece_hull claim.groups claim.false_max parts → hull ≡ best_hull samples claim (stretch_over p q)
-  unfolding best_hull
-  hull_said a b parts hull begins ends are is =
-      is
-      ∙ ap (piece_hull claim.groups claim.false_max) (are
-      ∙ ap (λ (x : ℤ). best_parts samples (length claim.servers) x b claim.drift_ppb) begins
-      ∙ ap (λ (y : ℤ). best_parts samples (length claim.servers) p y claim.drift_ppb) ends
-      ∙ parts_said)
+-- their hull is that of the best entries
+pub hull_said : (samples : List Sample) (claim : ClaimData) (stretch : Stretch) (parts : List Part)
+    → parts ≡ parts_named samples claim stretch (best_entries samples claim stretch)
+    → piece_hull claim.groups claim.false_max parts ≡ best_hull samples claim stretch
+unfolding best_hull
+hull_said samples claim stretch parts is = ap (piece_hull claim.groups claim.false_max) is

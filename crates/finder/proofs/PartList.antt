@@ -1,7 +1,8 @@
 -- What servers say at one reading of the clock, one server after another.
-use Rattle.std.proofs.Common.{append-nil}
 use Rattle.std.specs.Prelude.{filter_map}
-use Rattle.finder.proofs.Common.{zero, suc, ◌≡◌, ◌∙◌, ℕ, ℤ, ◌+◌, ◌<◌, ◌≤◌, ◌++◌, List, [], ◌∷◌, length, take, Option, Some, None, refl, sym, ap, subst, add-one, arith, length-append, slice_get, All, cons_option, range_with_len, take_more, filter_map-append, All-push, get_or_from_slice_get, slice_get_within, Sample, Gathered, Gathering, Part, numbers_below, piece_hull, ClaimData, servers_of, best_entries, best_hull, parts_named, stretch_over, best_part, best_parts, range_with_len_more}
+use Rattle.finder.proofs.Common.{◌≡◌, ◌∙◌, ℕ, ℤ, ◌+◌, ◌<◌, ◌≤◌, ◌++◌, List, [], ◌∷◌, length, take, Option, Some, None, ap, arith, length-append, slice_get, All, take_more, All-push, get_or_from_slice_get, slice_get_within, Sample, Gathered, Gathering, Part, numbers_below, piece_hull, ClaimData, best_entries, best_hull, parts_named, stretch_over, best_part, best_parts}
+use Rattle.checker.proofs.PieceFit.{all_numbers}
+use Rattle.finder.proofs.List.{one_more, without}
 use Rattle.finder.proofs.Part.{parts_said}
 
 -- one sample more was taken
@@ -9,26 +10,7 @@ pub gathered_more : (samples : List Sample) (i : ℕ) (s : Sample) (tick : ℤ) 
     → slice_get samples i ≡ Some s → Gathered (take i samples ++ s ∷ []) tick tick ppb best
     → Gathered (take (i + 1) samples) tick tick ppb best
 gathered_more samples i s tick ppb best is gathered =
-    let same : take i samples ++ s ∷ [] ≡ take (i + 1) samples =
-    ap (λ (x : Sample). take i samples ++ x ∷ []) (sym (get_or_from_slice_get samples i s s is))
-    ∙ sym (take_more samples i s (slice_get_within samples i s is)) in
-    subst (λ (ts : List Sample). Gathered ts tick tick ppb best) same gathered
-
-module _ (says : ℕ → Option Part) (server : ℕ) where
-  one_more : filter_map says (numbers_below (server + 1)) ≡
-      filter_map says (numbers_below server) ++ filter_map says (server ∷ [])
-  one_more = rw add-one (filter_map-append says (numbers_below server) (server ∷ []))
-
-  with_part : (part : Part) → says server ≡ Some part →
-      filter_map says (numbers_below server) ++ part ∷ [] ≡ filter_map says (numbers_below (server + 1))
-  with_part part is =
-      ap (λ (o : Option Part). filter_map says (numbers_below server) ++ cons_option o []) (sym is) ∙ sym one_more
-
-  without_part : says server ≡ None →
-      filter_map says (numbers_below server) ≡ filter_map says (numbers_below (server + 1))
-  without_part is =
-      sym (append-nil (filter_map says (numbers_below server)))
-      ∙ ap (λ (o : Option Part). filter_map says (numbers_below server) ++ cons_option o []) (sym is) ∙ sym one_more
+    rw (take_more samples i s (slice_get_within samples i s is), get_or_from_slice_get samples i s s is) gathered
 
 -- the parts of the servers whose number is below `server`, of a claim with this many servers
 pub record StandsFor (says : ℕ → Option Part) (servers server : ℕ) (parts : List Part) : Type 0 where
@@ -40,34 +22,28 @@ module _ (says : ℕ → Option Part) (servers server : ℕ) (within : server < 
   pub one_stands : (old new : List Part) (part : Part) → StandsFor says servers server old → says server ≡ Some part →
       part.server ≡ server → new ≡ old ++ part ∷ [] → StandsFor says servers (server + 1) new
   one_stands old new part stands is same pushed = record {
-    so_far = pushed ∙ ap (λ (ps : List Part). ps ++ part ∷ []) stands.so_far ∙ with_part says server part is;
+    so_far = grind (arith, all_numbers server, all_numbers (server + 1), one_more says server);
     fits = omega (arith, ap length pushed, length-append old (part ∷ []), stands.fits);
-    listed = subst (All (λ p. p.server < servers)) (sym pushed)
+    listed = rw pushed
         (All-push (λ (p : Part). p.server < servers) old part stands.listed (omega (arith, same, within)));
   }
 
   pub none_stands : (old new : List Part) → StandsFor says servers server old → says server ≡ None → new ≡ old →
       StandsFor says servers (server + 1) new
   none_stands old new stands is same = record {
-    so_far = same ∙ stands.so_far ∙ without_part says server is;
+    so_far = rw (all_numbers (server + 1))
+        (same ∙ without says server old (rw (all_numbers server) at stands.so_far) is);
     fits = omega (arith, ap length same, stands.fits);
-    listed = subst (All (λ p. p.server < servers)) (sym same) stands.listed;
+    listed = rw same stands.listed;
   }
 
 -- ---- the same by the best entries
-
-numbers_are : (n : ℕ) → numbers_below n ≡ servers_of n
-numbers_are zero = refl
-numbers_are (suc n) =
-    let one : numbers_below n ++ n ∷ [] ≡ range_with_len 0 (n + 1) =
-    ap (λ (ks : List ℕ). ks ++ n ∷ []) (numbers_are n) ∙ sym (range_with_len_more 0 n n (omega arith)) in
-    subst (λ (m : ℕ). numbers_below n ++ n ∷ [] ≡ range_with_len 0 m) (add-one n) one
 
 module _ (samples : List Sample) (claim : ClaimData) (tick : ℤ) where
   pub parts_of_entries : best_parts samples claim tick
       ≡ parts_named samples claim (stretch_over tick tick) (best_entries samples claim (stretch_over tick tick))
   parts_of_entries =
-      ap (filter_map (best_part samples claim.drift_ppb tick)) (numbers_are (length claim.servers))
+      ap (filter_map (best_part samples claim.drift_ppb tick)) (all_numbers (length claim.servers))
       ∙ parts_said samples claim tick tick
 
   pub hull_of_entries : piece_hull claim.groups claim.false_max (best_parts samples claim tick)

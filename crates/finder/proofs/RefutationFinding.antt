@@ -1,39 +1,11 @@
 -- What it says that a refutation is found, or none.
-use Rattle.finder.proofs.Common.{◌≡◌, ℕ, ◌-◌, ◌≤◌, ◌^◌, ℤ, pos, neg_ℤ, ◌-ℤ◌, ◌≤ℤ◌, ◌<ℤ◌, unsigned_abs, Bool, false, true≢false, List, length, Option, Some, None, refl, sym, ap, ◌∙◌, subst, ⊎_elim, arith, filter, option_map, All, find, range_with_len, ints, RefutationData, ClaimData, IsLawful, Exchange, Interval, numbers_below, AreRooms, refused_by, refuses, IsErrorOf64Bits, IsFirstBeyond, IsNearest, IsNearestRefutation, NoneIsRefuted, after, greatest_error, is_possible, least_error_below, nearest, refutation_at, nearest_error}
+use Rattle.finder.proofs.Common.{◌≡◌, ℕ, ◌≤◌, ◌^◌, ℤ, pos, neg_ℤ, ◌≤ℤ◌, ◌<ℤ◌, unsigned_abs, Bool, false, true≢false, List, length, Option, Some, None, refl, sym, ap, ◌∙◌, subst, ⊎_elim, arith, filter, option_map, All, ints, RefutationData, ClaimData, IsLawful, Exchange, Interval, numbers_below, AreRooms, refused_by, refuses, IsErrorOf64Bits, IsFirstBeyond, IsNearest, IsNearestRefutation, NoneIsRefuted, greatest_error, is_possible, least_error_below, nearest, refutation_at, nearest_error}
 use Rattle.std.specs.Option.{option_or}
 use Rattle.pairing.specs.Exchange.{IsLawful as IsLawfulExchange}
 use Rattle.finder.proofs.Liar.{possible_of, refuted_at, same_passing_test}
-use Rattle.finder.proofs.List.{find_is_first, find_is_none}
 use Rattle.finder.proofs.GroupLeeway.{negated}
 use Rattle.finder.proofs.Nearest.{int_cases}
-use Rattle.finder.proofs.RefutationSearch.{after_is}
-
--- ---- what the nearest number is
-
-module _ (test : ℤ → Bool) (bound limit : ℤ) where
-  abbrev place : ℤ → ℕ
-  place number = unsigned_abs (number -ℤ bound) - 1
-
-  nearest_at : (o : Option ℕ)
-      → find (λ k. test (after bound k)) (range_with_len 0 (unsigned_abs (limit -ℤ bound))) ≡ o
-      → bound ≤ℤ limit → IsNearest test bound limit (option_map (after bound) o)
-  nearest_at None is some = λ other above le.
-      sym (ap test (after_is test bound limit other above))
-      ∙ find_is_none (λ k. test (after bound k)) 0 (unsigned_abs (limit -ℤ bound)) is (place other) (omega arith)
-      (omega (arith, ints))
-  nearest_at (Some n) is some =
-      let found = find_is_first (λ k. test (after bound k)) 0 (unsigned_abs (limit -ℤ bound)) n is in
-      record {
-        beyond = omega (arith, ints);
-        within = omega (arith, ints);
-        passes = found.passes;
-        others_fail = λ other above below.
-            sym (ap test (after_is test bound limit other above))
-            ∙ found.others_fail (place other) (omega arith) (omega (arith, ints));
-      }
-
-  pub nearest_is : bound ≤ℤ limit → IsNearest test bound limit (nearest test bound limit)
-  nearest_is some = nearest_at _ refl some
+use Rattle.finder.proofs.RefutationSearch.{nearest_is}
 
 -- ---- what is found
 
@@ -161,6 +133,4 @@ module _ (claim : ClaimData) (lawful : IsLawful claim) (xs : List Exchange)
       let near : unsigned_abs found ≤ 2 ^ 64 = omega (arith, ints) in
       let same = a ∙ same_passing_test (refused_by rooms found) (refuses claim.reading xs found) (length claim.servers)
       (λ server within. (are server (omega (arith, within))).leaves_out_refused found near) in
-      let make : List ℕ → ℕ → RefutationData = λ l r. record { error = found; liars = l; reading = r } in
-      ap (λ (l : List ℕ). make l reading) same
-      ∙ ap (make (filter (refuses claim.reading xs found) (numbers_below (length claim.servers)))) b
+      rw (same, b) refl

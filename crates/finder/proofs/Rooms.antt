@@ -1,8 +1,7 @@
 -- The intervals of all servers, exchange by exchange.
-use Rattle.finder.proofs.Common.{◌≡◌, ◌≢◌, ℕ, ◌+◌, ◌<◌, ◌≤◌, ◌^◌, ℤ, pos, neg_ℤ, ◌-ℤ◌, int_lt, unsigned_abs, false, not, ◌&&◌, ◌||◌, List, [], ◌∷◌, ◌++◌, length, take, set, replicate, get_or, refl, sym, ap, ◌∙◌, subst, ⊎_elim, arith, ◌==◌, All, cases_lt, nat_tests, ints, get_or-map, get_or-replicate, get_or-set_same, get_or-set_other, length-map, take_more, list_any-append, leaves_out, Interval, Exchange, admits, AreRooms, IsNear, IsRoom, refuses, room_at, by_test, eq-eqb, ne_eqb, or-false, w128_keeps}
+use Rattle.finder.proofs.Common.{◌≡◌, ◌≢◌, ℕ, ◌+◌, ◌<◌, ◌≤◌, ◌^◌, ℤ, pos, neg_ℤ, int_lt, unsigned_abs, false, not, ◌&&◌, ◌||◌, List, [], ◌∷◌, ◌++◌, length, take, set, replicate, get_or, refl, sym, ap, ◌∙◌, subst, arith, ◌==◌, All, nat_tests, ints, get_or-map, get_or-replicate, get_or-set_same, get_or-set_other, length-map, take_more, list_any-append, leaves_out, Interval, Exchange, admits, AreRooms, IsNear, IsRoom, refuses, room_at, by_test, eq-eqb, ne_eqb, or-false}
 use Rattle.std.specs.Prelude.{map}
 use Rattle.pairing.specs.Exchange.{IsLawful}
-use Rattle.finder.proofs.ErrorRoom.{bits}
 
 abbrev none : Interval
 none = record { lo = pos 0; hi = pos 0 }
@@ -40,18 +39,12 @@ module _ (allowance : ℤ) (xs : List Exchange) (x : Exchange) where
       → refuses allowance (xs ++ x ∷ []) error server
       ≡ (refuses allowance xs error server || not (admits allowance error x))
   of_server error server same =
-      refuses_more error server
-      ∙ ap (λ b. refuses allowance xs error server || ((b && not (admits allowance error x)) || false))
-      (eq-eqb x.server server same)
-      ∙ ap (λ b. refuses allowance xs error server || b) (or-false (not (admits allowance error x)))
+      rw (refuses_more error server, eq-eqb x.server server same, or-false (not (admits allowance error x))) refl
 
   of_other : (error : ℤ) (server : ℕ) → x.server ≢ server
       → refuses allowance (xs ++ x ∷ []) error server ≡ refuses allowance xs error server
   of_other error server other =
-      refuses_more error server
-      ∙ ap (λ b. refuses allowance xs error server || ((b && not (admits allowance error x)) || false))
-      (ne_eqb x.server server other)
-      ∙ or-false (refuses allowance xs error server)
+      rw (refuses_more error server, ne_eqb x.server server other, or-false (refuses allowance xs error server)) refl
 
   module _ (rooms : List Interval) (count : length rooms ≡ 32) (are : AreRooms allowance xs rooms)
       (listed : x.server < 32) (new : Interval)
@@ -61,9 +54,8 @@ module _ (allowance : ℤ) (xs : List Exchange) (x : Exchange) where
     new_room : IsRoom allowance (xs ++ x ∷ []) x.server new
     new_room = record {
       leaves_out_refused = λ error near.
-          narrows error near
-          ∙ ap (λ b. b || not (admits allowance error x)) ((are x.server listed).leaves_out_refused error near)
-          ∙ sym (of_server error x.server refl);
+          rw (of_server error x.server refl, ← (are x.server listed).leaves_out_refused error near)
+          (narrows error near);
       low = low;
       high = high;
     }
@@ -91,31 +83,6 @@ module _ (allowance : ℤ) (xs : List Exchange) (x : Exchange) where
         let at : room_at (set rooms x.server new) server ≡ room_at rooms server =
         get_or-set_other rooms x.server server new none (λ same. other (sym same)) in
         rw at (old_room server below other))
-
--- ---- negatives
-
-module _ (rooms mirrored : List Interval) (n : ℕ) (within : n < length mirrored) (new : Interval) where
-  at_new : room_at (set mirrored n new) n ≡ new
-  at_new = get_or-set_same mirrored n new none within
-
-  at_old : (server : ℕ) → server < n → room_at (set mirrored n new) server ≡ room_at mirrored server
-  at_old server below =
-      get_or-set_other mirrored n server new none (λ same. absurd (omega arith))
-
-  pub mirrored_more : (end : Interval → ℤ) (is : ℕ → ℤ)
-      → ((server : ℕ) → server < n → end (room_at mirrored server) ≡ is server) → end new ≡ is n
-      → (server : ℕ) → server < n + 1 → end (room_at (set mirrored n new) server) ≡ is server
-  mirrored_more end is before here server below = ⊎_elim
-      (λ less. ap end (at_old server less) ∙ before server less)
-      (λ last.
-      let same : server ≡ n = omega arith in
-      rw same (ap end at_new ∙ here))
-      (cases_lt server n)
-
-pub negative_kept : (a : ℤ) → unsigned_abs a ≤ 2 ^ 80 → bits (pos 0 -ℤ bits a) ≡ neg_ℤ a
-negative_kept a small =
-    let turned : pos 0 -ℤ a ≡ neg_ℤ a = omega (arith, ints) in
-    rw (w128_keeps a (omega (arith, small))) (w128_keeps (pos 0 -ℤ a) (omega (arith, ints, small)) ∙ turned)
 
 -- ---- the exchange at a place of the list that says them
 

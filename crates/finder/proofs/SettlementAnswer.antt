@@ -18,8 +18,10 @@ use Rattle.checker.proofs.Exchange.{are_samples}
 use Rattle.finder.proofs.CoverHull.{within_most}
 use Rattle.finder.proofs.GapSearch.{more_enough}
 use Rattle.finder.proofs.HeldError.{AreTriedTo, all_tried, held_one, one_more_tried}
-use Rattle.finder.specs.Settlement.{IsContestedBy, IsFitted, IsFittedByNone, IsHeard, IsLeftOpen, IsShownBy, IsUnheard, NoneIsBeyond}
+use Rattle.finder.specs.Settlement.{IsContestedBy, IsFitted, IsFittedByNone, IsHeard, IsLeftOpen, IsSettledAs, IsShownBy, IsUnheard, NoneIsBeyond}
+use Rattle.finder.specs.Settlement.{Settles, settled_data}
 use Rattle.finder.specs.declared.fewest.Fewest.TheVariants as found
+use Rattle.finder.specs.declared.settlement.Settled.{Settled}
 use Rattle.finder.proofs.LongestPiece.{end_kept, fits_64}
 
 -- ---- limits
@@ -41,32 +43,26 @@ module _ (claim : ClaimData) (lawful : IsLawful claim) (samples : List Sample) w
 
   -- and the tick where the longest pieces stop, whose ends 128 bits hold
   pub record IsTickWithin (begin end : ℤ) : Type 0 where
-    pub from_first : claim.first ≤ℤ begin
     pub forward : begin ≤ℤ end
-    pub to_last : end ≤ℤ claim.last
     pub begin_kept : to_z w128 (of_z w128 begin) ≡ begin
     pub end_kept : to_z w128 (of_z w128 end) ≡ end
     pub begin_fits : T (non_neg begin) × Fits w64 (unsigned_abs begin)
     pub end_fits : T (non_neg end) × Fits w64 (unsigned_abs end)
 
-  tick_within : (begin end : ℤ) → claim.first ≤ℤ begin → begin ≤ℤ end → end ≤ℤ claim.last → IsTickWithin begin end
-  tick_within begin end from forward to =
-      let piece = piece_within begin end from forward to in
-      record {
-        from_first = from;
-        forward = forward;
-        to_last = to;
-        begin_kept = end_kept begin begin (piece_within begin begin from (omega (arith, ints)) (omega (arith, ints)));
-        end_kept = end_kept begin end piece;
-        begin_fits = fits_64 begin begin (piece_within begin begin from (omega (arith, ints)) (omega (arith, ints)));
-        end_fits = fits_64 begin end piece;
-      }
-
   pub stuck_within : (begin end : ℤ) (hull : Hull) → IsStuck samples claim begin end hull → IsTickWithin begin end
   stuck_within begin end hull stuck =
       let forward = lawful.span_forward in
       let (from, to) = in_span_after claim.first stuck.earlier (omega (arith, ints)) forward stuck.longest in
-      tick_within begin end (omega (arith, ints)) (omega (arith, ints, clamps)) (omega (arith, ints, clamps))
+      let piece = piece_within begin end (omega (arith, ints)) (omega (arith, ints, clamps))
+      (omega (arith, ints, clamps)) in
+      let first = piece_within begin begin (omega (arith, ints)) (omega (arith, ints)) (omega (arith, ints, clamps)) in
+      record {
+        forward = omega (arith, ints, clamps);
+        begin_kept = end_kept begin begin first;
+        end_kept = end_kept begin end piece;
+        begin_fits = fits_64 begin begin first;
+        end_fits = fits_64 begin end piece;
+      }
 
 -- ---- whether a course fits, by a test for covers
 
@@ -79,6 +75,10 @@ fits_not has isnt (has_cover, back) (to, from) = λ course. true≢false (sym (b
 -- ---- the answers
 
 module _ (claim : ClaimData) (xs : List Exchange) where
+  -- an answer but an open one
+  pub settled_as : (found : Settled) → IsSettledAs claim xs (settled_data found) → Settles claim xs (Ok found)
+  settled_as found is = record { settled = is; refused = tt }
+
   -- no course fits, and all conflicts are told
   pub none_fits : (listed : List ShownConflict) → AreAllConflicts claim xs listed → ¬ (SomeCourse claim xs)
       → (SomeCourse claim xs ↔ HasSmallCover claim xs)

@@ -1,5 +1,5 @@
 -- The pieces of a span.
-use Rattle.finder.proofs.Common.{◌≡◌, ℕ, zero, suc, ◌+◌, ◌-◌, ◌*◌, ◌/◌, ◌%◌, ◌<◌, ◌≤◌, min, max, ◌^◌, ℤ, pos, ◌+ℤ◌, ◌-ℤ◌, ◌≤ℤ◌, ◌<ℤ◌, nat_lt, true, false, unsigned_abs, List, [], ◌∷◌, ◌++◌, sym, ap, ◌∙◌, ⊎_elim, arith, to_z, of_z, Fits, w32, w64, w128, mul-le-mul_right, cases_lt, nat_tests, div_ceil_times, ints, clamps, map-range_with_len_more, div-mul-add, div_ceil, non_neg, yes_non_neg, T, max_pieces, ClaimData, IsLawful, IsCeiling, ceiling_of, ticks_per_second, IsPiece, piece_end_of, Stretch, IsPieceCount, piece_count_of, piece_begin_of, ends_of, stretch_at, w128_keeps, first_kept, last_kept}
+use Rattle.finder.proofs.Common.{◌≡◌, ℕ, zero, suc, ◌+◌, ◌-◌, ◌*◌, ◌/◌, ◌%◌, ◌<◌, ◌≤◌, min, max, ◌^◌, ℤ, pos, ◌+ℤ◌, ◌-ℤ◌, ◌≤ℤ◌, ◌<ℤ◌, nat_lt, true, false, unsigned_abs, List, [], ◌∷◌, ◌++◌, Some, subst, sym, ap, ◌∙◌, ⊎_elim, arith, to_z, of_z, Fits, w32, w64, w128, mul-le-mul_right, cases_lt, nat_tests, div_ceil_times, ints, clamps, map-range_with_len_more, div-mul-add, div_ceil, non_neg, yes_non_neg, T, max_pieces, ClaimData, IsLawful, IsCeiling, ceiling_of, ticks_per_second, IsPiece, piece_end_of, Stretch, IsPieceCount, piece_count_of, piece_begin_of, ends_of, stretch_at, w128_keeps, first_kept, last_kept}
 use Rattle.era_unfold.proofs.Rounding.{IsCeiling-ceiling_of}
 use Rattle.finder.proofs.Claim.{length_fits}
 
@@ -15,6 +15,10 @@ div_ceil-ceiling_of n d h =
 
 -- ---- the ends
 
+-- no fewer steps are no fewer ticks
+pub scaled : (step a b : ℕ) → a ≤ b → (a * step * ticks_per_second) ≤ (b * step * ticks_per_second)
+scaled step a b le = mul-le-mul_right ticks_per_second (mul-le-mul_right step le)
+
 module _ (first last : ℤ) (in_order : first ≤ℤ last) (step : ℕ) where
   pub end_from_first : (k : ℕ) → first ≤ℤ piece_end_of first last step k
   end_from_first k = omega (arith, ints, clamps)
@@ -22,11 +26,8 @@ module _ (first last : ℤ) (in_order : first ≤ℤ last) (step : ℕ) where
   pub end_to_last : (k : ℕ) → piece_end_of first last step k ≤ℤ last
   end_to_last k = omega (arith, ints, clamps)
 
-  later : (a b : ℕ) → a ≤ b → (a * step * ticks_per_second) ≤ (b * step * ticks_per_second)
-  later a b le = mul-le-mul_right ticks_per_second (mul-le-mul_right step le)
-
   pub end_no_earlier : (j k : ℕ) → j ≤ k → piece_end_of first last step j ≤ℤ piece_end_of first last step k
-  end_no_earlier j k le = let more = later (j + 1) (k + 1) (omega arith) in omega (arith, ints, clamps)
+  end_no_earlier j k le = let more = scaled step (j + 1) (k + 1) (omega arith) in omega (arith, ints, clamps)
 
   pub begin_from_first : (k : ℕ) → first ≤ℤ piece_begin_of first last step k
   begin_from_first zero = omega (arith, ints)
@@ -40,6 +41,13 @@ module _ (first last : ℤ) (in_order : first ≤ℤ last) (step : ℕ) where
       → IsPiece (piece_begin_of first last step k) (piece_end_of first last step k)
   each_is_piece from_zero in_range k =
       omega (arith, ints, begin_from_first k, end_to_last k, begin_before_end k)
+
+-- the ends of a piece, as others name them
+pub one_piece : (a b p q : ℤ) → IsPiece a b → Some a ≡ Some p → Some b ≡ Some q → IsPiece p q
+one_piece a b p q is e f =
+    let begins : a ≡ p = cc in
+    let ends : b ≡ q = cc in
+    subst (λ (x : ℤ). IsPiece x q) begins (subst (λ (y : ℤ). IsPiece a y) ends is)
 
 -- ---- the count
 
@@ -126,9 +134,7 @@ module _ (first last : ℤ) (step n : ℕ) where
       → end ≡ piece_end_of first last step n → kept ≡ end → items ≡ ends ++ kept ∷ []
       → items ≡ ends_of first last step (n + 1)
   ends_more ends items end kept a b same e =
-      e ∙ ap (λ (z : ℤ). ends ++ z ∷ []) (same ∙ b)
-      ∙ ap (λ (zs : List ℤ). zs ++ piece_end_of first last step n ∷ []) a
-      ∙ sym (map-range_with_len_more (piece_end_of first last step) 0 n n (omega arith))
+      rw (e, same, b, a) (sym (map-range_with_len_more (piece_end_of first last step) 0 n n (omega arith)))
 
 -- ---- the pieces of a claim's span
 

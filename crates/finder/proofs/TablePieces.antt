@@ -1,21 +1,21 @@
 -- The best samples of each server in each piece, table by table.
-use Rattle.finder.proofs.Common.{◌≡◌, ℕ, zero, suc, ◌+◌, ◌<◌, ◌≤◌, ◌^◌, ℤ, pos, ◌≤ℤ◌, ◌<ℤ◌, List, [], ◌∷◌, ◌++◌, length, Option, Some, refl, sym, ap, ◌∙◌, subst, le_trans, arith, Vec, Global, All, slice_get, filter_map, cons_option, range_with_len, filter_map-append, length-map-range_with_len, get_or-map-range_with_len, slice_get-get_or, slice_get_within, IsPiece, piece_end_of, IsPieceAt, ArePieces, piece_begin_of, ends_of}
+use Rattle.finder.proofs.Common.{◌≡◌, ℕ, zero, suc, ◌+◌, ◌<◌, ◌≤◌, ◌^◌, ℤ, pos, ◌≤ℤ◌, ◌<ℤ◌, List, [], ◌∷◌, ◌++◌, length, Option, Some, refl, sym, ap, ◌∙◌, le_trans, arith, Vec, Global, All, slice_get, filter_map, range_with_len, filter_map-append, length-map-range_with_len, get_or-map-range_with_len, slice_get-get_or, slice_get_within, piece_end_of, IsPieceAt, ArePieces, piece_begin_of, ends_of}
 use Rattle.finder.proofs.List.{one_more}
-use Rattle.finder.proofs.SpanPieces.{each_is_piece}
+use Rattle.finder.proofs.SpanPieces.{each_is_piece, one_piece}
 
 -- the best samples of a server in each piece
 abbrev Table : Type 0
 Table = Vec (ℕ × ℕ) Global
 
 module _ (first last : ℤ) (step n : ℕ) where
-  pub end_at : (k : ℕ) → k < n → slice_get (ends_of first last step n) k ≡ Some (piece_end_of first last step k)
+  end_at : (k : ℕ) → k < n → slice_get (ends_of first last step n) k ≡ Some (piece_end_of first last step k)
   end_at k below =
       let f = piece_end_of first last step in
       let count = length-map-range_with_len f 0 n in
       slice_get-get_or (ends_of first last step n) k first (omega (arith, count))
       ∙ ap Some (get_or-map-range_with_len f 0 n k k first below (omega arith))
 
-  pub begin_at : (k : ℕ) → k < n
+  begin_at : (k : ℕ) → k < n
       → slice_get (first ∷ ends_of first last step n) k ≡ Some (piece_begin_of first last step k)
   begin_at zero below = refl
   begin_at (suc k) below = end_at k (omega arith)
@@ -30,49 +30,14 @@ module _ (first last : ℤ) (step n : ℕ) where
       let count = length-map-range_with_len (piece_end_of first last step) 0 n in
       let within = slice_get_within (ends_of first last step n) k q is.ends_at in
       let below : k < n = omega (arith, count) in
-      let begin : piece_begin_of first last step k ≡ p =
-      (let both : Some (piece_begin_of first last step k) ≡ Some p = sym (begin_at k below) ∙ is.begins in cc) in
-      let end : piece_end_of first last step k ≡ q =
-      (let both : Some (piece_end_of first last step k) ≡ Some q = sym (end_at k below) ∙ is.ends_at in cc) in
-      subst (λ (x : ℤ). IsPiece x q) begin
-      (subst (λ (x : ℤ). IsPiece (piece_begin_of first last step k) x) end
-      (each_is_piece first last in_order step from_zero in_range k))
+      one_piece _ _ p q (each_is_piece first last in_order step from_zero in_range k)
+      (sym (begin_at k below) ∙ is.begins) (sym (end_at k below) ∙ is.ends_at)
 
 -- one more table, which gives what h gives of its server
 pub table_more : {X Y : Type 0} (g : X → Option Y) (h : ℕ → Option Y) (n : ℕ) (old : List X) (x : X)
     → filter_map g old ≡ filter_map h (range_with_len 0 n) → g x ≡ h n
     → filter_map g (old ++ x ∷ []) ≡ filter_map h (range_with_len 0 (n + 1))
-table_more g h n old x so_far same =
-    filter_map-append g old (x ∷ []) ∙ ap (λ ys. ys ++ cons_option (g x) []) so_far
-    ∙ ap (λ o. filter_map h (range_with_len 0 n) ++ cons_option o []) same ∙ sym (one_more h n)
-
--- the same of ends that were passed on, and of a begin
-module _ (first last : ℤ) (step n : ℕ) (f g l : ℤ) (ends list : List ℤ) (kept_first : f ≡ first) (kept_last : l ≡ last)
-    (again : g ≡ first) (passed : list ≡ ends) (are_ends : ends ≡ ends_of f l step n) where
-  ends_are : list ≡ ends_of first last step n
-  ends_are = passed ∙ rw (kept_first, kept_last) at are_ends
-
-  pub are_pieces_of : pos 0 ≤ℤ first → first ≤ℤ last → last <ℤ pos (2 ^ 64) → ArePieces g list
-  are_pieces_of from_zero in_order in_range =
-      subst (λ (x : ℤ). ArePieces x list) (sym again)
-      (subst (ArePieces first) (sym ends_are) (are_pieces first last step n from_zero in_order in_range))
-
-  pub piece_of : (k : ℕ) → k < n
-      → IsPieceAt g list k (piece_begin_of first last step k) (piece_end_of first last step k)
-  piece_of k below =
-      subst (λ (x : ℤ). IsPieceAt x list k (piece_begin_of first last step k) (piece_end_of first last step k))
-      (sym again)
-      (subst
-      (λ (es : List ℤ). IsPieceAt first es k (piece_begin_of first last step k) (piece_end_of first last step k))
-      (sym ends_are) (piece_at first last step n k below))
-
-  as_many : length list ≡ n
-  as_many =
-      ap (λ (es : List ℤ). length es) ends_are ∙ length-map-range_with_len (piece_end_of first last step) 0 n
-
-  pub as_many_long : (tables : List Table) → All (λ table. length table.items ≡ length list) tables
-      → All (λ table. length table.items ≡ n) tables
-  as_many_long tables long = λ i d within. long i d within ∙ as_many
+table_more g h n old x so_far same = grind (arith, filter_map-append g old (x ∷ []), one_more h n)
 
 -- ---- the tables as they are passed on
 

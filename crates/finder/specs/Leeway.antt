@@ -19,6 +19,7 @@ use Rattle.feasibility.specs.Groups.{holds}
 use Rattle.feasibility.specs.LeastCovers.{AreLeastCovers}
 use Rattle.feasibility.specs.Members.{LieWithin}
 use Rattle.feasibility.specs.declared.groups.Groups.{Groups}
+use Rattle.intersection.specs.declared.kinds.Interval.{Interval}
 use Rattle.error_marks.specs.Mark.{low_mark, high_mark, AreCompatible}
 use Rattle.error_marks.specs.declared.mark.Mark.{Mark}
 use Rattle.pairing.specs.declared.exchange.Exchange.{Exchange}
@@ -33,6 +34,11 @@ use Rattle.finder.specs.declared.side.Side.TheVariants.{Above, Below}
 abbrev pub turned : Side → ℤ → ℤ
 turned Above ticks = ticks
 turned Below ticks = neg_ℤ ticks
+
+-- where the errors of an interval begin, on a side of zero
+abbrev pub least_on : Side → Interval → ℤ
+least_on Above room = room.lo
+least_on Below room = neg_ℤ room.hi
 
 -- an error at a reading, as a mark
 abbrev pub mark_at : ℤ → ℤ → Mark

@@ -3,7 +3,7 @@
 -- An exchange leaves room for the errors between two ends, or for none. So each server does, over
 -- all its exchanges: the errors that all of them leave room for. A server without an exchange
 -- leaves room for every error.
-use Rattle.std.specs.Prelude.{◌≡◌, ◌<◌, ◌≤◌, ◌^◌, ℕ, ℤ, pos, neg_ℤ, ◌==◌, unsigned_abs, nat_le}
+use Rattle.std.specs.Prelude.{◌≡◌, ◌<◌, ◌≤◌, ◌^◌, ℕ, ℤ, pos, ◌==◌, unsigned_abs, nat_le}
 use Rattle.std.specs.Prelude.{Bool, ◌&&◌, not, List}
 use Rattle.std.specs.List.{list_any, slice_index_or}
 use Rattle.claim_file.specs.Claim.{ClaimData}
@@ -37,13 +37,6 @@ room_at rooms server = slice_index_or rooms server (record { lo = pos 0; hi = po
 abbrev pub AreRooms : ℤ → List Exchange → List Interval → Type 0
 AreRooms allowance xs rooms =
     (server : ℕ) → server < 32 → IsRoom allowance xs server (room_at rooms server)
-
--- these are the intervals of the negatives
-pub record AreMirrored (rooms mirrored : List Interval) : Type 0 where
-  pub low : (server : ℕ) → server < 32 →
-      (room_at mirrored server).lo ≡ neg_ℤ (room_at rooms server).hi
-  pub high : (server : ℕ) → server < 32 →
-      (room_at mirrored server).hi ≡ neg_ℤ (room_at rooms server).lo
 
 -- a server leaves no room for an error, by its interval
 abbrev pub refused_by : List Interval → ℤ → ℕ → Bool

@@ -1,22 +1,23 @@
 //! The longest piece from a reading.
 
-ghost use Rattle.std.specs.Prelude.{◌≡◌, ◌≤◌, pos, ◌+ℤ◌, ◌≤ℤ◌, true, List, length, IfOk};
+ghost use Rattle.std.specs.Prelude.{◌≡◌, ◌<◌, ◌≤◌, pos, ◌+ℤ◌, ◌≤ℤ◌, true, List, length, All, IfOk};
 ghost use Rattle.std.specs.Prelude.{IsTrue, MatchResult};
 ghost use Rattle.std.specs.Int.{int_min};
 ghost use Rattle.claim_file.specs.Claim.{data_of};
 ghost use Rattle.pairing.specs.Exchange.{most_exchanges};
 ghost use Rattle.sample_interval.specs.declared.kinds.Sample.{Sample};
-ghost use Rattle.finder.specs.Entry.{best_hull};
+ghost use Rattle.finder.specs.Entry.{best_entries, best_hull, parts_named};
 ghost use Rattle.finder.specs.Fewest.{FailsAt, IsLongest, shows, stretch_over};
-ghost use Rattle.finder.specs.Reach.{AreTablesFor, IsTabled};
+ghost use Rattle.finder.specs.Reach.{AreTablesFor, IsTabled, OfTables};
 ghost use Rattle.checker.specs.Samples.{AreSamplesOf};
 
 use crate::likely::likely_length;
 use crate::trial::trial;
+use arrayvec::ArrayVec;
 use claim_file::Claim;
 use intersection::kinds::Hull;
 use sample_interval::SampleSource;
-use span_cover::{is_inside, piece_hull};
+use span_cover::{Part, is_inside, piece_hull};
 use std::alloc::{AllocError, Global};
 use sweep::{BestTable, Places, parts_near, tables_of};
 
@@ -36,8 +37,28 @@ pub(crate) fn tables_for<S: SampleSource>(
     Ok(tables)
 }
 
-/// The hull of the best entries of a stretch, by the tables of the servers. The places are hints:
-/// what lies near the last stretch that was asked for with them is found in the fewer steps.
+/// What the best entries of a stretch say, by the tables of the servers. The places are hints: what
+/// lies near the last stretch that was asked for with them is found in the fewer steps.
+#[inline(always)]
+pub(crate) fn parts_over(
+    tables: &[BestTable],
+    places: &mut Places,
+    claim: &Claim,
+    begin: u64,
+    end: u64,
+) -> ArrayVec<Part, 32>
+    requires tables { IsTabled (data_of claim.now) tables.now }
+    requires in_order { begin ≤ end }
+    ensures exact { OfTables (data_of claim.now) tables.now (λ samples. result.items ≡
+        parts_named samples (data_of claim.now) (stretch_over (pos begin) (pos end))
+        (best_entries samples (data_of claim.now) (stretch_over (pos begin) (pos end)))) }
+    ensures listed { All (λ part. part.server < length claim.now.groups.items) result.items }
+{
+    let (begin, end) = (i128::from(begin), i128::from(end));
+    parts_near(tables, places, begin, end, claim.drift_ppb)
+}
+
+/// The hull of the best entries of a stretch.
 pub(crate) fn hull_over(
     tables: &[BestTable],
     places: &mut Places,
@@ -50,13 +71,7 @@ pub(crate) fn hull_over(
     ensures { (samples : List Sample) → AreTablesFor samples (data_of claim.now) tables.now →
         result ≡ best_hull samples (data_of claim.now) (stretch_over (pos begin) (pos end)) }
 {
-    let parts = parts_near(
-        tables,
-        places,
-        i128::from(begin),
-        i128::from(end),
-        claim.drift_ppb,
-    );
+    let parts = parts_over(tables, places, claim, begin, end);
     piece_hull(parts.as_slice(), claim.groups.as_slice(), claim.false_max)
 }
 

@@ -5,11 +5,13 @@ ghost use Rattle.pairing.specs.declared.exchange.Exchange.{Exchange};
 ghost use Rattle.certificate.specs.Refutation.{data_of as refutation_data};
 ghost use Rattle.claim_file.specs.Claim.{data_of as claim_data};
 ghost use Rattle.pairing.specs.Exchange.{IsLawful as IsLawfulExchange};
+ghost use Rattle.finder.specs.Leeway.{least_on, turned};
 ghost use Rattle.finder.specs.Room.{AreRooms, possible_by, room_at};
 ghost use Rattle.finder.specs.NearestRefutation.{IsErrorOf64Bits, IsNearest, IsNearestRefutation, NoneIsRefuted};
 ghost use Rattle.finder.specs.NearestRefutation.{nearest_error, nearest_refutation};
 
-use crate::room::{is_possible, mirrored, refusing, rooms_of};
+use crate::room::{is_possible, refusing, rooms_of};
+use crate::side::Side;
 use certificate::Refutation;
 use claim_file::Claim;
 use intersection::kinds::Interval;
@@ -57,39 +59,55 @@ fn nearest_error(rooms: &[Interval; 32], claim: &Claim) -> Option<i128>
         result ≡ nearest_error (claim_data claim.now) xs }
     ensures in_range { IfSome result IsErrorOf64Bits }
 {
-    if let Some(error) = nearest(rooms, claim, GREATEST_ERROR) {
+    if let Some(error) = nearest(rooms, claim, Side::Above, GREATEST_ERROR) {
         return Some(error);
     }
-    match nearest(&mirrored(rooms), claim, LEAST_ERROR_BELOW) {
+    match nearest(rooms, claim, Side::Below, LEAST_ERROR_BELOW) {
         Some(error) => Some(-error),
         None => None,
     }
 }
 
-/// The first error above the claim's bound, of those up to a limit, that at most `false_max` groups
-/// refuse.
+/// How far from zero the first error on this side is, of those beyond the claim's bound and up to a
+/// limit, that at most `false_max` groups refuse.
 ///
-/// If an error has this property, then so has the greatest low end that isn't above it, or the
-/// first error of all: each server that refuses this one refuses the other too. So these alone are
-/// looked at.
-fn nearest(rooms: &[Interval; 32], claim: &Claim, limit: i128) -> Option<i128>
+/// If an error has this property, then so has the one before it, unless some server's room begins
+/// at the error: each server that refuses the one before refuses the error too. So only the first
+/// error of all is looked at, and where the rooms begin.
+fn nearest(rooms: &[Interval; 32], claim: &Claim, side: Side, limit: i128) -> Option<i128>
     requires low { (server : ℕ) → server < 32 →
         unsigned_abs (room_at rooms.now server).lo ≤ 2 ^ 80 }
+    requires high { (server : ℕ) → server < 32 →
+        unsigned_abs (room_at rooms.now server).hi ≤ 2 ^ 80 }
     requires beyond { claim.now.bound <ℤ limit }
     requires in_range { limit ≤ℤ pos (2 ^ 63) }
-    ensures { IsNearest (possible_by rooms.now (claim_data claim.now))
+    ensures { IsNearest
+        (λ error. possible_by rooms.now (claim_data claim.now) (turned side error))
         claim.now.bound limit result }
 {
     let next = claim.bound + 1;
-    if is_possible(rooms, claim, next) {
+    if is_possible(rooms, claim, side.turned(next)) {
         return Some(next);
     }
     let mut first = limit + 1;
     for server in 0..32 {
-        let error = rooms[server].lo;
-        if claim.bound < error && error < first && is_possible(rooms, claim, error) {
+        let error = least_on(side, rooms[server]);
+        if claim.bound < error && error < first && is_possible(rooms, claim, side.turned(error)) {
             first = error;
         }
     }
     if first <= limit { Some(first) } else { None }
+}
+
+/// Where a room begins, on a side of zero.
+fn least_on(side: Side, room: Interval) -> i128
+    requires low { unsigned_abs room.lo ≤ 2 ^ 80 }
+    requires high { unsigned_abs room.hi ≤ 2 ^ 80 }
+    ensures exact { result ≡ least_on side room }
+    ensures size { unsigned_abs result ≤ 2 ^ 80 }
+{
+    match side {
+        Side::Above => room.lo,
+        Side::Below => -room.hi,
+    }
 }

@@ -20,7 +20,7 @@ ghost use Rattle.sample_interval.specs.Widening.{IsRate};
 use crate::carried::MOST_BOUND_NS;
 use crate::least::{nanoseconds_of, reach_of};
 use crate::leeway::group_of;
-use crate::longest::tick_after;
+use crate::longest::{parts_over, tick_after};
 use arrayvec::ArrayVec;
 use claim_file::Claim;
 use feasibility::Groups;
@@ -28,7 +28,7 @@ use intersection::kinds::Hull;
 use sample_interval::PARTS;
 use span_cover::{Part, piece_hull};
 use std::alloc::{AllocError, Global};
-use sweep::{BestTable, Places, parts_near};
+use sweep::{BestTable, Places};
 
 /// What a tick needs, or the span's last moment.
 #[derive(Clone, Copy)]
@@ -333,13 +333,7 @@ fn hull_without(
         spec.hull_without samples (claim_data claim.now) (holds cover)
         (stretch_over (pos begin) (pos end))) }
 {
-    let all = parts_near(
-        tables,
-        places,
-        i128::from(begin),
-        i128::from(end),
-        claim.drift_ppb,
-    );
+    let all = parts_over(tables, places, claim, begin, end);
     let parts = parts_without(all.as_slice(), claim, cover);
     let false_max = claim.false_max.saturating_sub(cover.count(32));
     piece_hull(parts.as_slice(), claim.groups.as_slice(), false_max)

@@ -1,17 +1,18 @@
 //! The errors for which exchanges leave room.
 
-ghost use Rattle.std.specs.Prelude.{◌≡◌, ◌^◌, ◌<◌, ◌≤◌, ◌≤ℤ◌, ◌+ℤ◌, ◌-ℤ◌, ℤ, ℕ, pos, not, unsigned_abs, filter, map, All};
+ghost use Rattle.std.specs.Prelude.{◌≡◌, ◌^◌, ◌<◌, ◌≤◌, ◌≤ℤ◌, ℤ, ℕ, pos, not, unsigned_abs, filter, map, All};
 ghost use Rattle.claim_file.specs.Claim.{data_of as claim_data};
 ghost use Rattle.intersection.specs.Interval.{leaves_out};
 ghost use Rattle.pairing.specs.Exchange.{IsLawful as IsLawfulExchange};
 ghost use Rattle.sample_interval.specs.Exchange.{IsOfSomeClaim};
 ghost use Rattle.span_cover.specs.Group.{numbers_below};
 ghost use Rattle.checker.specs.RefutationTest.{admits};
-ghost use Rattle.finder.specs.Room.{AreMirrored, AreRooms, IsNear, possible_by, refused_by, room_at};
+ghost use Rattle.finder.specs.Room.{AreRooms, IsNear, possible_by, refused_by, room_at};
 
 use arrayvec::ArrayVec;
 use checker::false_group_count;
 use claim_file::Claim;
+use error_marks::{high_mark, low_mark};
 use intersection::kinds::Interval;
 use intersection::meet;
 use pairing::{Exchange, ToExchange};
@@ -43,7 +44,6 @@ pub(crate) fn rooms_of<X: ToExchange>(exchanges: &[X], allowance: i128) -> [Inte
 
 /// The errors for which an exchange leaves room.
 #[inline(always)]
-#[tactic(auto, using(std::proofs::lemmas::Int::ints, std::proofs::lemmas::Int::clamps))]
 fn room_of(exchange: &Exchange, allowance: i128) -> Interval
     requires exchange { IsOfSomeClaim exchange.now }
     requires from_zero { pos 0 ≤ℤ allowance }
@@ -53,57 +53,13 @@ fn room_of(exchange: &Exchange, allowance: i128) -> Interval
     ensures low { unsigned_abs result.lo ≤ 2 ^ 80 }
     ensures high { unsigned_abs result.hi ≤ 2 ^ 80 }
 {
-    let request = difference(exchange.t1_low, allowance);
-    let reply = sum(exchange.t4_high, allowance);
-    let earliest_receipt = difference(exchange.t2, exchange.distance);
-    let latest_answer = sum(exchange.t3, exchange.distance);
-    if reply < request || latest_answer < earliest_receipt {
+    if !error_marks::is_possible(exchange, allowance) {
         return NO_ERROR;
     }
-    let earlier = exchange.t2.min(exchange.t3);
-    let later = exchange.t2.max(exchange.t3);
     Interval {
-        lo: difference(request, sum(earlier, exchange.distance)),
-        hi: difference(reply, difference(later, exchange.distance)),
+        lo: low_mark(exchange, allowance).error,
+        hi: high_mark(exchange, allowance).error,
     }
-}
-
-/// The sum of two numbers of ticks.
-fn sum(a: i128, b: i128) -> i128
-    requires a { unsigned_abs a ≤ 2 ^ 72 }
-    requires b { unsigned_abs b ≤ 2 ^ 72 }
-    ensures value { result ≡ a +ℤ b }
-    ensures in_range { unsigned_abs result ≤ 2 ^ 73 }
-{
-    a + b
-}
-
-/// The difference of two numbers of ticks.
-fn difference(a: i128, b: i128) -> i128
-    requires a { unsigned_abs a ≤ 2 ^ 73 }
-    requires b { unsigned_abs b ≤ 2 ^ 73 }
-    ensures value { result ≡ a -ℤ b }
-    ensures in_range { unsigned_abs result ≤ 2 ^ 74 }
-{
-    a - b
-}
-
-/// The negatives of the errors.
-pub(crate) fn mirrored(rooms: &[Interval; 32]) -> [Interval; 32]
-    requires low { (server : ℕ) → server < 32 →
-        unsigned_abs (room_at rooms.now server).lo ≤ 2 ^ 80 }
-    requires high { (server : ℕ) → server < 32 →
-        unsigned_abs (room_at rooms.now server).hi ≤ 2 ^ 80 }
-    ensures { AreMirrored rooms.now result }
-{
-    let mut mirrored = [EVERY_ERROR; 32];
-    for server in 0..32 {
-        mirrored[server] = Interval {
-            lo: -rooms[server].hi,
-            hi: -rooms[server].lo,
-        };
-    }
-    mirrored
 }
 
 /// Whether a server leaves no room for an error.

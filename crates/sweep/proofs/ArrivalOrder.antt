@@ -1,7 +1,7 @@
 -- The arrivals of extremes, in order.
-use Rattle.sweep.proofs.Common.{◌≡◌, ℕ, ◌+◌, ◌-◌, ◌*◌, ◌<◌, ◌≤◌, ◌^◌, Bool, true, false, List, [], ◌∷◌, ◌++◌, length, Some, refl, arith, subst, get_or, ⊎_elim, sym, ◌∙◌, ap, slice_get, Contains, length-append, length-map, Contains-permutation, IsPermutation-sym, slice_get-get_or, slice_get_within, get_or_from_slice_get, mul-le-mul_right, IsRate, billion, IsLawfulExtreme, mirrored_extreme, seen, seen_one, IsArrivalOf, IsArrivalAt, AreArrivalsOf, IsQueueOf, index_at, Extreme, Arrival, slice_get-below}
+use Rattle.sweep.proofs.Common.{◌≡◌, ℕ, ◌+◌, ◌-◌, ◌*◌, ◌<◌, ◌≤◌, ◌^◌, Bool, true, false, List, [], ◌∷◌, ◌++◌, length, Some, refl, arith, subst, get_or, sym, ◌∙◌, ap, slice_get, Contains, length-append, length-map, Contains-permutation, IsPermutation-sym, slice_get-get_or, slice_get_within, get_or_from_slice_get, mul-le-mul_right, IsRate, billion, IsLawfulExtreme, mirrored_extreme, seen, seen_one, IsArrivalOf, IsArrivalAt, AreArrivalsOf, IsQueueOf, index_at, Extreme, Arrival, slice_get-below}
 use Rattle.std.specs.List.Sorted.{IsPermutation, IsNonDecreasingBy}
-use Rattle.sweep.proofs.List.{pushed_cases, map_at}
+use Rattle.sweep.proofs.List.{each_pushed, map_at}
 
 -- each extreme has its turn
 index_at_within : (backwards : Bool) (count turn : ℕ) → turn < count → index_at backwards count turn < count
@@ -71,14 +71,8 @@ pub ArrivalsSoFar-more : (ppb : ℕ) (backwards : Bool) (extremes : List Extreme
     ArrivalsSoFar ppb backwards extremes (n + 1) (arrivals ++ a ∷ [])
 ArrivalsSoFar-more ppb backwards extremes n arrivals a so_far here = record {
   as_many = omega (arith, length-append arrivals (a ∷ []), so_far.as_many);
-  each = λ i x is. ⊎_elim
-      (λ old. so_far.each i x old)
-      (λ new.
-      let same : n ≡ i = sym (new.0 ∙ so_far.as_many) in
-      let at : ℕ → ℕ = index_at backwards (length extremes) in
-      subst (λ (y : Arrival). IsArrivalAt ppb extremes (at i) y) (sym new.1)
-      (subst (λ (k : ℕ). IsArrivalAt ppb extremes (at k) a) same here))
-      (pushed_cases arrivals a x i is);
+  each = each_pushed (λ i. IsArrivalAt ppb extremes (index_at backwards (length extremes) i)) arrivals a so_far.each
+      (rw so_far.as_many here);
 }
 
 -- as time runs forwards or backwards

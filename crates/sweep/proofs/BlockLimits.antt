@@ -1,5 +1,6 @@
 -- The limits of blocks, and the first block that reaches a height.
-use Rattle.sweep.proofs.Common.{◌≡◌, ℕ, ◌+◌, ◌*◌, ◌/◌, ◌<◌, ◌≤◌, max, List, length, Some, refl, set, get_or, arith, subst, sym, ◌∙◌, ap, ◌⊎◌, inl, inr, ⊎_elim, slice_get, cases_lt, cases_eq, length-set, length-set, get_or-set_same, get_or-set_other, same_Some, slice_get-get_or, get_or_from_slice_get, div-div-eq-div-mul, IsReached, IsFirstBlock, IsLimitOf, AreLimitsOf, AreUpto, Arrival}
+use Rattle.sweep.proofs.Common.{◌≡◌, ℕ, ◌+◌, ◌*◌, ◌/◌, ◌<◌, ◌≤◌, max, List, length, Some, refl, set, get_or, arith, subst, sym, ◌∙◌, ap, ◌⊎◌, inl, inr, ⊎_elim, slice_get, cases_lt, cases_eq, length-set, length-set, get_or-set_same, get_or-set_other, slice_get-get_or, get_or_from_slice_get, div-div-eq-div-mul, IsReached, IsFirstBlock, IsLimitOf, AreLimitsOf, AreUpto, Arrival}
+use Rattle.sweep.proofs.List.{below_next}
 
 -- ---- one arrival more
 
@@ -17,23 +18,17 @@ module _ (queue : List Arrival) (n width : ℕ) (limits : List ℕ) (are : AreLi
 
   grows : (b : ℕ) → get_or limits b 0 ≤ get_or (set limits block limit) b 0
   grows b = ⊎_elim
-      (λ same. subst (λ (k : ℕ). get_or limits k 0 ≤ get_or (set limits block limit) k 0) same
-      (omega (arith, is, get_or-set_same limits block limit 0 within)))
+      (λ same. rw (← same) (omega (arith, is, get_or-set_same limits block limit 0 within)))
       (λ other. omega (arith, get_or-set_other limits block b limit 0 (λ same. other (sym same))))
       (cases_eq block b)
 
   above : (turn : ℕ) (x : Arrival) → turn < n + 1 → slice_get queue turn ≡ Some x →
       x.height < get_or (set limits block limit) (x.index / width) 0
-  above turn x before stands = ⊎_elim
-      (λ old. omega (arith, are.above turn x old stands, grows (x.index / width)))
-      (λ le.
-      let same : n ≡ turn = omega arith in
-      let one : a ≡ x = same_Some a x (sym here ∙ ap (slice_get queue) same ∙ stands) in
-      let high : a.height < get_or (set limits block limit) block 0 =
-      omega (arith, is, get_or-set_same limits block limit 0 within) in
-      subst (λ (y : Arrival). y.height < get_or (set limits block limit) (y.index / width) 0) one
-      (subst (λ (k : ℕ). a.height < get_or (set limits block limit) k 0) (sym in_block) high))
-      (cases_lt turn n)
+  above =
+      below_next (λ turn x. x.height < get_or (set limits block limit) (x.index / width) 0) queue n a here
+      (λ turn x old stands. omega (arith, are.above turn x old stands, grows (x.index / width)))
+      (subst (λ (k : ℕ). a.height < get_or (set limits block limit) k 0) (sym in_block)
+      (omega (arith, is, get_or-set_same limits block limit 0 within)))
 
   one_later : (b height : ℕ) → IsLimitOf queue n width b height → IsLimitOf queue (n + 1) width b height
   one_later b height old = record {
@@ -65,23 +60,15 @@ module _ (queue : List Arrival) (n width : ℕ) (limits : List ℕ) (are : AreLi
       }))
       (λ le.
       let same : get_or limits block 0 ≡ limit = omega (arith, is) in
-      subst (λ (x : ℕ). (x ≡ 0) ⊎ IsLimitOf queue (n + 1) width block x) same (kept block))
+      rw (← same) (kept block))
       (cases_lt (get_or limits block 0) (a.height + 1))
 
   of_one : (b : ℕ) → (get_or (set limits block limit) b 0 ≡ 0)
       ⊎ IsLimitOf queue (n + 1) width b (get_or (set limits block limit) b 0)
   unfolding Of
   of_one b = ⊎_elim
-      (λ same.
-      subst (λ (k : ℕ). (get_or (set limits block limit) k 0 ≡ 0)
-      ⊎ IsLimitOf queue (n + 1) width k (get_or (set limits block limit) k 0)) same
-      (subst (λ (x : ℕ). (x ≡ 0) ⊎ IsLimitOf queue (n + 1) width block x)
-      (sym (get_or-set_same limits block limit 0 within))
-      raised))
-      (λ other.
-      subst (λ (x : ℕ). (x ≡ 0) ⊎ IsLimitOf queue (n + 1) width b x)
-      (sym (get_or-set_other limits block b limit 0 (λ same. other (sym same))))
-      (kept b))
+      (λ same. rw (← same, get_or-set_same limits block limit 0 within) raised)
+      (λ other. rw (get_or-set_other limits block b limit 0 (λ same. other (sym same))) (kept b))
       (cases_eq block b)
 
   pub AreLimitsOf-more : AreLimitsOf queue (n + 1) width (set limits block limit)

@@ -1,7 +1,7 @@
 -- The extremes of a server's samples.
-use Rattle.sweep.proofs.Common.{◌≡◌, ℕ, ◌+◌, ◌<◌, ◌≤◌, ◌^◌, ℤ, List, [], ◌∷◌, ◌++◌, length, map, take, Some, arith, subst, get_or, ⊎_elim, sym, ◌∙◌, ap, neg_ℤ, unsigned_abs, ◌≢◌, ◌≤ℤ◌, slice_get, All, cases_lt, ints, length-append, length-map, get_or-map, map_more, slice_get-get_or, slice_get_within, same_Some, get_or_from_slice_get, Sample, HasNoSample, IsEndAt, IsExtremeOf, IsOfServer, IsLawfulExtreme, AreExtremesOf, Extreme, Side, Low, High}
+use Rattle.sweep.proofs.Common.{◌≡◌, ℕ, ◌+◌, ◌<◌, ◌≤◌, ◌^◌, ℤ, List, [], ◌∷◌, ◌++◌, length, map, take, Some, arith, subst, get_or, ⊎_elim, sym, ◌∙◌, ap, neg_ℤ, unsigned_abs, ◌≢◌, ◌≤ℤ◌, slice_get, All, cases_lt, ints, length-append, length-map, get_or-map, map_more, slice_get-get_or, slice_get_within, get_or_from_slice_get, Sample, HasNoSample, IsEndAt, IsExtremeOf, IsOfServer, IsLawfulExtreme, AreExtremesOf, Extreme, Side, Low, High}
 use Rattle.sample_interval.specs.Sample.{IsLawfulSample}
-use Rattle.sweep.proofs.List.{pushed_cases, slice_get-front, slice_get-last}
+use Rattle.sweep.proofs.List.{below_next, each_pushed, slice_get-front, slice_get-last}
 
 lawful_end : (value start stop : ℤ) (extreme : Extreme) → unsigned_abs value ≤ 2 ^ 72 → unsigned_abs start ≤ 2 ^ 72 →
     start ≤ℤ stop → unsigned_abs stop ≤ 2 ^ 72 → IsEndAt value start stop extreme → IsLawfulExtreme extreme
@@ -41,11 +41,8 @@ pub servers_more : (samples : List Sample) (n : ℕ) (sample : Sample) → slice
     sample.server ∷ [] →
     pushed ≡ map (λ s. s.server) (take (n + 1) samples)
 servers_more samples n sample is servers pushed so_far more =
-    let within = slice_get_within samples n sample is in
     let here : get_or samples n sample ≡ sample = get_or_from_slice_get samples n sample sample is in
-    more ∙ ap (λ (xs : List ℕ). xs ++ sample.server ∷ []) so_far
-    ∙ sym (map_more (λ (s : Sample). s.server) samples n sample within
-    ∙ ap (λ (s : Sample). map (λ (s : Sample). s.server) (take n samples) ++ s.server ∷ []) here)
+    grind (arith, map_more (λ (s : Sample). s.server) samples n sample (slice_get_within samples n sample is))
 
 -- the extremes of the samples below number n
 pub record ExtremesSoFar (side : Side) (samples : List Sample) (server n : ℕ) (extremes : List Extreme) : Type 0 where
@@ -80,19 +77,11 @@ module _ (side : Side) (samples : List Sample) (server n : ℕ) (extremes : List
     each = λ index extreme is.
         let known = so_far.each index extreme is in
         (known.0, omega arith);
-    all = all;
+    all = below_next (λ number s. s.server ≡ server → (index : ℕ) × (extreme : Extreme)
+        × (slice_get extremes index ≡ Some extreme) × (extreme.number ≡ number)) samples n sample here so_far.all
+        (λ of. absurd (other of));
     rising = so_far.rising;
   }
-    where
-      all : (number : ℕ) (s : Sample) → number < n + 1 → slice_get samples number ≡ Some s → s.server ≡ server →
-          (index : ℕ) × (extreme : Extreme) × (slice_get extremes index ≡ Some extreme) × (extreme.number ≡ number)
-      all number s less is of = ⊎_elim
-          (λ below. so_far.all number s below is of)
-          (λ le.
-          let same : number ≡ n = omega arith in
-          let one : s ≡ sample = same_Some s sample (sym is ∙ ap (slice_get samples) same ∙ here) in
-          absurd (other (subst (λ (t : Sample). t.server ≡ server) one of)))
-          (cases_lt number n)
 
   -- a sample of this one
   pub ExtremesSoFar-more : (sample : Sample) (extreme : Extreme) → slice_get samples n ≡ Some sample →
@@ -117,44 +106,35 @@ module _ (side : Side) (samples : List Sample) (server n : ℕ) (extremes : List
 
       each : (index : ℕ) (b : Extreme) → slice_get (extremes ++ extreme ∷ []) index ≡ Some b →
           IsOfServer side samples server b × (b.number < n + 1)
-      each index b at = ⊎_elim
-          (λ old. let known = so_far.each index b old in (known.0, omega arith))
-          (λ new. subst (λ (x : Extreme). IsOfServer side samples server x × (x.number < n + 1)) (sym new.1)
-          (own, omega (arith, number)))
-          (pushed_cases extremes extreme b index at)
+      each = each_pushed (λ index b. IsOfServer side samples server b × (b.number < n + 1)) extremes extreme
+          (λ index b old. let known = so_far.each index b old in (known.0, omega arith)) (own, omega (arith, number))
 
       all : (k : ℕ) (t : Sample) → k < n + 1 → slice_get samples k ≡ Some t → t.server ≡ server →
           (index : ℕ) × (b : Extreme) × (slice_get (extremes ++ extreme ∷ []) index ≡ Some b) × (b.number ≡ k)
-      all k t less at of = ⊎_elim
-          (λ below.
+      all = below_next (λ k t. t.server ≡ server → (index : ℕ) × (b : Extreme)
+          × (slice_get (extremes ++ extreme ∷ []) index ≡ Some b) × (b.number ≡ k)) samples n sample here
+          (λ k t below at of.
           let old = so_far.all k t below at of in
           let within = slice_get_within extremes old.0 old.1 old.2 in
           (old.0, old.1, slice_get-front extremes extreme old.0 within ∙ old.2, old.3))
-          (λ le. (length extremes, extreme, slice_get-last extremes extreme, omega (arith, number)))
-          (cases_lt k n)
+          (λ of. (length extremes, extreme, slice_get-last extremes extreme, number))
 
       rising : (i j : ℕ) (a b : Extreme) → i < j → slice_get (extremes ++ extreme ∷ []) i ≡ Some a →
           slice_get (extremes ++ extreme ∷ []) j ≡ Some b → a.number < b.number
-      rising i j a b less at_i at_j = ⊎_elim
-          (λ old_i. ⊎_elim
-          (λ old_j. so_far.rising i j a b less old_i old_j)
-          (λ new_j.
-          let below = (so_far.each i a old_i).1 in
-          subst (λ (x : Extreme). a.number < x.number) (sym new_j.1) (omega (arith, number)))
-          (pushed_cases extremes extreme b j at_j))
-          (λ new_i.
-          let within = slice_get_within (extremes ++ extreme ∷ []) j b at_j in
-          absurd (omega (arith, new_i.0, length-append extremes (extreme ∷ []))))
-          (pushed_cases extremes extreme a i at_i)
+      rising i j a b less at_i at_j =
+          let front : i < length extremes → slice_get extremes i ≡ Some a =
+          λ below. sym (slice_get-front extremes extreme i below) ∙ at_i in
+          each_pushed (λ j b. i < j → a.number < b.number) extremes extreme
+          (λ j b is less.
+          let within = slice_get_within extremes j b is in
+          so_far.rising i j a b less (front (omega arith)) is)
+          (λ less. omega (arith, number, (so_far.each i a (front less)).1)) j b at_j less
 
 -- ---- of all of them
 module _ (side : Side) (samples : List Sample) (server : ℕ) (extremes : List Extreme)
     (are : AreExtremesOf side samples server extremes) where
   pub lawful_extremes : All IsLawfulExtreme extremes
   lawful_extremes k d within = (are.each k (get_or extremes k d) (slice_get-get_or extremes k d within)).lawful
-
-  pub lawful_lent : (lent : List Extreme) → lent ≡ extremes → All IsLawfulExtreme lent
-  lawful_lent lent same = rw same lawful_extremes
 
   pub some_sample : 0 < length extremes → ¬ HasNoSample samples server
   some_sample some none =

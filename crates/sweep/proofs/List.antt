@@ -1,5 +1,5 @@
 -- Reads of a list that has one element more.
-use Rattle.sweep.proofs.Common.{◌≡◌, ℕ, zero, suc, ◌+◌, ◌<◌, ◌≤◌, List, [], ◌∷◌, ◌++◌, length, Some, refl, arith, sym, ap, ◌⊎◌, inl, inr, ⊎_elim, ◌∙◌, map, reverse, get_or, ◌-◌, subst, option_map, get_or-reverse, length-reverse, same_Some, slice_get-get_or, slice_get_within, slice_get-map, get_or_from_slice_get, slice_get, length-append, AreOver, UnsignedStretch}
+use Rattle.sweep.proofs.Common.{◌≡◌, ℕ, zero, suc, ◌+◌, ◌<◌, ◌≤◌, List, [], ◌∷◌, ◌++◌, length, Some, refl, arith, sym, ap, ⊎_elim, ◌∙◌, cases_lt, map, reverse, get_or, ◌-◌, subst, option_map, get_or-reverse, length-reverse, same_Some, slice_get-get_or, slice_get_within, slice_get-map, get_or_from_slice_get, slice_get, length-append, AreOver, UnsignedStretch}
 
 pub slice_get-front : {X : Type 0} (xs : List X) (x : X) (k : ℕ) → k < length xs →
     slice_get (xs ++ x ∷ []) k ≡ slice_get xs k
@@ -11,32 +11,38 @@ pub slice_get-last : {X : Type 0} (xs : List X) (x : X) → slice_get (xs ++ x �
 slice_get-last [] x = refl
 slice_get-last (y ∷ xs) x = slice_get-last xs x
 
--- an element of a list that has one more is an old one or the new one
-pub pushed_cases : {X : Type 0} (xs : List X) (x y : X) (k : ℕ) → slice_get (xs ++ x ∷ []) k ≡ Some y →
-    (slice_get xs k ≡ Some y) ⊎ ((k ≡ length xs) × (y ≡ x))
-pushed_cases [] x y zero is = inr (refl, sym (same_Some x y is))
-pushed_cases [] x y (suc k) is = absurd cc
-pushed_cases (z ∷ xs) x y zero is = inl is
-pushed_cases (z ∷ xs) x y (suc k) is = ⊎_elim
-    (λ old. inl old)
-    (λ new. inr (ap suc new.0, new.1))
-    (pushed_cases xs x y k is)
+-- what holds of each element, and of the new one, holds of each of a list that has one more
+pub each_pushed : {X : Type 0} (P : ℕ → X → Type 0) (xs : List X) (x : X) →
+    ((k : ℕ) (y : X) → slice_get xs k ≡ Some y → P k y) → P (length xs) x →
+    (k : ℕ) (y : X) → slice_get (xs ++ x ∷ []) k ≡ Some y → P k y
+each_pushed P [] x old new zero y is = subst (P zero) (same_Some x y is) new
+each_pushed P [] x old new (suc k) y is = absurd cc
+each_pushed P (z ∷ xs) x old new zero y is = old zero y is
+each_pushed P (z ∷ xs) x old new (suc k) y is =
+    each_pushed (λ j. P (suc j)) xs x (λ j. old (suc j)) new k y is
+
+-- what holds of each element below n, and of the one at n, holds of each below n + 1
+pub below_next : {X : Type 0} (P : ℕ → X → Type 0) (xs : List X) (n : ℕ) (x : X) → slice_get xs n ≡ Some x →
+    ((k : ℕ) (y : X) → k < n → slice_get xs k ≡ Some y → P k y) → P n x →
+    (k : ℕ) (y : X) → k < n + 1 → slice_get xs k ≡ Some y → P k y
+below_next P xs n x here old new k y less is = ⊎_elim
+    (λ below. old k y below is)
+    (λ le.
+    let same : n ≡ k = omega arith in
+    subst (λ j. P j y) same (subst (P n) (same_Some x y (sym here ∙ ap (slice_get xs) same ∙ is)) new))
+    (cases_lt k n)
 
 -- what holds of each element and each behind it
 pub rises_pushed : {X : Type 0} (R : X → X → Type 0) (xs : List X) (x : X) →
     ((i j : ℕ) (a b : X) → i ≤ j → slice_get xs i ≡ Some a → slice_get xs j ≡ Some b → R a b) →
     ((i : ℕ) (a : X) → slice_get xs i ≡ Some a → R a x) → R x x → (i j : ℕ) (a b : X) → i ≤ j →
     slice_get (xs ++ x ∷ []) i ≡ Some a → slice_get (xs ++ x ∷ []) j ≡ Some b → R a b
-rises_pushed R xs x rise under same i j a b le at_a at_b = ⊎_elim
-    (λ old_b. ⊎_elim
-    (λ old_a. rise i j a b le old_a old_b)
-    (λ new_a. let within = slice_get_within xs j b old_b in absurd (omega (arith, new_a.0)))
-    (pushed_cases xs x a i at_a))
-    (λ new_b. subst (R a) (sym new_b.1) (⊎_elim
-    (λ old_a. under i a old_a)
-    (λ new_a. subst (λ y. R y x) (sym new_a.1) same)
-    (pushed_cases xs x a i at_a)))
-    (pushed_cases xs x b j at_b)
+rises_pushed R xs x rise under same i j a b le at_a at_b =
+    each_pushed (λ j b. i ≤ j → R a b) xs x
+    (λ j b is le.
+    let within = slice_get_within xs j b is in
+    rise i j a b le (sym (slice_get-front xs x i (omega arith)) ∙ at_a) is)
+    (λ le. each_pushed (λ i a. R a x) xs x under same i a at_a) j b at_b le
 
 -- an element of a list whose elements were replaced, or that runs backwards
 pub map_at : {X Y : Type 0} (f : X → Y) (xs : List X) (k : ℕ) (x : X) → slice_get xs k ≡ Some x →
@@ -75,11 +81,9 @@ pub AreOver-more : {X : Type 0} (holds : UnsignedStretch → X → Type 0) (stre
     AreOver holds stretches (n + 1) (found ++ one ∷ [])
 AreOver-more holds stretches n found so_far stretch here one is = record {
   as_many = omega (arith, length-append found (one ∷ []), so_far.as_many);
-  each = λ k s x at there. ⊎_elim
-      (λ old. so_far.each k s x at old)
-      (λ new.
-      let same : n ≡ k = sym (new.0 ∙ so_far.as_many) in
-      let of : stretch ≡ s = same_Some stretch s (sym here ∙ ap (slice_get stretches) same ∙ at) in
-      subst (holds s) (sym new.1) (subst (λ (y : UnsignedStretch). holds y one) of is))
-      (pushed_cases found one x k there);
+  each = λ k s x at there. each_pushed (λ k x. slice_get stretches k ≡ Some s → holds s x) found one
+      (λ k x old at. so_far.each k s x at old)
+      (λ at. subst (λ y. holds y one)
+      (same_Some stretch s (sym here ∙ ap (slice_get stretches) (sym so_far.as_many) ∙ at)) is)
+      k x there at;
 }

@@ -1,61 +1,36 @@
 -- The maxima of extremes.
-use Rattle.sweep.proofs.Common.{◌≡◌, ℕ, ◌+◌, ◌-◌, ◌*◌, ◌/◌, ◌<◌, ◌≤◌, List, [], ◌∷◌, ◌++◌, length, Some, refl, arith, subst, sym, ◌∙◌, ap, ◌⊎◌, inl, inr, ⊎_elim, le_trans, slice_get, cases_lt, le-div, slice_get_within, same_Some, div-mul-le_self, mul-le-mul_right, IsRate, billion, IsMaximumOf, IsTopped, MaximaRise, AreMaximaOf, IsHeightUpto, IsEarlyLevel, IsQueueOf, IsEarlyAtLeast, height, Extreme, PrefixMaximum, Arrival, UnsignedStretch, slice_get-below}
-use Rattle.sweep.proofs.List.{pushed_cases, rises_pushed, slice_get-front, slice_get-last}
+use Rattle.sweep.proofs.Common.{◌≡◌, ℕ, ◌+◌, ◌-◌, ◌*◌, ◌/◌, ◌<◌, ◌≤◌, List, [], ◌∷◌, ◌++◌, length, Some, refl, arith, sym, ◌∙◌, ap, ◌⊎◌, inl, inr, ⊎_elim, le_trans, slice_get, cases_lt, le-div, slice_get_within, same_Some, div-mul-le_self, mul-le-mul_right, IsRate, billion, IsMaximumOf, IsTopped, MaximaRise, AreMaximaOf, IsHeightUpto, IsEarlyLevel, IsQueueOf, IsEarlyAtLeast, height, Extreme, PrefixMaximum, Arrival, UnsignedStretch, slice_get-below}
+use Rattle.sweep.proofs.List.{below_next, each_pushed, rises_pushed, slice_get-front, slice_get-last}
 
--- a maximum has the place and the height of one of the first n arrivals
-pub record IsFromArrival (queue : List Arrival) (n : ℕ) (maximum : PrefixMaximum) : Type 0 where
-  pub turn : ℕ
-  pub arrival : Arrival
-  pub before : turn < n
-  pub stands : slice_get queue turn ≡ Some arrival
-  pub place : maximum.place ≡ arrival.at
-  pub height : maximum.height ≡ arrival.height
-
--- the maxima of the first n arrivals
-pub record MaximaSoFar (queue : List Arrival) (n : ℕ) (maxima : List PrefixMaximum) : Type 0 where
-  pub each : (i : ℕ) (maximum : PrefixMaximum) → slice_get maxima i ≡ Some maximum → IsFromArrival queue n maximum
+-- the maxima of the first n arrivals of these extremes: none comes after an arrival that is still to come
+pub record MaximaSoFar (ppb : ℕ) (extremes : List Extreme) (queue : List Arrival) (n : ℕ) (maxima : List PrefixMaximum)
+    : Type 0 where
+  pub each : (i : ℕ) (maximum : PrefixMaximum) → slice_get maxima i ≡ Some maximum → IsMaximumOf ppb extremes maximum
+  pub before : (i : ℕ) (maximum : PrefixMaximum) → slice_get maxima i ≡ Some maximum →
+      (k : ℕ) (a : Arrival) → n ≤ k → slice_get queue k ≡ Some a → maximum.place ≤ a.at
   pub all : (k : ℕ) (a : Arrival) → k < n → slice_get queue k ≡ Some a → IsTopped maxima a.at a.height
   pub rise : MaximaRise maxima
 
-pub MaximaSoFar-none : (queue : List Arrival) → MaximaSoFar queue 0 []
-MaximaSoFar-none queue = grind arith
-
-one_later : (queue : List Arrival) (n : ℕ) (maximum : PrefixMaximum) → IsFromArrival queue n maximum →
-    IsFromArrival queue (n + 1) maximum
-one_later queue n maximum is = record {
-  turn = is.turn;
-  arrival = is.arrival;
-  before = omega arith;
-  stands = is.stands;
-  place = is.place;
-  height = is.height;
-}
+pub MaximaSoFar-none : (ppb : ℕ) (extremes : List Extreme) (queue : List Arrival) → MaximaSoFar ppb extremes queue 0 []
+MaximaSoFar-none ppb extremes queue = grind arith
 
 module _ (ppb : ℕ) (extremes : List Extreme) (queue : List Arrival) (are : IsQueueOf ppb extremes queue) where
-  module _ (n : ℕ) (maxima : List PrefixMaximum) (so_far : MaximaSoFar queue n maxima) (a : Arrival)
+  module _ (n : ℕ) (maxima : List PrefixMaximum) (so_far : MaximaSoFar ppb extremes queue n maxima) (a : Arrival)
       (here : slice_get queue n ≡ Some a) where
-    no_later : (maximum : PrefixMaximum) → IsFromArrival queue n maximum → maximum.place ≤ a.at
-    no_later maximum is = omega (arith, is.place, are.in_order is.turn n is.arrival a (omega arith) is.stands here)
-
     -- an arrival that isn't higher than the last maximum
     pub MaximaSoFar-kept : (last : PrefixMaximum) → slice_get maxima (length maxima - 1) ≡ Some last →
         a.height ≤ last.height →
-        MaximaSoFar queue (n + 1) maxima
+        MaximaSoFar ppb extremes queue (n + 1) maxima
     MaximaSoFar-kept last at_last under = record {
-      each = λ i maximum is. one_later queue n maximum (so_far.each i maximum is);
-      all = λ k x less at. ⊎_elim
-          (λ old. so_far.all k x old at)
-          (λ le.
-          let same : n ≡ k = omega arith in
-          let one : a ≡ x = same_Some a x (sym here ∙ ap (slice_get queue) same ∙ at) in
-          subst (λ (y : Arrival). IsTopped maxima y.at y.height) one (record {
-            index = length maxima - 1;
-            maximum = last;
-            stands = at_last;
-            no_later = no_later last (so_far.each _ last at_last);
-            no_lower = under;
-          }))
-          (cases_lt k n);
+      each = so_far.each;
+      before = λ i maximum at k x le. so_far.before i maximum at k x (omega arith);
+      all = below_next (λ k x. IsTopped maxima x.at x.height) queue n a here so_far.all (record {
+        index = length maxima - 1;
+        maximum = last;
+        stands = at_last;
+        no_later = so_far.before (length maxima - 1) last at_last n a (omega arith) here;
+        no_lower = under;
+      });
       rise = so_far.rise;
     }
 
@@ -63,24 +38,21 @@ module _ (ppb : ℕ) (extremes : List Extreme) (queue : List Arrival) (are : IsQ
     module _ (maximum : PrefixMaximum) (place : maximum.place ≡ a.at) (height_is : maximum.height ≡ a.height)
         (above : (last : PrefixMaximum) → slice_get maxima (length maxima - 1) ≡ Some last → last.height < a.height)
       where
-        each : (i : ℕ) (x : PrefixMaximum) → slice_get (maxima ++ maximum ∷ []) i ≡ Some x →
-            IsFromArrival queue (n + 1) x
-        each i x is = ⊎_elim
-            (λ old. one_later queue n x (so_far.each i x old))
-            (λ new. subst (IsFromArrival queue (n + 1)) (sym new.1) (record {
-              turn = n;
-              arrival = a;
-              before = omega arith;
-              stands = here;
-              place = place;
-              height = height_is;
-            }))
-            (pushed_cases maxima maximum x i is)
+        own : IsMaximumOf ppb extremes maximum
+        own =
+            let of = are.each n a here in
+            record {
+              index = a.index;
+              extreme = of.extreme;
+              stands = of.stands;
+              place = place ∙ of.at;
+              height = height_is ∙ of.height;
+            }
 
         all : (k : ℕ) (x : Arrival) → k < n + 1 → slice_get queue k ≡ Some x →
             IsTopped (maxima ++ maximum ∷ []) x.at x.height
-        all k x less at = ⊎_elim
-            (λ old.
+        all = below_next (λ k x. IsTopped (maxima ++ maximum ∷ []) x.at x.height) queue n a here
+            (λ k x old at.
             let top = so_far.all k x old at in
             let within = slice_get_within maxima top.index top.maximum top.stands in
             record {
@@ -90,17 +62,13 @@ module _ (ppb : ℕ) (extremes : List Extreme) (queue : List Arrival) (are : IsQ
               no_later = top.no_later;
               no_lower = top.no_lower;
             })
-            (λ le.
-            let same : n ≡ k = omega arith in
-            let one : a ≡ x = same_Some a x (sym here ∙ ap (slice_get queue) same ∙ at) in
-            subst (λ (y : Arrival). IsTopped (maxima ++ maximum ∷ []) y.at y.height) one (record {
+            (record {
               index = length maxima;
               maximum = maximum;
               stands = slice_get-last maxima maximum;
               no_later = omega (arith, place);
               no_lower = omega (arith, height_is);
-            }))
-            (cases_lt k n)
+            })
 
         -- an old maximum and the new one
         under_new : (i : ℕ) (x : PrefixMaximum) → slice_get maxima i ≡ Some x → (x.place ≤ maximum.place)
@@ -110,34 +78,25 @@ module _ (ppb : ℕ) (extremes : List Extreme) (queue : List Arrival) (are : IsQ
             let last = slice_get-below maxima (length maxima - 1) (omega arith) in
             let lower = so_far.rise i (length maxima - 1) x last.0 (omega arith) at last.1 in
             let less = above last.0 last.1 in
-            let early = no_later x (so_far.each i x at) in
+            let early = so_far.before i x at n a (omega arith) here in
             (omega (arith, place), omega (arith, height_is))
 
-        pub MaximaSoFar-more : MaximaSoFar queue (n + 1) (maxima ++ maximum ∷ [])
+        pub MaximaSoFar-more : MaximaSoFar ppb extremes queue (n + 1) (maxima ++ maximum ∷ [])
         MaximaSoFar-more = record {
-          each = each;
+          each = each_pushed (λ i. IsMaximumOf ppb extremes) maxima maximum so_far.each own;
+          before = each_pushed (λ i x. (k : ℕ) (b : Arrival) → n + 1 ≤ k → slice_get queue k ≡ Some b → x.place ≤ b.at)
+              maxima maximum (λ i x at k b le. so_far.before i x at k b (omega arith))
+              (λ k b le at. omega (arith, place, are.in_order n k a b (omega arith) here at));
           all = all;
           rise = rises_pushed (λ x y. (x.place ≤ y.place) × (x.height ≤ y.height)) maxima maximum so_far.rise under_new
               (omega arith, omega arith);
         }
 
   -- all of them
-  pub AreMaximaOf-all : (n : ℕ) (maxima : List PrefixMaximum) → length queue ≤ n → MaximaSoFar queue n maxima →
-      AreMaximaOf ppb extremes maxima
-  AreMaximaOf-all n maxima enough so_far = record { each = each; all = all; rise = so_far.rise }
+  pub AreMaximaOf-all : (n : ℕ) (maxima : List PrefixMaximum) → length queue ≤ n →
+      MaximaSoFar ppb extremes queue n maxima → AreMaximaOf ppb extremes maxima
+  AreMaximaOf-all n maxima enough so_far = record { each = so_far.each; all = all; rise = so_far.rise }
     where
-      each : (i : ℕ) (maximum : PrefixMaximum) → slice_get maxima i ≡ Some maximum → IsMaximumOf ppb extremes maximum
-      each i maximum is =
-          let from = so_far.each i maximum is in
-          let own = are.each from.turn from.arrival from.stands in
-          record {
-            index = from.arrival.index;
-            extreme = own.extreme;
-            stands = own.stands;
-            place = from.place ∙ own.at;
-            height = from.height ∙ own.height;
-          }
-
       all : (index : ℕ) (extreme : Extreme) → slice_get extremes index ≡ Some extreme →
           IsTopped maxima (extreme.from + extreme.to) (height ppb extreme)
       all index extreme is =
@@ -147,9 +106,7 @@ module _ (ppb : ℕ) (extremes : List Extreme) (queue : List Arrival) (are : IsQ
           let same : own.extreme ≡ extreme =
           same_Some own.extreme extreme (sym own.stands ∙ ap (slice_get extremes) came.3 ∙ is) in
           let top = so_far.all came.0 came.1 (omega arith) came.2 in
-          subst (λ (x : Extreme). IsTopped maxima (x.from + x.to) (height ppb x)) same
-          (subst (λ (h : ℕ). IsTopped maxima (own.extreme.from + own.extreme.to) h) own.height
-          (subst (λ (p : ℕ). IsTopped maxima p came.1.height) own.at top))
+          rw (← same, ← own.height, ← own.at) top
 
 -- ---- asked up to a place
 
@@ -210,25 +167,16 @@ module _ (ppb : ℕ) (slow : IsRate ppb) (extremes : List Extreme) (stretch : Un
   reached : (level : ℕ) → level ≡ (greatest - ppb * stretch.end) / (billion - ppb) →
       (level ≡ 0) ⊎ ((index : ℕ) × IsEarlyAtLeast ppb extremes stretch index level)
   reached level level_is =
-      let fits : (greatest - ppb * stretch.end) / (billion - ppb) * (billion - ppb) ≤ greatest - ppb * stretch.end =
-      div-mul-le_self (greatest - ppb * stretch.end) (billion - ppb) in
       let under : level * (billion - ppb) ≤ greatest - ppb * stretch.end =
-      subst (λ (l : ℕ). l * (billion - ppb) ≤ greatest - ppb * stretch.end) (sym level_is) fits in
+      rw level_is (div-mul-le_self (greatest - ppb * stretch.end) (billion - ppb)) in
       ⊎_elim
-      (λ positive. ⊎_elim
-      (λ none.
+      (λ positive.
       let least : 1 * (billion - ppb) ≤ level * (billion - ppb) = mul-le-mul_right (billion - ppb) positive in
-      absurd (omega arith))
+      ⊎_elim
+      (λ none. absurd (omega arith))
       (λ one. inr (
         one.index,
-        record {
-          extreme = one.extreme;
-          stands = one.stands;
-          early = one.no_later;
-          at_least =
-              let least : 1 * (billion - ppb) ≤ level * (billion - ppb) = mul-le-mul_right (billion - ppb) positive in
-              omega arith;
-        },
+        record { extreme = one.extreme; stands = one.stands; early = one.no_later; at_least = omega arith },
       ))
       is.of_one)
       (λ none. inl (omega arith))
@@ -240,6 +188,5 @@ module _ (ppb : ℕ) (slow : IsRate ppb) (extremes : List Extreme) (stretch : Un
     reached = reached level level_is;
     highest = λ index other there.
         let lower = is.no_lower index there.extreme there.stands there.early in
-        subst (λ (l : ℕ). other ≤ l) (sym level_is)
-        (le-div other (greatest - ppb * stretch.end) (billion - ppb) (omega arith) (omega arith));
+        rw level_is (le-div other (greatest - ppb * stretch.end) (billion - ppb) (omega arith) (omega arith));
   }

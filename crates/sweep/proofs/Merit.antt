@@ -1,5 +1,5 @@
 -- The highest extreme is that of the best sample.
-use Rattle.sweep.proofs.Common.{◌≡◌, ℕ, ◌+◌, ◌-◌, ◌<◌, ◌≤◌, ◌^◌, ℤ, pos, ◌+ℤ◌, ◌-ℤ◌, ◌≤ℤ◌, ◌<ℤ◌, neg_ℤ, unsigned_abs, List, Some, sym, ◌∙◌, ap, subst, arith, ⊎_elim, slice_get, cases_lt, ints, clamps, same_Some, widening, Sample, IsFirstBest, merit, farthest, moved_low, moved_high, IsFromOrigin, IsExtremeOf, IsLawfulExtreme, IsOfServer, AreExtremesOf, IsStretchOf, IsLawfulStretch, IsTopNumber, distance, Extreme, Side, Low, High, UnsignedStretch}
+use Rattle.sweep.proofs.Common.{◌≡◌, ℕ, ◌+◌, ◌-◌, ◌<◌, ◌≤◌, ◌^◌, ℤ, pos, ◌+ℤ◌, ◌-ℤ◌, ◌≤ℤ◌, ◌<ℤ◌, neg_ℤ, unsigned_abs, List, Some, sym, ◌∙◌, ap, arith, ⊎_elim, slice_get, cases_lt, ints, clamps, same_Some, widening, Sample, IsFirstBest, merit, farthest, moved_low, moved_high, IsFromOrigin, IsExtremeOf, IsLawfulExtreme, IsOfServer, AreExtremesOf, IsStretchOf, IsLawfulStretch, IsTopNumber, distance, Extreme, Side, Low, High, UnsignedStretch}
 
 distance_is : (start stop p q : ℤ) (extreme : Extreme) (stretch : UnsignedStretch) → IsFromOrigin start extreme.from →
     IsFromOrigin stop extreme.to → IsStretchOf p q stretch → extreme.from ≤ extreme.to → stretch.begin ≤ stretch.end →
@@ -63,9 +63,7 @@ module _ (side : Side) (samples : List Sample) (server : ℕ) (extremes : List E
           extreme = there.1;
           stands_at = there.2;
           number_is = there.3;
-          counted = subst (λ (x : Sample). merit side x p q ppb +ℤ pos (2 ^ 75)
-              ≡ pos there.1.end -ℤ pos (widening ppb (distance there.1 stretch))) same
-              (merit_is side p q ppb own.sample there.1 stretch own.is own.lawful at s);
+          counted = rw same at (merit_is side p q ppb own.sample there.1 stretch own.is own.lawful at s);
         }
 
   module _ (number : ℕ) (is : IsTopNumber ppb extremes stretch number) where
@@ -81,7 +79,7 @@ module _ (side : Side) (samples : List Sample) (server : ℕ) (extremes : List E
         let reached = is.is_top.reached in
         let same : reached.extreme ≡ is.extreme =
         same_Some reached.extreme is.extreme (sym reached.stands ∙ is.stands) in
-        subst (λ (b : Extreme). is.top.level + widening ppb (distance b stretch) ≤ b.end) same reached.at_least
+        rw same at reached.at_least
 
     pub IsFirstBest-top : IsFirstBest (λ s. merit side s p q ppb) samples server number
     IsFirstBest-top = record {

@@ -1,5 +1,5 @@
 -- Extremes and stretches with time running backwards.
-use Rattle.sweep.proofs.Common.{◌≡◌, ℕ, ◌+◌, ◌-◌, ◌≤◌, ◌^◌, List, length, Option, Some, map, reverse, arith, sym, ◌∙◌, subst, slice_get, All, length-map, length-reverse, All-map, All-weaker, All-permutation, IsPermutation-reverse, IsLawfulExtreme, mirrored_extreme, IsLawfulStretch, MiddlesRise, mirrored_stretch, AreEarlyTops, AreLateTops, distance, Extreme, UnsignedStretch, Top, All-slice_get}
+use Rattle.sweep.proofs.Common.{◌≡◌, ℕ, ◌+◌, ◌-◌, ◌≤◌, ◌^◌, List, length, Option, map, reverse, arith, ◌∙◌, All, length-map, length-reverse, All-map, All-weaker, All-permutation, IsPermutation-reverse, IsLawfulExtreme, mirrored_extreme, IsLawfulStretch, MiddlesRise, mirrored_stretch, AreEarlyTops, AreLateTops, distance, Extreme, UnsignedStretch, Top, All-slice_get}
 use Rattle.sweep.proofs.List.{map_at, at_map, at_reverse, reverse_at}
 
 pub lawful-mirrored_extreme : (extreme : Extreme) → IsLawfulExtreme extreme → IsLawfulExtreme (mirrored_extreme extreme)
@@ -31,10 +31,7 @@ MiddlesRise-mirrored stretches all rise i j a b le at_a at_b =
     let less = rise _ _ from_b.0 from_a.0 (omega arith) from_b.1 from_a.1 in
     let turned = middles_turn from_a.0 from_b.0 (All-slice_get IsLawfulStretch stretches _ from_a.0 all from_a.1)
     (All-slice_get IsLawfulStretch stretches _ from_b.0 all from_b.1) less in
-    subst (λ (x : UnsignedStretch). a.begin + a.end ≤ x.begin + x.end) (sym from_b.2)
-    (subst (λ (x : UnsignedStretch). x.begin + x.end ≤ (mirrored_stretch from_b.0).begin
-    + (mirrored_stretch from_b.0).end)
-    (sym from_a.2) turned)
+    rw (from_b.2, from_a.2) turned
 
 pub AreLateTops-mirrored : (ppb : ℕ) (extremes : List Extreme) (stretches : List UnsignedStretch)
     (tops : List (Option Top)) →
@@ -44,9 +41,7 @@ AreLateTops-mirrored ppb extremes stretches tops early = record {
   as_many = early.as_many ∙ length-reverse (map mirrored_stretch stretches) ∙ length-map stretches mirrored_stretch;
   each = λ k stretch top at there.
       early.each (length stretches - 1 - k) (mirrored_stretch stretch) top
-      (subst (λ (n : ℕ). slice_get (reverse (map mirrored_stretch stretches)) (n - 1 - k)
-      ≡ Some (mirrored_stretch stretch))
-      (length-map stretches mirrored_stretch)
+      (rw (length-map stretches mirrored_stretch) at
       (reverse_at (map mirrored_stretch stretches) k (mirrored_stretch stretch)
       (map_at mirrored_stretch stretches k stretch at)))
       there;

@@ -1,6 +1,7 @@
 -- The highest level that is reached over each stretch, and the first index that reaches it.
-use Rattle.sweep.proofs.Common.{◌≡◌, ℕ, ◌+◌, ◌-◌, ◌*◌, ◌<◌, ◌≤◌, List, Option, Some, max, arith, subst, sym, ◌∙◌, ap, inl, inr, ⊎_elim, slice_get, cases_lt, same_Some, mul-le-mul_right, div-one, IsRate, billion, IsReached, IsFirstBlock, AreUpto, IsLead, IsWantedBelow, Reaches, IsQueueOf, IsTopOf, IsEarlyAtLeast, AreEarlyTops, AreTopsOver, height, height_for, Lead, Wanted, Extreme, Arrival, Top, UnsignedStretch}
+use Rattle.sweep.proofs.Common.{◌≡◌, ℕ, ◌+◌, ◌-◌, ◌*◌, ◌<◌, ◌≤◌, List, Option, Some, max, arith, sym, ◌∙◌, ap, inl, inr, ⊎_elim, slice_get, cases_lt, same_Some, mul-le-mul_right, div-one, IsRate, billion, IsReached, IsFirstBlock, AreUpto, IsLead, IsWantedBelow, Reaches, IsQueueOf, IsTopOf, IsEarlyAtLeast, AreEarlyTops, AreTopsOver, height, height_for, Lead, Wanted, Extreme, Arrival, Top, UnsignedStretch}
 use Rattle.sweep.proofs.BlockLimits.{has_come, reached_by}
+use Rattle.sweep.proofs.List.{below_next}
 use Rattle.sweep.proofs.TopOrder.{same_top}
 
 module _ (ppb : ℕ) (extremes : List Extreme) (queue : List Arrival) (is_queue : IsQueueOf ppb extremes queue)
@@ -62,10 +63,7 @@ module _ (ppb : ℕ) (slow : IsRate ppb) (queue : List Arrival) (stretch : Unsig
       IsTopOf (Reaches ppb queue stretch) (Some (record { level = wanted.level; index = index }))
   top_some wanted is index block =
       record {
-        reached =
-            subst (λ (h : ℕ). IsReached queue (stretch.begin + stretch.end) h index) is.height
-            (subst (IsReached queue (stretch.begin + stretch.end) wanted.height)
-            (sym (div-one block.index) ∙ block.in_block) block.reached);
+        reached = rw (← is.height, ← (sym (div-one block.index) ∙ block.in_block)) block.reached;
         highest = λ other level reached.
             let less = below (height_for ppb stretch.end level) other reached in
             ⊎_elim
@@ -76,8 +74,7 @@ module _ (ppb : ℕ) (slow : IsRate ppb) (queue : List Arrival) (stretch : Unsig
             (λ le. le)
             (cases_lt wanted.level level);
         first = λ other reached.
-            let least = block.first other
-            (subst (λ (h : ℕ). IsReached queue (stretch.begin + stretch.end) h other) (sym is.height) reached) in
+            let least = block.first other (rw (← is.height) at reached) in
             omega (arith, div-one other);
       }
 
@@ -89,18 +86,17 @@ module _ (queue : List Arrival) (n : ℕ) (lead new : Lead) (leads : IsLead queu
     × (new.second ≡ lead.limit))
     (no_higher : a.height + 1 ≤ lead.limit → (new.limit ≡ lead.limit) × (new.index ≡ lead.index)
     × (new.second ≡ max lead.second (a.height + 1))) where
-  last : (turn : ℕ) (x : Arrival) → slice_get queue turn ≡ Some x → turn ≡ n → a ≡ x
-  last turn x stands is = same_Some a x (sym here ∙ ap (slice_get queue) (sym is) ∙ stands)
+  above : (a.height < new.limit) → (lead.limit ≤ new.limit) → (turn : ℕ) (x : Arrival) → turn < n + 1 →
+      slice_get queue turn ≡ Some x → x.height < new.limit
+  above here_too no_less = below_next (λ turn x. x.height < new.limit) queue n a here
+      (λ turn x before stands. omega (arith, leads.above turn x before stands)) here_too
 
   pub IsLead-more : IsLead queue (n + 1) new
   IsLead-more = ⊎_elim
       (λ less.
       let is = higher less in
       record {
-        above = λ turn x before stands. ⊎_elim
-            (λ old. let under = leads.above turn x old stands in omega arith)
-            (λ le. subst (λ (y : Arrival). y.height < new.limit) (last turn x stands (omega arith)) (omega arith))
-            (cases_lt turn n);
+        above = above (omega arith) (omega arith);
         of_one = inr (record {
           turn = n;
           arrival = a;
@@ -109,19 +105,14 @@ module _ (queue : List Arrival) (n : ℕ) (lead new : Lead) (leads : IsLead queu
           index = sym is.1;
           is = is.0;
         });
-        others = λ turn x before stands apart. ⊎_elim
-            (λ old. let under = leads.above turn x old stands in omega arith)
-            (λ le.
-            absurd (apart (sym (ap (λ (y : Arrival). y.index) (last turn x stands (omega arith))) ∙ sym is.1)))
-            (cases_lt turn n);
+        others = below_next (λ turn x. ¬ (x.index ≡ new.index) → x.height < new.second) queue n a here
+            (λ turn x old stands apart. omega (arith, leads.above turn x old stands))
+            (λ apart. absurd (apart (sym is.1)));
       })
       (λ stays.
       let is = no_higher stays in
       record {
-        above = λ turn x before stands. ⊎_elim
-            (λ old. let under = leads.above turn x old stands in omega arith)
-            (λ le. subst (λ (y : Arrival). y.height < new.limit) (last turn x stands (omega arith)) (omega arith))
-            (cases_lt turn n);
+        above = above (omega arith) (omega arith);
         of_one = ⊎_elim
             (λ none. inl (is.0 ∙ none))
             (λ one. inr (record {
@@ -133,11 +124,10 @@ module _ (queue : List Arrival) (n : ℕ) (lead new : Lead) (leads : IsLead queu
               is = is.0 ∙ one.is;
             }))
             leads.of_one;
-        others = λ turn x before stands apart. ⊎_elim
-            (λ old.
+        others = below_next (λ turn x. ¬ (x.index ≡ new.index) → x.height < new.second) queue n a here
+            (λ turn x old stands apart.
             omega (arith, (leads.others turn x old stands (λ same. apart (same ∙ sym is.1)))))
-            (λ le. subst (λ (y : Arrival). y.height < new.second) (last turn x stands (omega arith)) (omega arith))
-            (cases_lt turn n);
+            (λ apart. omega arith);
       })
       (cases_lt lead.limit (a.height + 1))
 

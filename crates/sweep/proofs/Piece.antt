@@ -1,5 +1,5 @@
 -- The best samples of each piece.
-use Rattle.sweep.proofs.Common.{◌≡◌, ℕ, ℤ, List, arith, get_or, subst, sym, ◌∙◌, slice_get-get_or, slice_get_within, Sample, AreExtremesOf, AreBestOfPieces, ArePairsOf, AreStretchesOf, IsLawfulStretch, AreTopNumbers, Extreme, Low, High, UnsignedStretch, All-slice_get}
+use Rattle.sweep.proofs.Common.{ℕ, ℤ, List, arith, get_or, sym, ◌∙◌, slice_get-get_or, slice_get_within, Sample, AreExtremesOf, AreBestOfPieces, ArePairsOf, AreStretchesOf, IsLawfulStretch, AreTopNumbers, Extreme, Low, High, UnsignedStretch, All-slice_get}
 use Rattle.span_cover.proofs.BestSample.{best_of-best}
 use Rattle.sweep.proofs.Merit.{IsFirstBest-top}
 
@@ -30,17 +30,3 @@ module _ (samples : List Sample) (server : ℕ) (first : ℤ) (ends : List ℤ) 
         (IsFirstBest-top High samples server highs are_high p q ppb stretch is_stretch lawful high
         (high_tops.each k stretch high here high_at)));
   }
-
--- the same of lists that were lent
-pub AreTopNumbers-lent : (ppb : ℕ) (lent extremes : List Extreme) (lent_stretches stretches : List UnsignedStretch)
-    (numbers : List ℕ) →
-    lent ≡ extremes → lent_stretches ≡ stretches → AreTopNumbers ppb lent lent_stretches numbers →
-    AreTopNumbers ppb extremes stretches numbers
-AreTopNumbers-lent ppb lent extremes lent_stretches stretches numbers a b is =
-    subst (λ (s : List UnsignedStretch). AreTopNumbers ppb extremes s numbers) b
-    (subst (λ (x : List Extreme). AreTopNumbers ppb x lent_stretches numbers) a is)
-
-pub ArePairsOf-lent : (lent_lows lows lent_highs highs : List ℕ) (pairs : List (ℕ × ℕ)) → lent_lows ≡ lows →
-    lent_highs ≡ highs → ArePairsOf lent_lows lent_highs pairs → ArePairsOf lows highs pairs
-ArePairsOf-lent lent_lows lows lent_highs highs pairs a b is =
-    subst (λ (h : List ℕ). ArePairsOf lows h pairs) b (subst (λ (l : List ℕ). ArePairsOf l lent_highs pairs) a is)

@@ -34,9 +34,6 @@ module _ (widens : (ppb distance : ℕ) → ppb < billion → IsWidening ppb dis
 
   module _ (extreme : Extreme) (stretch : UnsignedStretch) (b : IsLawfulExtreme extreme) (s : IsLawfulStretch stretch)
       (level : ℕ) where
-    wide : ℕ
-    wide = widening ppb (distance extreme stretch)
-
     early_height : IsEarly extreme stretch → level + widening ppb (distance extreme stretch) ≤ extreme.end →
         height_for ppb stretch.end level ≤ height ppb extreme
     early_height early =
@@ -96,19 +93,15 @@ module _ (widens : (ppb distance : ℕ) → ppb < billion → IsWidening ppb dis
         let back = at_map mirrored_extreme extremes index is.extreme is.stands in
         let extreme : Extreme = back.0 in
         let b = All-slice_get IsLawfulExtreme extremes index extreme all back.1 in
-        let early : IsEarly (mirrored_extreme extreme) (mirrored_stretch stretch) =
-        subst (λ (x : Extreme). IsEarly x (mirrored_stretch stretch)) back.2 is.early in
-        let high : height_for ppb (mirrored_stretch stretch).end level ≤ height ppb (mirrored_extreme extreme) =
-        subst (λ (x : Extreme). height_for ppb (mirrored_stretch stretch).end level ≤ height ppb x) back.2
-        is.at_least in
+        let early = rw back.2 at is.early in
+        let high = rw back.2 at is.at_least in
         let reaches = early_reaches (mirrored_extreme extreme) (mirrored_stretch stretch)
         (lawful-mirrored_extreme extreme b)
         (lawful-mirrored_stretch stretch s) level early high in
         record {
           extreme = extreme;
           stands = back.1;
-          at_least = subst (λ (d : ℕ). level + widening ppb d ≤ extreme.end) (distance-mirrored extreme stretch b s)
-              reaches;
+          at_least = rw (distance-mirrored extreme stretch b s) at reaches;
         }
 
     pub either_reaches : (index level : ℕ) →

@@ -1,6 +1,6 @@
 -- The stretches of pieces.
-use Rattle.sweep.proofs.Common.{◌≡◌, ℕ, ◌+◌, ◌<◌, ◌≤◌, ◌^◌, ℤ, pos, ◌+ℤ◌, ◌≤ℤ◌, List, [], ◌∷◌, ◌++◌, length, Some, arith, subst, get_or, ⊎_elim, sym, ◌∙◌, ap, add-one, to_z, of_z, FitsSigned, w128, slice_get, All, ints, to_z-of_z, length-append, All-push, slice_get-get_or, same_Some, IsPiece, IsPieceAt, ArePieces, IsStretchOf, IsLawfulStretch, MiddlesRise, UnsignedStretch, All-slice_get}
-use Rattle.sweep.proofs.List.{pushed_cases, rises_pushed}
+use Rattle.sweep.proofs.Common.{◌≡◌, ℕ, ◌+◌, ◌<◌, ◌≤◌, ◌^◌, ℤ, pos, ◌+ℤ◌, ◌≤ℤ◌, List, [], ◌∷◌, ◌++◌, length, Some, arith, subst, get_or, sym, ◌∙◌, ap, add-one, to_z, of_z, FitsSigned, w128, slice_get, All, ints, to_z-of_z, length-append, All-push, slice_get-get_or, same_Some, IsPiece, IsPieceAt, ArePieces, IsStretchOf, IsLawfulStretch, MiddlesRise, UnsignedStretch, All-slice_get}
+use Rattle.sweep.proofs.List.{each_pushed, rises_pushed}
 
 pub piece_at : (first kept_first : ℤ) (ends : List ℤ) (index : ℕ) (begin end : ℤ) → kept_first ≡ first →
     slice_get (kept_first ∷ ends) index ≡ Some begin → index < length ends → end ≡ get_or ends index (pos 0) →
@@ -51,25 +51,18 @@ module _ (first : ℤ) (ends : List ℤ) (n : ℕ) (begin : ℤ) (stretches : Li
     where
       each : (k : ℕ) (p q : ℤ) (s : UnsignedStretch) → IsPieceAt first ends k p q →
           slice_get (stretches ++ stretch ∷ []) k ≡ Some s → IsStretchOf p q s
-      each k p q s there stands = ⊎_elim
-          (λ old. so_far.each k p q s there old)
-          (λ new.
-          let here : k ≡ n = new.0 ∙ so_far.as_many in
-          let same_p : begin ≡ p = same_Some begin p
-          (sym at.begins ∙ ap (slice_get (first ∷ ends)) (sym here) ∙ there.begins) in
-          let same_q : end ≡ q = same_Some end q (sym at.ends_at ∙ ap (slice_get ends) (sym here) ∙ there.ends_at) in
-          subst (λ (x : UnsignedStretch). IsStretchOf p q x) (sym new.1)
-          (subst (λ (x : ℤ). IsStretchOf x q stretch) same_p
-          (subst (λ (x : ℤ). IsStretchOf begin x stretch) same_q is)))
-          (pushed_cases stretches stretch s k stands)
+      each k p q s there stands = each_pushed (λ k s. IsPieceAt first ends k p q → IsStretchOf p q s) stretches stretch
+          (λ k s old there. so_far.each k p q s there old)
+          (λ there.
+          let begins = rw so_far.as_many at there.begins in
+          let ends_at = rw so_far.as_many at there.ends_at in
+          rw (← same_Some begin p (sym at.begins ∙ begins), ← same_Some end q (sym at.ends_at ∙ ends_at)) is)
+          k s stands there
 
       behind : (k : ℕ) (s : UnsignedStretch) → slice_get (stretches ++ stretch ∷ []) k ≡ Some s →
           pos s.end ≤ℤ (end +ℤ pos (2 ^ 75))
-      behind k s stands = ⊎_elim
-          (λ old. omega (arith, ints, so_far.behind k s old, piece.in_order))
-          (λ new. subst (λ (x : UnsignedStretch). pos x.end ≤ℤ (end +ℤ pos (2 ^ 75))) (sym new.1)
-          (omega (arith, ints, is.end)))
-          (pushed_cases stretches stretch s k stands)
+      behind = each_pushed (λ k s. pos s.end ≤ℤ (end +ℤ pos (2 ^ 75))) stretches stretch
+          (λ k s old. omega (arith, ints, so_far.behind k s old, piece.in_order)) (omega (arith, ints, is.end))
 
       lawful_new : IsLawfulStretch stretch
       lawful_new = lawful_stretch begin end stretch piece is

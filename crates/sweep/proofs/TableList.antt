@@ -1,27 +1,24 @@
 -- The tables of servers, and what they give one after another.
-use Rattle.sweep.proofs.Common.{◌≡◌, ℕ, zero, suc, ◌+◌, ◌<◌, Bool, true, false, ℤ, List, [], ◌∷◌, ◌++◌, length, map, take, get_or, Option, Some, None, refl, sym, ◌∙◌, ap, arith, cond, nat_eq, true≢false, slice_get, filter, filter_map, cons_option, range_with_len, nat_tests, append-nil, take_more, map-append, filter-append, filter_map-append, slice_get-get_or, Sample, HasNoSample, Part, AreTablesOf, IsTableOf, best_part, best_parts, has_sample, Extreme, BestTable, or_right, eq-eqb, range_with_len_more}
+use Rattle.sweep.proofs.Common.{◌≡◌, ℕ, ◌+◌, ◌<◌, Bool, true, false, ℤ, List, [], ◌∷◌, ◌++◌, length, map, take, get_or, Option, Some, None, refl, sym, ◌∙◌, ap, arith, cond, true≢false, slice_get, filter, filter_map, cons_option, range_with_len, append-nil, take_more, map-append, filter-append, filter_map-append, get_or_from_slice_get, slice_get-get_or, slice_get_within, Sample, HasNoSample, Part, AreTablesOf, IsTableOf, best_part, best_parts, has_sample, Extreme, BestTable, eq-eqb, range_with_len_more}
+use Rattle.std.proofs.Common.{◌==◌}
+use Rattle.std.proofs.lemmas.Bool.{ne_eqb}
+use Rattle.std.proofs.lemmas.List.Folds.{list_any_at, list_any_none}
 use Rattle.span_cover.proofs.BestSample.{best_of-none}
 
 -- ---- whether a server has a sample
 
 pub none_has : (samples : List Sample) (server : ℕ) → HasNoSample samples server → has_sample samples server ≡ false
-none_has [] server none = refl
-none_has (s ∷ samples) server none =
-    let other : nat_eq s.server server ≡ false = differs s.server server (none zero s refl) in
-    let rest = none_has samples server (λ i t is. none (suc i) t is) in
-    rw other rest
-  where
-    differs : (a b : ℕ) → (a ≡ b → ⊥) → nat_eq a b ≡ false
-    differs a b other = grind (arith, nat_tests)
+none_has samples server none =
+    list_any_none (λ sample. sample.server == server) samples
+    (λ k d within. ne_eqb (get_or samples k d).server server
+    (none k (get_or samples k d) (slice_get-get_or samples k d within)))
 
 one_has : (samples : List Sample) (server i : ℕ) (s : Sample) → slice_get samples i ≡ Some s → s.server ≡ server →
     has_sample samples server ≡ true
-one_has [] server i s is of = absurd cc
-one_has (t ∷ samples) server zero s is of = rw (eq-eqb t.server server (same t s is of)) refl
-  where
-    same : (t s : Sample) → ◌≡◌ {A = Option Sample} (Some t) (Some s) → s.server ≡ server → t.server ≡ server
-    same t s is of = cc
-one_has (t ∷ samples) server (suc i) s is of = or_right (nat_eq t.server server) _ (one_has samples server i s is of)
+one_has samples server i s is of =
+    list_any_at (λ sample. sample.server == server) samples i s (slice_get_within samples i s is)
+    (eq-eqb (get_or samples i s).server server
+    (ap (λ (t : Sample). t.server) (get_or_from_slice_get samples i s s is) ∙ of))
 
 module _ (samples : List Sample) (ppb : ℕ) (table : BestTable) (is : IsTableOf samples ppb table) where
   pub table_has : has_sample samples table.server ≡ true
@@ -44,20 +41,12 @@ module _ (samples : List Sample) (n : ℕ) (tables : List BestTable)
   -- a server without a sample
   pub servers_without : has_sample samples n ≡ false →
       map (λ table. table.server) tables ≡ filter (has_sample samples) (range_with_len 0 (n + 1))
-  servers_without none =
-      so_far ∙ sym (one_more
-      ∙ ap (λ (b : Bool). filter (has_sample samples) (range_with_len 0 n) ++ cond b (n ∷ []) []) none
-      ∙ append-nil (filter (has_sample samples) (range_with_len 0 n)))
+  servers_without none = grind (arith, one_more, append-nil)
 
   -- a server with its table
   pub servers_more : (table : BestTable) → table.server ≡ n → has_sample samples n ≡ true →
       map (λ table. table.server) (tables ++ table ∷ []) ≡ filter (has_sample samples) (range_with_len 0 (n + 1))
-  servers_more table of has =
-      map-append (λ (t : BestTable). t.server) tables (table ∷ [])
-      ∙ ap (λ (ns : List ℕ). ns ++ table.server ∷ []) so_far
-      ∙ ap (λ (k : ℕ). filter (has_sample samples) (range_with_len 0 n) ++ k ∷ []) of
-      ∙ sym (one_more
-      ∙ ap (λ (b : Bool). filter (has_sample samples) (range_with_len 0 n) ++ cond b (n ∷ []) []) has)
+  servers_more table of has = grind (arith, one_more, map-append (λ (t : BestTable). t.server) tables (table ∷ []))
 
 -- ---- what they say
 
@@ -66,10 +55,7 @@ pub filter_map_more : {X Y : Type 0} (h : X → Option Y) (xs : List X) (i : ℕ
     old ≡ filter_map h (take i xs) → i < length xs → h (get_or xs i d) ≡ Some y →
     old ++ y ∷ [] ≡ filter_map h (take (i + 1) xs)
 filter_map_more h xs i d y old so_far within gives =
-    ap (λ ys. ys ++ y ∷ []) so_far
-    ∙ ap (λ o. filter_map h (take i xs) ++ cons_option o []) (sym gives)
-    ∙ sym (filter_map-append h (take i xs) (get_or xs i d ∷ []))
-    ∙ ap (filter_map h) (sym (take_more xs i d within))
+    grind (arith, take_more xs i d within, filter_map-append h (take i xs) (get_or xs i d ∷ []))
 
 module _ (f : ℕ → Option Part) where
   of_servers : (tables : List BestTable) →

@@ -1,5 +1,5 @@
 -- The higher of two tops.
-use Rattle.sweep.proofs.Common.{◌≡◌, ℕ, ◌<◌, ◌≤◌, true, false, Option, None, Some, refl, arith, subst, sym, ◌⊎◌, inl, inr, ⊎_elim, cond, nat_tests, IsTop, IsTopOf, is_above, higher_of, Top}
+use Rattle.sweep.proofs.Common.{◌≡◌, ℕ, ◌<◌, ◌≤◌, true, false, Option, None, Some, refl, arith, subst, ◌⊎◌, inl, inr, ⊎_elim, cond, nat_tests, IsTop, IsTopOf, is_above, higher_of, Top}
 
 -- indexes that reach the same levels have the same top
 pub same_top : (first second : ℕ → ℕ → Type 0) (top : Option Top) →
@@ -14,68 +14,46 @@ same_top first second (Some top) there back is = record {
 
 -- ---- of two
 above : (one other : Top) → is_above other one ≡ true →
-    (one.level < other.level) ⊎ ((one.level ≡ other.level) × (other.index < one.index))
+    (one.level < other.level) ⊎ ((other.level ≡ one.level) × (other.index ≤ one.index))
 above one other h = grind (arith, nat_tests)
 
 not_above : (one other : Top) → is_above other one ≡ false →
     (other.level < one.level) ⊎ ((one.level ≡ other.level) × (one.index ≤ other.index))
 not_above one other h = grind (arith, nat_tests)
 
+abbrev pub Either : (ℕ → ℕ → Type 0) → (ℕ → ℕ → Type 0) → ℕ → ℕ → Type 0
+Either first second index level = first index level ⊎ second index level
+
+wins : (first second : ℕ → ℕ → Type 0) (one other : Top) → IsTop first one → IsTop second other →
+    (other.level < one.level) ⊎ ((one.level ≡ other.level) × (one.index ≤ other.index)) →
+    IsTop (Either first second) one
+wins first second one other a b over = record {
+  reached = inl a.reached;
+  highest = λ index level. ⊎_elim (a.highest index level)
+      (λ reaches. let under = b.highest index level reaches in grind arith);
+  first = λ index. ⊎_elim (a.first index)
+      (λ reaches.
+      let under = b.highest index one.level reaches in
+      let same : one.level ≡ other.level = grind arith in
+      let before = b.first index (subst (second index) same reaches) in
+      grind arith);
+}
+
 module _ (first second : ℕ → ℕ → Type 0) where
-  abbrev pub Either : ℕ → ℕ → Type 0
-  Either index level = first index level ⊎ second index level
-
-  one_wins : (one other : Top) → IsTop first one → IsTop second other →
-      (one.level < other.level → ⊥) → (one.level ≡ other.level → one.index ≤ other.index) → IsTop Either one
-  one_wins one other a b no_lower no_later = record {
-    reached = inl a.reached;
-    highest = λ index level. ⊎_elim
-        (λ reaches. a.highest index level reaches)
-        (λ reaches. let under = b.highest index level reaches in omega arith);
-    first = λ index. ⊎_elim
-        (λ reaches. a.first index reaches)
-        (λ reaches.
-        let under = b.highest index one.level reaches in
-        let same : one.level ≡ other.level = omega arith in
-        omega (arith, no_later same, b.first index (subst (second index) same reaches)));
-  }
-
-  other_wins : (one other : Top) → IsTop first one → IsTop second other →
-      (other.level < one.level → ⊥) → (one.level ≡ other.level → other.index ≤ one.index) → IsTop Either other
-  other_wins one other a b no_lower no_later = record {
-    reached = inr b.reached;
-    highest = λ index level. ⊎_elim
-        (λ reaches. let under = a.highest index level reaches in omega arith)
-        (λ reaches. b.highest index level reaches);
-    first = λ index. ⊎_elim
-        (λ reaches.
-        let under = a.highest index other.level reaches in
-        let same : one.level ≡ other.level = omega arith in
-        omega (arith, no_later same, a.first index (subst (first index) (sym same) reaches)))
-        (λ reaches. b.first index reaches);
-  }
+  turned : (top : Option Top) → IsTopOf (Either second first) top → IsTopOf (Either first second) top
+  turned top = same_top (Either second first) (Either first second) top (λ index level. ⊎_elim inr inl)
+      (λ index level. ⊎_elim inr inl)
 
   -- the higher of two tops is the top of both
   pub top-higher_of : (one other : Option Top) → IsTopOf first one → IsTopOf second other →
-      IsTopOf Either (higher_of one other)
-  top-higher_of None None a b = λ index level. ⊎_elim (a index level) (b index level)
-  top-higher_of None (Some other) a b = record {
-    reached = inr b.reached;
-    highest = λ index level. ⊎_elim (λ reaches. absurd (a index level reaches)) (b.highest index level);
-    first = λ index. ⊎_elim (λ reaches. absurd (a index other.level reaches)) (b.first index);
-  }
-  top-higher_of (Some one) None a b = record {
-    reached = inl a.reached;
-    highest = λ index level. ⊎_elim (a.highest index level) (λ reaches. absurd (b index level reaches));
-    first = λ index. ⊎_elim (a.first index) (λ reaches. absurd (b index one.level reaches));
-  }
+      IsTopOf (Either first second) (higher_of one other)
+  top-higher_of None other a b = same_top second (Either first second) other (λ index level. inr)
+      (λ index level. ⊎_elim (λ reaches. absurd (a index level reaches)) (λ reaches. reaches)) b
+  top-higher_of (Some one) None a b = same_top first (Either first second) (Some one) (λ index level. inl)
+      (λ index level. ⊎_elim (λ reaches. reaches) (λ reaches. absurd (b index level reaches))) a
   top-higher_of (Some one) (Some other) a b =
       elim (is_above other one) as (λ t. is_above other one ≡ t →
-      IsTopOf Either (cond t (Some other) (Some one))) [
-        | true ↦ λ e. other_wins one other a b
-            (λ less. ⊎_elim (λ h. omega arith) (λ h. omega (arith, h.0)) (above one other e))
-            (λ same. ⊎_elim (λ h. omega arith) (λ h. omega (arith, h.1)) (above one other e))
-        | false ↦ λ e. one_wins one other a b
-            (λ less. ⊎_elim (λ h. omega arith) (λ h. omega (arith, h.0)) (not_above one other e))
-            (λ same. ⊎_elim (λ h. omega arith) (λ h. omega (arith, h.1)) (not_above one other e))
+      IsTopOf (Either first second) (cond t (Some other) (Some one))) [
+        | true ↦ λ e. turned (Some other) (wins second first other one b a (above one other e))
+        | false ↦ λ e. wins first second one other a b (not_above one other e)
       ] refl

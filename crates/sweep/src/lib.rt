@@ -23,17 +23,12 @@
 //! where the last one ended: if the next piece lies near, it takes a few steps in place of some
 //! twenty.
 //!
-//! The hull over any one piece, as `hull_over` of `finder/src/longest.rt`, with its proof:
+//! What the servers say over any one piece, as `parts_over` of `finder/src/longest.rt` asks for it,
+//! with its proof:
 //!
 //! ```text
-//! let parts = parts_near(
-//!     tables,
-//!     places,
-//!     i128::from(begin),
-//!     i128::from(end),
-//!     claim.drift_ppb,
-//! );
-//! piece_hull(parts.as_slice(), claim.groups.as_slice(), claim.false_max)
+//! let (begin, end) = (i128::from(begin), i128::from(end));
+//! parts_near(tables, places, begin, end, claim.drift_ppb)
 //! ```
 
 #![tactic(auto)]

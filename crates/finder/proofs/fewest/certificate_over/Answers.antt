@@ -1,4 +1,4 @@
-use Rattle.finder.proofs.Common.{pos, map, take, get_or, unsigned_abs, ap, ◌∙◌, map-append, take_all, piece_data, data_of, IsPieceAt, end_after, pieces_over, first_kept}
+use Rattle.finder.proofs.Common.{pos, map, take, get_or, unsigned_abs, ap, ◌∙◌, map-append, take_all, piece_data, data_of, IsPieceAt, end_after, first_kept}
 use Rattle.finder.proofs.LongestPiece.{end_fits, end_kept, piece_at_take, taken_more}
 use Rattle.finder.proofs.TablePieces.{best_tables}
 use Rattle.finder.proofs.fewest.certificate_over.Goals as goal
@@ -40,7 +40,4 @@ loop-number-preserved g c =
 
 pub returns : goal.returns
 returns g c =
-    let ends = c.args.ends.now in
-    c.loop-number.invariant
-    ∙ ap (pieces_over (g.S.SampleSource.samples c.args.samples) (data_of c.args.claim.now) c.args.claim.now.first)
-    (take_all c.loop-number.number ends c.loop-number-test.false)
+    rw (take_all c.loop-number.number c.args.ends.now c.loop-number-test.false) at c.loop-number.invariant

@@ -1,4 +1,4 @@
-use Rattle.finder.proofs.Common.{◌<◌, ◌≤◌, length, get_or, ap, ◌∙◌, arith, common_steps, take_all, data_of, IsLawfulSample, part_named, parts_named, All-slice_get}
+use Rattle.finder.proofs.Common.{◌<◌, ◌≤◌, length, get_or, arith, common_steps, take_all, data_of, IsLawfulSample, part_named, All-slice_get}
 use Rattle.finder.proofs.EntryList.{listed_parts, part_computed}
 use Rattle.finder.proofs.List.{filter_map_more}
 use Rattle.finder.proofs.hull.parts.Goals as goal
@@ -51,9 +51,7 @@ returns-clause-exact g c =
     let entries = c.args.entries.now.items in
     let past : length entries ≤ c.loop-entry.entry-index =
     rw c.as_slice-entry-items.ensures.value at c.loop-entry-test.false in
-    c.loop-entry.invariant.so_far
-    ∙ ap (parts_named (g.S.SampleSource.samples c.args.samples) (data_of c.args.claim.now) c.args.stretch)
-    (take_all c.loop-entry.entry-index entries past)
+    rw (take_all c.loop-entry.entry-index entries past) at c.loop-entry.invariant.so_far
 
 pub returns-clause-listed : goal.returns-clause-listed
 returns-clause-listed g c =

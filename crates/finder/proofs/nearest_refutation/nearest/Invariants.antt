@@ -3,4 +3,4 @@ use Rattle.finder.proofs.Nearest.{SoFar}
 use Rattle.finder.proofs.nearest_refutation.nearest.Given as goal
 
 abbrev pub invariant-loop-server : goal.invariant-loop-server
-invariant-loop-server l = SoFar l.rooms (claim_data l.claim) l.limit l.server l.first
+invariant-loop-server l = SoFar l.side l.rooms (claim_data l.claim) l.limit l.server l.first

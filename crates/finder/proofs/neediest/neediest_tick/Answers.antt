@@ -1,7 +1,7 @@
-use Rattle.finder.proofs.Common.{◌≡◌, pos, List, [], ◌∷◌, ◌++◌, Some, nat_tests, sym, ap, ◌∙◌, subst, arith, ints, All-nil, All-push, data_of, holds, IsGap, gap_between}
+use Rattle.finder.proofs.Common.{◌≡◌, pos, List, [], ◌∷◌, ◌++◌, Some, nat_tests, sym, ap, ◌∙◌, arith, ints, All-nil, All-push, data_of, holds, IsGap, gap_between}
 use Rattle.std.proofs.lemmas.List.Elements.{All-pop}
 use Rattle.finder.specs.declared.neediest.Gap.{Gap}
-use Rattle.finder.proofs.GapSearch.{AreLeft, boundless_at, first_left, half_gaps, left_behind, left_split, none_left, one_seen, seen_at}
+use Rattle.finder.proofs.GapSearch.{boundless_at, first_left, half_gaps, left_behind, left_split, none_left, one_seen, seen_at}
 use Rattle.finder.proofs.LongestPiece.{first_is, last_is}
 use Rattle.finder.proofs.neediest.neediest_tick.Goals as goal
 use Rattle.finder.proofs.neediest.neediest_tick.Goals.{then-may_need_more+in-Some-tick_need-2+in_ok-push-2+in_ok-push-3, else-may_need_more}
@@ -34,7 +34,7 @@ loop-init c =
           (c.in-Some-tick_need.ensures.need samples tabled) in (
             one_seen samples claim (holds c.args.cover) first last c.needier-best.result c.needier-best.ensures.one seen
                 seen',
-            subst (AreLeft samples claim (holds c.args.cover) c.needier-best.result.ticks) (sym pushed)
+            rw pushed
                 (first_left samples claim (holds c.args.cover) first last c.needier-best.result.ticks seen seen' begins ends
                 c.needier-best.ensures.this c.needier-best.ensures.other),
           ));
@@ -101,7 +101,7 @@ loop-preserved c =
                 (omega (arith, ints)) (w.in-Some-tick_need-2.ensures.need samples tabled) in
                 let needier = w.needier-best-then-may_need_more in (
                   one_seen samples claim cover c.loop.best tick needier.result needier.ensures.one known.0 seen,
-                  subst (AreLeft samples claim cover needier.result.ticks) (sym pushed)
+                  rw pushed
                       (left_split samples claim cover c.loop.best.ticks c.loop.left.items rest gap popped known.1 tick
                       needier.result.ticks later next w.halves.ensures seen needier.ensures.this needier.ensures.other),
                 ));

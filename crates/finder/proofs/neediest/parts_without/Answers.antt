@@ -1,4 +1,4 @@
-use Rattle.finder.proofs.Common.{◌<◌, ◌∙◌, ap, sym, List, length, not, arith, common_steps, take_all, filter, holds, has_say, Part}
+use Rattle.finder.proofs.Common.{◌<◌, ◌∙◌, ap, sym, length, not, arith, common_steps, take_all, holds, has_say}
 use Rattle.finder.proofs.HullWithout.{one_more_kept, one_passed_over}
 use Rattle.finder.proofs.neediest.parts_without.Goals as goal
 use Rattle.finder.proofs.neediest.parts_without.Goals.{then-not-contains, else-not-contains}
@@ -29,7 +29,5 @@ loop-part-preserved c =
 
 pub returns : goal.returns
 returns c = record {
-  exact = c.loop-part.invariant.so_far
-      ∙ ap (λ (ps : List Part). filter (has_say c.args.claim.now.groups.items (holds c.args.cover)) ps)
-      (take_all c.loop-part.part-index c.args.all.now c.loop-part-test.false);
+  exact = rw (take_all c.loop-part.part-index c.args.all.now c.loop-part-test.false) at c.loop-part.invariant.so_far;
 }

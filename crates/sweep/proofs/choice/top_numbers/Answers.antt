@@ -1,4 +1,4 @@
-use Rattle.sweep.proofs.Common.{refl, subst, sym, IsSome, AreOver, IsTopNumber}
+use Rattle.sweep.proofs.Common.{refl, subst, sym, IsSome}
 use Rattle.sweep.proofs.HighestExtreme.{number_found, number_more}
 use Rattle.sweep.proofs.choice.top_numbers.Goals as goal
 
@@ -13,8 +13,7 @@ unwrap-number-requires c =
 
 pub loop-k-preserved : goal.loop-k-preserved
 loop-k-preserved c =
-    subst (AreOver (IsTopNumber c.args.drift_ppb c.args.extremes.now) c.args.stretches.now _)
-    (sym c.in_ok-push.ensures.items)
+    rw c.in_ok-push.ensures.items
     (number_more c.widening_is_one_number.ensures.is c.args.drift_ppb c.requires.rate c.args.extremes.now
     c.requires.extremes c.args.stretches.now c.requires.stretches c.in_ok-early.early.items c.in_ok-late.late.items
     c.in_ok-early.ensures c.in_ok-late.ensures c.loop-k.k c.loop-k-test.true c.index.result.now

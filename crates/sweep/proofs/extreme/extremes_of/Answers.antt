@@ -1,6 +1,6 @@
-use Rattle.sweep.proofs.Common.{◌<◌, pos, length, arith, subst, sym, ap, ◌∙◌, Vec, Global, slice_get-get_or, Sample, Extreme, Low, High}
+use Rattle.sweep.proofs.Common.{◌<◌, pos, length, arith, sym, ◌∙◌, slice_get-get_or, Sample, Low, High}
 use Rattle.sweep.proofs.ExtremeList.{as_many_servers, lawful_at, server_at}
-use Rattle.sweep.proofs.ExtremeList.{ExtremesSoFar, ExtremesSoFar-more, ExtremesSoFar-other, ExtremesSoFar-all}
+use Rattle.sweep.proofs.ExtremeList.{ExtremesSoFar-more, ExtremesSoFar-other, ExtremesSoFar-all}
 use Rattle.sweep.proofs.extreme.extremes_of.Goals as goal
 use Rattle.sweep.proofs.extreme.extremes_of.Goals.{then-of-server+in_ok-push+in_ok-push-2, else-of-server}
 
@@ -45,12 +45,10 @@ loop-number-preserved g c =
           let own = sym (server_at samples servers c.requires.servers number _ _ here) ∙ w.if-of-server.true in
           let lawful = lawful_at samples c.requires.samples number _ here in
           record {
-            lows = subst (ExtremesSoFar Low samples c.args.server _)
-                (sym (ap (λ (v : Vec Extreme Global). v.items) w.lows-is ∙ w.in_ok-push.ensures.items))
+            lows = rw (w.lows-is, w.in_ok-push.ensures.items)
                 (ExtremesSoFar-more Low samples c.args.server number c.loop-number.lows.items lows _ w.extreme_of.result
                 here own lawful w.extreme_of.ensures.number w.extreme_of.ensures.is);
-            highs = subst (ExtremesSoFar High samples c.args.server _)
-                (sym (ap (λ (v : Vec Extreme Global). v.items) w.highs-is ∙ w.in_ok-push-2.ensures.items))
+            highs = rw (w.highs-is, w.in_ok-push-2.ensures.items)
                 (ExtremesSoFar-more High samples c.args.server number c.loop-number.highs.items highs _
                 w.extreme_of-then-of-server.result here own lawful w.extreme_of-then-of-server.ensures.number
                 w.extreme_of-then-of-server.ensures.is);
@@ -59,12 +57,10 @@ loop-number-preserved g c =
           let here = slice_get-get_or samples number none within in
           let of = server_at samples servers c.requires.servers number _ _ here in
           record {
-            lows = subst (ExtremesSoFar Low samples c.args.server _)
-                (sym (ap (λ (v : Vec Extreme Global). v.items) w.lows-is))
+            lows = rw w.lows-is
                 (ExtremesSoFar-other Low samples c.args.server number c.loop-number.lows.items lows _ here
                 (λ same. w.if-of-server.false (of ∙ same)));
-            highs = subst (ExtremesSoFar High samples c.args.server _)
-                (sym (ap (λ (v : Vec Extreme Global). v.items) w.highs-is))
+            highs = rw w.highs-is
                 (ExtremesSoFar-other High samples c.args.server number c.loop-number.highs.items highs _ here
                 (λ same. w.if-of-server.false (of ∙ same)));
           }

@@ -1,4 +1,5 @@
-use Rattle.sweep.proofs.Common.{◌≡◌, ◌≤◌, get_or, Some, arith, subst, sym, ◌∙◌, ap, ⊎_elim, slice_get, cases_lt, slice_get-get_or, slice_get_within, same_Some, Arrival}
+use Rattle.sweep.proofs.Common.{◌≡◌, ◌≤◌, get_or, Some, arith, slice_get, slice_get-get_or, slice_get_within, Arrival}
+use Rattle.sweep.proofs.List.{below_next}
 use Rattle.sweep.proofs.PassageLevels.{IsLead-more}
 use Rattle.sweep.proofs.lead.lead_upto.Goals as goal
 
@@ -15,14 +16,7 @@ loop-next-preserved c =
     record {
       no_fewer = omega arith;
       within = omega arith;
-      upto = λ i x less at. ⊎_elim
-          (λ old. c.loop-next.invariant.upto i x old at)
-          (λ le.
-          let same : next ≡ i = omega arith in
-          let one : a ≡ x = same_Some a x (sym here ∙ ap (slice_get queue) same ∙ at) in
-          let come = c.if-queue-next.true in
-          subst (λ (y : Arrival). y.at ≤ c.args.place) one come)
-          (cases_lt i next);
+      upto = below_next (λ i x. x.at ≤ c.args.place) queue next a here c.loop-next.invariant.upto c.if-queue-next.true;
       leads = IsLead-more queue next c.loop-next.lead c.lead_after.result c.loop-next.invariant.leads a here
           c.lead_after.ensures.higher c.lead_after.ensures.no_higher;
     }

@@ -1,4 +1,4 @@
-use Rattle.sweep.proofs.Common.{◌<◌, ℕ, List, length, sym, subst, slice_get_within, seen, AreEarlyTops, AreTopsOver, AreWithin, Reaches, Arrival}
+use Rattle.sweep.proofs.Common.{◌<◌, ℕ, subst, slice_get_within, seen, AreEarlyTops}
 use Rattle.std.proofs.lemmas.Result.{IfOk-weaker}
 use Rattle.sweep.proofs.ArrivalOrder.{length_seen}
 use Rattle.sweep.proofs.PassageLevels.{AreEarlyTops-queue}
@@ -6,7 +6,7 @@ use Rattle.sweep.proofs.passage.early_tops.Goals as goal
 
 pub tops_over-requires-clause-within : goal.tops_over-requires-clause-within
 tops_over-requires-clause-within c =
-    subst (AreWithin (length c.args.extremes.now)) (sym c.as_slice.ensures.value)
+    rw c.as_slice.ensures.value
     (λ i a at. let of = c.in_ok-queue.ensures.each i a at in
     subst (λ (n : ℕ). a.index < n) (length_seen c.args.backwards c.args.extremes.now)
     (slice_get_within (seen c.args.backwards c.args.extremes.now) a.index of.extreme of.stands))
@@ -17,7 +17,5 @@ returns c =
     IfOk-weaker c.tops_over.result _
     (λ tops. AreEarlyTops c.args.drift_ppb extremes c.args.stretches.now tops.items)
     (λ tops are. AreEarlyTops-queue c.args.drift_ppb extremes c.in_ok-queue.queue.items c.in_ok-queue.ensures
-    c.args.stretches.now tops.items
-    (subst (λ (q : List Arrival). AreTopsOver (Reaches c.args.drift_ppb q) c.args.stretches.now tops.items)
-    c.as_slice.ensures.value are))
+    c.args.stretches.now tops.items (rw c.as_slice.ensures.value at are))
     c.tops_over.ensures

@@ -1,4 +1,4 @@
-use Rattle.sweep.proofs.Common.{rules, ◌≡◌, ◌+◌, Some, get_or, arith, subst, sym, slice_get, slice_get-get_or, Option, AreOver, IsTopOf, Reaches, Top, UnsignedStretch}
+use Rattle.sweep.proofs.Common.{rules, ◌≡◌, Some, get_or, arith, slice_get, slice_get-get_or, Option, IsTopOf, Reaches, Top, UnsignedStretch}
 use Rattle.sweep.proofs.List.{AreOver-more}
 use Rattle.sweep.proofs.passage.tops_over.Goals as goal
 
@@ -30,7 +30,7 @@ loop-k-preserved c =
     λ s. IsTopOf (Reaches c.args.drift_ppb queue s) in
     record {
       so_far =
-          subst (AreOver holds stretches (k + 1)) (sym c.in_ok-push.ensures.items)
+          rw c.in_ok-push.ensures.items
           (AreOver-more holds stretches k c.loop-k.tops.items c.loop-k.invariant.so_far stretch here
           c.top_over-top.result c.top_over-top.ensures.top);
       within = upto.within;

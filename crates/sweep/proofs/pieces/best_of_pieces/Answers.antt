@@ -1,17 +1,16 @@
-use Rattle.sweep.proofs.Common.{rules, ℤ, List, length, ◌<◌, subst, sym, to_z-of_z, w128, ArePieces, AreStretchesOf, MiddlesRise, Extreme, Low, High}
-use Rattle.sweep.proofs.ExtremeList.{lawful_lent, some_sample, some_extreme}
-use Rattle.sweep.proofs.Piece.{AreBestOfPieces-tops, AreTopNumbers-lent, ArePairsOf-lent}
+use Rattle.sweep.proofs.Common.{rules, length, ◌<◌, subst, sym, to_z-of_z, w128, MiddlesRise, Low, High}
+use Rattle.sweep.proofs.ExtremeList.{lawful_extremes, some_sample, some_extreme}
+use Rattle.sweep.proofs.Piece.{AreBestOfPieces-tops}
 use Rattle.sweep.proofs.pieces.best_of_pieces.Goals as goal
 
 pub stretches_of-requires : goal.stretches_of-requires
 stretches_of-requires g c =
-    subst (λ (first : ℤ). ArePieces first c.args.ends.now) (sym (to_z-of_z w128 c.args.first c.ranges.first))
-    c.requires.pieces
+    rw (to_z-of_z w128 c.args.first c.ranges.first) c.requires.pieces
 
 pub top_numbers-requires-clause-extremes : goal.top_numbers-requires-clause-extremes
 top_numbers-requires-clause-extremes g c =
-    lawful_lent Low (g.S.SampleSource.samples c.args.samples) c.args.server _ c.in_ok-lows.ensures.lows _
-    c.as_slice.ensures.value
+    rw c.as_slice.ensures.value
+    (lawful_extremes Low (g.S.SampleSource.samples c.args.samples) c.args.server _ c.in_ok-lows.ensures.lows)
 
 pub top_numbers-requires-clause-in_order : goal.top_numbers-requires-clause-in_order
 top_numbers-requires-clause-in_order g c =
@@ -19,13 +18,13 @@ top_numbers-requires-clause-in_order g c =
 
 pub top_numbers-requires-2-clause-extremes : goal.top_numbers-requires-2-clause-extremes
 top_numbers-requires-2-clause-extremes g c =
-    lawful_lent High (g.S.SampleSource.samples c.args.samples) c.args.server _ c.in_ok-lows.ensures.highs _
-    c.as_slice-3.ensures.value
+    rw c.as_slice-3.ensures.value
+    (lawful_extremes High (g.S.SampleSource.samples c.args.samples) c.args.server _ c.in_ok-lows.ensures.highs)
 
 pub top_numbers-requires-2-clause-some : goal.top_numbers-requires-2-clause-some
 top_numbers-requires-2-clause-some g c =
     let some : 0 < length c.in_ok-lows.lows.items = search rules in
-    subst (λ (b : List Extreme). 0 < length b) (sym c.as_slice-3.ensures.value)
+    rw c.as_slice-3.ensures.value
     (some_extreme High (g.S.SampleSource.samples c.args.samples) c.args.server c.in_ok-lows.highs.items
     c.in_ok-lows.ensures.highs
     (some_sample Low (g.S.SampleSource.samples c.args.samples) c.args.server c.in_ok-lows.lows.items
@@ -49,14 +48,8 @@ returns-clause-best g c =
     AreBestOfPieces-tops (g.S.SampleSource.samples c.args.samples) c.args.server
     c.args.first c.args.ends.now c.args.drift_ppb c.in_ok-lows.lows.items c.in_ok-lows.highs.items
     c.in_ok-lows.ensures.lows c.in_ok-lows.ensures.highs c.in_ok-stretches.stretches.items
-    (subst (λ (first : ℤ). AreStretchesOf first c.args.ends.now c.in_ok-stretches.stretches.items)
-    (to_z-of_z w128 c.args.first c.ranges.first) c.in_ok-stretches.ensures)
+    (rw (to_z-of_z w128 c.args.first c.ranges.first) at c.in_ok-stretches.ensures)
     c.in_ok-low_numbers.low_numbers.items c.in_ok-high_numbers.high_numbers.items c.in_ok-chosen.chosen.items
-    (AreTopNumbers-lent c.args.drift_ppb _ c.in_ok-lows.lows.items _ c.in_ok-stretches.stretches.items
-    c.in_ok-low_numbers.low_numbers.items c.as_slice.ensures.value c.as_slice-2.ensures.value
-    c.in_ok-low_numbers.ensures)
-    (AreTopNumbers-lent c.args.drift_ppb _ c.in_ok-lows.highs.items _ c.in_ok-stretches.stretches.items
-    c.in_ok-high_numbers.high_numbers.items c.as_slice-3.ensures.value c.as_slice-4.ensures.value
-    c.in_ok-high_numbers.ensures)
-    (ArePairsOf-lent _ c.in_ok-low_numbers.low_numbers.items _ c.in_ok-high_numbers.high_numbers.items
-    c.in_ok-chosen.chosen.items c.as_slice-5.ensures.value c.as_slice-6.ensures.value c.in_ok-chosen.ensures)
+    (rw (c.as_slice.ensures.value, c.as_slice-2.ensures.value) at c.in_ok-low_numbers.ensures)
+    (rw (c.as_slice-3.ensures.value, c.as_slice-4.ensures.value) at c.in_ok-high_numbers.ensures)
+    (rw (c.as_slice-5.ensures.value, c.as_slice-6.ensures.value) at c.in_ok-chosen.ensures)

@@ -1,12 +1,11 @@
-use Rattle.sweep.proofs.Common.{◌≡◌, ◌<◌, ◌-◌, refl, List, Some, length, arith, subst, sym, ap, ◌∙◌, true≢false, Vec, Global, slice_get, slice_get-get_or, seen, PrefixMaximum}
-use Rattle.sweep.proofs.MaximumList.{MaximaSoFar, MaximaSoFar-none, MaximaSoFar-kept, MaximaSoFar-more, AreMaximaOf-all}
+use Rattle.sweep.proofs.Common.{◌≡◌, ◌<◌, ◌-◌, refl, List, Some, length, arith, subst, sym, ap, ◌∙◌, true≢false, slice_get, slice_get-get_or, seen, PrefixMaximum}
+use Rattle.sweep.proofs.MaximumList.{MaximaSoFar-none, MaximaSoFar-kept, MaximaSoFar-more, AreMaximaOf-all}
 use Rattle.sweep.proofs.prefix_maximum.maxima_of.Goals as goal
 use Rattle.sweep.proofs.prefix_maximum.maxima_of.Goals.{then-is_higher+in_ok-push, else-is_higher}
 
 pub loop-turn-init : goal.loop-turn-init
 loop-turn-init c =
-    subst (MaximaSoFar c.in_ok-queue.queue.items 0) (sym c.new-maxima.ensures.items)
-    (MaximaSoFar-none c.in_ok-queue.queue.items)
+    rw c.new-maxima.ensures.items (MaximaSoFar-none _ _ c.in_ok-queue.queue.items)
 
 pub loop-turn-preserved : goal.loop-turn-preserved
 loop-turn-preserved c =
@@ -20,8 +19,7 @@ loop-turn-preserved c =
     let passed = c.as_slice.ensures.value in
     elim c.if-is_higher.branch [
       | then-is_higher+in_ok-push w ↦
-          subst (MaximaSoFar queue _)
-          (sym (ap (λ (v : Vec PrefixMaximum Global). v.items) w.maxima-is ∙ w.in_ok-push.ensures.items))
+          rw (w.maxima-is, w.in_ok-push.ensures.items)
           (MaximaSoFar-more c.args.drift_ppb (seen c.args.backwards c.args.extremes.now) queue
           c.in_ok-queue.ensures turn maxima
           c.loop-turn.invariant arrival here _ refl refl
@@ -29,7 +27,7 @@ loop-turn-preserved c =
           (subst (λ (xs : List PrefixMaximum). slice_get xs (length xs - 1) ≡ Some last) (sym passed) at)))
       | else-is_higher w ↦
           let low = c.is_higher.ensures.no_higher (λ t. true≢false (sym t ∙ w.if-is_higher.false)) in
-          subst (MaximaSoFar queue _) (sym (ap (λ (v : Vec PrefixMaximum Global). v.items) w.maxima-is))
+          rw w.maxima-is
           (MaximaSoFar-kept c.args.drift_ppb (seen c.args.backwards c.args.extremes.now) queue
           c.in_ok-queue.ensures turn maxima
           c.loop-turn.invariant arrival here low.0

@@ -1,4 +1,4 @@
-use Rattle.sweep.proofs.Common.{ℕ, ◌-◌, ◌/◌, ap, ◌∙◌, ◌≡◌, map, subst, sym, arith, billion, mirrored_extreme, AreMaximaOf, IsEarlyLevel, mirrored_stretch, UnsignedStretch}
+use Rattle.sweep.proofs.Common.{ℕ, ◌-◌, ◌/◌, ap, ◌∙◌, map, subst, sym, arith, billion, mirrored_extreme, AreMaximaOf}
 use Rattle.sweep.proofs.Level.{IsLevelOver-higher, higher_quotient}
 use Rattle.sweep.proofs.table.level_over.Goals as goal
 
@@ -8,15 +8,11 @@ returns-clause-level c extremes are lawful some =
     let m = billion - ppb in
     let early = c.early_rise-early.result in
     let late = c.early_rise-late.result in
-    let make : ℕ → ℕ → UnsignedStretch = λ b e. record { begin = b; end = e } in
-    let turned : make c.mirrored_tick.result c.mirrored_tick-2.result ≡ mirrored_stretch c.args.stretch =
-    ap (λ (b : ℕ). make b c.mirrored_tick-2.result) c.mirrored_tick.ensures
-    ∙ ap (λ (e : ℕ). make (mirrored_stretch c.args.stretch).begin e) c.mirrored_tick-2.ensures in
     IsLevelOver-higher c.widening_is_one_number.ensures.is ppb c.requires.rate extremes c.args.stretch
     lawful c.requires.stretch some (early / m) (late / m)
     (c.early_rise-early.ensures extremes
     (subst (AreMaximaOf ppb extremes) (sym c.as_slice.ensures.value) are.early))
-    (subst (λ (s : UnsignedStretch). IsEarlyLevel ppb (map mirrored_extreme extremes) s (late / m)) turned
+    (rw (c.mirrored_tick.ensures, c.mirrored_tick-2.ensures) at
     (c.early_rise-late.ensures (map mirrored_extreme extremes)
     (subst (AreMaximaOf ppb (map mirrored_extreme extremes)) (sym c.as_slice-2.ensures.value) are.late)))
     _ (c.level_of-level.ensures ∙ ap (λ (n : ℕ). n / m) c.max.ensures ∙ higher_quotient early late m (omega arith))

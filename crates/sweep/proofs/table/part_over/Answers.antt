@@ -1,4 +1,4 @@
-use Rattle.sweep.proofs.Common.{ℤ, refl, subst, to_z-of_z, w128, Low, High, Part, IsFromOrigin, IsStretchOf, UnsignedStretch}
+use Rattle.sweep.proofs.Common.{refl, to_z-of_z, w128, Low, High, Part, IsStretchOf, UnsignedStretch}
 use Rattle.sweep.proofs.ExtremeList.{lawful_extremes}
 use Rattle.sweep.proofs.Level.{interval_is, part_is}
 use Rattle.sweep.proofs.StretchList.{lawful_stretch}
@@ -9,10 +9,8 @@ returns c samples is =
     let server = c.args.table.now.server in
     let stretch : UnsignedStretch = record { begin = c.from_origin.result; end = c.from_origin-2.result } in
     let at : IsStretchOf c.args.begin c.args.end stretch = record {
-      begin = subst (λ (x : ℤ). IsFromOrigin x c.from_origin.result) (to_z-of_z w128 c.args.begin c.ranges.begin)
-          c.from_origin.ensures;
-      end = subst (λ (x : ℤ). IsFromOrigin x c.from_origin-2.result) (to_z-of_z w128 c.args.end c.ranges.end)
-          c.from_origin-2.ensures;
+      begin = rw (to_z-of_z w128 c.args.begin c.ranges.begin) at c.from_origin.ensures;
+      end = rw (to_z-of_z w128 c.args.end c.ranges.end) at c.from_origin-2.ensures;
     } in
     let part : Part = record { server = server; interval = c.interval_between.result } in
     part_is samples c.args.begin c.args.end c.args.drift_ppb server part refl

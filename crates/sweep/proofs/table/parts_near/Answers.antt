@@ -1,4 +1,4 @@
-use Rattle.sweep.proofs.Common.{◌≡◌, ◌<◌, ℤ, length, Some, ap, ◌∙◌, subst, sym, arith, to_z, of_z, filter_map, to_z-of_z, common_steps, take_all, w128, IsTableOf, best_part, best_parts, BestTable}
+use Rattle.sweep.proofs.Common.{◌≡◌, ◌<◌, ℤ, length, Some, ◌∙◌, subst, sym, arith, to_z, of_z, to_z-of_z, common_steps, take_all, w128, IsTableOf, best_part, BestTable}
 use Rattle.sweep.proofs.TableList.{filter_map_more, parts_are}
 use Rattle.sweep.proofs.table.parts_near.Goals as goal
 
@@ -25,13 +25,9 @@ loop-index-preserved c =
 
 pub returns : goal.returns
 returns c samples count are =
-    let ppb = c.args.drift_ppb in
-    let begin : ℤ = to_z w128 (of_z w128 c.args.begin) in
-    let end : ℤ = to_z w128 (of_z w128 c.args.end) in
-    let tables = c.args.tables.now in
-    c.loop-index.invariant.so_far samples are.each
-    ∙ ap (filter_map (λ (t : BestTable). best_part samples begin end ppb t.server))
-    (take_all c.loop-index.index tables c.loop-index-test.false)
-    ∙ parts_are samples count begin end ppb tables are
-    ∙ ap (λ (x : ℤ). best_parts samples count x end ppb) (to_z-of_z w128 c.args.begin c.ranges.begin)
-    ∙ ap (λ (y : ℤ). best_parts samples count c.args.begin y ppb) (to_z-of_z w128 c.args.end c.ranges.end)
+    rw (
+      to_z-of_z w128 c.args.begin c.ranges.begin,
+      to_z-of_z w128 c.args.end c.ranges.end,
+      take_all c.loop-index.index c.args.tables.now c.loop-index-test.false,
+    ) at (c.loop-index.invariant.so_far samples are.each)
+    ∙ parts_are samples count c.args.begin c.args.end c.args.drift_ppb c.args.tables.now are

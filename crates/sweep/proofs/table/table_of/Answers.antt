@@ -1,16 +1,16 @@
-use Rattle.sweep.proofs.Common.{rules, List, length, ◌<◌, subst, Low, High, AreMaximaBothWays, Extreme}
-use Rattle.sweep.proofs.ExtremeList.{lawful_lent, some_sample, some_extreme}
+use Rattle.sweep.proofs.Common.{rules, length, ◌<◌, Low, High}
+use Rattle.sweep.proofs.ExtremeList.{lawful_extremes, some_sample, some_extreme}
 use Rattle.sweep.proofs.table.table_of.Goals as goal
 
 pub both_ways-requires-clause-extremes : goal.both_ways-requires-clause-extremes
 both_ways-requires-clause-extremes g c =
-    lawful_lent Low (g.S.SampleSource.samples c.args.samples) c.args.server _ c.in_ok-lows.ensures.lows _
-    c.as_slice.ensures.value
+    rw c.as_slice.ensures.value
+    (lawful_extremes Low (g.S.SampleSource.samples c.args.samples) c.args.server _ c.in_ok-lows.ensures.lows)
 
 pub both_ways-requires-2-clause-extremes : goal.both_ways-requires-2-clause-extremes
 both_ways-requires-2-clause-extremes g c =
-    lawful_lent High (g.S.SampleSource.samples c.args.samples) c.args.server _ c.in_ok-lows.ensures.highs _
-    c.as_slice-2.ensures.value
+    rw c.as_slice-2.ensures.value
+    (lawful_extremes High (g.S.SampleSource.samples c.args.samples) c.args.server _ c.in_ok-lows.ensures.highs)
 
 pub returns-clause-none : goal.returns-clause-none
 returns-clause-none g c = (
@@ -30,15 +30,13 @@ returns-clause-table g c =
         extremes = c.in_ok-lows.lows.items;
         are = c.in_ok-lows.ensures.lows;
         some = some;
-        maxima_are = subst (λ (xs : List Extreme). AreMaximaBothWays c.args.drift_ppb xs c.in_ok-lows-2.lows)
-            c.as_slice.ensures.value c.in_ok-lows-2.ensures;
+        maxima_are = rw c.as_slice.ensures.value at c.in_ok-lows-2.ensures;
       };
       highs = record {
         extremes = c.in_ok-lows.highs.items;
         are = c.in_ok-lows.ensures.highs;
         some = some_extreme High samples c.args.server c.in_ok-lows.highs.items c.in_ok-lows.ensures.highs
             (some_sample Low samples c.args.server c.in_ok-lows.lows.items c.in_ok-lows.ensures.lows some);
-        maxima_are = subst (λ (xs : List Extreme). AreMaximaBothWays c.args.drift_ppb xs c.in_ok-highs.highs)
-            c.as_slice-2.ensures.value c.in_ok-highs.ensures;
+        maxima_are = rw c.as_slice-2.ensures.value at c.in_ok-highs.ensures;
       };
     }

@@ -1,5 +1,5 @@
-use Rattle.sweep.proofs.Common.{arith, rules, get_or, ℤ, pos, subst, sym, FitsSigned, refl, ints, to_z-of_z, w128, AreStretchesOf}
-use Rattle.sweep.proofs.StretchList.{StretchesSoFar, piece_at, piece_here, StretchesSoFar-more}
+use Rattle.sweep.proofs.Common.{arith, rules, get_or, ℤ, pos, subst, FitsSigned, refl, ints, to_z-of_z, w128, AreStretchesOf}
+use Rattle.sweep.proofs.StretchList.{piece_at, piece_here, StretchesSoFar-more}
 use Rattle.sweep.proofs.unsigned_stretch.stretches_of.Goals as goal
 
 pub from_origin-requires : goal.from_origin-requires
@@ -21,7 +21,7 @@ loop-reading-preserved c =
     let fits : FitsSigned w128 (get_or c.args.ends.now c.loop-reading.reading-index (pos 0)) = search rules in
     let piece = piece_here c.args.first c.args.ends.now c.loop-reading.reading-index _ c.requires c.ranges.first fits
     c.loop-reading.invariant.begins c.loop-reading-test.true in
-    subst (StretchesSoFar _ c.args.ends.now _ _) (sym c.in_ok-push.ensures.items)
+    rw c.in_ok-push.ensures.items
     (StretchesSoFar-more _ c.args.ends.now c.loop-reading.reading-index _ c.loop-reading.stretches.items
     c.loop-reading.invariant _ _
     (piece_at _ _ c.args.ends.now c.loop-reading.reading-index _ _ refl c.loop-reading.invariant.begins

@@ -1,0 +1,20 @@
+use Rattle.finder.proofs.Common.{length, data_of, ◌∙◌}
+use Rattle.finder.proofs.LongestPiece.{tick_kept}
+use Rattle.finder.proofs.Part.{listed_said, parts_said}
+use Rattle.finder.proofs.longest.parts_over.Goals as goal
+
+pub returns : goal.returns
+returns c =
+    let claim = data_of c.args.claim.now in
+    let servers = length claim.servers in
+    record {
+      exact = λ samples tabled. c.parts_near.ensures samples servers tabled.are
+          ∙ rw (
+            tick_kept c.args.begin c.from-begin.result c.ranges.begin.fits c.from-begin.ensures,
+            tick_kept c.args.end c.from-end.result c.ranges.end.fits c.from-end.ensures,
+          ) (parts_said samples claim _ _);
+      listed = rw (
+        c.args.claim.now.lawful.group_for_each,
+        c.parts_near.ensures c.requires.tables.0 servers c.requires.tables.1.are,
+      ) (listed_said c.requires.tables.0 claim _ _ c.requires.tables.1.of_claim);
+    }
