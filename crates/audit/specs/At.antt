@@ -1,16 +1,7 @@
 -- The report of `at`: what each server says about the clock's error at one moment, and the hull
 -- over the groups, which holds the error.
 use Rattle.std.specs.Prelude.{ℕ, ◌*◌, ◌^◌, ℤ, pos, List}
-use Rattle.byte_stream.specs.State.{FeedState}
-use Rattle.span_cover.specs.Group.{piece_hull}
-use Rattle.checker.specs.Traceability.{HoldsError}
-use Rattle.span_cover.specs.declared.stretch.Stretch.{Stretch}
-use Rattle.intersection.specs.declared.kinds.Hull.{Hull}
-use Rattle.finder.specs.TickParts.{best_parts}
-use Rattle.report.specs.declared.fault.Outcome.TheVariants.{Yes}
-use Rattle.report.specs.Reports.{Report, whole_text}
-use Rattle.line_writer.specs.declared.field.Style.{Style}
-use Rattle.audit_text.specs.Parts.{parts_text}
+use Rattle.audit.specs.Common.{FeedState, piece_hull, HoldsError, Stretch, Hull, best_parts, Yes, Report, whole_text, Style, parts_text}
 use Rattle.audit.specs.Evidence.{EvidenceData, GiveEvidence, OfClaimAndCapture, samples_in}
 use Rattle.audit.specs.Question.{QuestionData}
 

@@ -1,17 +1,8 @@
 -- What the bytes of a capture give under a claim.
 use Rattle.std.specs.Prelude.{List, ℕ, Result, Ok, Err}
-use Rattle.std.specs.Result.{result_map_both}
-use Rattle.pcap_reader.specs.declared.fault.CaptureFault.{CaptureFault}
-use Rattle.pcap_reader.specs.Remaining.{Coming, capture_of}
-use Rattle.claim_file.specs.Claim.{ClaimData}
-use Rattle.pairing.specs.declared.fault.PairFault.{PairFault}
+use Rattle.audit.specs.Common.{result_map_both, CaptureFault, Coming, capture_of, ClaimData, PairFault, answer_of, Collection, RunFault, Capture, Exchanges, Device, Memory, run_fault_of}
 use Rattle.pairing.specs.declared.fault.PairFault.TheVariants as pairs
-use Rattle.pairing.specs.Answer.{answer_of}
-use Rattle.pairing.specs.Pairing.{Collection}
 use Rattle.report.specs.declared.fault.Input.TheVariants as inputs
-use Rattle.report.specs.declared.fault.RunFault.{RunFault}
-use Rattle.report.specs.declared.fault.RunFault.TheVariants.{Capture, Exchanges, Device, Memory}
-use Rattle.report.specs.Fault.{run_fault_of}
 
 -- what a run answers if exchanges can't be collected for this reason
 abbrev pub pair_run_fault_of : PairFault → RunFault

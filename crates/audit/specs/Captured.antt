@@ -1,11 +1,6 @@
 -- What a capture's bytes say, as a relation: frames, and when each was captured.
 use Rattle.std.specs.Prelude.{◌≡◌, ℕ, ◌<◌, ◌≤◌, ◌^◌, All, List, ◌++◌, length}
-use Rattle.std.specs.List.{flat_map}
-use Rattle.era_unfold.specs.declared.unit.Unit.{Unit as TimeUnit}
-use Rattle.era_unfold.specs.Window.{per_second}
-use Rattle.pcap_reader.specs.declared.format.Endian.{Endian}
-use Rattle.pcap_reader.specs.Capture.{Record, magic_of}
-use Rattle.pcap_reader.specs.Field.{spelled}
+use Rattle.audit.specs.Common.{flat_map, Unit as TimeUnit, per_second, Endian, Record, magic_of, spelled}
 
 -- a captured frame: when, as a second from 1970-01-01T00:00:00Z on and the part of it in units; how
 -- many bytes it had on the wire, which is ignored; and the bytes that were captured

@@ -1,33 +1,8 @@
 -- The report of `check`, and what its outcome says about every course of events.
-use Rattle.std.specs.Prelude.{◌≡◌, ℕ, Bool, List, length, Option, Some, None, Ok, slice_get, IfSome}
-use Rattle.std.specs.Prelude.{IsSome, IsSomeAnd}
-use Rattle.byte_stream.specs.Bytes.{IsBytes}
-use Rattle.byte_stream.specs.State.{FeedState}
-use Rattle.certificate.specs.Certificate.{PieceData, CertificateData}
-use Rattle.claim_file.specs.Claim.{ClaimData, group_count}
-use Rattle.pairing.specs.Pairing.{Collection}
-use Rattle.pairing.specs.Sources.{common_reference, source_count}
-use Rattle.checker.specs.Course.{Course, Fits}
-use Rattle.checker.specs.PieceFit.{FitsPiece}
-use Rattle.checker.specs.Stretch.{stretch_of, stretches_of}
-use Rattle.checker.specs.Traceability.{IsContradicted, IsObservedIn, IsOfHull, IsRefusedByHull}
-use Rattle.checker.specs.Traceability.{IsTraceable, IsTraceableByPieces}
-use Rattle.checker.specs.Traceability.{IsWithin, IsWithinNanoseconds}
-use Rattle.checker.specs.Verdict.{verdict_of}
-use Rattle.checker.specs.declared.verdict.Verdict.{Verdict}
+use Rattle.std.specs.Prelude.{◌≡◌, ℕ, Bool, List, length, Option, Some, None, Ok, slice_get, IfSome, IsSome, IsSomeAnd}
+use Rattle.audit.specs.Common.{IsBytes, FeedState, PieceData, CertificateData, ClaimData, group_count, Collection, common_reference, source_count, Course, Fits, FitsPiece, stretch_of, stretches_of, IsContradicted, IsObservedIn, IsOfHull, IsRefusedByHull, IsTraceable, IsTraceableByPieces, IsWithin, IsWithinNanoseconds, verdict_of, Verdict, Why, Contradiction, certificate_read, claim_read, Outcome, Memory, Report, refused, whole_text, Style, Plain, Findings, check_text}
 use Rattle.checker.specs.declared.verdict.Verdict.TheVariants as verdicts
-use Rattle.checker.specs.declared.verdict.Why.{Why}
-use Rattle.checker.specs.declared.verdict.Why.TheVariants.{Contradiction}
-use Rattle.report.specs.CertificateInput.{certificate_read}
-use Rattle.report.specs.ClaimInput.{claim_read}
-use Rattle.report.specs.declared.fault.Outcome.{Outcome}
 use Rattle.report.specs.declared.fault.Outcome.TheVariants as outcomes
-use Rattle.report.specs.declared.fault.RunFault.TheVariants.{Memory}
-use Rattle.report.specs.Reports.{Report, refused, whole_text}
-use Rattle.line_writer.specs.declared.field.Style.{Style}
-use Rattle.line_writer.specs.declared.field.Style.TheVariants.{Plain}
-use Rattle.audit_text.specs.declared.check_report.Findings.{Findings}
-use Rattle.audit_text.specs.CheckReport.{check_text}
 use Rattle.audit.specs.CaptureInput.{capture_read}
 use Rattle.audit.specs.Evidence.{EvidenceData, IsEvidenceOf, OfClaimAndCapture, samples_in}
 use Rattle.audit.specs.Headline.{IsShown}

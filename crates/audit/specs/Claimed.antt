@@ -1,17 +1,6 @@
 -- What a claim's text says, as a relation.
 use Rattle.std.specs.Prelude.{◌≡◌, ◌≢◌, ℕ, ◌*◌, ◌^◌, ◌<◌, ◌≤◌, ℤ, pos, ◌≤ℤ◌, ◌↔◌, List, ◌∷◌, map, codes, length, All, AllPairs, option_map, Option, Some, slice_get}
-use Rattle.std.specs.List.{AllZip}
-use Rattle.std.specs.Net.Grammar.{IsDotted}
-use Rattle.era_unfold.specs.Nanoseconds.{nanoseconds_per_second}
-use Rattle.era_unfold.specs.Ratio.{IsFloor, IsCeiling}
-use Rattle.era_unfold.specs.Window.{ticks_per_second}
-use Rattle.serde_json.specs.Data.{Data, number, unsigned, string, array}
-use Rattle.serde_json.specs.Find.{get}
-use Rattle.serde_json.specs.View.{items_of}
-use Rattle.json_text.specs.Text.{parsed}
-use Rattle.claim_file.specs.Claim.{ClaimData}
-use Rattle.claim_file.specs.Group.{IsInGroup}
-use Rattle.claim_file.specs.Time.{IsTime}
+use Rattle.audit.specs.Common.{AllZip, IsDotted, nanoseconds_per_second, IsFloor, IsCeiling, ticks_per_second, Data, number, unsigned, string, array, get, items_of, parsed, ClaimData, IsInGroup, IsTime}
 
 -- an array of whole numbers
 abbrev pub numbers_value : List ℕ → Data

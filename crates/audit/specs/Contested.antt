@@ -1,19 +1,6 @@
 -- What is shown against a claim from bytes, in relations alone.
 use Rattle.std.specs.Prelude.{◌≡◌, ℕ, ◌*◌, ◌<◌, ℤ, pos, ◌*ℤ◌, ◌<ℤ◌, unsigned_abs, true, List, Some, Ok, slice_get}
-use Rattle.byte_stream.specs.Bytes.{IsBytes}
-use Rattle.era_unfold.specs.declared.unit.Unit.{Unit as TimeUnit}
-use Rattle.era_unfold.specs.Nanoseconds.{nanoseconds_per_second}
-use Rattle.era_unfold.specs.Window.{ticks_per_second}
-use Rattle.pcap_reader.specs.declared.format.Endian.{Endian}
-use Rattle.certificate.specs.Refutation.{RefutationData}
-use Rattle.claim_file.specs.Claim.{ClaimData}
-use Rattle.pairing.specs.Pairing.{Collection}
-use Rattle.pairing.specs.declared.exchange.Exchange.{Exchange}
-use Rattle.report.specs.ClaimInput.{claim_read}
-use Rattle.sample_interval.specs.Moment.{error_of, IsInWindow}
-use Rattle.checker.specs.Course.{Course, FitsInWindows}
-use Rattle.checker.specs.Refutation.{SharesRequests}
-use Rattle.checker.specs.RefutationTest.{is_refuted}
+use Rattle.audit.specs.Common.{IsBytes, Unit as TimeUnit, nanoseconds_per_second, ticks_per_second, Endian, RefutationData, ClaimData, Collection, Exchange, claim_read, error_of, IsInWindow, Course, FitsInWindows, SharesRequests, is_refuted}
 use Rattle.audit.specs.CaptureInput.{capture_read}
 use Rattle.audit.specs.Captured.{CapturedFrame, IsCaptureOf}
 use Rattle.audit.specs.Claimed.{IsClaimText, IsWithinLimits}

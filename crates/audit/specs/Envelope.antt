@@ -1,25 +1,8 @@
 -- The report of `envelope`: the hull of each piece, and the least bound that holds; and what it
 -- says about every course of events.
 use Rattle.std.specs.Prelude.{◌≡◌, ℕ, All, Option, Some, None, is_some, Result, Ok, Err}
-use Rattle.byte_stream.specs.State.{FeedState}
-use Rattle.checker.specs.Traceability.{HoldsError, IsContradicted}
-use Rattle.intersection.specs.declared.kinds.Hull.TheVariants.{Empty}
-use Rattle.finder.specs.declared.carried.LeastCarried.{LeastCarried}
-use Rattle.finder.specs.declared.fault.FindFault.{FindFault}
-use Rattle.finder.specs.declared.least.LeastBound.{LeastBound}
+use Rattle.audit.specs.Common.{FeedState, HoldsError, IsContradicted, Empty, LeastCarried, FindFault, LeastBound, EnvelopeData, IsLeast, envelope_of, FindsEnvelope, hull_at, count_of, Outcome, Yes, No, Memory, Report, refused, whole_text, Style, envelope_text, EnvelopeOptions, LeastLine}
 use Rattle.finder.specs.declared.least.LeastBound.TheVariants.{Holds, NoneHolds}
-use Rattle.finder.specs.Envelope.{EnvelopeData, IsLeast, envelope_of}
-use Rattle.finder.specs.Answer.{FindsEnvelope}
-use Rattle.finder.specs.Found.{hull_at}
-use Rattle.finder.specs.Piece.{count_of}
-use Rattle.report.specs.declared.fault.Outcome.{Outcome}
-use Rattle.report.specs.declared.fault.Outcome.TheVariants.{Yes, No}
-use Rattle.report.specs.declared.fault.RunFault.TheVariants.{Memory}
-use Rattle.report.specs.Reports.{Report, refused, whole_text}
-use Rattle.line_writer.specs.declared.field.Style.{Style}
-use Rattle.audit_text.specs.Envelope.{envelope_text}
-use Rattle.audit_text.specs.declared.envelope.EnvelopeOptions.{EnvelopeOptions}
-use Rattle.audit_text.specs.declared.least_line.LeastLine.{LeastLine}
 use Rattle.audit.specs.Evidence.{EvidenceData, GiveEvidence, OfClaimAndCapture, samples_in}
 use Rattle.audit.specs.Find.{find_run_fault_of}
 use Rattle.audit.specs.Least.{least_line_of}

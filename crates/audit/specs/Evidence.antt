@@ -1,13 +1,6 @@
 -- A claim, and the exchanges of a capture that is held against it.
 use Rattle.std.specs.Prelude.{◌≡◌, ℕ, List, length, Ok, IfSome}
-use Rattle.byte_stream.specs.State.{FeedState}
-use Rattle.claim_file.specs.Claim.{ClaimData, IsLawful, data_of as claim_data}
-use Rattle.pairing.specs.Exchange.{AreLawful}
-use Rattle.pairing.specs.Compact.{compact_data}
-use Rattle.pairing.specs.Pairing.{Collection}
-use Rattle.sample_interval.specs.declared.kinds.Sample.{Sample}
-use Rattle.checker.specs.Traceability.{samples_of}
-use Rattle.report.specs.ClaimInput.{claim_read}
+use Rattle.audit.specs.Common.{FeedState, ClaimData, IsLawful, data_of as claim_data, AreLawful, compact_data, Collection, Sample, samples_of, claim_read}
 use Rattle.audit.specs.CaptureInput.{capture_read}
 use Rattle.audit.specs.declared.evidence.Evidence.{Evidence}
 

@@ -4,14 +4,7 @@
 -- names by server, port and timestamp. T1 and T4 are the windows of the times at which the two were
 -- captured, T2 and T3 the reply's timestamps.
 use Rattle.std.specs.Prelude.{◌≡◌, ◌≢◌, ℕ, ◌+◌, ◌*◌, ◌≤◌, ℤ, pos, ◌≤ℤ◌, List, Some, slice_get}
-use Rattle.era_unfold.specs.Ratio.{IsFloor, IsCeiling}
-use Rattle.era_unfold.specs.Stamp.{IsUnfolded}
-use Rattle.era_unfold.specs.Window.{per_second, ticks_per_second}
-use Rattle.era_unfold.specs.declared.unit.Unit.{Unit as TimeUnit}
-use Rattle.ntp_packet.specs.Header.{version_of, leap_of, mode_of, stratum_of, precision_of, precision_ticks_of, root_delay_of, root_dispersion_of, origin_of, receive_of, transmit_of}
-use Rattle.ntp_packet.specs.Packet.{ntp_port}
-use Rattle.claim_file.specs.Claim.{ClaimData}
-use Rattle.pairing.specs.declared.exchange.Exchange.{Exchange}
+use Rattle.audit.specs.Common.{IsFloor, IsCeiling, IsUnfolded, per_second, ticks_per_second, Unit as TimeUnit, version_of, leap_of, mode_of, stratum_of, precision_of, precision_ticks_of, root_delay_of, root_dispersion_of, origin_of, receive_of, transmit_of, ntp_port, ClaimData, Exchange}
 use Rattle.audit.specs.Captured.{CapturedFrame}
 use Rattle.audit.specs.FramedPacket.{HoldsPacket}
 

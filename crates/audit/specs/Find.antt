@@ -1,28 +1,10 @@
 -- The report of `find`: a certificate, or the first piece for which none can be accepted; and what
 -- its outcome says.
 use Rattle.std.specs.Prelude.{◌≡◌, ◌≢◌, ℕ, List, length, ◌++◌, codes, Result, Ok, Err}
-use Rattle.byte_stream.specs.State.{FeedState}
-use Rattle.certificate.specs.Certificate.{CertificateData}
-use Rattle.certificate.specs.Writing.{certificate_text}
-use Rattle.claim_file.specs.Claim.{ClaimData}
-use Rattle.checker.specs.Traceability.{HoldsError, IsContradicted}
+use Rattle.audit.specs.Common.{FeedState, CertificateData, certificate_text, ClaimData, HoldsError, IsContradicted, Hull, Empty, FindFault, FoundData, certificate, nothing, found_of, stretch_at, NoneIsAcceptedOver, Outcome, RunFault, Pieces, Memory, Report, refused, whole_text, Style, Plain, found_answer, nothing_text}
 use Rattle.checker.specs.declared.verdict.Verdict.TheVariants as verdicts
-use Rattle.intersection.specs.declared.kinds.Hull.{Hull}
-use Rattle.intersection.specs.declared.kinds.Hull.TheVariants.{Empty}
-use Rattle.finder.specs.declared.fault.FindFault.{FindFault}
 use Rattle.finder.specs.declared.fault.FindFault.TheVariants as finds
-use Rattle.finder.specs.Found.{FoundData, certificate, nothing, found_of}
-use Rattle.finder.specs.Piece.{stretch_at}
-use Rattle.finder.specs.Refusal.{NoneIsAcceptedOver}
-use Rattle.report.specs.declared.fault.Outcome.{Outcome}
 use Rattle.report.specs.declared.fault.Outcome.TheVariants as outcomes
-use Rattle.report.specs.declared.fault.RunFault.{RunFault}
-use Rattle.report.specs.declared.fault.RunFault.TheVariants.{Pieces, Memory}
-use Rattle.report.specs.Reports.{Report, refused, whole_text}
-use Rattle.line_writer.specs.declared.field.Style.{Style}
-use Rattle.line_writer.specs.declared.field.Style.TheVariants.{Plain}
-use Rattle.audit_text.specs.Answer.{found_answer}
-use Rattle.audit_text.specs.Nothing.{nothing_text}
 use Rattle.audit.specs.Check.{verdict_on}
 use Rattle.audit.specs.Evidence.{EvidenceData, GiveEvidence, OfClaimAndCapture, samples_in}
 use Rattle.audit.specs.Question.{QuestionData}

@@ -1,18 +1,7 @@
 -- The report of `find --refutation`: a refutation, or that none is found; and what its outcome
 -- says.
 use Rattle.std.specs.Prelude.{◌≡◌, ℕ, false, List, ◌++◌, codes, Option, Some, None}
-use Rattle.byte_stream.specs.State.{FeedState}
-use Rattle.certificate.specs.Refutation.{RefutationData}
-use Rattle.certificate.specs.RefutationWriting.{refutation_text}
-use Rattle.claim_file.specs.Claim.{ClaimData}
-use Rattle.finder.specs.NearestRefutation.{IsNearestRefutation, NoneIsRefuted, nearest_refutation}
-use Rattle.report.specs.declared.fault.Outcome.{Outcome}
-use Rattle.report.specs.declared.fault.Outcome.TheVariants.{Yes, No}
-use Rattle.report.specs.Reports.{Report, whole_text}
-use Rattle.line_writer.specs.declared.field.Style.{Style}
-use Rattle.line_writer.specs.declared.field.Style.TheVariants.{Plain}
-use Rattle.audit_text.specs.Answer.{refutation_answer}
-use Rattle.audit_text.specs.Refutation.{no_refutation_text}
+use Rattle.audit.specs.Common.{FeedState, RefutationData, refutation_text, ClaimData, IsNearestRefutation, NoneIsRefuted, nearest_refutation, Outcome, Yes, No, Report, whole_text, Style, Plain, refutation_answer, no_refutation_text}
 use Rattle.audit.specs.Contested.{ShowsContested}
 use Rattle.audit.specs.Evidence.{EvidenceData, GiveEvidence, OfClaimAndCapture}
 use Rattle.audit.specs.Refute.{IsContestedOf}

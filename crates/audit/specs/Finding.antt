@@ -1,10 +1,7 @@
 -- What a finding shows of the evidence, and of the bytes that give it.
 use Rattle.std.specs.Prelude.{◌≡◌, ◌⊎◌, ℕ, List, Result, Ok, Err, IfSome}
-use Rattle.byte_stream.specs.State.{FeedState}
-use Rattle.feasibility.specs.DriftSettlement.{SettlesFit}
-use Rattle.finder.specs.Settlement.{HasTooManyPieces, SettledData}
-use Rattle.finder.specs.declared.fault.FindFault.{FindFault}
-use Rattle.finder.specs.declared.fault.FindFault.TheVariants.{TooManyPieces, Memory}
+use Rattle.audit.specs.Common.{FeedState, SettlesFit, HasTooManyPieces, SettledData, FindFault, TooManyPieces}
+use Rattle.finder.specs.declared.fault.FindFault.TheVariants.{Memory}
 use Rattle.audit.specs.Evidence.{EvidenceData, GiveEvidence, OfClaimAndCapture}
 use Rattle.audit.specs.Least.{IsLeastBoundOf}
 use Rattle.audit.specs.Question.{Finding}

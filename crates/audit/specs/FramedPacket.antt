@@ -1,8 +1,6 @@
 -- The NTP packet that a frame holds, as parts that are joined: Ethernet, IPv4, UDP, NTP.
 use Rattle.std.specs.Prelude.{◌≡◌, ℕ, ◌+◌, ◌*◌, ◌^◌, ◌<◌, List, [], ◌∷◌, ◌++◌, length, Option}
-use Rattle.byteorder.specs.Endian.{big_bytes}
-use Rattle.frame_reader.specs.Frame.{tag_bytes}
-use Rattle.ntp_packet.specs.Packet.{Packet}
+use Rattle.audit.specs.Common.{big_bytes, tag_bytes, Packet}
 
 -- Ethernet: two addresses, one tag or none, and the type of IPv4, which is 0x0800 (RFC 894). After
 -- the packet there may be padding.

@@ -1,22 +1,6 @@
 -- The whole theorem from bytes, in relations alone.
-use Rattle.std.specs.Prelude.{◌≡◌, ℕ, ◌-◌, ◌*◌, ◌≤◌, ℤ, pos, ◌+ℤ◌, ◌-ℤ◌, ◌*ℤ◌, ◌≤ℤ◌, ◌<ℤ◌, unsigned_abs}
-use Rattle.std.specs.Prelude.{Bool, false, List, length, count_by, Some, Ok, slice_get, slice_index}
-use Rattle.std.specs.Int.{int_max}
-use Rattle.std.specs.List.{range_with_len}
-use Rattle.byte_stream.specs.Bytes.{IsBytes}
-use Rattle.certificate.specs.Certificate.{CertificateData}
-use Rattle.era_unfold.specs.declared.unit.Unit.{Unit as TimeUnit}
-use Rattle.pcap_reader.specs.declared.format.Endian.{Endian}
-use Rattle.claim_file.specs.Claim.{ClaimData}
-use Rattle.pairing.specs.Pairing.{Collection}
-use Rattle.pairing.specs.declared.exchange.Exchange.{Exchange}
-use Rattle.report.specs.ClaimInput.{claim_read}
-use Rattle.sample_interval.specs.Moment.{IsInWindow}
-use Rattle.sample_interval.specs.Widening.{billion}
-use Rattle.checker.specs.Course.{Course}
-use Rattle.checker.specs.PieceFit.{FitsPiece, OfEachEntry}
-use Rattle.checker.specs.Traceability.{IsWithinNanoseconds, samples_of}
-use Rattle.checker.specs.Verdict.{verdict_of}
+use Rattle.std.specs.Prelude.{◌≡◌, ℕ, ◌-◌, ◌*◌, ◌≤◌, ℤ, pos, ◌+ℤ◌, ◌-ℤ◌, ◌*ℤ◌, ◌≤ℤ◌, ◌<ℤ◌, unsigned_abs, Bool, false, List, length, count_by, Some, Ok, slice_get, slice_index}
+use Rattle.audit.specs.Common.{int_max, range_with_len, IsBytes, CertificateData, Unit as TimeUnit, Endian, ClaimData, Collection, Exchange, claim_read, IsInWindow, billion, Course, FitsPiece, OfEachEntry, IsWithinNanoseconds, samples_of, verdict_of}
 use Rattle.checker.specs.declared.verdict.Verdict.TheVariants.{Yes}
 use Rattle.audit.specs.CaptureInput.{capture_read}
 use Rattle.audit.specs.Captured.{CapturedFrame, IsCaptureOf}

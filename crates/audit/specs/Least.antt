@@ -4,14 +4,7 @@
 -- certificate. So the report is one on a bound that was found, and what that shows is said of the
 -- evidence and of the bytes that give it.
 use Rattle.std.specs.Prelude.{ℕ, pos, ◌<◌, ◌≤◌, Bool, true, false, Option, Some, None, Ok, IfSome}
-use Rattle.claim_file.specs.Claim.{ClaimData, max_bound_ns}
-use Rattle.feasibility.specs.Cover.{SomeCourse}
-use Rattle.finder.specs.Carried.{FindsLeastBound, IsCarried, piece_holding}
-use Rattle.finder.specs.Envelope.{with_bound}
-use Rattle.finder.specs.Fewest.{NoneOfFewIsAccepted}
-use Rattle.finder.specs.declared.carried.LeastCarried.{LeastCarried}
-use Rattle.audit_text.specs.declared.least_line.LeastLine.{LeastLine}
-use Rattle.audit_text.specs.declared.least_line.LeastLine.TheVariants.{NotAsked, NoneHolds, Holds}
+use Rattle.audit.specs.Common.{ClaimData, max_bound_ns, SomeCourse, FindsLeastBound, IsCarried, piece_holding, with_bound, NoneOfFewIsAccepted, LeastCarried, LeastLine, NotAsked, NoneHolds, Holds}
 use Rattle.audit.specs.Evidence.{EvidenceData, samples_in}
 
 -- the bound that was found, and the piece of this many seconds that holds the tick at which the

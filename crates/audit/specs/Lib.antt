@@ -1,3 +1,4 @@
+pub mod Common
 pub mod CaptureInput
 pub mod Evidence
 pub mod Samples

@@ -1,16 +1,8 @@
 -- What a question is: the report that is made of a second input and evidence, and what its outcome
 -- shows of the bytes of the inputs. Each question stands in a module of its own.
 use Rattle.std.specs.Prelude.{◌≡◌, Bool, Option, None, Result, Ok, Err, IfSome}
-use Rattle.byte_stream.specs.State.{FeedState}
-use Rattle.finder.specs.Settlement.{SettledData}
-use Rattle.finder.specs.declared.carried.LeastCarried.{LeastCarried}
-use Rattle.finder.specs.declared.fault.FindFault.{FindFault}
+use Rattle.audit.specs.Common.{FeedState, SettledData, LeastCarried, FindFault, Style, Plain, claim_read, Report, Outcome}
 use Rattle.finder.specs.declared.fault.FindFault.TheVariants.{Memory}
-use Rattle.line_writer.specs.declared.field.Style.{Style}
-use Rattle.line_writer.specs.declared.field.Style.TheVariants.{Plain}
-use Rattle.report.specs.ClaimInput.{claim_read}
-use Rattle.report.specs.Reports.{Report}
-use Rattle.report.specs.declared.fault.Outcome.{Outcome}
 use Rattle.audit.specs.CaptureInput.{capture_read}
 use Rattle.audit.specs.Evidence.{EvidenceData}
 use Rattle.audit.specs.Second.{SecondData, SecondKind, second_read}

@@ -1,25 +1,7 @@
 -- The report of `refute`, and what its outcome says.
 use Rattle.std.specs.Prelude.{◌≡◌, ℕ, List, ◌++◌, codes, Bool, true, false, Option, IfSome, Ok}
-use Rattle.byte_stream.specs.State.{FeedState}
-use Rattle.certificate.specs.Certificate.{CertificateData}
-use Rattle.certificate.specs.Refutation.{RefutationData}
-use Rattle.claim_file.specs.Claim.{ClaimData}
-use Rattle.checker.specs.Course.{Course}
-use Rattle.checker.specs.Refutation.{HasCourse, IsAgainst, IsRefuted}
-use Rattle.checker.specs.RefutationTest.{is_refuted}
+use Rattle.audit.specs.Common.{FeedState, CertificateData, RefutationData, ClaimData, Course, HasCourse, IsAgainst, IsRefuted, is_refuted, HasDriftCourse, IsRefutedWithDrift, Shows, is_refuted_with_drift, refutation_read, Outcome, Yes, No, Memory, Report, refused, whole_text, Style, Plain, refutation_answer, about_told, refuted_text}
 use Rattle.checker.specs.declared.verdict.Verdict.TheVariants as verdicts
-use Rattle.feasibility.specs.DriftRefutation.{HasDriftCourse, IsRefutedWithDrift, Shows}
-use Rattle.feasibility.specs.DriftTest.{is_refuted_with_drift}
-use Rattle.report.specs.RefutationInput.{refutation_read}
-use Rattle.report.specs.declared.fault.Outcome.{Outcome}
-use Rattle.report.specs.declared.fault.Outcome.TheVariants.{Yes, No}
-use Rattle.report.specs.declared.fault.RunFault.TheVariants.{Memory}
-use Rattle.report.specs.Reports.{Report, refused, whole_text}
-use Rattle.line_writer.specs.declared.field.Style.{Style}
-use Rattle.line_writer.specs.declared.field.Style.TheVariants.{Plain}
-use Rattle.audit_text.specs.Answer.{refutation_answer}
-use Rattle.audit_text.specs.CheckReport.{about_told}
-use Rattle.audit_text.specs.Refutation.{refuted_text}
 use Rattle.audit.specs.Check.{verdict_on}
 use Rattle.audit.specs.Contested.{ShowsContested}
 use Rattle.audit.specs.Evidence.{EvidenceData, GiveEvidence, OfClaimAndCapture}

@@ -1,17 +1,7 @@
 -- What a run writes and answers for the bytes of its inputs: the first refusal in the order claim,
 -- second input, capture, or the report on what they say.
 use Rattle.std.specs.Prelude.{◌≡◌, ℕ, List, Option, Some, None, Result, Ok, Err, IfErr, IfOk, MatchResult, option_map}
-use Rattle.byte_stream.specs.State.{SinkState}
-use Rattle.claim_file.specs.Claim.{ClaimData}
-use Rattle.pairing.specs.Pairing.{Collection}
-use Rattle.report.specs.ClaimInput.{claim_read}
-use Rattle.report.specs.declared.fault.Outcome.{Outcome}
-use Rattle.report.specs.declared.fault.RunFault.{RunFault}
-use Rattle.report.specs.declared.fault.RunFault.TheVariants.{Pieces, Memory}
-use Rattle.report.specs.Publication.{IsMadeFor, Publishes, Ready}
-use Rattle.report.specs.Reports.{Report, refused}
-use Rattle.report.specs.Run.{RunState}
-use Rattle.line_writer.specs.declared.field.Style.{Style}
+use Rattle.audit.specs.Common.{SinkState, ClaimData, Collection, claim_read, Outcome, RunFault, Pieces, Memory, IsMadeFor, Publishes, Ready, Report, refused, RunState, Style}
 use Rattle.audit.specs.CaptureInput.{capture_read}
 use Rattle.audit.specs.Evidence.{EvidenceData, evidence_of}
 use Rattle.audit.specs.Finding.{IsFindingOf}

@@ -1,7 +1,6 @@
 -- What is asked of a claim and a capture alone, without a second input.
 use Rattle.std.specs.Prelude.{[]}
-use Rattle.finder.specs.Found.{data_of}
-use Rattle.line_writer.specs.declared.field.Style.{Style}
+use Rattle.audit.specs.Common.{found_data as data_of, Style}
 use Rattle.audit.specs.At.{at}
 use Rattle.audit.specs.Envelope.{IsEnvelopeFor, envelope, envelope_finding}
 use Rattle.audit.specs.Find.{IsFoundBy, find}

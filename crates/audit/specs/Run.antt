@@ -1,24 +1,6 @@
 -- What a run needs and what it promises.
 use Rattle.std.specs.Prelude.{◌≡◌, ◌⊎◌, ℕ, Bool, false, Result, Ok, Err, IfErr, IfOk, IfSome, MatchResult}
-use Rattle.byte_stream.specs.Fault.{CountsFault}
-use Rattle.byte_stream.specs.Intake.{TakesAtMost}
-use Rattle.byte_stream.specs.State.{FeedState, IsReadable, IsWritable, SinkState}
-use Rattle.pcap_reader.specs.Limit.{most_taken}
-use Rattle.report.specs.ClaimInput.{max_claim}
-use Rattle.report.specs.ExitStatus.{status_of}
-use Rattle.report.specs.declared.conclusion.Conclusion.{Conclusion}
-use Rattle.report.specs.Input.{most_read}
-use Rattle.report.specs.Publication.{IsUnwritten}
-use Rattle.report.specs.Reading.{IsFromOutside}
-use Rattle.report.specs.declared.fault.Input.{Input}
-use Rattle.report.specs.declared.fault.Input.TheVariants.{Claim}
-use Rattle.report.specs.declared.fault.Outcome.{Outcome}
-use Rattle.report.specs.declared.fault.RunFault.{RunFault}
-use Rattle.report.specs.declared.fault.RunFault.TheVariants.{Memory}
-use Rattle.report.specs.Reports.{CountsSink, GetsText, is_capture, is_claim, is_device, is_second}
-use Rattle.report.specs.Run.{RunState}
-use Rattle.report.specs.Runs.{HasClaim, HasLawfulHeader, IsBeforeCapture, IsBeforeSecond, Runs}
-use Rattle.report.specs.Conclusion.{IsConcluded}
+use Rattle.audit.specs.Common.{CountsFault, TakesAtMost, FeedState, IsReadable, IsWritable, SinkState, most_taken, max_claim, status_of, Conclusion, most_read, IsUnwritten, IsFromOutside, Input, Claim, Outcome, RunFault, Memory, CountsSink, GetsText, is_capture, is_claim, is_device, is_second, RunState, HasClaim, HasLawfulHeader, IsBeforeCapture, IsBeforeSecond, Runs, IsConcluded}
 use Rattle.audit.specs.Evidence.{evidence_data}
 use Rattle.audit.specs.Question.{AreInputsOf, AskedData, Finding, QuestionData, for_a_program, plainly}
 use Rattle.audit.specs.Second.{HasSecond, SecondData, SecondKind, most_second, no_second}

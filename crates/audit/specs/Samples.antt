@@ -1,10 +1,5 @@
 -- The report of `samples`: a line for each sample of the capture, and the counts.
-use Rattle.report.specs.declared.fault.Outcome.TheVariants.{Yes}
-use Rattle.report.specs.Publication.{Ready}
-use Rattle.report.specs.Reports.{Report, whole_text}
-use Rattle.line_writer.specs.declared.field.Style.{Style}
-use Rattle.line_writer.specs.declared.field.Style.TheVariants.{Plain}
-use Rattle.audit_text.specs.Samples.{samples_text}
+use Rattle.audit.specs.Common.{Yes, Ready, Report, whole_text, Style, Plain, samples_text}
 use Rattle.audit.specs.Evidence.{EvidenceData}
 use Rattle.audit.specs.Question.{QuestionData}
 

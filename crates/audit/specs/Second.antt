@@ -1,15 +1,7 @@
 -- The second input of a question: none, a certificate or a refutation.
 use Rattle.std.specs.Prelude.{ℕ, List, Option, IfSome, Some, Result, IsOk, Ok}
-use Rattle.std.specs.Option.{option_map}
-use Rattle.std.specs.Result.{result_map_both}
-use Rattle.certificate.specs.Certificate.{CertificateData}
-use Rattle.certificate.specs.Refutation.{RefutationData}
-use Rattle.report.specs.CertificateInput.{certificate_read, max_certificate}
-use Rattle.report.specs.Input.{most_read}
-use Rattle.report.specs.RefutationInput.{max_refutation, refutation_read}
+use Rattle.audit.specs.Common.{option_map, result_map_both, CertificateData, RefutationData, certificate_read, max_certificate, most_read, max_refutation, refutation_read, RunFault, Certificate, Refutation, TooBig, Device, Memory}
 use Rattle.report.specs.declared.fault.Input.TheVariants as inputs
-use Rattle.report.specs.declared.fault.RunFault.{RunFault}
-use Rattle.report.specs.declared.fault.RunFault.TheVariants.{Certificate, Refutation, TooBig, Device, Memory}
 
 -- which second input a question has
 pub data SecondKind : Type 0 where

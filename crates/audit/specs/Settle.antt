@@ -2,26 +2,8 @@
 -- or without evidence, or that it stays open. Which refutation and which least bound are found has
 -- no definition of its own, so the report is one on what was found.
 use Rattle.std.specs.Prelude.{◌≡◌, ℕ, Bool, true, false, List, length, AllPairs, ◌++◌, codes, Option, Some, None, IsSome, Result, Ok, Err}
-use Rattle.byte_stream.specs.Bytes.{IsBytes}
-use Rattle.byte_stream.specs.State.{FeedState}
-use Rattle.certificate.specs.Certificate.{CertificateData}
-use Rattle.certificate.specs.RefutationWriting.{refutation_text}
-use Rattle.certificate.specs.Refutation.{RefutationData}
-use Rattle.certificate.specs.Writing.{certificate_text}
-use Rattle.finder.specs.Settlement.{SettledData, settled_data, shown, refuted, fitted_by_none, no_evidence, left_open}
-use Rattle.finder.specs.Settlement.{IsFittedByNone, IsLeftOpen, IsShownBy, IsUnheard}
-use Rattle.finder.specs.declared.carried.LeastCarried.{LeastCarried}
-use Rattle.finder.specs.declared.fault.FindFault.{FindFault}
+use Rattle.audit.specs.Common.{IsBytes, FeedState, CertificateData, refutation_text, RefutationData, certificate_text, SettledData, settled_data, shown, refuted, fitted_by_none, no_evidence, left_open, IsFittedByNone, IsLeftOpen, IsShownBy, IsUnheard, LeastCarried, FindFault, SameRequest, Outcome, Yes, No, Report, refused, whole_text, Style, Plain, Human, evidence_answer, open_answer, refutation_answer, shown_answer, about_told, conflicts_text, evidence_text, open_text}
 use Rattle.finder.specs.declared.fault.FindFault.TheVariants.{Memory}
-use Rattle.pairing.specs.Exchange.{SameRequest}
-use Rattle.report.specs.declared.fault.Outcome.{Outcome}
-use Rattle.report.specs.declared.fault.Outcome.TheVariants.{Yes, No}
-use Rattle.report.specs.Reports.{Report, refused, whole_text}
-use Rattle.line_writer.specs.declared.field.Style.{Style}
-use Rattle.line_writer.specs.declared.field.Style.TheVariants.{Plain, Human}
-use Rattle.audit_text.specs.Answer.{evidence_answer, open_answer, refutation_answer, shown_answer}
-use Rattle.audit_text.specs.CheckReport.{about_told}
-use Rattle.audit_text.specs.Settlement.{conflicts_text, evidence_text, open_text}
 use Rattle.audit.specs.Check.{ArePiecesTraced, HasVerdictYes, IsTracedTo}
 use Rattle.audit.specs.Contested.{ShowsContested}
 use Rattle.audit.specs.Evidence.{EvidenceData, GiveEvidence, OfClaimAndCapture}

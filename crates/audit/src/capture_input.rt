@@ -1,16 +1,7 @@
 //! The reading of a capture.
 
 ghost use Rattle.std.specs.Prelude.{◌≡◌, ◌⊎◌, IfOk, IfErr, IfSome, length, Err};
-ghost use Rattle.byte_stream.specs.Fault.{CountsFault};
-ghost use Rattle.byte_stream.specs.Intake.{TakesAtMost};
-ghost use Rattle.byte_stream.specs.State.{IsReadable};
-ghost use Rattle.pcap_reader.specs.Limit.{most_taken};
-ghost use Rattle.claim_file.specs.Claim.{data_of};
-ghost use Rattle.pairing.specs.Exchange.{AreLawful};
-ghost use Rattle.pairing.specs.Compact.{compact_data};
-ghost use Rattle.report.specs.Reading.{Reads};
-ghost use Rattle.report.specs.Reports.{is_capture, is_device};
-ghost use Rattle.report.specs.Runs.{HasLawfulHeader};
+ghost use Rattle.audit.specs.Common.{CountsFault, TakesAtMost, IsReadable, most_taken, data_of, AreLawful, compact_data, Reads, is_capture, is_device, HasLawfulHeader};
 ghost use Rattle.audit.specs.CaptureInput.{IsOfCapture, capture_read, pair_run_fault_of};
 
 use byte_stream::Feed;

@@ -2,9 +2,7 @@
 //! key. And the engine of `check` with what its exit status says.
 
 ghost use Rattle.std.specs.Prelude.{◌≡◌, ◌≤◌, [], Ok, IfOk, true, false};
-ghost use Rattle.byte_stream.specs.State.{IsWritable};
-ghost use Rattle.finder.specs.Piece.{IsStep};
-ghost use Rattle.report.specs.Run.{no_feed, run_state};
+ghost use Rattle.audit.specs.Common.{IsWritable, IsStep, no_feed, run_state};
 ghost use Rattle.audit.specs.At.{HullHoldsError, at};
 ghost use Rattle.audit.specs.Check.{IsNotTraced, IsTraced, check};
 ghost use Rattle.audit.specs.Find.{IsFound, IsNotFound, find};

@@ -6,8 +6,7 @@
 //! of the inputs call for; with it stands what an outcome shows.
 
 ghost use Rattle.std.specs.Prelude.{IfOk};
-ghost use Rattle.byte_stream.specs.State.{IsReadable, IsWritable, SinkState};
-ghost use Rattle.report.specs.Run.{run_state};
+ghost use Rattle.audit.specs.Common.{IsReadable, IsWritable, SinkState, run_state};
 ghost use Rattle.audit.specs.Evidence.{IsLawfulEvidence, evidence_data};
 ghost use Rattle.audit.specs.Question.{asked_of};
 ghost use Rattle.audit.specs.Report.{TellsFinding, TellsTwice, inputs_data};

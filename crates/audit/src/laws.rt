@@ -3,17 +3,7 @@
 //! for all bytes.
 
 ghost use Rattle.std.specs.Prelude.{◌≡◌, ℕ, ◌↔◌, ◌≢◌, ◌⊎◌, List, map, None, Some, Ok, AllPairs, slice_get};
-ghost use Rattle.byte_stream.specs.Bytes.{IsBytes};
-ghost use Rattle.era_unfold.specs.declared.unit.Unit.{Unit as TimeUnit};
-ghost use Rattle.claim_file.specs.Claim.{ClaimData};
-ghost use Rattle.claim_file.specs.Reading.{claim_of};
-ghost use Rattle.ntp_packet.specs.Packet.{Packet, ntp_port, packet_of};
-ghost use Rattle.pairing.specs.Pairing.{exchanges_of};
-ghost use Rattle.pairing.specs.Refusal.{refusal_of};
-ghost use Rattle.pairing.specs.declared.exchange.Exchange.{Exchange};
-ghost use Rattle.pcap_reader.specs.declared.format.Endian.{Endian};
-ghost use Rattle.pcap_reader.specs.declared.format.Format.{Format};
-ghost use Rattle.pcap_reader.specs.Capture.{Record, IsCapture};
+ghost use Rattle.audit.specs.Common.{IsBytes, Unit as TimeUnit, ClaimData, claim_of, Packet, ntp_port, packet_of, exchanges_of, refusal_of, Exchange, Endian, Format, Record, IsCapture};
 ghost use Rattle.audit.specs.Headline.{ShowsHeadline};
 ghost use Rattle.audit.specs.Contested.{BytesLaws, CourseContests, NeverBoth, RefutationContests};
 ghost use Rattle.audit.specs.Claimed.{IsClaimText};

@@ -1,9 +1,7 @@
 //! The line of the least bound that a certificate carries.
 
 ghost use Rattle.std.specs.Prelude.{◌≡◌, ◌≤◌, Some, IfOk, IfSome, is_some};
-ghost use Rattle.certificate.specs.Certificate.{max_pieces};
-ghost use Rattle.claim_file.specs.Claim.{data_of};
-ghost use Rattle.finder.specs.Piece.{count_of};
+ghost use Rattle.audit.specs.Common.{max_pieces, data_of, count_of};
 ghost use Rattle.audit.specs.Evidence.{IsLawfulEvidence, evidence_data};
 ghost use Rattle.audit.specs.Least as spec;
 ghost use Rattle.audit.specs.Least.{IsLeastBoundOf, least_line_of};

@@ -5,9 +5,7 @@
 //! own, here and in `specs/`. A [`Request`] is any of those without a second input.
 
 ghost use Rattle.std.specs.Prelude.{◌≡◌, None, IfOk, IfErr};
-ghost use Rattle.byte_stream.specs.State.{IsWritable};
-ghost use Rattle.line_writer.specs.declared.field.Style.{Style};
-ghost use Rattle.line_writer.specs.declared.field.Style.TheVariants.{Plain};
+ghost use Rattle.audit.specs.Common.{IsWritable, Style, Plain};
 ghost use Rattle.audit.specs.Evidence.{EvidenceData, IsLawfulEvidence, evidence_data};
 ghost use Rattle.audit.specs.Finding.{IsFindingOf};
 ghost use Rattle.audit.specs.Question.{Finding as FindingData, QuestionData, asked_of};

@@ -1,8 +1,7 @@
 //! The samples of exchanges.
 
 ghost use Rattle.std.specs.Prelude.{◌≡◌, ◌≤◌, length};
-ghost use Rattle.claim_file.specs.Claim.{data_of};
-ghost use Rattle.checker.specs.Samples.{AreSamplesOf};
+ghost use Rattle.audit.specs.Common.{data_of, AreSamplesOf};
 ghost use Rattle.audit.specs.Evidence.{IsLawfulEvidence, evidence_data, samples_in};
 
 use crate::evidence::Evidence;

@@ -1,10 +1,7 @@
 //! The samples on their way out, line by line.
 
 ghost use Rattle.std.specs.Prelude.{◌≡◌, ◌≤◌, Ok, vec_capacity};
-ghost use Rattle.byte_stream.specs.State.{IsWritable};
-ghost use Rattle.report.specs.Output.{IsReady, fresh_output};
-ghost use Rattle.report.specs.Publication.{Publishes, PutsReady};
-ghost use Rattle.report.specs.State.{output_state, sink_name};
+ghost use Rattle.audit.specs.Common.{IsWritable, IsReady, fresh_output, Publishes, PutsReady, output_state, sink_name};
 ghost use Rattle.report.specs.declared.output.TheConstants.{OUTPUT_CAPACITY};
 ghost use Rattle.audit.specs.Evidence.{IsLawfulEvidence, evidence_data};
 ghost use Rattle.audit.specs.Samples.{samples_ready};

@@ -1,17 +1,8 @@
 //! The second input of a question: none, a certificate or a refutation.
 
 ghost use Rattle.std.specs.Prelude.{◌≡◌, ◌≤◌, IfOk, IfErr, IfSome, vec_len};
-ghost use Rattle.byte_stream.specs.Fault.{CountsFault};
-ghost use Rattle.byte_stream.specs.Intake.{TakesAtMost};
-ghost use Rattle.byte_stream.specs.State.{FeedState, IsReadable};
-ghost use Rattle.certificate.specs.Certificate.{data_of as certificate_data, max_pieces};
-ghost use Rattle.certificate.specs.Refutation.{data_of as refutation_data};
-ghost use Rattle.report.specs.Reading.{Reads};
-ghost use Rattle.report.specs.Reports.{is_device, is_second};
-ghost use Rattle.report.specs.Run.{no_feed};
-ghost use Rattle.audit.specs.Second.{IsOfSecond, SecondData, SecondKind, most_second, second_read};
-ghost use Rattle.audit.specs.Second.{no_second, certificate_second, refutation_second};
-ghost use Rattle.audit.specs.Second.{nothing_said, certificate_said, refutation_said};
+ghost use Rattle.audit.specs.Common.{CountsFault, TakesAtMost, FeedState, IsReadable, certificate_data, max_pieces, refutation_data, Reads, is_device, is_second, no_feed};
+ghost use Rattle.audit.specs.Second.{IsOfSecond, SecondData, SecondKind, most_second, second_read, no_second, certificate_second, refutation_second, nothing_said, certificate_said, refutation_said};
 
 use byte_stream::Feed;
 use certificate::{Certificate, Refutation};

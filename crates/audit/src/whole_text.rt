@@ -1,10 +1,7 @@
 //! A text that is made whole, on its way out.
 
 ghost use Rattle.std.specs.Prelude.{◌≡◌, ◌++◌, MatchResult, IfOk, IfErr, List, ℕ, Ok, Err};
-ghost use Rattle.audit_text.specs.CheckReport.{about_told};
-ghost use Rattle.byte_stream.specs.State.{IsWritable};
-ghost use Rattle.report.specs.Publication.{IsUnwritten};
-ghost use Rattle.report.specs.Reports.{whole_text};
+ghost use Rattle.audit.specs.Common.{about_told, IsWritable, IsUnwritten, whole_text};
 ghost use Rattle.audit.specs.Report.{IsOfMaking, TellsOf};
 
 use audit_text::add_about;

@@ -1,11 +1,6 @@
 -- What `settle`, `find` and `refute` say to a person: one line a fact.
 use Rattle.std.specs.Prelude.{ℕ, ℤ, Option, Some, None, List, [], ◌∷◌, ◌++◌, codes, if◌then◌else◌, nat_lt}
-use Rattle.line_writer.specs.Field.{line_of, Word, Named, High}
-use Rattle.line_writer.specs.declared.field.Style.TheVariants.{Human}
-use Rattle.certificate.specs.Refutation.{RefutationData}
-use Rattle.claim_file.specs.Claim.{ClaimData}
-use Rattle.intersection.specs.declared.kinds.Hull.{Hull}
-use Rattle.pairing.specs.declared.exchange.Exchange.{Exchange}
+use Rattle.audit_text.specs.Common.{line_of, Word, Named, High, Human, RefutationData, ClaimData, Hull, Exchange}
 use Rattle.audit_text.specs.BoundLines.{carried_line, claimed_line, wider_line}
 use Rattle.audit_text.specs.RefutationLines.{refutation_lines}
 use Rattle.audit_text.specs.Settlement.{evidence_text, open_text}

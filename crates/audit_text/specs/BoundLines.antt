@@ -1,8 +1,7 @@
 -- What is said of bounds, for a person: the one that is claimed, the least that a certificate
 -- carries, and how much wider that is.
 use Rattle.std.specs.Prelude.{ℕ, ◌-◌, List, [], ◌∷◌, codes, Option, Some, None}
-use Rattle.line_writer.specs.Field.{line_of, Word, Nanoseconds}
-use Rattle.line_writer.specs.declared.field.Style.TheVariants.{Human}
+use Rattle.audit_text.specs.Common.{line_of, Word, Nanoseconds, Human}
 
 -- the bound that is claimed, in nanoseconds
 unfoldable pub claimed_line : ℕ → List ℕ

@@ -1,16 +1,7 @@
 -- The text of `check`: what is claimed, what the capture has, what is advised, and the verdict.
-use Rattle.std.specs.Prelude.{ℕ, nat_lt, if◌then◌else◌, Bool, true, false, Option, None, Some}
-use Rattle.std.specs.Prelude.{List, [], ◌∷◌, ◌++◌, length, codes}
-use Rattle.line_writer.specs.Field.{FieldData, line_of, Word, Named, Second, Nanoseconds, Billionths}
-use Rattle.line_writer.specs.Field.{Address, Reference, Nothing}
-use Rattle.line_writer.specs.declared.field.Style.{Style}
-use Rattle.line_writer.specs.declared.field.Style.TheVariants.{Plain}
-use Rattle.claim_file.specs.Claim.{ClaimData}
-use Rattle.pairing.specs.Pairing.{Collection}
-use Rattle.checker.specs.declared.verdict.Verdict.{Verdict}
-use Rattle.checker.specs.declared.verdict.Verdict.TheVariants.{Yes, No}
-use Rattle.checker.specs.declared.verdict.Why.{Why}
-use Rattle.checker.specs.declared.verdict.Why.TheVariants.{Cut, BadSample, MixedServers, RepeatedServer, Unbounded, Contradiction, Exceeds, Uncovered}
+use Rattle.std.specs.Prelude.{ℕ, nat_lt, if◌then◌else◌, Bool, true, false, Option, None, Some, List, [], ◌∷◌, ◌++◌, length, codes}
+use Rattle.audit_text.specs.Common.{FieldData, line_of, Word, Named, Second, Nanoseconds, Billionths, Address, Reference, Nothing, Style, Plain, ClaimData, Collection, Verdict, Yes, No, Why, Cut, BadSample, MixedServers, RepeatedServer, Contradiction, Exceeds, Uncovered}
+use Rattle.checker.specs.declared.verdict.Why.TheVariants.{Unbounded}
 use Rattle.audit_text.specs.Table.{word_for}
 use Rattle.audit_text.specs.Second.{second_of}
 use Rattle.audit_text.specs.CountsLine.{counts_line}

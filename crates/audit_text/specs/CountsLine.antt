@@ -1,8 +1,6 @@
 -- The line that says what became of a capture's records. It is the same for a person.
 use Rattle.std.specs.Prelude.{ℕ, List, [], ◌∷◌, codes}
-use Rattle.line_writer.specs.Field.{line_of, Named}
-use Rattle.line_writer.specs.declared.field.Style.TheVariants.{Plain}
-use Rattle.pairing.specs.declared.counts.Counts.{Counts}
+use Rattle.audit_text.specs.Common.{line_of, Named, Plain, Counts}
 
 -- records, requests, replies and samples; replies that are refused for what their own header says;
 -- replies with no request or several, and warnings of a leap second

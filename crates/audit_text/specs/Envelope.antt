@@ -1,16 +1,8 @@
 -- The text of `envelope`: what is known of the clock's error in each piece of a span, and the least
 -- bound that holds in all of them.
 use Rattle.std.specs.Prelude.{◌≡◌, ℕ, List, [], ◌∷◌, ◌++◌, true, codes, flat_map, if◌then◌else◌}
-use Rattle.line_writer.specs.Field.{FieldData, line_of, Heading, Named, Number, Second, Nanoseconds, Address, Low, High}
+use Rattle.audit_text.specs.Common.{FieldData, line_of, Heading, Named, Number, Second, Nanoseconds, Address, Low, High, Style, ClaimData, Sample, Part, parts_named, EnvelopeData, PieceHullData, LeastBound, Holds, NoneHolds}
 use Rattle.line_writer.specs.declared.field.ColumnKind.TheVariants as kind
-use Rattle.line_writer.specs.declared.field.Style.{Style}
-use Rattle.claim_file.specs.Claim.{ClaimData}
-use Rattle.sample_interval.specs.declared.kinds.Sample.{Sample}
-use Rattle.span_cover.specs.declared.part.Part.{Part}
-use Rattle.finder.specs.Entry.{parts_named}
-use Rattle.finder.specs.Envelope.{EnvelopeData, PieceHullData}
-use Rattle.finder.specs.declared.least.LeastBound.{LeastBound}
-use Rattle.finder.specs.declared.least.LeastBound.TheVariants.{Holds, NoneHolds}
 use Rattle.audit_text.specs.Second.{second_of}
 use Rattle.audit_text.specs.Parts.{part_fields}
 use Rattle.audit_text.specs.Table.{IsUnder, heading, hull_high, hull_low, is_plain, row_of, rows_from, word_for}

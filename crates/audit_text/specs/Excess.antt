@@ -1,7 +1,6 @@
 -- How far an error is beyond a bound, in whole nanoseconds.
 use Rattle.std.specs.Prelude.{ℕ, ◌-◌, ℤ, pos, negsuc, unsigned_abs, Bool, nat_lt}
-use Rattle.line_writer.specs.Field.{FieldData, Low, High}
-use Rattle.line_writer.specs.Millisecond.{longer}
+use Rattle.audit_text.specs.Common.{FieldData, Low, High, longer}
 
 -- The size of an error, rounded up. So an error beyond a bound stays beyond it, and no other comes
 -- to be.

@@ -1,7 +1,6 @@
 -- The line of the least bound that a certificate carries.
 use Rattle.std.specs.Prelude.{ℕ, List, [], ◌∷◌, codes}
-use Rattle.line_writer.specs.Field.{line_of, Named, Nanoseconds}
-use Rattle.line_writer.specs.declared.field.Style.{Style}
+use Rattle.audit_text.specs.Common.{line_of, Named, Nanoseconds, Style}
 use Rattle.audit_text.specs.Table.{word_for}
 use Rattle.audit_text.specs.declared.least_line.LeastLine.{LeastLine}
 use Rattle.audit_text.specs.declared.least_line.LeastLine.TheVariants.{NotAsked, NoneHolds, Holds}

@@ -1,3 +1,4 @@
+pub mod Common
 pub mod Line
 pub mod Second
 pub mod Table

@@ -1,7 +1,6 @@
 -- Lines for a program: how long they are, and how they are written from right to left.
 use Rattle.std.specs.Prelude.{ℕ, List, [], ◌∷◌, ◌++◌}
-use Rattle.line_writer.specs.Field.{FieldData, next_text}
-use Rattle.line_writer.specs.declared.field.Style.TheVariants.{Plain}
+use Rattle.audit_text.specs.Common.{FieldData, next_text, Plain}
 
 -- no line of a sample or of counts has more bytes
 abbrev pub most_line : ℕ

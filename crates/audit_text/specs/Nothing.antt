@@ -1,8 +1,6 @@
 -- The text of `find` if no certificate is found.
 use Rattle.std.specs.Prelude.{ℕ, List, [], ◌∷◌, codes}
-use Rattle.line_writer.specs.Field.{line_of, Word, Named}
-use Rattle.line_writer.specs.declared.field.Style.{Style}
-use Rattle.intersection.specs.declared.kinds.Hull.{Hull}
+use Rattle.audit_text.specs.Common.{line_of, Word, Named, Style, Hull}
 use Rattle.audit_text.specs.Table.{hull_high, hull_low}
 
 -- the number of the piece that fails, and its hull

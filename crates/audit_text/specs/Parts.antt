@@ -1,11 +1,6 @@
 -- The text of `at`: what each server says about the clock's error at one moment, and the hull.
 use Rattle.std.specs.Prelude.{ℕ, List, [], ◌∷◌, ◌++◌, codes, flat_map}
-use Rattle.line_writer.specs.Field.{FieldData, Heading, Word, Address, Low, High}
-use Rattle.line_writer.specs.declared.field.ColumnKind.TheVariants.{Name, End}
-use Rattle.line_writer.specs.declared.field.Style.{Style}
-use Rattle.claim_file.specs.Claim.{ClaimData}
-use Rattle.span_cover.specs.declared.part.Part.{Part}
-use Rattle.intersection.specs.declared.kinds.Hull.{Hull}
+use Rattle.audit_text.specs.Common.{FieldData, Heading, Word, Address, Low, High, Name, End, Style, ClaimData, Part, Hull}
 use Rattle.audit_text.specs.SampleLine.{server_of}
 use Rattle.audit_text.specs.Table.{heading, hull_high, hull_low, row_of}
 

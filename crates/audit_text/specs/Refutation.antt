@@ -1,7 +1,6 @@
 -- The texts of `refute`, and of `find --refutation` if nothing is found.
 use Rattle.std.specs.Prelude.{ℕ, List, codes, Bool, true, false}
-use Rattle.line_writer.specs.declared.field.Style.{Style}
-use Rattle.line_writer.specs.declared.field.Style.TheVariants.{Plain}
+use Rattle.audit_text.specs.Common.{Style, Plain}
 
 -- whether a refutation is accepted
 abbrev pub refuted_text : Bool → List ℕ

@@ -1,10 +1,7 @@
 -- What a refutation says, for a person: its error and when, how that stands to the claim's bound,
 -- and which servers it takes for false.
 use Rattle.std.specs.Prelude.{ℕ, ℤ, pos, List, [], ◌∷◌, ◌++◌, codes, Option, Some, None, flat_map, slice_get, if◌then◌else◌}
-use Rattle.line_writer.specs.Field.{line_of, Word, Named, Nanoseconds, TimeBelow, Address}
-use Rattle.line_writer.specs.declared.field.Style.TheVariants.{Human}
-use Rattle.certificate.specs.Refutation.{RefutationData}
-use Rattle.claim_file.specs.Claim.{ClaimData}
+use Rattle.audit_text.specs.Common.{line_of, Word, Named, Nanoseconds, TimeBelow, Address, Human, RefutationData, ClaimData}
 use Rattle.audit_text.specs.BoundLines.{claimed_line}
 use Rattle.audit_text.specs.Excess.{error_field, excess, is_beyond}
 

@@ -1,12 +1,7 @@
 -- The line of `samples` for one sample.
 use Rattle.std.specs.Prelude.{ℕ, List, [], ◌∷◌, codes, slice_get, unwrap_or}
-use Rattle.line_writer.specs.Field.{FieldData, Heading, Number, Address, Label, Low, High}
+use Rattle.audit_text.specs.Common.{FieldData, Heading, Number, Address, Label, Low, High, Style, ClaimData, Exchange, offset_from, offset_to, delay_from, delay_to, least_error, greatest_error}
 use Rattle.line_writer.specs.declared.field.ColumnKind.TheVariants as kind
-use Rattle.line_writer.specs.declared.field.Style.{Style}
-use Rattle.claim_file.specs.Claim.{ClaimData}
-use Rattle.pairing.specs.declared.exchange.Exchange.{Exchange}
-use Rattle.sample_interval.specs.OnWire.{offset_from, offset_to, delay_from, delay_to}
-use Rattle.sample_interval.specs.Sample.{least_error, greatest_error}
 use Rattle.audit_text.specs.Table.{row_of}
 
 -- the address of the server with this number

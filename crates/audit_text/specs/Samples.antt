@@ -1,9 +1,7 @@
 -- The text of `samples`: a line for each sample, numbered from 0 in the order of the exchanges, and
 -- the counts.
 use Rattle.std.specs.Prelude.{ℕ, List, ◌++◌, length}
-use Rattle.line_writer.specs.declared.field.Style.{Style}
-use Rattle.claim_file.specs.Claim.{ClaimData}
-use Rattle.pairing.specs.Pairing.{Collection}
+use Rattle.audit_text.specs.Common.{Style, ClaimData, Collection}
 use Rattle.audit_text.specs.SampleLine.{sample_columns, sample_line}
 use Rattle.audit_text.specs.CountsLine.{counts_line}
 use Rattle.audit_text.specs.Table.{heading, rows_from}

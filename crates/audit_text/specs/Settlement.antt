@@ -1,11 +1,6 @@
 -- The texts of `settle` if it prints neither a certificate nor a refutation.
 use Rattle.std.specs.Prelude.{ℕ, ℤ, Option, Some, List, [], ◌∷◌, ◌++◌, codes, flat_map, slice_get}
-use Rattle.line_writer.specs.Field.{line_of, Word, Named, Number, Address, TimeBelow, TimeAbove}
-use Rattle.line_writer.specs.declared.field.Style.{Style}
-use Rattle.claim_file.specs.Claim.{ClaimData, group_count}
-use Rattle.feasibility.specs.Contradiction.{ShownConflict}
-use Rattle.intersection.specs.declared.kinds.Hull.{Hull}
-use Rattle.pairing.specs.declared.exchange.Exchange.{Exchange}
+use Rattle.audit_text.specs.Common.{line_of, Word, Named, Number, Address, TimeBelow, TimeAbove, Style, ClaimData, group_count, ShownConflict, Hull, Exchange}
 use Rattle.audit_text.specs.SampleLine.{server_of}
 use Rattle.audit_text.specs.Table.{for_person, hull_high, hull_low}
 

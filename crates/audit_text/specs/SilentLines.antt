@@ -1,10 +1,6 @@
 -- The servers of a claim that have no sample, for a person: a line for each, by its address.
 use Rattle.std.specs.Prelude.{ℕ, zero, suc, List, [], ◌∷◌, ◌++◌, codes, length, if◌then◌else◌}
-use Rattle.line_writer.specs.Field.{line_of, Word, Address}
-use Rattle.line_writer.specs.declared.field.Style.TheVariants.{Human}
-use Rattle.claim_file.specs.Claim.{ClaimData}
-use Rattle.pairing.specs.Sources.{is_source}
-use Rattle.pairing.specs.declared.exchange.Exchange.{Exchange}
+use Rattle.audit_text.specs.Common.{line_of, Word, Address, Human, ClaimData, is_source, Exchange}
 use Rattle.audit_text.specs.SampleLine.{server_of}
 
 -- the line of the server with this number, if no exchange is with it

@@ -1,11 +1,7 @@
 -- Tables: columns with their headings for a person, and rows that are the same for a program. And
 -- words that a person sees in the place of others.
 use Rattle.std.specs.Prelude.{◌≡◌, ℕ, ◌+◌, List, [], ◌∷◌, ◌++◌, Bool, true, false, codes, if◌then◌else◌, filter, length, map, not, reverse, take}
-use Rattle.line_writer.specs.Field.{FieldData, line_of, is_absent, width_of, Word, Nothing, Low, High, Instead, Blank}
-use Rattle.line_writer.specs.declared.field.Style.{Style}
-use Rattle.line_writer.specs.declared.field.Style.TheVariants.{Plain, Columns}
-use Rattle.intersection.specs.declared.kinds.Hull.{Hull}
-use Rattle.intersection.specs.declared.kinds.Hull.TheVariants.{Unbounded, Empty, Bounded}
+use Rattle.audit_text.specs.Common.{FieldData, line_of, is_absent, width_of, Word, Nothing, Low, High, Instead, Blank, Style, Plain, Columns, Hull, Unbounded, Empty, Bounded}
 
 -- it is for programs
 abbrev pub is_plain : Style → Bool

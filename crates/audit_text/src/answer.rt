@@ -1,8 +1,7 @@
 //! What `settle`, `find` and `refute` say to a person.
 
 ghost use Rattle.std.specs.Prelude.{◌≡◌, ◌≤◌, ◌++◌, IfOk, length, map};
-ghost use Rattle.certificate.specs.Refutation.{data_of as refutation_data};
-ghost use Rattle.claim_file.specs.Claim.{data_of, max_servers};
+ghost use Rattle.audit_text.specs.Common.{refutation_data, data_of, max_servers};
 ghost use Rattle.audit_text.specs.Answer as spec;
 ghost use Rattle.audit_text.specs.Answer.{answer_line, covers_line, most_line};
 

@@ -1,14 +1,9 @@
 //! The text of `check`.
 
 ghost use Rattle.std.specs.Prelude.{◌≡◌, ◌≤◌, ◌++◌, IfOk, length};
-ghost use Rattle.line_writer.specs.Field.{field_data};
-ghost use Rattle.claim_file.specs.Claim.{data_of};
-ghost use Rattle.pairing.specs.Exchange.{most_exchanges};
-ghost use Rattle.pairing.specs.Compact.{compact_data};
+ghost use Rattle.audit_text.specs.Common.{field_data, data_of, most_exchanges, compact_data};
 ghost use Rattle.audit_text.specs.CheckReport as spec;
-ghost use Rattle.audit_text.specs.CheckReport.{about_told, client_line, fits_line, groups_field, pieces_line};
-ghost use Rattle.audit_text.specs.CheckReport.{reference_advice, sources_advice, span_line, verdict_line};
-ghost use Rattle.audit_text.specs.CheckReport.{why_word};
+ghost use Rattle.audit_text.specs.CheckReport.{about_told, client_line, fits_line, groups_field, pieces_line, reference_advice, sources_advice, span_line, verdict_line, why_word};
 
 use crate::counts_line::add_counts;
 use crate::second::second_of;

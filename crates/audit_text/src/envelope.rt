@@ -1,12 +1,7 @@
 //! The text of `envelope`.
 
 ghost use Rattle.std.specs.Prelude.{◌≡◌, ◌^◌, ◌<◌, ◌≤◌, ◌++◌, IfOk, length, map, flat_map, All};
-ghost use Rattle.certificate.specs.Certificate.{max_pieces};
-ghost use Rattle.claim_file.specs.Claim.{data_of};
-ghost use Rattle.finder.specs.Envelope.{data_of as envelope_data, piece_data};
-ghost use Rattle.finder.specs.Envelope.{IsLawfulEnvelope, IsLawfulPiece};
-ghost use Rattle.checker.specs.Samples.{AreSamplesOf};
-ghost use Rattle.line_writer.specs.Field.{field_data};
+ghost use Rattle.audit_text.specs.Common.{max_pieces, data_of, envelope_data, piece_data, IsLawfulEnvelope, IsLawfulPiece, AreSamplesOf, field_data};
 ghost use Rattle.audit_text.specs.Second.{second_of};
 ghost use Rattle.audit_text.specs.Envelope as spec;
 ghost use Rattle.audit_text.specs.Envelope.{bound_line, piece_columns, piece_line, piece_lines, server_line, server_lines};

@@ -2,11 +2,7 @@
 //! its contract is the law.
 
 ghost use Rattle.std.specs.Prelude.{◌↔◌, ℕ, ◌<◌, ℤ, unsigned_abs, IsTrue};
-ghost use Rattle.era_unfold.specs.Nanoseconds.{ticks_down};
-ghost use Rattle.claim_file.specs.Claim.{ClaimData};
-ghost use Rattle.intersection.specs.declared.kinds.Hull.{Hull};
-ghost use Rattle.pairing.specs.declared.exchange.Exchange.{Exchange};
-ghost use Rattle.span_cover.specs.declared.part.Part.{Part};
+ghost use Rattle.audit_text.specs.Common.{ticks_down, ClaimData, Hull, Exchange, Part};
 ghost use Rattle.audit_text.specs.Envelope.{PiecesAreUnder, ServersAreUnder};
 ghost use Rattle.audit_text.specs.Excess.{is_beyond};
 ghost use Rattle.audit_text.specs.Parts.{hull_fields, part_columns, part_fields};

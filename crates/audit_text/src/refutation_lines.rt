@@ -1,8 +1,7 @@
 //! What a refutation says, for a person.
 
 ghost use Rattle.std.specs.Prelude.{◌≡◌, ◌++◌, IfOk, flat_map};
-ghost use Rattle.certificate.specs.Refutation.{data_of as refutation_data};
-ghost use Rattle.claim_file.specs.Claim.{data_of};
+ghost use Rattle.audit_text.specs.Common.{refutation_data, data_of};
 ghost use Rattle.audit_text.specs.RefutationLines.{error_line, excess_line, liar_line, liar_lines, refutation_lines};
 
 use crate::bound_lines::add_claimed;

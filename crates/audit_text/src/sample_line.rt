@@ -1,11 +1,8 @@
 //! The line of `samples` for one sample.
 
 ghost use Rattle.std.specs.Prelude.{◌≡◌, ◌+◌, ◌<◌, ◌≤◌, [], ◌∷◌, ◌++◌, IfOk, codes, length};
-ghost use Rattle.claim_file.specs.Claim.{data_of};
-ghost use Rattle.line_writer.specs.Field.{Address, High, Label, Low, Number};
-ghost use Rattle.line_writer.specs.declared.field.Style.TheVariants.{Plain};
+ghost use Rattle.audit_text.specs.Common.{data_of, Address, High, Label, Low, Number, Plain, IsOfSomeClaim};
 ghost use Rattle.line_writer.specs.declared.line.TheConstants.{CAPACITY};
-ghost use Rattle.sample_interval.specs.Exchange.{IsOfSomeClaim};
 ghost use Rattle.audit_text.specs.Line.{most_line, written};
 ghost use Rattle.audit_text.specs.SampleLine.{sample_line, server_of};
 

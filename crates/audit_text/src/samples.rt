@@ -1,9 +1,7 @@
 //! The text of `samples`.
 
 ghost use Rattle.std.specs.Prelude.{◌≡◌, ◌++◌, IfOk, length, map};
-ghost use Rattle.claim_file.specs.Claim.{data_of};
-ghost use Rattle.pairing.specs.Exchange.{AreLawful};
-ghost use Rattle.pairing.specs.Compact.{exchange_shown, compact_data};
+ghost use Rattle.audit_text.specs.Common.{data_of, AreLawful, exchange_shown, compact_data};
 ghost use Rattle.audit_text.specs.Samples as spec;
 ghost use Rattle.audit_text.specs.SampleLine.{sample_line};
 ghost use Rattle.audit_text.specs.Table.{rows_from};

@@ -1,9 +1,7 @@
 //! The texts of `settle` if it prints neither a certificate nor a refutation.
 
 ghost use Rattle.std.specs.Prelude.{◌≡◌, ◌<◌, ◌++◌, IfOk, length, map, flat_map, All};
-ghost use Rattle.claim_file.specs.Claim.{data_of};
-ghost use Rattle.feasibility.specs.PairMarks.{conflict_data};
-ghost use Rattle.pairing.specs.Exchange.{IsLawful as IsLawfulExchange};
+ghost use Rattle.audit_text.specs.Common.{data_of, conflict_data, IsLawful as IsLawfulExchange};
 ghost use Rattle.audit_text.specs.Settlement as spec;
 ghost use Rattle.audit_text.specs.Settlement.{conflict_line, pair_line};
 

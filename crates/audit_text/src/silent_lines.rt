@@ -1,8 +1,7 @@
 //! The servers of a claim that have no sample, for a person.
 
 ghost use Rattle.std.specs.Prelude.{◌≡◌, ◌==◌, ◌<◌, ◌≤◌, ◌++◌, IfOk, length, map};
-ghost use Rattle.std.specs.List.{list_any};
-ghost use Rattle.claim_file.specs.Claim.{data_of, max_servers};
+ghost use Rattle.audit_text.specs.Common.{list_any, data_of, max_servers};
 ghost use Rattle.audit_text.specs.SilentLines.{silent_line, silent_lines};
 
 use crate::sample_line::server_of;

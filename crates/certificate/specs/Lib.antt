@@ -1,3 +1,4 @@
+pub mod Common
 pub mod Certificate
 pub mod Compact
 pub mod Fault

@@ -1,11 +1,6 @@
 -- What the parts of a certificate's text say, each with the first fault that it has.
-use Rattle.std.specs.Prelude.{◌≡◌, ℕ, List, [], ◌∷◌, ◌++◌, Bool, Option, option_map, option_and_then, Result, Ok, Err}
-use Rattle.std.specs.Prelude.{codes, nat_le}
-use Rattle.serde_json.specs.Data.{Data, Items, Members, put}
-use Rattle.serde_json.specs.Events.{items_len}
-use Rattle.serde_json.specs.Find.{as_array, get_member}
-use Rattle.json_text.specs.Member.{has_only, unsigned_of}
-use Rattle.json_text.specs.Step.{given, asked, after}
+use Rattle.std.specs.Prelude.{◌≡◌, ℕ, List, [], ◌∷◌, ◌++◌, Bool, Option, option_map, option_and_then, Result, Ok, Err, codes, nat_le}
+use Rattle.certificate.specs.Common.{Data, Items, Members, put, items_len, as_array, get_member, has_only, unsigned_of, given, asked, after}
 use Rattle.certificate.specs.declared.fault.CertificateFault.{CertificateFault}
 use Rattle.certificate.specs.declared.fault.CertificateFault.TheVariants.{Top, Shape, TooManyEntries, TooManyPieces}
 use Rattle.certificate.specs.Certificate.{CertificateData, PieceData, max_pieces, max_entries}

@@ -2,14 +2,8 @@
 --
 -- `{"pieces":[{"entries":[[a,b],..],"upto":n},..]}`, with blanks and the names in any order. The
 -- count of pieces is looked at before any piece, and the pieces are looked at in order.
-use Rattle.std.specs.Prelude.{ℕ, ◌+◌, ◌^◌, List, [], ◌∷◌, Option, Some, None, option_map, option_and_then, Result, Ok}
-use Rattle.std.specs.Prelude.{codes, nat_lt, nat_le, if◌then◌else◌}
-use Rattle.serde_json.specs.Data.{Data, Items, no_items, item}
-use Rattle.serde_json.specs.Events.{items_len}
-use Rattle.serde_json.specs.Find.{as_array}
-use Rattle.json_text.specs.Member.{members_among, items_at, unsigned_at, unsigned_of}
-use Rattle.json_text.specs.Step.{given, asked, after}
-use Rattle.json_text.specs.Text.{parsed}
+use Rattle.std.specs.Prelude.{ℕ, ◌+◌, ◌^◌, List, [], ◌∷◌, Option, Some, None, option_map, option_and_then, Result, Ok, codes, nat_lt, nat_le, if◌then◌else◌}
+use Rattle.certificate.specs.Common.{Data, Items, no_items, item, items_len, as_array, members_among, items_at, unsigned_at, unsigned_of, given, asked, after, parsed}
 use Rattle.certificate.specs.declared.fault.CertificateFault.{CertificateFault}
 use Rattle.certificate.specs.declared.fault.CertificateFault.TheVariants.{Json, Top, Shape, TooManyEntries, TooManyPieces}
 use Rattle.certificate.specs.Certificate.{CertificateData, PieceData, max_pieces, max_entries}

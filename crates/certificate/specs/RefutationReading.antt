@@ -1,13 +1,8 @@
 -- What the text of a refutation says: a refutation, or the first fault that it has.
 --
 -- `{"error":e,"false":[s,..],"reading":n}`, with blanks and the names in any order.
-use Rattle.std.specs.Prelude.{ℕ, ◌^◌, List, [], ◌∷◌, Option, Some, None, option_map, option_and_then, Result, Ok}
-use Rattle.std.specs.Prelude.{codes, nat_lt, nat_le, if◌then◌else◌}
-use Rattle.serde_json.specs.Data.{Data, Items, no_items, item}
-use Rattle.serde_json.specs.Events.{items_len}
-use Rattle.json_text.specs.Member.{members_among, items_at, signed_at, unsigned_at, unsigned_of}
-use Rattle.json_text.specs.Step.{given, asked}
-use Rattle.json_text.specs.Text.{parsed}
+use Rattle.std.specs.Prelude.{ℕ, ◌^◌, List, [], ◌∷◌, Option, Some, None, option_map, option_and_then, Result, Ok, codes, nat_lt, nat_le, if◌then◌else◌}
+use Rattle.certificate.specs.Common.{Data, Items, no_items, item, items_len, members_among, items_at, signed_at, unsigned_at, unsigned_of, given, asked, parsed}
 use Rattle.certificate.specs.declared.refutation_fault.RefutationFault.{RefutationFault}
 use Rattle.certificate.specs.declared.refutation_fault.RefutationFault.TheVariants.{Json, Shape}
 use Rattle.certificate.specs.Refutation.{RefutationData, max_liars}

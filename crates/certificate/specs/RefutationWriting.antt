@@ -1,11 +1,7 @@
 -- The text that writes a refutation: compact, with the names in the order of their bytes and
 -- numbers in decimal.
 use Rattle.std.specs.Prelude.{ℕ, List, ◌++◌, map, codes, decimal}
-use Rattle.std.specs.Fmt.{signed_decimal}
-use Rattle.std.specs.List.{join_with_byte}
-use Rattle.serde_json.specs.Data.{Data, number, array, object, member, no_members}
-use Rattle.serde_json.specs.Find.{of_integer}
-use Rattle.serde_json.specs.View.{items_of}
+use Rattle.certificate.specs.Common.{signed_decimal, join_with_byte, Data, number, array, object, member, no_members, of_integer, items_of}
 use Rattle.certificate.specs.Refutation.{RefutationData}
 use Rattle.certificate.specs.Writing.{comma, number_value}
 

@@ -1,9 +1,7 @@
 -- The text that writes a certificate: compact, with the names of an object in the order of their
 -- bytes and numbers in decimal.
 use Rattle.std.specs.Prelude.{ℕ, List, [], ◌∷◌, ◌++◌, map, codes, decimal, nat_lt, if◌then◌else◌}
-use Rattle.std.specs.List.{join_with_byte}
-use Rattle.serde_json.specs.Data.{Data, unsigned, number, array, object, item, no_items, member, no_members}
-use Rattle.serde_json.specs.View.{items_of}
+use Rattle.certificate.specs.Common.{join_with_byte, Data, unsigned, number, array, object, item, no_items, member, no_members, items_of}
 use Rattle.certificate.specs.Certificate.{CertificateData, PieceData}
 
 -- the byte of a comma

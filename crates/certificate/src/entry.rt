@@ -1,8 +1,7 @@
 //! The entries of a piece, read token by token.
 
 ghost use Rattle.std.specs.Prelude.{◌≡◌, option_map, option_and_then};
-ghost use Rattle.json.specs.Json.{parse_map};
-ghost use Rattle.json_text.specs.Next.{next_value, next_items, Reads};
+ghost use Rattle.certificate.specs.Common.{parse_map, next_value, next_items, Reads};
 ghost use Rattle.certificate.specs.Parts.{entries_in, judged};
 ghost use Rattle.certificate.specs.Reading as spec;
 

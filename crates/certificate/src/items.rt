@@ -1,8 +1,7 @@
 //! The elements of a JSON array.
 
 ghost use Rattle.std.specs.Prelude.{◌≡◌, ◌≤◌, nat_le, IsTrue, length};
-ghost use Rattle.serde_json.specs.Events.{items_len};
-ghost use Rattle.serde_json.specs.View.{items_view};
+ghost use Rattle.certificate.specs.Common.{items_len, items_view};
 
 use serde_json::Value;
 

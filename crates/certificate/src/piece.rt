@@ -1,10 +1,7 @@
 //! The pieces of a certificate, read token by token.
 
 ghost use Rattle.std.specs.Prelude.{◌≡◌, Some, None, MatchResult, option_map};
-ghost use Rattle.json.specs.Json.{parse_map};
-ghost use Rattle.serde_json.specs.Data.{Data, no_members};
-ghost use Rattle.serde_json.specs.Find.{as_array};
-ghost use Rattle.json_text.specs.Next.{next_value, next_members, Reads};
+ghost use Rattle.certificate.specs.Common.{parse_map, Data, no_members, as_array, next_value, next_members, Reads};
 ghost use Rattle.certificate.specs.Certificate.{piece_data};
 ghost use Rattle.certificate.specs.Parts.{AddsMember, entries_in, judged, parts_of, piece_from};
 ghost use Rattle.certificate.specs.PartsData.{parts_data};

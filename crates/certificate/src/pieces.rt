@@ -1,7 +1,6 @@
 //! The array of pieces, read token by token.
 
-ghost use Rattle.json.specs.Json.{parse_map};
-ghost use Rattle.json_text.specs.Next.{next_value, next_items};
+ghost use Rattle.certificate.specs.Common.{parse_map, next_value, next_items};
 ghost use Rattle.certificate.specs.Fault.{ReadsOn};
 ghost use Rattle.certificate.specs.PartsData.{pieces_data};
 ghost use Rattle.certificate.specs.Parts.{judged, pieces_and, pieces_in};

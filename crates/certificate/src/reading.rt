@@ -5,12 +5,7 @@
 //! are listed a reading takes no more memory than the text has bytes.
 
 ghost use Rattle.std.specs.Prelude.{◌≡◌, ◌≤◌, ◌⊎◌, Some, None, IfOk, MatchResult, length, option_map};
-ghost use Rattle.json.specs.Json.{parse_map};
-ghost use Rattle.serde_json.specs.Data.{Data, no_members};
-ghost use Rattle.serde_json.specs.Find.{as_array};
-ghost use Rattle.serde_json.specs.Read.{read};
-ghost use Rattle.json_text.specs.Next.{next_value, next_members};
-ghost use Rattle.json_text.specs.Step.{given};
+ghost use Rattle.certificate.specs.Common.{parse_map, Data, no_members, as_array, read, next_value, next_members, given};
 ghost use Rattle.certificate.specs.declared.fault.CertificateFault.TheVariants.{Json, Memory};
 ghost use Rattle.certificate.specs.Certificate.{data_of, max_pieces};
 ghost use Rattle.certificate.specs.Fault.{Answers, ReadsOn};

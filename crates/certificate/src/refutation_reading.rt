@@ -1,8 +1,7 @@
 //! What the text of a refutation says.
 
 ghost use Rattle.std.specs.Prelude.{◌≡◌, ◌≤◌, Ok, length, option_map};
-ghost use Rattle.serde_json.specs.View.{view, items_view};
-ghost use Rattle.json_text.specs.Step.{given};
+ghost use Rattle.certificate.specs.Common.{view, items_view, given};
 ghost use Rattle.certificate.specs.Refutation.{data_of};
 ghost use Rattle.certificate.specs.declared.refutation_fault.RefutationFault.TheVariants.{Shape};
 ghost use Rattle.certificate.specs.RefutationFault.{Answers};

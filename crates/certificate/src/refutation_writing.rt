@@ -1,8 +1,7 @@
 //! The text that writes a refutation.
 
 ghost use Rattle.std.specs.Prelude.{◌≡◌, ◌<◌, ◌^◌, All, IfOk, Ok, OnOk, false, map, string_bytes};
-ghost use Rattle.serde_json.specs.Data.{array};
-ghost use Rattle.serde_json.specs.View.{items_of, view};
+ghost use Rattle.certificate.specs.Common.{array, items_of, view};
 ghost use Rattle.certificate.specs.Refutation.{IsHeldRefutation, data_of};
 ghost use Rattle.certificate.specs.RefutationReading.{refutation_of};
 ghost use Rattle.certificate.specs.RefutationWriting.{refutation_text, refutation_value};

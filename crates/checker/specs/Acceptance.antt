@@ -4,17 +4,8 @@
 -- The pieces share their ends, and together they are the span. Each names samples of one server in
 -- an entry and no server twice, and the hull over the groups lies inside the bound.
 use Rattle.std.specs.Prelude.{◌≡◌, ◌≢◌, ℕ, ◌<◌, ℤ, neg_ℤ, ◌≤ℤ◌, List, length, AllPairs, Some, slice_get}
-use Rattle.std.specs.List.{AllZip}
-use Rattle.certificate.specs.Certificate.{PieceData, CertificateData}
-use Rattle.claim_file.specs.Claim.{ClaimData}
-use Rattle.intersection.specs.Hull.{IsHull}
-use Rattle.intersection.specs.declared.kinds.Hull.TheVariants.{Bounded}
-use Rattle.sample_interval.specs.declared.kinds.Sample.{Sample}
-use Rattle.span_cover.specs.Group.{group_intervals}
+use Rattle.checker.specs.Common.{AllZip, PieceData, CertificateData, ClaimData, IsHull, Bounded, Sample, group_intervals, part_of, Part, Stretch}
 use Rattle.checker.specs.Stretch.{stretch_of, last_end}
-use Rattle.span_cover.specs.Part.{part_of}
-use Rattle.span_cover.specs.declared.part.Part.{Part}
-use Rattle.span_cover.specs.declared.stretch.Stretch.{Stretch}
 
 -- a part is what an entry says, by two samples of one server
 pub record IsSaidBy (samples : List Sample) (stretch : Stretch) (ppb : ℕ) (entry : ℕ × ℕ)

@@ -1,14 +1,7 @@
 -- What each server says over a stretch by its best samples, those that make its interval there
 -- narrowest.
 use Rattle.std.specs.Prelude.{ℕ, List, length, filter_map, Option}
-use Rattle.std.specs.Option.{option_map}
-use Rattle.claim_file.specs.Claim.{ClaimData}
-use Rattle.intersection.specs.declared.kinds.Interval.{Interval}
-use Rattle.sample_interval.specs.declared.kinds.Sample.{Sample}
-use Rattle.span_cover.specs.Gathering.{best_interval}
-use Rattle.span_cover.specs.Group.{numbers_below}
-use Rattle.span_cover.specs.declared.part.Part.{Part}
-use Rattle.span_cover.specs.declared.stretch.Stretch.{Stretch}
+use Rattle.checker.specs.Common.{option_map, ClaimData, Interval, Sample, best_interval, numbers_below, Part, Stretch}
 
 -- an interval, as what a server says
 abbrev pub said_by : ℕ → Interval → Part

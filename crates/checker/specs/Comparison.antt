@@ -1,11 +1,6 @@
 -- How the verdicts on two certificates, or for two claims, compare.
-use Rattle.std.specs.Prelude.{◌≡◌, ℕ, ◌<◌, ◌≤ℤ◌, ◌⊎◌, List, [], ◌∷◌, ◌++◌, length, slice_index, slice_get}
-use Rattle.std.specs.Prelude.{All, Any, Some}
-use Rattle.certificate.specs.Certificate.{PieceData, CertificateData}
-use Rattle.sample_interval.specs.declared.kinds.Sample.{Sample}
-use Rattle.span_cover.specs.Part.{part_of}
-use Rattle.span_cover.specs.declared.part.Part.{Part}
-use Rattle.span_cover.specs.declared.stretch.Stretch.{Stretch}
+use Rattle.std.specs.Prelude.{◌≡◌, ℕ, ◌<◌, ◌≤ℤ◌, ◌⊎◌, List, [], ◌∷◌, ◌++◌, length, slice_index, slice_get, All, Any, Some}
+use Rattle.checker.specs.Common.{PieceData, CertificateData, Sample, part_of, Part, Stretch}
 use Rattle.checker.specs.declared.verdict.Verdict.{Verdict}
 use Rattle.checker.specs.declared.verdict.Verdict.TheVariants.{Yes, No}
 use Rattle.checker.specs.declared.verdict.Why.{Why}

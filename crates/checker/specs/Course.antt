@@ -16,10 +16,7 @@
 -- tick, counted from 1970, for a fineness N. What holds for every fineness holds for every
 -- fraction. Nothing orders the moments of different exchanges.
 use Rattle.std.specs.Prelude.{◌≡◌, ℕ, ◌<◌, ◌≤◌, ℤ, pos, ◌*ℤ◌, ◌≤ℤ◌, ◌⊎◌, Bool, false, List, length, Some, slice_get}
-use Rattle.claim_file.specs.Claim.{ClaimData}
-use Rattle.pairing.specs.declared.exchange.Exchange.{Exchange}
-use Rattle.sample_interval.specs.Moment.{Moment, DriftsWithin, IsInWindow, IsWithinDistance}
-use Rattle.sample_interval.specs.Window.{request_start, request_end, reply_start, reply_end}
+use Rattle.checker.specs.Common.{ClaimData, Exchange, Moment, DriftsWithin, IsInWindow, IsWithinDistance, request_start, request_end, reply_start, reply_end}
 use Rattle.checker.specs.Groups.{false_group_count}
 
 -- a course of events; exchanges and servers go by their numbers

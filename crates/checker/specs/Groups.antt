@@ -3,8 +3,7 @@
 -- Servers that depend on one reference are one group: if one is false, all may be. A claim gives
 -- each server the number of its group. Without groups each server is a group of its own.
 use Rattle.std.specs.Prelude.{ℕ, ◌==◌, Bool, ◌&&◌, List, length, slice_index, count_by}
-use Rattle.std.specs.List.{list_any}
-use Rattle.span_cover.specs.Group.{numbers_below}
+use Rattle.checker.specs.Common.{list_any, numbers_below}
 
 -- one of the servers of this group is false
 abbrev pub holds_false : List ℕ → (ℕ → Bool) → ℕ → Bool

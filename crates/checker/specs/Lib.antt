@@ -1,3 +1,4 @@
+pub mod Common
 pub mod Groups
 pub mod Samples
 pub mod Course

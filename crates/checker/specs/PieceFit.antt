@@ -8,10 +8,7 @@
 -- observation does count, as between the last exchange named and the end of the piece: a course
 -- that is observed after such a step doesn't fit.
 use Rattle.std.specs.Prelude.{◌≡◌, ℕ, ◌<◌, ◌≤◌, pos, ◌+ℤ◌, ◌-ℤ◌, ◌*ℤ◌, ◌≤ℤ◌, Bool, true, false, List, length, count_by, slice_get, Some}
-use Rattle.std.specs.List.{range_with_len}
-use Rattle.claim_file.specs.Claim.{ClaimData}
-use Rattle.pairing.specs.declared.exchange.Exchange.{Exchange}
-use Rattle.sample_interval.specs.Moment.{DriftsWithin, IsWithinDistance}
+use Rattle.checker.specs.Common.{range_with_len, ClaimData, Exchange, DriftsWithin, IsWithinDistance}
 use Rattle.checker.specs.Course.{Course}
 
 -- this holds of each entry: of the number and the exchange for its low end, and of those for its

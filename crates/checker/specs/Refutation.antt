@@ -10,14 +10,8 @@
 -- no later than z - E, with z for its greatest reading then. The server receives within R of T2 and
 -- sends within R of T3. Four such moments exist exactly if none of them has to come after one of
 -- the later ones.
-use Rattle.std.specs.Prelude.{◌≡◌, ◌≢◌, ℕ, ◌<◌, ◌≤◌, ◌==◌, ℤ, pos, ◌+ℤ◌, ◌-ℤ◌, ◌*ℤ◌, ◌≤ℤ◌, ◌<ℤ◌}
-use Rattle.std.specs.Prelude.{unsigned_abs, Bool, false, List, length, Some, slice_get, All, AllPairs}
-use Rattle.std.specs.List.{list_any}
-use Rattle.certificate.specs.Refutation.{RefutationData}
-use Rattle.claim_file.specs.Claim.{ClaimData}
-use Rattle.pairing.specs.declared.exchange.Exchange.{Exchange}
-use Rattle.sample_interval.specs.Moment.{Moment, error_of}
-use Rattle.sample_interval.specs.Window.{request_start, reply_end}
+use Rattle.std.specs.Prelude.{◌≡◌, ◌≢◌, ℕ, ◌<◌, ◌≤◌, ◌==◌, ℤ, pos, ◌+ℤ◌, ◌-ℤ◌, ◌*ℤ◌, ◌≤ℤ◌, ◌<ℤ◌, unsigned_abs, Bool, false, List, length, Some, slice_get, All, AllPairs}
+use Rattle.checker.specs.Common.{list_any, RefutationData, ClaimData, Exchange, Moment, error_of, request_start, reply_end}
 use Rattle.checker.specs.Course.{Course, Fits, FitsInWindows, IsClientMoment}
 use Rattle.checker.specs.Groups.{false_group_count}
 use Rattle.checker.specs.Traceability.{IsObservedIn}

@@ -1,11 +1,6 @@
 -- Whether a refutation is accepted, as a test.
-use Rattle.std.specs.Prelude.{ℕ, ◌==◌, ℤ, pos, ◌+ℤ◌, ◌-ℤ◌, unsigned_abs, int_le, int_lt, nat_le, nat_lt}
-use Rattle.std.specs.Prelude.{Bool, true, ◌&&◌, ◌||◌, not, List, [], ◌∷◌, length}
-use Rattle.std.specs.List.{list_all, list_any}
-use Rattle.certificate.specs.Refutation.{RefutationData}
-use Rattle.claim_file.specs.Claim.{ClaimData}
-use Rattle.pairing.specs.declared.exchange.Exchange.{Exchange}
-use Rattle.sample_interval.specs.Window.{request_start, reply_end}
+use Rattle.std.specs.Prelude.{ℕ, ◌==◌, ℤ, pos, ◌+ℤ◌, ◌-ℤ◌, unsigned_abs, int_le, int_lt, nat_le, nat_lt, Bool, true, ◌&&◌, ◌||◌, not, List, [], ◌∷◌, length}
+use Rattle.checker.specs.Common.{list_all, list_any, RefutationData, ClaimData, Exchange, request_start, reply_end}
 use Rattle.checker.specs.Groups.{false_group_count}
 use Rattle.checker.specs.Refutation.{is_liar}
 

@@ -1,10 +1,6 @@
 -- What the answer on a refutation says.
 use Rattle.std.specs.Prelude.{◌≡◌, ◌↔◌, Bool, IsTrue, List, AllPairs}
-use Rattle.certificate.specs.Certificate.{CertificateData}
-use Rattle.certificate.specs.Refutation.{RefutationData}
-use Rattle.claim_file.specs.Claim.{ClaimData}
-use Rattle.pairing.specs.Exchange.{SameRequest}
-use Rattle.pairing.specs.declared.exchange.Exchange.{Exchange}
+use Rattle.checker.specs.Common.{CertificateData, RefutationData, ClaimData, SameRequest, Exchange}
 use Rattle.checker.specs.Refutation.{IsRefuted, HasCourse}
 use Rattle.checker.specs.RefutationTest.{is_refuted}
 use Rattle.checker.specs.Traceability.{samples_of}

@@ -4,8 +4,7 @@
 -- end is ended there, and those after it are left out. The entries of the pieces that are left stay
 -- as they are. The first of them begins with the span.
 use Rattle.std.specs.Prelude.{ℕ, ◌≤◌, pos, ◌≤ℤ◌, nat_lt, nat_le, if◌then◌else◌, List, [], ◌∷◌}
-use Rattle.certificate.specs.Certificate.{PieceData, CertificateData}
-use Rattle.claim_file.specs.Claim.{ClaimData}
+use Rattle.checker.specs.Common.{PieceData, CertificateData, ClaimData}
 
 -- the span from the one Unix tick to the other lies in the claim's
 pub record IsSpanWithin (claim : ClaimData) (first last : ℕ) : Type 0 where

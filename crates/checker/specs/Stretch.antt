@@ -2,10 +2,7 @@
 --
 -- A piece begins where the piece before it ends, and both hold that reading.
 use Rattle.std.specs.Prelude.{ℕ, zero, suc, ℤ, pos, List, [], ◌∷◌, slice_get, IsSomeAnd}
-use Rattle.certificate.specs.Certificate.{PieceData, CertificateData}
-use Rattle.claim_file.specs.Claim.{ClaimData}
-use Rattle.sample_interval.specs.Moment.{IsInWindow}
-use Rattle.span_cover.specs.declared.stretch.Stretch.{Stretch}
+use Rattle.checker.specs.Common.{PieceData, CertificateData, ClaimData, IsInWindow, Stretch}
 
 -- the stretches of pieces of which the first begins here
 abbrev pub stretches_from : ℤ → List PieceData → List Stretch

@@ -1,22 +1,10 @@
 -- What a verdict says about every course of events.
 use Rattle.std.specs.Prelude.{◌≡◌, ℕ, ◌*◌, ◌≤◌, ℤ, pos, ◌*ℤ◌, ◌≤ℤ◌, ◌⊎◌, unsigned_abs, List, [], map, Some, Ok, slice_get, IsSomeAnd}
-use Rattle.era_unfold.specs.Nanoseconds.{nanoseconds_per_second}
-use Rattle.era_unfold.specs.Window.{ticks_per_second}
-use Rattle.certificate.specs.Certificate.{PieceData, CertificateData}
-use Rattle.claim_file.specs.Claim.{ClaimData}
-use Rattle.intersection.specs.Fraction.{HullHoldsFraction}
-use Rattle.intersection.specs.declared.kinds.Hull.{Hull}
-use Rattle.pairing.specs.declared.exchange.Exchange.{Exchange}
-use Rattle.sample_interval.specs.Moment.{error_of, IsInWindow}
-use Rattle.sample_interval.specs.Sample.{sample_of}
-use Rattle.sample_interval.specs.declared.kinds.Sample.{Sample}
+use Rattle.checker.specs.Common.{nanoseconds_per_second, ticks_per_second, PieceData, CertificateData, ClaimData, HullHoldsFraction, Hull, Exchange, error_of, IsInWindow, sample_of, Sample, piece_hull, Part, Stretch}
 use Rattle.checker.specs.Course.{Course, Fits}
-use Rattle.span_cover.specs.Group.{piece_hull}
 use Rattle.checker.specs.PieceFit.{FitsPiece}
 use Rattle.checker.specs.Stretch.{stretch_of, stretches_of}
 use Rattle.checker.specs.Verdict.{parts_after, hull_fault, verdict_of}
-use Rattle.span_cover.specs.declared.part.Part.{Part}
-use Rattle.span_cover.specs.declared.stretch.Stretch.{Stretch}
 use Rattle.checker.specs.declared.verdict.Verdict.{Verdict}
 use Rattle.checker.specs.declared.verdict.Verdict.TheVariants.{Yes, No}
 use Rattle.checker.specs.declared.verdict.Why.{Why}

@@ -1,10 +1,7 @@
 -- The bytes in which the worked exchange is captured: a capture of one request and its reply, which
 -- was written by hand.
 use Rattle.std.specs.Prelude.{ℕ, List, [], ◌∷◌, ◌++◌}
-use Rattle.era_unfold.specs.declared.unit.Unit.TheVariants.{Micro}
-use Rattle.pcap_reader.specs.declared.format.Endian.TheVariants.{Little}
-use Rattle.pcap_reader.specs.declared.format.Format.{Format}
-use Rattle.pcap_reader.specs.Capture.{Record}
+use Rattle.checker.specs.Common.{Micro, Little, Format, Record}
 
 -- the frame of the request: 192.0.2.10 asks 192.0.2.1
 abbrev pub request_frame : List ℕ

@@ -4,10 +4,7 @@
 -- capture's clock counts microseconds, so the windows of its records are 4,295 and 4,296 ticks
 -- long.
 use Rattle.std.specs.Prelude.{ℕ, ◌+◌, ◌-◌, ◌*◌, ◌^◌, ◌==◌, ℤ, pos, ◌-ℤ◌, false, [], ◌∷◌, if◌then◌else◌}
-use Rattle.claim_file.specs.Claim.{ClaimData}
-use Rattle.claim_file.specs.Worked.{worked_second, worked_claim}
-use Rattle.pairing.specs.declared.exchange.Exchange.{Exchange}
-use Rattle.sample_interval.specs.Moment.{Moment}
+use Rattle.checker.specs.Common.{ClaimData, worked_second, worked_claim, Exchange, Moment}
 use Rattle.checker.specs.Course.{Course}
 
 -- the exchange under the worked claim: sent at its second, answered 10 ms later, received 20 ms

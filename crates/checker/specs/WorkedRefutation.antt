@@ -4,10 +4,8 @@
 -- the bound on, and from one less than its negative down, such an error is evidence against a
 -- claim.
 use Rattle.std.specs.Prelude.{ℕ, ℤ, pos, List, [], ◌∷◌}
-use Rattle.certificate.specs.Refutation.{RefutationData}
-use Rattle.claim_file.specs.Claim.{ClaimData}
+use Rattle.checker.specs.Common.{RefutationData, ClaimData, worked_second, worked_claim}
 use Rattle.checker.specs.Refutation.{IsRefuted}
-use Rattle.claim_file.specs.Worked.{worked_second, worked_claim}
 use Rattle.checker.specs.WorkedCourse.{worked_exchange}
 
 -- the worked claim with this bound, and with this many groups that may be false

@@ -1,10 +1,7 @@
 //! The entries of a piece.
 
 ghost use Rattle.std.specs.Prelude.{◌≡◌, ◌==◌, [], All, Ok, Err, MatchResult, slice_get};
-ghost use Rattle.std.specs.List.{list_any};
-ghost use Rattle.sample_interval.specs.Sample.{IsLawfulSample};
-ghost use Rattle.sample_interval.specs.Widening.{IsRate};
-ghost use Rattle.span_cover.specs.Piece.{IsPiece};
+ghost use Rattle.checker.specs.Common.{list_any, IsLawfulSample, IsRate, IsPiece};
 ghost use Rattle.checker.specs.Verdict.{part_from, parts_after};
 
 use crate::verdict::Why;

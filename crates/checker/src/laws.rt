@@ -6,46 +6,22 @@
 //! (here), the hull of whole points that holds it (`intersection`), the pieces that hold every
 //! reading of the span (here).
 
-ghost use Rattle.std.specs.Prelude.{◌≡◌, ◌⊎◌, ◌↔◌, Bool, true, false, None, Some, Ok};
-ghost use Rattle.std.specs.Prelude.{ℕ, ◌+◌, ◌-◌, ◌<◌, ◌≤◌, ℤ, pos, neg_ℤ, ◌≤ℤ◌};
-ghost use Rattle.std.specs.Prelude.{List, [], ◌∷◌, length, All, slice_get};
-ghost use Rattle.certificate.specs.Certificate.{PieceData, CertificateData};
-ghost use Rattle.claim_file.specs.Claim.{ClaimData, IsLawful};
-ghost use Rattle.era_unfold.specs.Nanoseconds.{ticks_down};
-ghost use Rattle.intersection.specs.declared.kinds.Hull.{Hull};
-ghost use Rattle.intersection.specs.declared.kinds.Hull.TheVariants.{Empty};
-ghost use Rattle.intersection.specs.Fraction.{HoldsFraction, IsAdmissibleFraction};
-ghost use Rattle.pcap_reader.specs.Capture.{IsCapture};
-ghost use Rattle.pairing.specs.Pairing.{exchanges_of};
-ghost use Rattle.pairing.specs.declared.exchange.Exchange.{Exchange};
-ghost use Rattle.sample_interval.specs.Moment.{Moment, IsInWindow};
-ghost use Rattle.sample_interval.specs.Sample.{IsLawfulSample};
-ghost use Rattle.sample_interval.specs.declared.kinds.Sample.{Sample};
+ghost use Rattle.std.specs.Prelude.{◌≡◌, ◌⊎◌, ◌↔◌, Bool, true, false, None, Some, Ok, ℕ, ◌+◌, ◌-◌, ◌<◌, ◌≤◌, ℤ, pos, neg_ℤ, ◌≤ℤ◌, List, [], ◌∷◌, length, All, slice_get};
+ghost use Rattle.checker.specs.Common.{PieceData, CertificateData, ClaimData, ticks_down, Hull, Empty, HoldsFraction, IsAdmissibleFraction, IsCapture, exchanges_of, Exchange, Moment, IsInWindow, IsLawfulSample, Sample, group_intervals, piece_hull, worked_second, worked_claim, Part, Stretch};
+ghost use Rattle.claim_file.specs.Claim.{IsLawful};
 ghost use Rattle.checker.specs.Acceptance.{AreSaidBy, IsAccepted};
 ghost use Rattle.checker.specs.BestParts.{best_parts};
-ghost use Rattle.checker.specs.Comparison.{IsYesOr, IsContradiction, IsRefusedEntry};
-ghost use Rattle.checker.specs.Comparison.{HasOneMoreEntry, HasEntriesSwapped, IsTakenApart};
-ghost use Rattle.checker.specs.Comparison.{AreNarrower, IsOfSamples};
+ghost use Rattle.checker.specs.Comparison.{IsYesOr, IsContradiction, IsRefusedEntry, HasOneMoreEntry, HasEntriesSwapped, IsTakenApart, AreNarrower, IsOfSamples};
 ghost use Rattle.checker.specs.Course.{Course, Fits, FitsInWindows};
 ghost use Rattle.checker.specs.Groups.{false_group_count};
-ghost use Rattle.span_cover.specs.Group.{group_intervals, piece_hull};
 ghost use Rattle.checker.specs.PieceFit.{FitsPiece, HasFewFalse, OfEachEntry};
 ghost use Rattle.checker.specs.Samples.{AreSamplesOf};
 ghost use Rattle.checker.specs.Span.{IsSpanWithin, claim_within, certificate_within};
-ghost use Rattle.checker.specs.Stretch.{begin_of, stretches_from, last_end};
-ghost use Rattle.checker.specs.Stretch.{SomeHoldsReading};
-ghost use Rattle.checker.specs.Traceability.{samples_of, HoldsError, HoldsErrorOfPiece};
-ghost use Rattle.checker.specs.Traceability.{IsVerdictOn, IsWithin};
-ghost use Rattle.checker.specs.Traceability.{IsWithinNanoseconds};
-ghost use Rattle.checker.specs.Verdict.{parts_after, hull_fault, piece_fault, verdict_of};
-ghost use Rattle.checker.specs.Verdict.{PassBelow};
+ghost use Rattle.checker.specs.Stretch.{begin_of, stretches_from, last_end, SomeHoldsReading};
+ghost use Rattle.checker.specs.Traceability.{samples_of, HoldsError, HoldsErrorOfPiece, IsVerdictOn, IsWithin, IsWithinNanoseconds};
+ghost use Rattle.checker.specs.Verdict.{parts_after, hull_fault, piece_fault, verdict_of, PassBelow};
 ghost use Rattle.checker.specs.WorkedCapture.{worked_capture, worked_format, worked_records};
-ghost use Rattle.claim_file.specs.Worked.{worked_second, worked_claim};
-ghost use Rattle.checker.specs.WorkedCourse.{worked_exchange, worked_course, served_course, lone_course};
-ghost use Rattle.checker.specs.WorkedCourse.{slow_claim, slow_course, stamped_course};
-ghost use Rattle.checker.specs.WorkedCourse.{earlier_exchange, stepped_course};
-ghost use Rattle.span_cover.specs.declared.part.Part.{Part};
-ghost use Rattle.span_cover.specs.declared.stretch.Stretch.{Stretch};
+ghost use Rattle.checker.specs.WorkedCourse.{worked_exchange, worked_course, served_course, lone_course, slow_claim, slow_course, stamped_course, earlier_exchange, stepped_course};
 ghost use Rattle.checker.specs.declared.verdict.Verdict.TheVariants.{Yes, No};
 ghost use Rattle.checker.specs.declared.verdict.Why.{Why};
 

@@ -1,9 +1,7 @@
 //! One piece of a certificate.
 
 ghost use Rattle.std.specs.Prelude.{◌≡◌, ◌≤◌, ◌<◌, ◌^◌, pos, ◌≤ℤ◌, ◌<ℤ◌, length, All};
-ghost use Rattle.claim_file.specs.Claim.{data_of};
-ghost use Rattle.certificate.specs.Certificate.{piece_data};
-ghost use Rattle.sample_interval.specs.Sample.{IsLawfulSample};
+ghost use Rattle.checker.specs.Common.{data_of, piece_data, IsLawfulSample};
 ghost use Rattle.checker.specs.Verdict.{hull_fault, piece_fault};
 
 use crate::entry::add_parts;

@@ -1,13 +1,7 @@
 //! Whether a refutation stands.
 
-ghost use Rattle.std.specs.Prelude.{◌≡◌, ◌≤◌, ◌&&◌, ◌+ℤ◌, ◌-ℤ◌, ◌↔◌, IsTrue};
-ghost use Rattle.std.specs.Prelude.{nat_lt, length, map, All};
-ghost use Rattle.std.specs.List.{list_all};
-ghost use Rattle.certificate.specs.Refutation.{data_of as refutation_data};
-ghost use Rattle.claim_file.specs.Claim.{data_of as claim_data};
-ghost use Rattle.pairing.specs.Exchange.{IsLawful as IsLawfulExchange};
-ghost use Rattle.sample_interval.specs.Exchange.{IsOfSomeClaim};
-ghost use Rattle.sample_interval.specs.Window.{request_start, reply_end};
+ghost use Rattle.std.specs.Prelude.{◌≡◌, ◌≤◌, ◌&&◌, ◌+ℤ◌, ◌-ℤ◌, ◌↔◌, IsTrue, nat_lt, length, map, All};
+ghost use Rattle.checker.specs.Common.{list_all, refutation_data, data_of as claim_data, IsLawful as IsLawfulExchange, IsOfSomeClaim, request_start, reply_end};
 ghost use Rattle.checker.specs.Groups.{holds_false, false_group_count};
 ghost use Rattle.checker.specs.Refutation.{IsAgainst, is_liar};
 ghost use Rattle.checker.specs.RefutationTest as spec;

@@ -1,19 +1,13 @@
 //! What holds of refutations, and why.
 
-ghost use Rattle.std.specs.Prelude.{◌≡◌, ℕ, ◌+◌, ℤ, pos, neg_ℤ, ◌≤ℤ◌, ◌↔◌, true};
-ghost use Rattle.std.specs.Prelude.{List, [], ◌∷◌, length, All, AllPairs};
-ghost use Rattle.certificate.specs.Certificate.{CertificateData};
-ghost use Rattle.certificate.specs.Refutation.{RefutationData};
-ghost use Rattle.claim_file.specs.Claim.{ClaimData, IsLawful};
-ghost use Rattle.pairing.specs.Exchange.{IsLawful as IsLawfulExchange, SameRequest};
-ghost use Rattle.pairing.specs.declared.exchange.Exchange.{Exchange};
+ghost use Rattle.std.specs.Prelude.{◌≡◌, ℕ, ◌+◌, ℤ, pos, neg_ℤ, ◌≤ℤ◌, ◌↔◌, true, List, [], ◌∷◌, length, All, AllPairs};
+ghost use Rattle.checker.specs.Common.{CertificateData, RefutationData, ClaimData, IsLawful as IsLawfulExchange, SameRequest, Exchange, worked_second};
+ghost use Rattle.claim_file.specs.Claim.{IsLawful};
 ghost use Rattle.checker.specs.Course.{Course, Fits, FitsInWindows};
-ghost use Rattle.checker.specs.Refutation.{IsAgainst, IsRefuted, IsCourseOf, ShowsThroughout};
-ghost use Rattle.checker.specs.Refutation.{Admits, HasCourse, SomeCourseFits};
+ghost use Rattle.checker.specs.Refutation.{IsAgainst, IsRefuted, IsCourseOf, ShowsThroughout, Admits, HasCourse, SomeCourseFits};
 ghost use Rattle.checker.specs.RefutationTest.{admits, is_refuted};
 ghost use Rattle.checker.specs.Traceability.{samples_of, IsObservedIn, IsWithin};
 ghost use Rattle.checker.specs.Verdict.{verdict_of};
-ghost use Rattle.claim_file.specs.Worked.{worked_second};
 ghost use Rattle.checker.specs.WorkedCourse.{worked_exchange};
 ghost use Rattle.checker.specs.WorkedRefutation.{Refutes, claim_with, refutation_with};
 ghost use Rattle.checker.specs.declared.verdict.Verdict.TheVariants.{Yes};

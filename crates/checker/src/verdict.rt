@@ -1,10 +1,7 @@
 //! The verdict on a certificate, and why it is no.
 
 ghost use Rattle.std.specs.Prelude.{◌≡◌, ◌≤◌, ◌<◌, length, map, All, vec_len};
-ghost use Rattle.claim_file.specs.Claim.{data_of as claim_data};
-ghost use Rattle.certificate.specs.Certificate.{data_of as certificate_data, max_pieces};
-ghost use Rattle.pairing.specs.Exchange.{IsLawful as IsLawfulExchange};
-ghost use Rattle.sample_interval.specs.Sample.{IsLawfulSample};
+ghost use Rattle.checker.specs.Common.{data_of as claim_data, certificate_data, max_pieces, IsLawful as IsLawfulExchange, IsLawfulSample};
 ghost use Rattle.checker.specs.Traceability.{samples_of, IsVerdictOn};
 ghost use Rattle.checker.specs.Verdict.{verdict_of};
 

@@ -3,8 +3,7 @@
 -- A claim may list groups as arrays of server numbers. The number of each server has to stand there
 -- exactly once, no other number may, and no group may be empty. Without groups each server is a
 -- group of its own.
-use Rattle.std.specs.Prelude.{◌≡◌, ℕ, ◌<◌, ◌==◌, ◌&&◌, Bool, not, Contains, IsSomeAnd, slice_get, List, length, map, nat_lt, unwrap_or, count_by}
-use Rattle.std.specs.Prelude.{Option, Some, None, if◌then◌else◌}
+use Rattle.std.specs.Prelude.{◌≡◌, ℕ, ◌<◌, ◌==◌, ◌&&◌, Bool, not, Contains, IsSomeAnd, slice_get, List, length, map, nat_lt, unwrap_or, count_by, Option, Some, None, if◌then◌else◌}
 use Rattle.std.specs.List.{concat, list_all, list_any, position_from, range_with_len}
 
 -- the numbers of n servers

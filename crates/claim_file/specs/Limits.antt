@@ -4,8 +4,7 @@
 -- clock stayed within a bound of UTC over a span, provided that at most a given number of groups of
 -- servers are false. The number of a server is its place in the list. Servers that depend on one
 -- reference are one group.
-use Rattle.std.specs.Prelude.{◌≡◌, ◌≢◌, ℕ, ◌+◌, ◌*◌, ◌^◌, ◌<◌, ◌≤◌, ℤ, pos, ◌≤ℤ◌, ◌<ℤ◌}
-use Rattle.std.specs.Prelude.{List, [], ◌∷◌, length, max, All, AllPairs, Contains}
+use Rattle.std.specs.Prelude.{◌≡◌, ◌≢◌, ℕ, ◌+◌, ◌*◌, ◌^◌, ◌<◌, ◌≤◌, ℤ, pos, ◌≤ℤ◌, ◌<ℤ◌, List, [], ◌∷◌, length, max, All, AllPairs, Contains}
 
 -- a claim as lists and numbers: addresses of four bytes; the span, the bound and the allowance in
 -- ticks of 2^-32 s

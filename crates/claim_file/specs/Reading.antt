@@ -1,6 +1,5 @@
 -- What the text of a claim says: a claim within its limits, or the first fault that it has.
-use Rattle.std.specs.Prelude.{ℕ, ◌*◌, ◌^◌, pos, Bool, ◌&&◌, nat_le, List, ◌∷◌, length}
-use Rattle.std.specs.Prelude.{Result, Ok}
+use Rattle.std.specs.Prelude.{ℕ, ◌*◌, ◌^◌, pos, Bool, ◌&&◌, nat_le, List, ◌∷◌, length, Result, Ok}
 use Rattle.json_text.specs.Text.{parsed}
 use Rattle.era_unfold.specs.Nanoseconds.{ticks_down, ticks_up}
 use Rattle.claim_file.specs.declared.fault.ClaimFault.{ClaimFault}

@@ -1,8 +1,7 @@
 //! What holds of the definitions that the contracts cite. A law is a function that does nothing:
 //! its contract is the law, for every text and every number.
 
-ghost use Rattle.std.specs.Prelude.{◌≡◌, ℕ, pos, ◌<◌, ◌≤◌, ◌==◌, ◌↔◌, List, [], length, All, Option, slice_get};
-ghost use Rattle.std.specs.Prelude.{true, IsTrue, codes, Ok, Some, slice_index};
+ghost use Rattle.std.specs.Prelude.{◌≡◌, ℕ, pos, ◌<◌, ◌≤◌, ◌==◌, ◌↔◌, List, [], length, All, Option, slice_get, true, IsTrue, codes, Ok, Some, slice_index};
 ghost use Rattle.std.specs.List.{concat, list_any, slice_index_or};
 ghost use Rattle.std.specs.Net.Grammar.{IsDotted};
 ghost use Rattle.claim_file.specs.declared.time.DateTime.{DateTime};

@@ -1,6 +1,5 @@
 -- The words about a fault: two lines that begin with two blanks.
-use Rattle.std.specs.Prelude.{◌≡◌, List, ℕ, [], ◌++◌, codes, Bool, false, T, nat_eq, if◌then◌else◌}
-use Rattle.std.specs.Prelude.{string_bytes}
+use Rattle.std.specs.Prelude.{◌≡◌, List, ℕ, [], ◌++◌, codes, Bool, false, T, nat_eq, if◌then◌else◌, string_bytes}
 use Rattle.claim_file.specs.declared.fault.ClaimFault.{ClaimFault}
 use Rattle.claim_file.specs.declared.fault.ClaimFault.TheVariants as claims
 use Rattle.report.specs.declared.fault.RunFault.{RunFault}

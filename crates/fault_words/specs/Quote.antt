@@ -1,6 +1,5 @@
 -- How what stands in a file or on the command line is shown: what a terminal obeys as numbers.
-use Rattle.std.specs.Prelude.{◌≡◌, ◌⊎◌, ℕ, List, [], ◌∷◌, false, true, ◌++◌, codes, chars}
-use Rattle.std.specs.Prelude.{encode_utf8, take, Bool, ◌&&◌, ◌||◌, if◌then◌else◌, nat_le, nat_lt}
+use Rattle.std.specs.Prelude.{◌≡◌, ◌⊎◌, ℕ, List, [], ◌∷◌, false, true, ◌++◌, codes, chars, encode_utf8, take, Bool, ◌&&◌, ◌||◌, if◌then◌else◌, nat_le, nat_lt}
 use Rattle.std.specs.Char.{is_control}
 use Rattle.std.specs.Int.{is_in_range}
 use Rattle.std.specs.Fmt.{digits}

@@ -1,7 +1,6 @@
 -- The sentence of a fault: what is wrong, and what to do. That there is a sentence for each, and
 -- which, is a table, which tests/system/test_words.py sees; here stands what holds of all.
-use Rattle.std.specs.Prelude.{List, ℕ, [], ◌∷◌, Bool, false, T, if◌then◌else◌, nat_eq, chars}
-use Rattle.std.specs.Prelude.{string_bytes}
+use Rattle.std.specs.Prelude.{List, ℕ, [], ◌∷◌, Bool, false, T, if◌then◌else◌, nat_eq, chars, string_bytes}
 use Rattle.std.specs.List.{flat_map}
 use Rattle.fault_words.specs.Quote.{IsQuiet, are_visible, shown_char}
 use Rattle.fault_words.specs.declared.remedy.Known.{Known}

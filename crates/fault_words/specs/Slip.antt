@@ -1,6 +1,5 @@
 -- Numbers of a claim that look like a slip of the pen. Nothing is refused for them.
-use Rattle.std.specs.Prelude.{ℕ, ◌+◌, ◌*◌, List, [], ◌∷◌, ◌++◌, codes, Bool, ◌&&◌, ◌||◌, Option}
-use Rattle.std.specs.Prelude.{None, Some, if◌then◌else◌, nat_le, nat_lt}
+use Rattle.std.specs.Prelude.{ℕ, ◌+◌, ◌*◌, List, [], ◌∷◌, ◌++◌, codes, Bool, ◌&&◌, ◌||◌, Option, None, Some, if◌then◌else◌, nat_le, nat_lt}
 use Rattle.std.specs.List.{list_any}
 use Rattle.line_writer.specs.Date.{time_text}
 use Rattle.fault_words.specs.declared.slip.ClaimNumbers.{ClaimNumbers}

@@ -3,8 +3,7 @@
 ghost use Rattle.std.specs.Prelude.{◌<◌, ◌≤◌, ℕ, List, length};
 ghost use Rattle.report.specs.declared.fault.RunFault.{RunFault};
 ghost use Rattle.fault_words.specs.ClaimField.{field_name};
-ghost use Rattle.fault_words.specs.Explanation.{AreQuiet, AreTwoLines, SeenData, IsExplanation};
-ghost use Rattle.fault_words.specs.Explanation.{IsOutputExplanation, IsTimeExplanation};
+ghost use Rattle.fault_words.specs.Explanation.{AreQuiet, AreTwoLines, SeenData, IsExplanation, IsOutputExplanation, IsTimeExplanation};
 ghost use Rattle.fault_words.specs.Quote.{IsQuiet};
 ghost use Rattle.fault_words.specs.Subject.{NamesData};
 

@@ -4,10 +4,8 @@
 -- whose high mark it is. An exchange that is impossible by itself is a pair with itself. Of several
 -- pairs the first counts, by the first number and then by the second.
 use Rattle.std.specs.Prelude.{◌≡◌, ℕ, ◌<◌, ◌≤◌, ◌⊎◌, Bool, true, ◌||◌, List, Some, slice_get, All, AllPairs, Any}
-use Rattle.claim_file.specs.Claim.{ClaimData}
+use Rattle.feasibility.specs.Common.{ClaimData, low_mark, high_mark, IsPossible, AreCompatible, Exchange}
 use Rattle.feasibility.specs.Cover.{group_of, size_of, DoConflict, IsBroken}
-use Rattle.error_marks.specs.Mark.{low_mark, high_mark, IsPossible, AreCompatible}
-use Rattle.pairing.specs.declared.exchange.Exchange.{Exchange}
 
 -- the numbers of two exchanges, or twice of one
 pub record Pair : Type 0 where

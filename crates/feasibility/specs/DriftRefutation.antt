@@ -5,17 +5,9 @@
 -- error drifts as the claim grants, and at the reading it is the refutation's. Whether there is one
 -- is settled by pairs of marks: what the refutation says is a low mark and a high mark of its own.
 use Rattle.std.specs.Prelude.{◌≡◌, ℕ, pos, ◌*ℤ◌, Bool, false, List, ◌∷◌, All}
-use Rattle.certificate.specs.Refutation.{RefutationData}
-use Rattle.checker.specs.Course.{Course, Fits, FitsInWindows}
-use Rattle.checker.specs.Refutation.{is_liar, IsAgainst, SharesRequests}
-use Rattle.claim_file.specs.Claim.{ClaimData}
+use Rattle.feasibility.specs.Common.{RefutationData, Course, Fits, FitsInWindows, is_liar, IsAgainst, SharesRequests, ClaimData, low_mark, high_mark, IsPossible, AreCompatible, Mark, Exchange, error_of}
 use Rattle.feasibility.specs.Cover.{is_of}
-use Rattle.feasibility.specs.TrueMarks.{true_exchanges, low_marks, high_marks}
-use Rattle.feasibility.specs.TrueMarks.{AreAllCompatible, DoAgree}
-use Rattle.error_marks.specs.Mark.{low_mark, high_mark, IsPossible, AreCompatible}
-use Rattle.error_marks.specs.declared.mark.Mark.{Mark}
-use Rattle.pairing.specs.declared.exchange.Exchange.{Exchange}
-use Rattle.sample_interval.specs.Moment.{error_of}
+use Rattle.feasibility.specs.TrueMarks.{true_exchanges, low_marks, high_marks, AreAllCompatible, DoAgree}
 
 -- the mark that a refutation sets: its error at its reading
 abbrev pub mark_of : RefutationData → Mark

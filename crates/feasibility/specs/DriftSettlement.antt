@@ -1,17 +1,8 @@
 -- What the answers say on a refutation of which the clock may drift, and on whether a course fits.
 use Rattle.std.specs.Prelude.{◌≡◌, ◌↔◌, Bool, IsTrue, List, AllPairs}
-use Rattle.certificate.specs.Certificate.{CertificateData}
-use Rattle.certificate.specs.Refutation.{RefutationData}
-use Rattle.checker.specs.Course.{Course}
-use Rattle.checker.specs.Refutation.{IsAgainst}
-use Rattle.checker.specs.Traceability.{samples_of}
-use Rattle.checker.specs.Verdict.{verdict_of}
-use Rattle.checker.specs.declared.verdict.Verdict.TheVariants.{Yes}
-use Rattle.claim_file.specs.Claim.{ClaimData}
+use Rattle.feasibility.specs.Common.{CertificateData, RefutationData, Course, IsAgainst, samples_of, verdict_of, Yes, ClaimData, SameRequest, Exchange}
 use Rattle.feasibility.specs.Cover.{HasSmallCover, SomeCourse}
 use Rattle.feasibility.specs.DriftRefutation.{IsRefutedWithDrift, Shows, HasDriftCourse}
-use Rattle.pairing.specs.Exchange.{SameRequest}
-use Rattle.pairing.specs.declared.exchange.Exchange.{Exchange}
 
 -- whether a refutation stands, and what it shows
 pub record SettlesWithDrift (claim : ClaimData) (xs : List Exchange) (refutation : RefutationData)

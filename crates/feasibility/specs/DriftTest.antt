@@ -1,16 +1,8 @@
 -- Whether a refutation with drift is accepted, as a test.
 use Rattle.std.specs.Prelude.{ℕ, ◌+◌, ◌-◌, ℤ, pos, ◌+ℤ◌, ◌-ℤ◌, ◌*ℤ◌, int_le, Bool, ◌&&◌, List, [], ◌∷◌, if◌then◌else◌}
-use Rattle.std.specs.List.{list_all}
-use Rattle.certificate.specs.Refutation.{RefutationData}
-use Rattle.checker.specs.Refutation.{is_liar}
-use Rattle.checker.specs.RefutationTest.{is_against}
-use Rattle.claim_file.specs.Claim.{ClaimData}
+use Rattle.feasibility.specs.Common.{list_all, RefutationData, is_liar, is_against, ClaimData, Mark, Exchange, billion, request_start, reply_end}
 use Rattle.feasibility.specs.DriftRefutation.{mark_of}
 use Rattle.feasibility.specs.TrueMarks.{true_exchanges, low_marks, high_marks}
-use Rattle.error_marks.specs.declared.mark.Mark.{Mark}
-use Rattle.pairing.specs.declared.exchange.Exchange.{Exchange}
-use Rattle.sample_interval.specs.Widening.{billion}
-use Rattle.sample_interval.specs.Window.{request_start, reply_end}
 
 -- an exchange is possible by itself
 abbrev pub is_possible : ℤ → Exchange → Bool

@@ -1,11 +1,8 @@
 -- The marks of a group, and what they say of it and of another group.
 use Rattle.std.specs.Prelude.{ℕ, ◌==◌, Bool, not, List, map, filter, slice_index, All}
-use Rattle.claim_file.specs.Claim.{ClaimData}
+use Rattle.feasibility.specs.Common.{ClaimData, low_mark, high_mark, IsPossible, Mark, Exchange}
 use Rattle.feasibility.specs.Cover.{group_of}
 use Rattle.feasibility.specs.TrueMarks.{AreAllCompatible}
-use Rattle.error_marks.specs.Mark.{low_mark, high_mark, IsPossible}
-use Rattle.error_marks.specs.declared.mark.Mark.{Mark}
-use Rattle.pairing.specs.declared.exchange.Exchange.{Exchange}
 
 -- a server isn't of a group
 abbrev pub is_outside : List ℕ → ℕ → ℕ → Bool

@@ -7,8 +7,7 @@
 --
 -- Moments are whole numbers of 1/n tick, and marks whole ticks.
 use Rattle.std.specs.Prelude.{ℕ, ℤ, pos, ◌-ℤ◌, ◌*ℤ◌, ◌≤ℤ◌}
-use Rattle.error_marks.specs.declared.mark.Mark.{Mark}
-use Rattle.sample_interval.specs.Moment.{Moment}
+use Rattle.feasibility.specs.Common.{Mark, Moment}
 
 -- the true time that a mark speaks of: its place less its error
 abbrev pub time_of : Mark → ℤ

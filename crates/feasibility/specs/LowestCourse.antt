@@ -8,17 +8,9 @@
 --
 -- The clock reads the start of its window at each request and the end of it at each reply, with
 -- false servers too. A server receives as soon as it can, and then answers as soon as it can.
-use Rattle.std.specs.Prelude.{ℕ, ◌+◌, ◌-◌, ◌*◌, ℤ, pos, ◌-ℤ◌, ◌*ℤ◌, unsigned_abs, int_le, Bool, if◌then◌else◌}
-use Rattle.std.specs.Prelude.{List, fold, slice_get, Option, Some, None}
-use Rattle.std.specs.Int.{int_max}
-use Rattle.checker.specs.Course.{Course}
-use Rattle.claim_file.specs.Claim.{ClaimData}
+use Rattle.std.specs.Prelude.{ℕ, ◌+◌, ◌-◌, ◌*◌, ℤ, pos, ◌-ℤ◌, ◌*ℤ◌, unsigned_abs, int_le, Bool, if◌then◌else◌, List, fold, slice_get, Option, Some, None}
+use Rattle.feasibility.specs.Common.{int_max, Course, ClaimData, Mark, Exchange, Moment, billion, request_start, reply_end}
 use Rattle.feasibility.specs.TrueMarks.{low_marks}
-use Rattle.error_marks.specs.declared.mark.Mark.{Mark}
-use Rattle.pairing.specs.declared.exchange.Exchange.{Exchange}
-use Rattle.sample_interval.specs.Moment.{Moment}
-use Rattle.sample_interval.specs.Widening.{billion}
-use Rattle.sample_interval.specs.Window.{request_start, reply_end}
 
 -- how many parts a tick has
 abbrev pub fineness_of : ℕ → ℕ

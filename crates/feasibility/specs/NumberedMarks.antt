@@ -1,7 +1,6 @@
 -- The marks of a group, each under the number of its exchange.
 use Rattle.std.specs.Prelude.{◌≡◌, ℕ, ◌+◌, ◌<◌, ◌==◌, Bool, if◌then◌else◌, List, [], ◌∷◌, length, slice_index, Option, MatchOption, All}
-use Rattle.std.specs.List.{slice_index_or}
-use Rattle.claim_file.specs.Claim.{ClaimData}
+use Rattle.feasibility.specs.Common.{slice_index_or, ClaimData, IsFirstConflict, IsWithinRange, IsLawful as IsLawfulExchange, Exchange}
 use Rattle.feasibility.specs.ConflictTable.{IsConflictTable}
 use Rattle.feasibility.specs.Conflicts.{ConflictData}
 use Rattle.feasibility.specs.Contradiction.{Pair, HasContradiction, IsFirstContradiction}
@@ -10,10 +9,6 @@ use Rattle.feasibility.specs.GroupMarks.{group_lows, group_highs}
 use Rattle.feasibility.specs.PairMarks.{pair_of, IsImpossibleAt, IsFirstImpossible}
 use Rattle.feasibility.specs.declared.contradiction.Contradiction.{Contradiction}
 use Rattle.feasibility.specs.declared.numbered_marks.NumberedMarks.{NumberedMarks}
-use Rattle.error_marks.specs.Conflict.{IsFirstConflict}
-use Rattle.error_marks.specs.Range.{IsWithinRange}
-use Rattle.pairing.specs.Exchange.{IsLawful as IsLawfulExchange}
-use Rattle.pairing.specs.declared.exchange.Exchange.{Exchange}
 
 -- the numbers of the elements that pass a test, if the first has this number
 abbrev pub numbers_from : {X : Type 0} → (X → Bool) → ℕ → List X → List ℕ

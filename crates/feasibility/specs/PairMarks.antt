@@ -1,13 +1,10 @@
 -- Exchanges that are impossible by themselves, and what the program says of pairs.
-use Rattle.std.specs.Prelude.{◌≡◌, ℕ, ◌<◌, ◌==◌, nat_lt, Bool, ◌&&◌, ◌||◌, not, if◌then◌else◌}
-use Rattle.std.specs.Prelude.{List, Option, None, Some, slice_get}
-use Rattle.claim_file.specs.Claim.{ClaimData}
+use Rattle.std.specs.Prelude.{◌≡◌, ℕ, ◌<◌, ◌==◌, nat_lt, Bool, ◌&&◌, ◌||◌, not, if◌then◌else◌, List, Option, None, Some, slice_get}
+use Rattle.feasibility.specs.Common.{ClaimData, IsPossible, Exchange}
 use Rattle.feasibility.specs.Contradiction.{Pair, ShownConflict}
 use Rattle.feasibility.specs.Cover.{group_of}
 use Rattle.feasibility.specs.declared.contradiction.Contradiction.{Contradiction}
 use Rattle.feasibility.specs.declared.shown_conflicts.Conflict.{Conflict}
-use Rattle.error_marks.specs.Mark.{IsPossible}
-use Rattle.pairing.specs.declared.exchange.Exchange.{Exchange}
 
 -- an exchange of a group is impossible by itself
 pub record IsImpossibleAt (claim : ClaimData) (xs : List Exchange) (group k : ℕ) : Type 0 where

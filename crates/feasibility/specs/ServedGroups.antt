@@ -4,14 +4,8 @@
 -- the error, at any reading of the clock, there is a course of events that fits, so the exchanges
 -- say nothing about the clock.
 use Rattle.std.specs.Prelude.{◌≡◌, ℕ, ◌≤◌, ◌==◌, ℤ, pos, ◌*ℤ◌, Bool, List, slice_index, AllPairs}
-use Rattle.std.specs.List.{list_any}
-use Rattle.checker.specs.Course.{Course, FitsInWindows}
-use Rattle.checker.specs.Refutation.{SharesRequests}
-use Rattle.claim_file.specs.Claim.{ClaimData}
+use Rattle.feasibility.specs.Common.{list_any, Course, FitsInWindows, SharesRequests, ClaimData, SameRequest, Exchange, error_of}
 use Rattle.feasibility.specs.Cover.{group_of, size_of}
-use Rattle.pairing.specs.Exchange.{SameRequest}
-use Rattle.pairing.specs.declared.exchange.Exchange.{Exchange}
-use Rattle.sample_interval.specs.Moment.{error_of}
 
 -- a group has an exchange: one with a server of it is listed
 abbrev pub has_exchange : ClaimData → List Exchange → ℕ → Bool

@@ -1,9 +1,8 @@
 -- The list of conflicts while it is made, in the order of two numbers of groups.
 use Rattle.std.specs.Prelude.{◌≡◌, ◌⊎◌, ℕ, ◌<◌, ◌==◌, nat_lt, Bool, ◌&&◌, not, if◌then◌else◌, List, All, AllPairs, Any}
-use Rattle.claim_file.specs.Claim.{ClaimData}
+use Rattle.feasibility.specs.Common.{ClaimData, Exchange}
 use Rattle.feasibility.specs.Conflicts.{ConflictData}
 use Rattle.feasibility.specs.Contradiction.{AreListed, IsBefore, IsFirstContradiction, ShownConflict}
-use Rattle.pairing.specs.declared.exchange.Exchange.{Exchange}
 
 -- by a table, these are a conflict to list
 abbrev pub is_listed : ConflictData → ℕ → ℕ → Bool

@@ -1,13 +1,9 @@
 -- The marks of each group, gathered and sorted, as the search for conflicts holds them.
 use Rattle.std.specs.Prelude.{◌↔◌, ℕ, ◌<◌, IsTrue, List, length, IsPermutation, All}
-use Rattle.std.specs.List.{slice_index_or}
-use Rattle.claim_file.specs.Claim.{ClaimData}
+use Rattle.feasibility.specs.Common.{slice_index_or, ClaimData, IsInOrder, IsWithinRange, Exchange}
 use Rattle.feasibility.specs.GroupMarks.{group_lows, group_highs, IsSound}
 use Rattle.feasibility.specs.declared.kept_marks.KeptMarks.{KeptMarks}
 use Rattle.feasibility.specs.declared.sorted_marks.SortedMarks.{SortedMarks}
-use Rattle.error_marks.specs.Direction.{IsInOrder}
-use Rattle.error_marks.specs.Range.{IsWithinRange}
-use Rattle.pairing.specs.declared.exchange.Exchange.{Exchange}
 
 -- low marks and high marks, each in the order of their places
 pub record AreSorted (kept : KeptMarks) : Type 0 where

@@ -4,8 +4,7 @@
 -- own. In the narrower sense each reading lies in the window of its record. Which errors the clock
 -- may have, and at which readings, is the same in both.
 use Rattle.std.specs.Prelude.{◌≡◌, ℕ, ℤ, pos, ◌*ℤ◌, Bool}
-use Rattle.checker.specs.Course.{Course}
-use Rattle.sample_interval.specs.Moment.{error_of}
+use Rattle.feasibility.specs.Common.{Course, error_of}
 
 -- in some course of which this holds, of any fineness, the clock is off by this error when it shows
 -- this reading, both in ticks, and just these servers are false

@@ -4,11 +4,7 @@
 -- and it is possible by itself. Pairs are enough: a course keeps all these marks exactly if each
 -- low mark is compatible with each high mark.
 use Rattle.std.specs.Prelude.{◌≡◌, ℕ, ℤ, Bool, false, not, List, map, filter, All}
-use Rattle.checker.specs.Course.{Course, Fits}
-use Rattle.claim_file.specs.Claim.{ClaimData}
-use Rattle.pairing.specs.declared.exchange.Exchange.{Exchange}
-use Rattle.error_marks.specs.Mark.{low_mark, high_mark, IsPossible, AreCompatible}
-use Rattle.error_marks.specs.declared.mark.Mark.{Mark}
+use Rattle.feasibility.specs.Common.{Course, Fits, ClaimData, Exchange, low_mark, high_mark, IsPossible, AreCompatible, Mark}
 
 -- the exchanges with servers that aren't false
 abbrev pub true_exchanges : (ℕ → Bool) → List Exchange → List Exchange

@@ -5,11 +5,7 @@
 -- An hour later another leaves each from 386,547,056 to 472,450,699, about 100 ms. Between them lie
 -- 80 ms, and in an hour a drift of 100,000 parts in 10^9 is 360 ms, one of 10,000 parts 36 ms.
 use Rattle.std.specs.Prelude.{ℕ, ◌+◌, ◌-◌, pos, List, [], ◌∷◌}
-use Rattle.checker.specs.WorkedCourse.{hour, worked_exchange}
-use Rattle.checker.specs.WorkedRefutation.{claim_with}
-use Rattle.claim_file.specs.Claim.{ClaimData}
-use Rattle.claim_file.specs.Worked.{worked_second}
-use Rattle.pairing.specs.declared.exchange.Exchange.{Exchange}
+use Rattle.feasibility.specs.Common.{hour, worked_exchange, claim_with, ClaimData, worked_second, Exchange}
 
 -- an exchange an hour after the worked one, by which the clock was 100 ms ahead
 abbrev pub later_exchange : Exchange

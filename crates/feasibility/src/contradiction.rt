@@ -1,12 +1,11 @@
 //! The first two exchanges that contradict each other.
 
 ghost use Rattle.std.specs.Prelude.{◌≡◌, ◌≢◌, IfOk, MatchOption, length, map, All};
-ghost use Rattle.claim_file.specs.Claim.{data_of as claim_data};
+ghost use Rattle.feasibility.specs.Common.{data_of as claim_data, IsLawful as IsLawfulExchange};
 ghost use Rattle.feasibility.specs.Contradiction.{IsFirstContradiction, HasContradiction};
 ghost use Rattle.feasibility.specs.GroupMarks.{IsSound};
 ghost use Rattle.feasibility.specs.PairMarks as spec;
 ghost use Rattle.feasibility.specs.PairMarks.{is_no_later, pair_of};
-ghost use Rattle.pairing.specs.Exchange.{IsLawful as IsLawfulExchange};
 
 use crate::numbered_marks::NumberedMarks;
 use claim_file::Claim;

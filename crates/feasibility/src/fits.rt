@@ -1,9 +1,8 @@
 //! Whether any course of events fits.
 
 ghost use Rattle.std.specs.Prelude.{IfOk, length, map, All};
-ghost use Rattle.claim_file.specs.Claim.{data_of as claim_data};
+ghost use Rattle.feasibility.specs.Common.{data_of as claim_data, IsLawful as IsLawfulExchange};
 ghost use Rattle.feasibility.specs.DriftSettlement.{SettlesFit};
-ghost use Rattle.pairing.specs.Exchange.{IsLawful as IsLawfulExchange};
 
 use crate::laws::fits_are_settled;
 use crate::table::conflicts_of;

@@ -1,8 +1,7 @@
 //! Whether a refutation stands that takes all servers of some groups for false.
 
 ghost use Rattle.std.specs.Prelude.{◌≡◌, ◌↔◌, false, IsTrue, length, map, All};
-ghost use Rattle.certificate.specs.Refutation.{data_of as refutation_data};
-ghost use Rattle.claim_file.specs.Claim.{data_of as claim_data};
+ghost use Rattle.feasibility.specs.Common.{refutation_data, data_of as claim_data, IsWithinRange, IsLawful as IsLawfulExchange};
 ghost use Rattle.feasibility.specs.ConflictTable.{IsConflictTable};
 ghost use Rattle.feasibility.specs.Conflicts.{IsCover};
 ghost use Rattle.feasibility.specs.ConflictsView.{data_of};
@@ -10,8 +9,6 @@ ghost use Rattle.feasibility.specs.Cover.{is_of, servers_of};
 ghost use Rattle.feasibility.specs.DriftRefutation.{IsCompatibleOutside, IsCompatibleWith};
 ghost use Rattle.feasibility.specs.DriftSettlement.{SettlesWithDrift};
 ghost use Rattle.feasibility.specs.Groups.{holds};
-ghost use Rattle.error_marks.specs.Range.{IsWithinRange};
-ghost use Rattle.pairing.specs.Exchange.{IsLawful as IsLawfulExchange};
 
 use crate::conflicts::Conflicts;
 use crate::groups::Groups;

@@ -1,8 +1,7 @@
 //! A set of groups.
 
 ghost use Rattle.std.specs.Prelude.{◌≡◌, ◌==◌, ◌||◌, ◌<◌, ◌≤◌, ℕ, count_by, length};
-ghost use Rattle.claim_file.specs.Claim.{data_of as claim_data};
-ghost use Rattle.span_cover.specs.Group.{numbers_below};
+ghost use Rattle.feasibility.specs.Common.{data_of as claim_data, numbers_below};
 ghost use Rattle.feasibility.specs.Cover.{is_of, servers_of};
 ghost use Rattle.feasibility.specs.Groups.{holds};
 

@@ -1,16 +1,11 @@
 //! The marks that a course has to keep.
 
 ghost use Rattle.std.specs.Prelude.{◌≡◌, [], ◌∷◌, ◌++◌, ◌↔◌, IfOk, IsTrue, IsPermutation, length, map, All};
-ghost use Rattle.std.specs.List.{list_all};
-ghost use Rattle.pairing.specs.Exchange.{IsLawful as IsLawfulExchange};
-ghost use Rattle.checker.specs.Refutation.{is_liar};
+ghost use Rattle.feasibility.specs.Common.{list_all, IsLawful as IsLawfulExchange, is_liar, low_mark, high_mark, IsWithinRange, IsRate};
 ghost use Rattle.feasibility.specs.DriftTest.{all_compatible, is_possible};
 ghost use Rattle.feasibility.specs.GroupMarks.{is_outside};
 ghost use Rattle.feasibility.specs.SortedMarks.{AreSorted};
 ghost use Rattle.feasibility.specs.TrueMarks.{true_exchanges, low_marks, high_marks, AreAllCompatible};
-ghost use Rattle.error_marks.specs.Mark.{low_mark, high_mark};
-ghost use Rattle.error_marks.specs.Range.{IsWithinRange};
-ghost use Rattle.sample_interval.specs.Widening.{IsRate};
 
 use claim_file::Claim;
 use error_marks::{

@@ -5,29 +5,17 @@
 //! marks that one course keeps are compatible in pairs. Where they are compatible in pairs, the
 //! lowest course keeps them all and fits.
 
-ghost use Rattle.std.specs.Prelude.{◌≡◌, ◌↔◌, Bool, false, IsTrue, Some};
-ghost use Rattle.std.specs.Prelude.{ℕ, ◌+◌, ◌-◌, ◌*◌, ◌<◌, ◌≤◌};
-ghost use Rattle.std.specs.Prelude.{ℤ, pos, ◌+ℤ◌, ◌-ℤ◌, ◌*ℤ◌, ◌≤ℤ◌};
-ghost use Rattle.std.specs.Prelude.{List, length, slice_get, slice_index, All, AllPairs};
-ghost use Rattle.claim_file.specs.Claim.{ClaimData, IsLawful};
-ghost use Rattle.checker.specs.Course.{Course, Fits, FitsInWindows};
-ghost use Rattle.checker.specs.Groups.{holds_false, false_group_count};
-ghost use Rattle.checker.specs.Refutation.{SharesRequests};
+ghost use Rattle.std.specs.Prelude.{◌≡◌, ◌↔◌, Bool, false, IsTrue, Some, ℕ, ◌+◌, ◌-◌, ◌*◌, ◌<◌, ◌≤◌, ℤ, pos, ◌+ℤ◌, ◌-ℤ◌, ◌*ℤ◌, ◌≤ℤ◌, List, length, slice_get, slice_index, All, AllPairs};
+ghost use Rattle.feasibility.specs.Common.{ClaimData, Course, Fits, FitsInWindows, holds_false, false_group_count, SharesRequests, low_mark, high_mark, IsPossible, AreCompatible, Mark, IsLawful as IsLawfulExchange, SameRequest, Exchange, Moment, error_of, DriftsWithin, billion, IsRate};
+ghost use Rattle.claim_file.specs.Claim.{IsLawful};
 ghost use Rattle.feasibility.specs.ConflictTable.{IsConflictTable, HasSmallTableCover};
 ghost use Rattle.feasibility.specs.Conflicts.{ConflictData, IsCover as IsCoverBy};
 ghost use Rattle.feasibility.specs.Cover.{IsCover, size_of, HasSmallCover, SomeCourse, SomeCourseAt};
 ghost use Rattle.feasibility.specs.DriftSettlement.{SettlesFit};
 ghost use Rattle.feasibility.specs.Keeping.{KeepsLow, KeepsHigh};
-ghost use Rattle.feasibility.specs.LowestCourse.{fineness_of, most_rise, most_fall};
-ghost use Rattle.feasibility.specs.LowestCourse.{lowest_error, lowest_moment, lowest_course};
+ghost use Rattle.feasibility.specs.LowestCourse.{fineness_of, most_rise, most_fall, lowest_error, lowest_moment, lowest_course};
 ghost use Rattle.feasibility.specs.Stamps.{IsObservable};
 ghost use Rattle.feasibility.specs.TrueMarks.{high_marks, DoAgree, FitsWithFalse};
-ghost use Rattle.error_marks.specs.Mark.{low_mark, high_mark, IsPossible, AreCompatible};
-ghost use Rattle.error_marks.specs.declared.mark.Mark.{Mark};
-ghost use Rattle.pairing.specs.Exchange.{IsLawful as IsLawfulExchange, SameRequest};
-ghost use Rattle.pairing.specs.declared.exchange.Exchange.{Exchange};
-ghost use Rattle.sample_interval.specs.Moment.{Moment, error_of, DriftsWithin};
-ghost use Rattle.sample_interval.specs.Widening.{billion, IsRate};
 
 pub use crate::conflict_laws::{
     ends_of_all_conflicts_are_a_cover, first_contradiction_is_one,

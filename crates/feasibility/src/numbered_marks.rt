@@ -1,16 +1,11 @@
 //! The marks of each group, gathered once, under the numbers of their exchanges.
 
 ghost use Rattle.std.specs.Prelude.{◌≡◌, ◌≢◌, ◌<◌, ◌==◌, ℕ, IfOk, MatchOption, length, map, List, All};
-ghost use Rattle.claim_file.specs.Claim.{ClaimData, data_of as claim_data};
+ghost use Rattle.feasibility.specs.Common.{ClaimData, data_of as claim_data, AllCompatible, IsLawful as IsLawfulExchange, Exchange, IsRate};
 ghost use Rattle.feasibility.specs.Cover.{group_of};
-ghost use Rattle.feasibility.specs.NumberedMarks.{IsNumbered, AreNumberedOf, AreNumberedInOrder};
-ghost use Rattle.feasibility.specs.NumberedMarks.{IsFirstApart, IsFirstIfAny};
+ghost use Rattle.feasibility.specs.NumberedMarks.{IsNumbered, AreNumberedOf, AreNumberedInOrder, IsFirstApart, IsFirstIfAny};
 ghost use Rattle.feasibility.specs.PairMarks as spec;
 ghost use Rattle.feasibility.specs.PairMarks.{pair_of, IsImpossibleAt, IsFirstImpossible};
-ghost use Rattle.error_marks.specs.Compatible.{AllCompatible};
-ghost use Rattle.pairing.specs.Exchange.{IsLawful as IsLawfulExchange};
-ghost use Rattle.pairing.specs.declared.exchange.Exchange.{Exchange};
-ghost use Rattle.sample_interval.specs.Widening.{IsRate};
 
 use crate::contradiction::{Contradiction, earlier};
 use claim_file::Claim;

@@ -1,13 +1,10 @@
 //! Whether a refutation stands if the clock may drift.
 
 ghost use Rattle.std.specs.Prelude.{◌≡◌, IfOk, length, map, All};
-ghost use Rattle.certificate.specs.Refutation.{data_of as refutation_data};
-ghost use Rattle.claim_file.specs.Claim.{data_of as claim_data};
-ghost use Rattle.pairing.specs.Exchange.{IsLawful as IsLawfulExchange};
+ghost use Rattle.feasibility.specs.Common.{refutation_data, data_of as claim_data, IsLawful as IsLawfulExchange, IsWithinRange};
 ghost use Rattle.feasibility.specs.DriftRefutation.{mark_of};
 ghost use Rattle.feasibility.specs.DriftSettlement.{SettlesWithDrift};
 ghost use Rattle.feasibility.specs.DriftTest.{do_agree, is_refuted_with_drift};
-ghost use Rattle.error_marks.specs.Range.{IsWithinRange};
 
 use crate::kept_marks::KeptMarks;
 use crate::laws::refutations_are_settled;

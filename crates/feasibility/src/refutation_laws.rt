@@ -1,24 +1,12 @@
 //! What holds of refutations of which the clock may drift, and why.
 
-ghost use Rattle.std.specs.Prelude.{◌≡◌, ◌↔◌, Bool, IsTrue, ℕ, ◌≤◌, ℤ, ◌≤ℤ◌};
-ghost use Rattle.std.specs.Prelude.{pos, List, [], length, All, AllPairs};
-ghost use Rattle.certificate.specs.Certificate.{CertificateData};
-ghost use Rattle.certificate.specs.Refutation.{RefutationData};
-ghost use Rattle.checker.specs.Course.{Course, Fits};
-ghost use Rattle.checker.specs.Refutation.{IsAgainst, IsRefuted};
-ghost use Rattle.checker.specs.Traceability.{samples_of, IsObservedIn, IsWithin};
-ghost use Rattle.checker.specs.Verdict.{verdict_of};
-ghost use Rattle.checker.specs.WorkedRefutation.{refutation_with};
-ghost use Rattle.checker.specs.declared.verdict.Verdict.TheVariants.{Yes};
-ghost use Rattle.claim_file.specs.Claim.{ClaimData, IsLawful};
+ghost use Rattle.std.specs.Prelude.{◌≡◌, ◌↔◌, Bool, IsTrue, ℕ, ◌≤◌, ℤ, ◌≤ℤ◌, pos, List, [], length, All, AllPairs};
+ghost use Rattle.feasibility.specs.Common.{CertificateData, RefutationData, Course, Fits, IsAgainst, IsRefuted, samples_of, IsObservedIn, IsWithin, verdict_of, refutation_with, Yes, ClaimData, IsLawful as IsLawfulExchange, SameRequest, Exchange, IsRate};
+ghost use Rattle.claim_file.specs.Claim.{IsLawful};
 ghost use Rattle.feasibility.specs.Cover.{SomeCourse};
-ghost use Rattle.feasibility.specs.DriftRefutation.{IsRefutedWithDrift, IsObservedOff, Shows};
-ghost use Rattle.feasibility.specs.DriftRefutation.{IsRefutedByMarks, HasDriftCourse};
+ghost use Rattle.feasibility.specs.DriftRefutation.{IsRefutedWithDrift, IsObservedOff, Shows, IsRefutedByMarks, HasDriftCourse};
 ghost use Rattle.feasibility.specs.DriftSettlement.{SettlesWithDrift};
 ghost use Rattle.feasibility.specs.WorkedDrift.{both_exchanges, drifting_claim};
-ghost use Rattle.pairing.specs.Exchange.{IsLawful as IsLawfulExchange, SameRequest};
-ghost use Rattle.pairing.specs.declared.exchange.Exchange.{Exchange};
-ghost use Rattle.sample_interval.specs.Widening.{IsRate};
 
 use checker::laws::{verdicts_are_traceable, worked_refutations_stand};
 

@@ -1,11 +1,9 @@
 //! Which groups have an exchange at all.
 
 ghost use Rattle.std.specs.Prelude.{◌≡◌, ℕ, length, map, All, count_by};
-ghost use Rattle.claim_file.specs.Claim.{data_of as claim_data};
+ghost use Rattle.feasibility.specs.Common.{data_of as claim_data, IsLawful as IsLawfulExchange, numbers_below};
 ghost use Rattle.feasibility.specs.ServedGroups.{has_exchange, count_with_exchange};
 ghost use Rattle.feasibility.specs.Groups.{holds};
-ghost use Rattle.pairing.specs.Exchange.{IsLawful as IsLawfulExchange};
-ghost use Rattle.span_cover.specs.Group.{numbers_below};
 
 use crate::groups::Groups;
 use claim_file::Claim;

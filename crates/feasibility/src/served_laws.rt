@@ -1,14 +1,9 @@
 //! What holds where no more groups have an exchange than may be false.
 
 ghost use Rattle.std.specs.Prelude.{◌≡◌, ℕ, ◌≤◌, List, length, All};
-ghost use Rattle.certificate.specs.Certificate.{CertificateData};
-ghost use Rattle.checker.specs.Traceability.{samples_of};
-ghost use Rattle.checker.specs.Verdict.{verdict_of};
-ghost use Rattle.checker.specs.declared.verdict.Verdict.TheVariants.{Yes};
-ghost use Rattle.claim_file.specs.Claim.{ClaimData, IsLawful};
+ghost use Rattle.feasibility.specs.Common.{CertificateData, samples_of, verdict_of, Yes, ClaimData, IsLawful as IsLawfulExchange, Exchange};
+ghost use Rattle.claim_file.specs.Claim.{IsLawful};
 ghost use Rattle.feasibility.specs.ServedGroups.{IsNoEvidence, count_with_exchange};
-ghost use Rattle.pairing.specs.Exchange.{IsLawful as IsLawfulExchange};
-ghost use Rattle.pairing.specs.declared.exchange.Exchange.{Exchange};
 
 use checker::laws::verdicts_are_traceable;
 

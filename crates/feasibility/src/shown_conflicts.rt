@@ -1,7 +1,7 @@
 //! All conflicts, each with what shows it.
 
 ghost use Rattle.std.specs.Prelude.{◌≡◌, ◌<◌, ◌+◌, IfOk, length, map, List, All};
-ghost use Rattle.claim_file.specs.Claim.{data_of as claim_data};
+ghost use Rattle.feasibility.specs.Common.{data_of as claim_data, IsLawful as IsLawfulExchange, Exchange};
 ghost use Rattle.feasibility.specs.ConflictTable.{IsConflictTable};
 ghost use Rattle.feasibility.specs.ConflictsView.{data_of};
 ghost use Rattle.feasibility.specs.Contradiction.{AreAllConflicts};
@@ -9,8 +9,6 @@ ghost use Rattle.feasibility.specs.NumberedMarks.{IsNumbered, AreGrounds};
 ghost use Rattle.feasibility.specs.PairMarks.{conflict_data};
 ghost use Rattle.feasibility.specs.ShownConflicts as spec;
 ghost use Rattle.feasibility.specs.ShownConflicts.{AreListedUpto};
-ghost use Rattle.pairing.specs.Exchange.{IsLawful as IsLawfulExchange};
-ghost use Rattle.pairing.specs.declared.exchange.Exchange.{Exchange};
 
 use crate::conflicts::Conflicts;
 use crate::contradiction::Contradiction;

@@ -1,11 +1,9 @@
 //! The marks of each group, gathered once and sorted once.
 
 ghost use Rattle.std.specs.Prelude.{◌≡◌, ◌↔◌, IfOk, IsTrue, length, map, All};
-ghost use Rattle.claim_file.specs.Claim.{data_of as claim_data};
+ghost use Rattle.feasibility.specs.Common.{data_of as claim_data, IsLawful as IsLawfulExchange, IsRate};
 ghost use Rattle.feasibility.specs.SortedMarks.{AreSorted, AreMarksOf, AreOfGroupsInOrder};
 ghost use Rattle.feasibility.specs.TrueMarks.{AreAllCompatible};
-ghost use Rattle.pairing.specs.Exchange.{IsLawful as IsLawfulExchange};
-ghost use Rattle.sample_interval.specs.Widening.{IsRate};
 
 use crate::kept_marks::KeptMarks;
 use claim_file::Claim;

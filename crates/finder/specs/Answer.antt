@@ -1,14 +1,7 @@
 -- What the finder answers to samples of a claim, in pieces of a given number of seconds, and what
 -- that says.
-use Rattle.std.specs.Prelude.{◌≡◌, ◌≢◌, ◌⊎◌, ◌↔◌, ℕ, ◌<◌, ◌≤◌, List, length}
-use Rattle.std.specs.Prelude.{Result, Ok, Err, IfOk, MatchResult}
-use Rattle.certificate.specs.Certificate.{max_pieces}
-use Rattle.claim_file.specs.Claim.{ClaimData}
-use Rattle.intersection.specs.declared.kinds.Hull.TheVariants.{Empty}
-use Rattle.sample_interval.specs.declared.kinds.Sample.{Sample}
-use Rattle.checker.specs.Traceability.{HoldsError, IsContradicted}
-use Rattle.checker.specs.Verdict.{verdict_of}
-use Rattle.checker.specs.declared.verdict.Verdict.TheVariants.{Yes}
+use Rattle.std.specs.Prelude.{◌≡◌, ◌≢◌, ◌⊎◌, ◌↔◌, ℕ, ◌<◌, ◌≤◌, List, length, Result, Ok, Err, IfOk, MatchResult}
+use Rattle.finder.specs.Common.{max_pieces, ClaimData, Empty, Sample, HoldsError, IsContradicted, verdict_of, Yes}
 use Rattle.finder.specs.Envelope as envelope
 use Rattle.finder.specs.Envelope.{IsLawfulEnvelope, IsLeast, envelope_of}
 use Rattle.finder.specs.Found.{IfCertificate, IfNothing, IsFirstFailing, data_of, found_of, hull_at}

@@ -4,15 +4,8 @@
 -- The least bound is one with which it finds a certificate, and with a nanosecond less it doesn't.
 -- Where some course of events fits, no tick's hull is empty, and then no certificate that may be
 -- written carries a lesser bound, and each wider one has a certificate too.
-use Rattle.std.specs.Prelude.{◌≡◌, ◌≢◌, ◌⊎◌, ℕ, pos, ◌+◌, ◌*◌, ◌/◌, ◌<◌, ◌≤◌, ℤ, ◌-ℤ◌, ◌≤ℤ◌, ◌<ℤ◌, unsigned_abs}
-use Rattle.std.specs.Prelude.{List, Option, Result, IfOk, IfSome, MatchOption}
-use Rattle.std.specs.declared.alloc.AllocError.{AllocError}
-use Rattle.era_unfold.specs.Window.{ticks_per_second}
-use Rattle.certificate.specs.Certificate.{CertificateData}
-use Rattle.claim_file.specs.Claim.{ClaimData, max_bound_ns}
-use Rattle.intersection.specs.declared.kinds.Hull.{Hull}
-use Rattle.intersection.specs.declared.kinds.Hull.TheVariants.{Empty}
-use Rattle.sample_interval.specs.declared.kinds.Sample.{Sample}
+use Rattle.std.specs.Prelude.{◌≡◌, ◌≢◌, ◌⊎◌, ℕ, pos, ◌+◌, ◌*◌, ◌/◌, ◌<◌, ◌≤◌, ℤ, ◌-ℤ◌, ◌≤ℤ◌, ◌<ℤ◌, unsigned_abs, List, Option, Result, IfOk, IfSome, MatchOption}
+use Rattle.finder.specs.Common.{AllocError, ticks_per_second, CertificateData, ClaimData, max_bound_ns, Hull, Empty, Sample}
 use Rattle.finder.specs.Envelope.{with_bound}
 use Rattle.finder.specs.Fewest.{IsOfLongest, IsStuck, IsTooLong, NoneOfFewIsAccepted, end_after, hull_over, next_tick, stretch_over}
 use Rattle.finder.specs.Piece.{stretch_at}

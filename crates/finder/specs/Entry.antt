@@ -4,16 +4,8 @@
 -- its interval over the piece narrowest. The hull is taken over the groups of servers, as in a
 -- verdict.
 use Rattle.std.specs.Prelude.{ℕ, ◌<◌, List, length, slice_get, All, Option, Some, None}
-use Rattle.std.specs.List.{filter_map}
-use Rattle.claim_file.specs.Claim.{ClaimData}
+use Rattle.finder.specs.Common.{filter_map, ClaimData, Hull, Sample, best_of, piece_hull, part_of, Part, Stretch}
 use Rattle.claim_file.specs.Group.{servers_of}
-use Rattle.intersection.specs.declared.kinds.Hull.{Hull}
-use Rattle.sample_interval.specs.declared.kinds.Sample.{Sample}
-use Rattle.span_cover.specs.Best.{best_of}
-use Rattle.span_cover.specs.Group.{piece_hull}
-use Rattle.span_cover.specs.Part.{part_of}
-use Rattle.span_cover.specs.declared.part.Part.{Part}
-use Rattle.span_cover.specs.declared.stretch.Stretch.{Stretch}
 
 -- the best samples of a server over a stretch, if it has a sample
 abbrev pub best_over : List Sample → ClaimData → Stretch → ℕ → Option (ℕ × ℕ)

@@ -5,21 +5,8 @@
 -- holds if every hull lies inside that many ticks to either side, rounded down. The least such n
 -- says how good the clock is known to be: the claim's own bound is ignored. If a hull has no ends,
 -- or nothing in it, then no bound holds.
-use Rattle.std.specs.Prelude.{◌≡◌, ◌⊎◌, ℕ, zero, suc, ◌*◌, ◌<◌, ◌≤◌, ◌^◌, max, nat_lt, ⊤, if◌then◌else◌}
-use Rattle.std.specs.Prelude.{ℤ, pos, unsigned_abs, true, List, map, All, Result, Ok, Err}
-use Rattle.std.specs.Int.{int_max, int_min}
-use Rattle.std.specs.List.{range_with_len}
-use Rattle.era_unfold.specs.Nanoseconds.{nanoseconds_per_second, ticks_down}
-use Rattle.era_unfold.specs.Ratio.{ceiling_of}
-use Rattle.era_unfold.specs.Window.{ticks_per_second}
-use Rattle.certificate.specs.Certificate.{CertificateData, max_pieces}
-use Rattle.claim_file.specs.Claim.{ClaimData}
-use Rattle.intersection.specs.declared.kinds.Hull.{Hull}
-use Rattle.intersection.specs.declared.kinds.Hull.TheVariants.{Unbounded, Empty, Bounded}
-use Rattle.sample_interval.specs.declared.kinds.Sample.{Sample}
-use Rattle.span_cover.specs.Piece.{IsPiece}
-use Rattle.span_cover.specs.declared.stretch.Stretch.{Stretch}
-use Rattle.span_cover.specs.Group.{is_inside}
+use Rattle.std.specs.Prelude.{◌≡◌, ◌⊎◌, ℕ, zero, suc, ◌*◌, ◌<◌, ◌≤◌, ◌^◌, max, nat_lt, ⊤, if◌then◌else◌, ℤ, pos, unsigned_abs, true, List, map, All, Result, Ok, Err}
+use Rattle.finder.specs.Common.{int_max, int_min, range_with_len, nanoseconds_per_second, ticks_down, ceiling_of, ticks_per_second, CertificateData, max_pieces, ClaimData, Hull, Unbounded, Empty, Bounded, Sample, IsPiece, Stretch, is_inside}
 use Rattle.finder.specs.Entry.{AreNamed, best_entries}
 use Rattle.finder.specs.Found.{FoundData, certificate, nothing, hull_at}
 use Rattle.finder.specs.Piece.{count_of, stretch_at}

@@ -4,18 +4,8 @@
 -- best entries lies inside the bound, and the next one begins there. A piece has at least one tick,
 -- unless the span is one moment, which is one piece. Where the hull over the one tick from a
 -- piece's begin isn't inside the bound, there is no such piece.
-use Rattle.std.specs.Prelude.{◌≡◌, ◌<◌, ◌≤◌, ℤ, pos, ◌+ℤ◌, ◌≤ℤ◌, ◌<ℤ◌, unsigned_abs, ⊤}
-use Rattle.std.specs.Prelude.{Bool, true, false, List, [], ◌∷◌, ◌++◌, length}
-use Rattle.std.specs.Int.{int_min}
-use Rattle.certificate.specs.Certificate.{PieceData, CertificateData, data_of as certificate_data, max_pieces}
-use Rattle.claim_file.specs.Claim.{ClaimData}
-use Rattle.intersection.specs.declared.kinds.Hull.{Hull}
-use Rattle.intersection.specs.declared.kinds.Hull.TheVariants.{Unbounded, Empty, Bounded}
-use Rattle.sample_interval.specs.declared.kinds.Sample.{Sample}
-use Rattle.span_cover.specs.Group.{is_inside}
-use Rattle.span_cover.specs.declared.stretch.Stretch.{Stretch}
-use Rattle.checker.specs.Verdict.{verdict_of}
-use Rattle.checker.specs.declared.verdict.Verdict.TheVariants.{Yes}
+use Rattle.std.specs.Prelude.{◌≡◌, ◌<◌, ◌≤◌, ℤ, pos, ◌+ℤ◌, ◌≤ℤ◌, ◌<ℤ◌, unsigned_abs, ⊤, Bool, true, false, List, [], ◌∷◌, ◌++◌, length}
+use Rattle.finder.specs.Common.{int_min, PieceData, CertificateData, certificate_data, max_pieces, ClaimData, Hull, Unbounded, Empty, Bounded, Sample, is_inside, Stretch, verdict_of, Yes}
 use Rattle.finder.specs.Entry.{best_entries, best_hull}
 use Rattle.finder.specs.declared.fewest.Fewest.{Fewest}
 use Rattle.finder.specs.declared.fewest.Fewest.TheVariants.{Certificate, Nothing}

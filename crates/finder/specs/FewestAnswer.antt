@@ -1,12 +1,6 @@
 -- What a search for the certificate of fewest pieces answers.
 use Rattle.std.specs.Prelude.{◌≡◌, ◌≢◌, ◌⊎◌, ◌≤◌, List, length, Result, Err, IfOk, MatchResult}
-use Rattle.certificate.specs.Certificate.{max_pieces}
-use Rattle.claim_file.specs.Claim.{ClaimData}
-use Rattle.intersection.specs.declared.kinds.Hull.TheVariants.{Empty}
-use Rattle.sample_interval.specs.declared.kinds.Sample.{Sample}
-use Rattle.checker.specs.Traceability.{HoldsError, IsContradicted}
-use Rattle.checker.specs.Verdict.{verdict_of}
-use Rattle.checker.specs.declared.verdict.Verdict.TheVariants.{Yes}
+use Rattle.finder.specs.Common.{max_pieces, ClaimData, Empty, Sample, HoldsError, IsContradicted, verdict_of, Yes}
 use Rattle.finder.specs.Fewest.{HasFewest, IfCertificate, IfNothing, IsOfLongest, IsStuck, IsTooLong, NoneIsAccepted, NoneOfFewIsAccepted, stretch_over}
 use Rattle.finder.specs.declared.fault.FindFault.{FindFault}
 use Rattle.finder.specs.declared.fault.FindFault.TheVariants.{TooManyPieces, Memory}

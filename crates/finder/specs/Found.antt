@@ -1,12 +1,6 @@
 -- What is found: a certificate, or the first piece of which the samples don't show enough.
 use Rattle.std.specs.Prelude.{◌≡◌, ℕ, ◌<◌, Bool, not, true, false, nat_lt, ⊤, unsigned_abs, List, map, Option, Some, None, Result, Ok, Err, if◌then◌else◌}
-use Rattle.std.specs.List.{find, range_with_len}
-use Rattle.certificate.specs.Certificate.{PieceData, CertificateData, data_of as certificate_data, max_pieces}
-use Rattle.claim_file.specs.Claim.{ClaimData}
-use Rattle.intersection.specs.declared.kinds.Hull.{Hull}
-use Rattle.sample_interval.specs.declared.kinds.Sample.{Sample}
-use Rattle.span_cover.specs.Step.{piece_end_of}
-use Rattle.span_cover.specs.Group.{is_inside}
+use Rattle.finder.specs.Common.{find, range_with_len, PieceData, CertificateData, certificate_data, max_pieces, ClaimData, Hull, Sample, piece_end_of, is_inside}
 use Rattle.finder.specs.Entry.{best_entries, best_hull}
 use Rattle.finder.specs.Piece.{count_of, stretch_at}
 use Rattle.finder.specs.declared.fault.FindFault.{FindFault}

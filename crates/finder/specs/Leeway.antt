@@ -4,27 +4,8 @@
 -- if it is compatible with the exchange's high mark, so that some course keeps both. To the side
 -- below zero it is a high mark, and the exchanges' low marks say how far it may go. Up to some
 -- number of ticks a group lets every error be, and none beyond: its leeway.
-use Rattle.std.specs.Prelude.{◌≡◌, ◌↔◌, ◌⊎◌, ℕ, ◌<◌, ◌≤◌, ◌==◌, ◌-◌, ◌^◌, ℤ, pos, neg_ℤ, ◌+ℤ◌, ◌*ℤ◌, ◌≤ℤ◌, ◌<ℤ◌}
-use Rattle.std.specs.Prelude.{Bool, ◌||◌, true, false, List, length, Some, slice_get, All, Any, count_by}
-use Rattle.std.specs.Int.{int_min}
-use Rattle.std.specs.List.{list_any, slice_index_or}
-use Rattle.checker.specs.Course.{Course, Fits}
-use Rattle.checker.specs.Groups.{holds_false}
-use Rattle.checker.specs.RefutationTest.{are_different}
-use Rattle.claim_file.specs.Claim.{ClaimData}
-use Rattle.certificate.specs.Refutation.{RefutationData}
-use Rattle.feasibility.specs.Cover.{group_of, servers_of}
-use Rattle.feasibility.specs.DriftRefutation.{IsRefutedWithDrift}
-use Rattle.feasibility.specs.Groups.{holds}
-use Rattle.feasibility.specs.LeastCovers.{AreLeastCovers}
-use Rattle.feasibility.specs.Members.{LieWithin}
-use Rattle.feasibility.specs.declared.groups.Groups.{Groups}
-use Rattle.intersection.specs.declared.kinds.Interval.{Interval}
-use Rattle.error_marks.specs.Mark.{low_mark, high_mark, AreCompatible}
-use Rattle.error_marks.specs.declared.mark.Mark.{Mark}
-use Rattle.pairing.specs.declared.exchange.Exchange.{Exchange}
-use Rattle.span_cover.specs.Group.{numbers_below}
-use Rattle.sample_interval.specs.Moment.{error_of}
+use Rattle.std.specs.Prelude.{◌≡◌, ◌↔◌, ◌⊎◌, ℕ, ◌<◌, ◌≤◌, ◌==◌, ◌-◌, ◌^◌, ℤ, pos, neg_ℤ, ◌+ℤ◌, ◌*ℤ◌, ◌≤ℤ◌, ◌<ℤ◌, Bool, ◌||◌, true, false, List, length, Some, slice_get, All, Any, count_by}
+use Rattle.finder.specs.Common.{int_min, list_any, slice_index_or, Course, Fits, holds_false, are_different, ClaimData, RefutationData, group_of, servers_of, IsRefutedWithDrift, holds, AreLeastCovers, LieWithin, Groups, Interval, low_mark, high_mark, AreCompatible, Mark, Exchange, numbers_below, error_of}
 use Rattle.finder.specs.NearestRefutation.{IsErrorOf64Bits, greatest_error, least_error_below}
 use Rattle.finder.specs.declared.drift_refutation.Place.{Place}
 use Rattle.finder.specs.declared.side.Side.{Side}

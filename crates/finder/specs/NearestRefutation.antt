@@ -4,17 +4,8 @@
 -- For one error, the servers that have to be false are those that have an exchange with no room for
 -- it. If these are of few enough groups, then they, the error and the span's first reading are a
 -- refutation; and if they aren't, then no refutation with that error is accepted.
-use Rattle.std.specs.Prelude.{◌≡◌, ℕ, ◌+◌, ◌-◌, ◌^◌, ℤ, pos, neg_ℤ, ◌+ℤ◌, ◌-ℤ◌, ◌≤ℤ◌, ◌<ℤ◌}
-use Rattle.std.specs.Prelude.{nat_le, unsigned_abs, Bool, true, false, List, length, filter}
-use Rattle.std.specs.Prelude.{Option, Some, None, option_map}
-use Rattle.std.specs.List.{find, range_with_len}
-use Rattle.std.specs.Option.{option_or}
-use Rattle.certificate.specs.Refutation.{RefutationData}
-use Rattle.claim_file.specs.Claim.{ClaimData}
-use Rattle.pairing.specs.declared.exchange.Exchange.{Exchange}
-use Rattle.checker.specs.Groups.{false_group_count}
-use Rattle.span_cover.specs.Group.{numbers_below}
-use Rattle.checker.specs.Refutation.{IsRefuted}
+use Rattle.std.specs.Prelude.{◌≡◌, ℕ, ◌+◌, ◌-◌, ◌^◌, ℤ, pos, neg_ℤ, ◌+ℤ◌, ◌-ℤ◌, ◌≤ℤ◌, ◌<ℤ◌, nat_le, unsigned_abs, Bool, true, false, List, length, filter, Option, Some, None, option_map}
+use Rattle.finder.specs.Common.{find, range_with_len, option_or, RefutationData, ClaimData, Exchange, false_group_count, numbers_below, IsRefuted}
 use Rattle.finder.specs.Room.{refuses}
 
 -- the greatest error of a refutation, and how far below zero the least one is

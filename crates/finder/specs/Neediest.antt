@@ -3,15 +3,8 @@
 -- If those groups are false, as many more may be as the claim allows besides them. What all others
 -- say over a tick, the piece from a reading to the next one, has a hull, and the bound that it
 -- needs reaches to both its ends.
-use Rattle.std.specs.Prelude.{◌≡◌, ◌⊎◌, ℕ, ◌-◌, ◌≤◌, ℤ, pos, ◌≤ℤ◌, ◌<ℤ◌, Bool, not, List, filter}
-use Rattle.std.specs.Prelude.{slice_index, count_by, Option, Some, None, IsSomeAnd, IsTrue}
-use Rattle.claim_file.specs.Claim.{ClaimData}
-use Rattle.intersection.specs.declared.kinds.Hull.{Hull}
-use Rattle.intersection.specs.declared.kinds.Hull.TheVariants.{Unbounded, Empty, Bounded}
-use Rattle.sample_interval.specs.declared.kinds.Sample.{Sample}
-use Rattle.span_cover.specs.Group.{numbers_below, piece_hull}
-use Rattle.span_cover.specs.declared.part.Part.{Part}
-use Rattle.span_cover.specs.declared.stretch.Stretch.{Stretch}
+use Rattle.std.specs.Prelude.{◌≡◌, ◌⊎◌, ℕ, ◌-◌, ◌≤◌, ℤ, pos, ◌≤ℤ◌, ◌<ℤ◌, Bool, not, List, filter, slice_index, count_by, Option, Some, None, IsSomeAnd, IsTrue}
+use Rattle.finder.specs.Common.{ClaimData, Hull, Unbounded, Empty, Bounded, Sample, numbers_below, piece_hull, Part, Stretch}
 use Rattle.finder.specs.Entry.{best_entries, parts_named}
 use Rattle.finder.specs.Envelope.{reach_of}
 use Rattle.finder.specs.Fewest.{next_tick, stretch_over}

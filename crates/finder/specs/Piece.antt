@@ -4,12 +4,7 @@
 -- both hold that reading. A piece ends that many seconds after its begin, or with the span. The
 -- last piece is the first that ends with the span, so that a span of one moment is one piece.
 use Rattle.std.specs.Prelude.{◌≡◌, ℕ, zero, suc, ◌+◌, ◌-◌, ◌*◌, ◌<◌, ◌≤◌, max, ℤ, ◌-ℤ◌, ◌<ℤ◌, unsigned_abs, List, map}
-use Rattle.std.specs.List.{range_with_len}
-use Rattle.era_unfold.specs.Ratio.{ceiling_of}
-use Rattle.era_unfold.specs.Window.{ticks_per_second}
-use Rattle.claim_file.specs.Claim.{ClaimData}
-use Rattle.span_cover.specs.Step.{piece_end_of}
-use Rattle.span_cover.specs.declared.stretch.Stretch.{Stretch}
+use Rattle.finder.specs.Common.{range_with_len, ceiling_of, ticks_per_second, ClaimData, piece_end_of, Stretch}
 
 -- the longest piece, in seconds: a day
 abbrev pub max_step : ℕ

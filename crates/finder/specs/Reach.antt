@@ -1,12 +1,7 @@
 -- How far the longest pieces of a span reach. Only the code's own contracts speak of it.
 use Rattle.std.specs.Prelude.{◌≡◌, ◌<◌, ◌≤◌, ℤ, pos, List, [], ◌∷◌, ◌++◌, length}
-use Rattle.certificate.specs.Certificate.{max_pieces}
-use Rattle.claim_file.specs.Claim.{ClaimData}
-use Rattle.sample_interval.specs.declared.kinds.Sample.{Sample}
-use Rattle.sweep.specs.Table.{AreTablesOf}
-use Rattle.sweep.specs.declared.table.BestTable.{BestTable}
+use Rattle.finder.specs.Common.{max_pieces, ClaimData, Sample, AreTablesOf, BestTable, AreSamplesOf}
 use Rattle.finder.specs.Fewest.{AreLongest, IsLongest, IsStuck, IsTooLong, end_after}
-use Rattle.checker.specs.Samples.{AreSamplesOf}
 use Rattle.finder.specs.declared.reach.Reach.{Reach}
 use Rattle.finder.specs.declared.reach.Reach.TheVariants.{End, Stuck, TooLong}
 

@@ -1,12 +1,6 @@
 -- What it says that no certificate was found.
 use Rattle.std.specs.Prelude.{◌≡◌, ℕ, ◌≤ℤ◌, List, slice_get, IsSomeAnd}
-use Rattle.certificate.specs.Certificate.{CertificateData}
-use Rattle.claim_file.specs.Claim.{ClaimData}
-use Rattle.sample_interval.specs.declared.kinds.Sample.{Sample}
-use Rattle.checker.specs.Stretch.{stretches_of}
-use Rattle.checker.specs.Verdict.{verdict_of}
-use Rattle.span_cover.specs.declared.stretch.Stretch.{Stretch}
-use Rattle.checker.specs.declared.verdict.Verdict.TheVariants.{Yes}
+use Rattle.finder.specs.Common.{CertificateData, ClaimData, Sample, stretches_of, verdict_of, Stretch, Yes}
 
 -- one stretch holds the whole of another
 abbrev pub HoldsWhole : Stretch → Stretch → Type 0

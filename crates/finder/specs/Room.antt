@@ -3,15 +3,8 @@
 -- An exchange leaves room for the errors between two ends, or for none. So each server does, over
 -- all its exchanges: the errors that all of them leave room for. A server without an exchange
 -- leaves room for every error.
-use Rattle.std.specs.Prelude.{◌≡◌, ◌<◌, ◌≤◌, ◌^◌, ℕ, ℤ, pos, ◌==◌, unsigned_abs, nat_le}
-use Rattle.std.specs.Prelude.{Bool, ◌&&◌, not, List}
-use Rattle.std.specs.List.{list_any, slice_index_or}
-use Rattle.claim_file.specs.Claim.{ClaimData}
-use Rattle.intersection.specs.Interval.{leaves_out}
-use Rattle.intersection.specs.declared.kinds.Interval.{Interval}
-use Rattle.pairing.specs.declared.exchange.Exchange.{Exchange}
-use Rattle.checker.specs.Groups.{false_group_count}
-use Rattle.checker.specs.RefutationTest.{admits}
+use Rattle.std.specs.Prelude.{◌≡◌, ◌<◌, ◌≤◌, ◌^◌, ℕ, ℤ, pos, ◌==◌, unsigned_abs, nat_le, Bool, ◌&&◌, not, List}
+use Rattle.finder.specs.Common.{list_any, slice_index_or, ClaimData, leaves_out, Interval, Exchange, false_group_count, admits}
 
 -- an exchange of this server leaves no room for the error
 abbrev pub refuses : ℤ → List Exchange → ℤ → ℕ → Bool

@@ -5,22 +5,7 @@
 -- says nothing about the clock. Otherwise a certificate shows the claim, or a refutation contests
 -- it, or neither was found, and no certificate is accepted.
 use Rattle.std.specs.Prelude.{◌≡◌, ◌⊎◌, ◌<◌, ◌≤◌, ℕ, ℤ, pos, true, unsigned_abs, Option, None, IfSome, List, [], ◌∷◌, length, map, AllPairs, Result, IfOk, IfErr}
-use Rattle.certificate.specs.Certificate.{CertificateData, data_of as certificate_data, max_pieces}
-use Rattle.certificate.specs.Refutation.{RefutationData, data_of as refutation_data}
-use Rattle.claim_file.specs.Claim.{ClaimData}
-use Rattle.intersection.specs.declared.kinds.Hull.{Hull}
-use Rattle.pairing.specs.Exchange.{SameRequest}
-use Rattle.pairing.specs.declared.exchange.Exchange.{Exchange}
-use Rattle.checker.specs.Course.{Course, Fits}
-use Rattle.checker.specs.Traceability.{HoldsError, IsObservedIn, IsWithin, samples_of}
-use Rattle.checker.specs.Verdict.{verdict_of}
-use Rattle.checker.specs.declared.verdict.Verdict.TheVariants.{Yes}
-use Rattle.feasibility.specs.Contradiction.{ShownConflict, AreAllConflicts, NoFewHoldAnEnd}
-use Rattle.feasibility.specs.Cover.{SomeCourse, SomeCourseAt}
-use Rattle.feasibility.specs.DriftRefutation.{IsRefutedWithDrift, HasDriftCourse}
-use Rattle.feasibility.specs.DriftSettlement.{SettlesWithDrift}
-use Rattle.feasibility.specs.ServedGroups.{IsNoEvidence, count_with_exchange}
-use Rattle.feasibility.specs.PairMarks.{conflict_data}
+use Rattle.finder.specs.Common.{CertificateData, certificate_data, max_pieces, RefutationData, refutation_data, ClaimData, Hull, SameRequest, Exchange, Course, Fits, HoldsError, IsObservedIn, IsWithin, samples_of, verdict_of, Yes, ShownConflict, AreAllConflicts, NoFewHoldAnEnd, SomeCourse, SomeCourseAt, IsRefutedWithDrift, HasDriftCourse, SettlesWithDrift, IsNoEvidence, count_with_exchange, conflict_data}
 use Rattle.finder.specs.Fewest.{HasFewest, IsOfLongest, IsStuck, IsTooLong, NoneIsAccepted, NoneOfFewIsAccepted, stretch_over}
 use Rattle.finder.specs.Leeway.{AreHeld}
 use Rattle.finder.specs.NearestRefutation.{NoneIsRefuted}

@@ -3,13 +3,7 @@
 -- A tick is a piece of the span that begins where it ends. Each server with a sample gives the
 -- interval of its best samples for that piece.
 use Rattle.std.specs.Prelude.{ℕ, ℤ, List, length, filter_map, Option}
-use Rattle.std.specs.Option.{option_map}
-use Rattle.claim_file.specs.Claim.{ClaimData}
-use Rattle.intersection.specs.declared.kinds.Interval.{Interval}
-use Rattle.sample_interval.specs.declared.kinds.Sample.{Sample}
-use Rattle.span_cover.specs.Gathering.{best_interval}
-use Rattle.span_cover.specs.declared.part.Part.{Part}
-use Rattle.span_cover.specs.Group.{numbers_below}
+use Rattle.finder.specs.Common.{option_map, ClaimData, Interval, Sample, best_interval, Part, numbers_below}
 
 -- an interval, as what a server says
 abbrev pub part_with : ℕ → Interval → Part

@@ -1,15 +1,12 @@
 //! The least bound that a certificate carries.
 
 ghost use Rattle.std.specs.Prelude.{◌≡◌, ◌≤◌, pos, ◌≤ℤ◌, List, length, Option, IfOk, MatchOption};
-ghost use Rattle.claim_file.specs.Claim.{data_of as claim_data, max_bound_ns};
-ghost use Rattle.pairing.specs.Exchange.{most_exchanges};
-ghost use Rattle.sample_interval.specs.declared.kinds.Sample.{Sample as TheSample};
+ghost use Rattle.finder.specs.Common.{data_of as claim_data, max_bound_ns, most_exchanges, Sample as TheSample, AreSamplesOf};
 ghost use Rattle.finder.specs.Carried as spec;
 ghost use Rattle.finder.specs.Carried.{FindsLeastBound, IsCarried, StopsAt};
 ghost use Rattle.finder.specs.Envelope.{with_bound};
 ghost use Rattle.finder.specs.Piece.{IsStep};
 ghost use Rattle.finder.specs.Reach.{AreTablesFor, IsTabled};
-ghost use Rattle.checker.specs.Samples.{AreSamplesOf};
 
 use crate::guess::likely_least;
 use crate::longest::tables_for;

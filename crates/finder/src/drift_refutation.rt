@@ -1,19 +1,10 @@
 //! Refutations with drift that are found.
 
-ghost use Rattle.std.specs.Prelude.{◌≡◌, ◌≤ℤ◌, true, pos, length, map, All, IfNone, IfOk, IfSome};
-ghost use Rattle.std.specs.Prelude.{MatchOption};
-ghost use Rattle.std.specs.Int.{int_min};
-ghost use Rattle.certificate.specs.Refutation.{data_of as refutation_data};
-ghost use Rattle.claim_file.specs.Claim.{data_of as claim_data};
-ghost use Rattle.feasibility.specs.ConflictTable.{IsConflictTable};
+ghost use Rattle.std.specs.Prelude.{◌≡◌, ◌≤ℤ◌, true, pos, length, map, All, IfNone, IfOk, IfSome, MatchOption};
+ghost use Rattle.finder.specs.Common.{int_min, refutation_data, data_of as claim_data, IsConflictTable, IsRefutedWithDrift, SettlesWithDrift, holds, IsLawful as IsLawfulExchange};
 ghost use Rattle.feasibility.specs.ConflictsView.{data_of};
-ghost use Rattle.feasibility.specs.DriftRefutation.{IsRefutedWithDrift};
-ghost use Rattle.feasibility.specs.DriftSettlement.{SettlesWithDrift};
-ghost use Rattle.feasibility.specs.Groups.{holds};
-ghost use Rattle.finder.specs.Leeway.{ArePlacesHeld, IsHeld, IsHeldAtAll, greatest_of, turned};
-ghost use Rattle.finder.specs.Leeway.{IsBounded, IsMade};
+ghost use Rattle.finder.specs.Leeway.{ArePlacesHeld, IsHeld, IsHeldAtAll, greatest_of, turned, IsBounded, IsMade};
 ghost use Rattle.finder.specs.declared.side.Side.{Side};
-ghost use Rattle.pairing.specs.Exchange.{IsLawful as IsLawfulExchange};
 
 use crate::leeway::{false_groups, least_leeway, leeways_at};
 use crate::nearest_refutation::{GREATEST_ERROR, LEAST_ERROR_BELOW};

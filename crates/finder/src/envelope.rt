@@ -1,12 +1,10 @@
 //! The envelope of a claim.
 
 ghost use Rattle.std.specs.Prelude.{◌≡◌, ◌≤◌, IfOk, length};
-ghost use Rattle.claim_file.specs.Claim.{data_of as claim_data};
-ghost use Rattle.pairing.specs.Exchange.{most_exchanges};
+ghost use Rattle.finder.specs.Common.{data_of as claim_data, most_exchanges, AreSamplesOf};
 ghost use Rattle.finder.specs.Answer.{FindsEnvelope};
 ghost use Rattle.finder.specs.Envelope.{data_of, envelope_to, IsLawfulEnvelope};
 ghost use Rattle.finder.specs.Piece.{IsStep};
-ghost use Rattle.checker.specs.Samples.{AreSamplesOf};
 
 use crate::fault::FindFault;
 use crate::least::LeastBound;

@@ -1,14 +1,10 @@
 //! The certificate of fewest pieces.
 
 ghost use Rattle.std.specs.Prelude.{◌≡◌, ◌≤◌, IfOk, length, map};
-ghost use Rattle.certificate.specs.Certificate.{piece_data};
-ghost use Rattle.claim_file.specs.Claim.{data_of as claim_data};
-ghost use Rattle.pairing.specs.Exchange.{most_exchanges};
-ghost use Rattle.sweep.specs.Pieces.{ArePieces};
+ghost use Rattle.finder.specs.Common.{piece_data, data_of as claim_data, most_exchanges, ArePieces, AreSamplesOf};
 ghost use Rattle.finder.specs.Fewest.{pieces_over};
 ghost use Rattle.finder.specs.FewestAnswer.{FindsFewest};
 ghost use Rattle.finder.specs.Reach.{AreTablesFor};
-ghost use Rattle.checker.specs.Samples.{AreSamplesOf};
 
 use crate::entry::entries_at;
 use crate::fault::FindFault;

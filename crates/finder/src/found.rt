@@ -1,12 +1,10 @@
 //! What is found.
 
 ghost use Rattle.std.specs.Prelude.{◌≡◌, ◌≤◌, IfOk, length};
-ghost use Rattle.claim_file.specs.Claim.{data_of as claim_data};
-ghost use Rattle.pairing.specs.Exchange.{most_exchanges};
+ghost use Rattle.finder.specs.Common.{data_of as claim_data, most_exchanges, AreSamplesOf};
 ghost use Rattle.finder.specs.Answer.{Finds};
 ghost use Rattle.finder.specs.Found.{data_of, found_without, first_failing};
 ghost use Rattle.finder.specs.Piece.{IsStep, count_of};
-ghost use Rattle.checker.specs.Samples.{AreSamplesOf};
 
 use crate::fault::FindFault;
 use crate::piece::piece_count;

@@ -1,11 +1,8 @@
 //! The hull of a piece.
 
 ghost use Rattle.std.specs.Prelude.{◌≡◌, ◌<◌, length, All};
-ghost use Rattle.claim_file.specs.Claim.{data_of};
-ghost use Rattle.span_cover.specs.Piece.{IsPiece};
-ghost use Rattle.span_cover.specs.Group.{piece_hull};
+ghost use Rattle.finder.specs.Common.{data_of, IsPiece, piece_hull, AreSamplesOf};
 ghost use Rattle.finder.specs.Entry.{AreNamed, parts_named};
-ghost use Rattle.checker.specs.Samples.{AreSamplesOf};
 
 use arrayvec::ArrayVec;
 use claim_file::Claim;

@@ -2,19 +2,8 @@
 //! for every number.
 
 ghost use Rattle.std.specs.Prelude.{◌≡◌, ◌⊎◌, ℕ, ◌<◌, ◌≤◌, ◌*◌, ℤ, ◌≤ℤ◌, pos, Bool, true, List, [], Ok, All, length, slice_get};
-ghost use Rattle.certificate.specs.Certificate.{CertificateData, PieceData};
-ghost use Rattle.claim_file.specs.Claim.{ClaimData, IsLawful, max_drift_ppb};
-ghost use Rattle.pairing.specs.Exchange.{IsLawful as IsLawfulExchange};
-ghost use Rattle.pairing.specs.declared.exchange.Exchange.{Exchange};
-ghost use Rattle.sample_interval.specs.declared.kinds.Sample.{Sample};
-ghost use Rattle.checker.specs.Course.{Course, Fits};
-ghost use Rattle.checker.specs.Traceability.{HoldsError, IsObservedIn, IsWithin, samples_of};
-ghost use Rattle.checker.specs.Verdict.{parts_after, parts_fault, hull_fault, verdict_of};
-ghost use Rattle.checker.specs.declared.verdict.Verdict.{Verdict};
-ghost use Rattle.feasibility.specs.Cover.{SomeCourse};
-ghost use Rattle.span_cover.specs.Group.{is_inside, piece_hull};
-ghost use Rattle.span_cover.specs.Piece.{IsPiece};
-ghost use Rattle.span_cover.specs.declared.stretch.Stretch.{Stretch};
+ghost use Rattle.finder.specs.Common.{CertificateData, PieceData, ClaimData, max_drift_ppb, IsLawful as IsLawfulExchange, Exchange, Sample, Course, Fits, HoldsError, IsObservedIn, IsWithin, samples_of, parts_after, parts_fault, hull_fault, verdict_of, Verdict, SomeCourse, is_inside, piece_hull, IsPiece, Stretch, AreSamplesOf};
+ghost use Rattle.claim_file.specs.Claim.{IsLawful};
 ghost use Rattle.finder.specs.Carried.{GetStuck, HoldsTick, IsCarried, IsNeverEmpty, IsTick, piece_holding};
 ghost use Rattle.finder.specs.Entry.{best_entries, best_hull, parts_named};
 ghost use Rattle.finder.specs.Envelope.{EnvelopeData, IsCertified, IsLeast, IsNotCertified, envelope_of, least_of, with_bound};
@@ -24,7 +13,6 @@ ghost use Rattle.finder.specs.Leeway.{HasFalse};
 ghost use Rattle.finder.specs.Neediest.{NoneNeedsMore, hull_without};
 ghost use Rattle.finder.specs.Piece.{IsPieceCount, count_of, piece_count_of};
 ghost use Rattle.finder.specs.Refusal.{HoldsWhole};
-ghost use Rattle.checker.specs.Samples.{AreSamplesOf};
 ghost use Rattle.finder.specs.TickParts.{best_parts};
 ghost use Rattle.finder.specs.declared.least.LeastBound.{LeastBound};
 

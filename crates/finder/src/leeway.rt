@@ -1,17 +1,8 @@
 //! How great an error the exchanges of each group let be at a reading.
 
-ghost use Rattle.std.specs.Prelude.{◌≡◌, ◌↔◌, ◌^◌, ◌*◌, ◌/◌, ◌-◌, ◌<◌, ◌≤◌, ℤ, pos, ◌≤ℤ◌};
-ghost use Rattle.std.specs.Prelude.{unsigned_abs, slice_index, length, map, All, MatchOption};
-ghost use Rattle.std.specs.Prelude.{count_by};
-ghost use Rattle.claim_file.specs.Claim.{data_of as claim_data};
-ghost use Rattle.feasibility.specs.Groups.{holds};
-ghost use Rattle.finder.specs.Leeway.{AreLeeways, IsLimit, IsNarrowed, IsTightest, IsUnlimited};
-ghost use Rattle.finder.specs.Leeway.{mark_at};
-ghost use Rattle.error_marks.specs.Mark.{AreCompatible};
-ghost use Rattle.error_marks.specs.Range.{IsWithinRange};
-ghost use Rattle.pairing.specs.Exchange.{IsLawful as IsLawfulExchange};
-ghost use Rattle.sample_interval.specs.Widening.{IsRate};
-ghost use Rattle.span_cover.specs.Group.{numbers_below};
+ghost use Rattle.std.specs.Prelude.{◌≡◌, ◌↔◌, ◌^◌, ◌*◌, ◌/◌, ◌-◌, ◌<◌, ◌≤◌, ℤ, pos, ◌≤ℤ◌, unsigned_abs, slice_index, length, map, All, MatchOption, count_by};
+ghost use Rattle.finder.specs.Common.{data_of as claim_data, holds, AreCompatible, IsWithinRange, IsLawful as IsLawfulExchange, IsRate, numbers_below};
+ghost use Rattle.finder.specs.Leeway.{AreLeeways, IsLimit, IsNarrowed, IsTightest, IsUnlimited, mark_at};
 
 use crate::side::Side;
 use claim_file::Claim;

@@ -1,15 +1,10 @@
 //! The longest piece from a reading.
 
-ghost use Rattle.std.specs.Prelude.{◌≡◌, ◌<◌, ◌≤◌, pos, ◌+ℤ◌, ◌≤ℤ◌, true, List, length, All, IfOk};
-ghost use Rattle.std.specs.Prelude.{IsTrue, MatchResult};
-ghost use Rattle.std.specs.Int.{int_min};
-ghost use Rattle.claim_file.specs.Claim.{data_of};
-ghost use Rattle.pairing.specs.Exchange.{most_exchanges};
-ghost use Rattle.sample_interval.specs.declared.kinds.Sample.{Sample};
+ghost use Rattle.std.specs.Prelude.{◌≡◌, ◌<◌, ◌≤◌, pos, ◌+ℤ◌, ◌≤ℤ◌, true, List, length, All, IfOk, IsTrue, MatchResult};
+ghost use Rattle.finder.specs.Common.{int_min, data_of, most_exchanges, Sample, AreSamplesOf};
 ghost use Rattle.finder.specs.Entry.{best_entries, best_hull, parts_named};
 ghost use Rattle.finder.specs.Fewest.{FailsAt, IsLongest, shows, stretch_over};
 ghost use Rattle.finder.specs.Reach.{AreTablesFor, IsTabled, OfTables};
-ghost use Rattle.checker.specs.Samples.{AreSamplesOf};
 
 use crate::likely::likely_length;
 use crate::trial::trial;

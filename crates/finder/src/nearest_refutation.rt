@@ -1,14 +1,10 @@
 //! Refutations that are found.
 
 ghost use Rattle.std.specs.Prelude.{◌≡◌, ◌^◌, ◌<◌, ◌≤◌, ℤ, ℕ, pos, ◌≤ℤ◌, ◌<ℤ◌, unsigned_abs, List, length, map, All, IsNone, IfSome, option_map};
-ghost use Rattle.pairing.specs.declared.exchange.Exchange.{Exchange};
-ghost use Rattle.certificate.specs.Refutation.{data_of as refutation_data};
-ghost use Rattle.claim_file.specs.Claim.{data_of as claim_data};
-ghost use Rattle.pairing.specs.Exchange.{IsLawful as IsLawfulExchange};
+ghost use Rattle.finder.specs.Common.{Exchange, refutation_data, data_of as claim_data, IsLawful as IsLawfulExchange};
 ghost use Rattle.finder.specs.Leeway.{least_on, turned};
 ghost use Rattle.finder.specs.Room.{AreRooms, possible_by, room_at};
-ghost use Rattle.finder.specs.NearestRefutation.{IsErrorOf64Bits, IsNearest, IsNearestRefutation, NoneIsRefuted};
-ghost use Rattle.finder.specs.NearestRefutation.{nearest_error, nearest_refutation};
+ghost use Rattle.finder.specs.NearestRefutation.{IsErrorOf64Bits, IsNearest, IsNearestRefutation, NoneIsRefuted, nearest_error, nearest_refutation};
 
 use crate::room::{is_possible, refusing, rooms_of};
 use crate::side::Side;

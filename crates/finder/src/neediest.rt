@@ -5,17 +5,12 @@
 //! them likely need most: where a server's samples before it and those after it say as little. How
 //! much they need at most says the hull over all of them.
 
-ghost use Rattle.std.specs.Prelude.{◌≡◌, ◌⊎◌, ◌<◌, ◌≤◌, ◌-◌, ℤ, pos, ◌≤ℤ◌, false, length, filter};
-ghost use Rattle.std.specs.Prelude.{All, IfOk, IfSome, IsSomeAnd, IsTrue, MatchOption};
-ghost use Rattle.std.specs.Option.{option_map};
-ghost use Rattle.claim_file.specs.Claim.{data_of as claim_data, max_bound_ns};
-ghost use Rattle.feasibility.specs.Groups.{holds};
+ghost use Rattle.std.specs.Prelude.{◌≡◌, ◌⊎◌, ◌<◌, ◌≤◌, ◌-◌, ℤ, pos, ◌≤ℤ◌, false, length, filter, All, IfOk, IfSome, IsSomeAnd, IsTrue, MatchOption};
+ghost use Rattle.finder.specs.Common.{option_map, data_of as claim_data, max_bound_ns, holds, IsRate};
 ghost use Rattle.finder.specs.Fewest.{stretch_over};
 ghost use Rattle.finder.specs.Neediest as spec;
-ghost use Rattle.finder.specs.Neediest.{AreHalves, IsBoundless, IsGap, IsNeediest, IsWithin};
-ghost use Rattle.finder.specs.Neediest.{NeedsAtMost, has_say, need_of, tick_without};
+ghost use Rattle.finder.specs.Neediest.{AreHalves, IsBoundless, IsGap, IsNeediest, IsWithin, NeedsAtMost, has_say, need_of, tick_without};
 ghost use Rattle.finder.specs.Reach.{IsTabled, OfTables};
-ghost use Rattle.sample_interval.specs.Widening.{IsRate};
 
 use crate::carried::MOST_BOUND_NS;
 use crate::least::{nanoseconds_of, reach_of};

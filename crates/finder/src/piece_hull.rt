@@ -1,12 +1,10 @@
 //! A piece of a span, and what the samples say about the clock's error there.
 
 ghost use Rattle.std.specs.Prelude.{◌≡◌, ◌<◌, ◌≤◌, length, All, slice_get};
-ghost use Rattle.std.specs.List.{filter_map};
-ghost use Rattle.claim_file.specs.Claim.{data_of as claim_data};
+ghost use Rattle.finder.specs.Common.{filter_map, data_of as claim_data, AreSamplesOf};
 ghost use Rattle.finder.specs.Entry.{best_entries};
 ghost use Rattle.finder.specs.Envelope.{piece_data, piece_hull_at};
 ghost use Rattle.finder.specs.Piece.{stretch_at};
-ghost use Rattle.checker.specs.Samples.{AreSamplesOf};
 
 use crate::entry::entries_at;
 use crate::hull::hull_of;

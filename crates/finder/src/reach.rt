@@ -1,8 +1,7 @@
 //! How far the longest pieces reach.
 
 ghost use Rattle.std.specs.Prelude.{◌≤◌, length, IfOk, List};
-ghost use Rattle.claim_file.specs.Claim.{data_of};
-ghost use Rattle.sample_interval.specs.declared.kinds.Sample.{Sample};
+ghost use Rattle.finder.specs.Common.{data_of, Sample};
 ghost use Rattle.finder.specs.Reach.{AreTablesFor, IsReach, IsTabled};
 
 use crate::longest::{Pace, longest_piece, tick_after};

@@ -1,12 +1,7 @@
 //! The errors for which exchanges leave room.
 
 ghost use Rattle.std.specs.Prelude.{◌≡◌, ◌^◌, ◌<◌, ◌≤◌, ◌≤ℤ◌, ℤ, ℕ, pos, not, unsigned_abs, filter, map, All};
-ghost use Rattle.claim_file.specs.Claim.{data_of as claim_data};
-ghost use Rattle.intersection.specs.Interval.{leaves_out};
-ghost use Rattle.pairing.specs.Exchange.{IsLawful as IsLawfulExchange};
-ghost use Rattle.sample_interval.specs.Exchange.{IsOfSomeClaim};
-ghost use Rattle.span_cover.specs.Group.{numbers_below};
-ghost use Rattle.checker.specs.RefutationTest.{admits};
+ghost use Rattle.finder.specs.Common.{data_of as claim_data, leaves_out, IsLawful as IsLawfulExchange, IsOfSomeClaim, numbers_below, admits};
 ghost use Rattle.finder.specs.Room.{AreRooms, IsNear, possible_by, refused_by, room_at};
 
 use arrayvec::ArrayVec;

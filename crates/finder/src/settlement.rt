@@ -8,16 +8,10 @@
 //! cover left out (neediest.rt), and one without drift last. The claim is open if none stands.
 
 ghost use Rattle.std.specs.Prelude.{◌≡◌, ◌<◌, ◌≤◌, pos, length, map, All, IfOk, IfSome, Some};
-ghost use Rattle.std.specs.Option.{option_map};
-ghost use Rattle.claim_file.specs.Claim.{data_of as claim_data};
-ghost use Rattle.checker.specs.Traceability.{samples_of};
-ghost use Rattle.feasibility.specs.ConflictTable.{IsConflictTable};
+ghost use Rattle.finder.specs.Common.{option_map, data_of as claim_data, samples_of, IsConflictTable, count_with_exchange, AreSamplesOf, IsLawful as IsLawfulExchange, most_exchanges};
 ghost use Rattle.feasibility.specs.ConflictsView.{data_of};
-ghost use Rattle.feasibility.specs.ServedGroups.{count_with_exchange};
 ghost use Rattle.finder.specs.Reach.{AreTablesFor};
-ghost use Rattle.checker.specs.Samples.{AreSamplesOf};
 ghost use Rattle.finder.specs.Settlement.{IsSearched, Settles};
-ghost use Rattle.pairing.specs.Exchange.{IsLawful as IsLawfulExchange, most_exchanges};
 
 use crate::drift_refutation::find_with_cover;
 use crate::fault::FindFault;

@@ -1,11 +1,8 @@
 //! To which side of zero an error is looked for.
 
 ghost use Rattle.std.specs.Prelude.{◌≡◌, ◌↔◌, ◌^◌, ◌≤◌, ℤ, pos, ◌≤ℤ◌, unsigned_abs};
-ghost use Rattle.claim_file.specs.Claim.{ClaimData};
+ghost use Rattle.finder.specs.Common.{ClaimData, AreCompatible, IsWithinRange, IsOfSomeClaim};
 ghost use Rattle.finder.specs.Leeway.{Lets, limit_of, mark_at, turned};
-ghost use Rattle.error_marks.specs.Mark.{AreCompatible};
-ghost use Rattle.error_marks.specs.Range.{IsWithinRange};
-ghost use Rattle.sample_interval.specs.Exchange.{IsOfSomeClaim};
 
 use error_marks::{Mark, high_mark, low_mark};
 use pairing::Exchange;

@@ -1,11 +1,7 @@
 //! The best samples of each server.
 
 ghost use Rattle.std.specs.Prelude.{◌≡◌, ℕ, ℤ, ◌≤◌, ◌<◌, length, All, IfOk, slice_get};
-ghost use Rattle.std.specs.List.{filter_map};
-ghost use Rattle.claim_file.specs.Claim.{data_of};
-ghost use Rattle.pairing.specs.Exchange.{most_exchanges};
-ghost use Rattle.sample_interval.specs.Sample.{IsLawfulSample};
-ghost use Rattle.sweep.specs.Pieces.{ArePieces, IsPieceAt};
+ghost use Rattle.finder.specs.Common.{filter_map, data_of, most_exchanges, IsLawfulSample, ArePieces, IsPieceAt};
 ghost use Rattle.finder.specs.Entry.{best_entries};
 ghost use Rattle.finder.specs.Fewest.{stretch_over};
 ghost use Rattle.finder.specs.Piece.{stretch_at};

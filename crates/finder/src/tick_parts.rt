@@ -1,13 +1,9 @@
 //! What each server says about the clock's error at one reading of the clock, a tick.
 
 ghost use Rattle.std.specs.Prelude.{◌≡◌, ◌<◌, ℕ, ℤ, List, IfSome, length, All};
-ghost use Rattle.claim_file.specs.Claim.{data_of};
-ghost use Rattle.sample_interval.specs.declared.kinds.Sample.{Sample as TheSample};
-ghost use Rattle.span_cover.specs.Gathering.{Gathered};
-ghost use Rattle.span_cover.specs.Piece.{IsPiece};
+ghost use Rattle.finder.specs.Common.{data_of, Sample as TheSample, Gathered, IsPiece, AreSamplesOf};
 ghost use Rattle.finder.specs.TickParts as spec;
 ghost use Rattle.finder.specs.TickParts.{best_part};
-ghost use Rattle.checker.specs.Samples.{AreSamplesOf};
 
 use arrayvec::ArrayVec;
 use claim_file::Claim;

@@ -4,8 +4,7 @@
 -- If at most f intervals of the list are wrong, then the true value is a point that at most f of
 -- them leave out. Such a point is admissible. The hull is the least range with every admissible
 -- point: it speaks of all whole points, and not of the ends of the intervals.
-use Rattle.std.specs.Prelude.{◌≡◌, ℕ, ◌<◌, ◌≤◌, ℤ, ◌≤ℤ◌, ◌↔◌, List, [], ◌∷◌, length, count_by, ⊤}
-use Rattle.std.specs.Prelude.{nat_le, filter, flat_map, fold, if◌then◌else◌}
+use Rattle.std.specs.Prelude.{◌≡◌, ℕ, ◌<◌, ◌≤◌, ℤ, ◌≤ℤ◌, ◌↔◌, List, [], ◌∷◌, length, count_by, ⊤, nat_le, filter, flat_map, fold, if◌then◌else◌}
 use Rattle.std.specs.Int.{int_max, int_min}
 use Rattle.intersection.specs.Interval.{leaves_out}
 use Rattle.intersection.specs.declared.kinds.Interval.{Interval}

@@ -1,7 +1,6 @@
 -- A tick of 2^-32 s of the Unix epoch as a date and a time of day in UTC, at a whole nanosecond:
 -- the last that isn't after the tick, or the first that isn't before it.
-use Rattle.std.specs.Prelude.{ℕ, zero, suc, ◌/◌, ◌%◌, ◌^◌, nat_lt, if◌then◌else◌}
-use Rattle.std.specs.Prelude.{ℤ, pos, negsuc, List, [], ◌++◌, codes}
+use Rattle.std.specs.Prelude.{ℕ, zero, suc, ◌/◌, ◌%◌, ◌^◌, nat_lt, if◌then◌else◌, ℤ, pos, negsuc, List, [], ◌++◌, codes}
 use Rattle.std.specs.Fmt.{signed_decimal}
 use Rattle.era_unfold.specs.Nanoseconds.{nanoseconds_per_second}
 use Rattle.line_writer.specs.Date.{clock_text}

@@ -1,7 +1,6 @@
 -- Texts for a person, read back as numbers. A reader knows nothing of how a text is written: it
 -- goes by the digits, by their places, and by the signs between them.
-use Rattle.std.specs.Prelude.{◌≡◌, ℕ, zero, suc, ◌+◌, ◌-◌, ◌*◌, ◌^◌, ◌<◌, ◌==◌, nat_lt, ℤ, pos, negsuc, ◌+ℤ◌, ◌*ℤ◌, Bool, true, not, ◌&&◌, ◌||◌}
-use Rattle.std.specs.Prelude.{List, ◌++◌, length, take, drop, codes, slice_index, Option, Some, None, option_map, option_and_then, if◌then◌else◌}
+use Rattle.std.specs.Prelude.{◌≡◌, ℕ, zero, suc, ◌+◌, ◌-◌, ◌*◌, ◌^◌, ◌<◌, ◌==◌, nat_lt, ℤ, pos, negsuc, ◌+ℤ◌, ◌*ℤ◌, Bool, true, not, ◌&&◌, ◌||◌, List, ◌++◌, length, take, drop, codes, slice_index, Option, Some, None, option_map, option_and_then, if◌then◌else◌}
 use Rattle.std.specs.Char.{is_digit}
 use Rattle.std.specs.List.{list_all}
 use Rattle.std.specs.Str.{bytes_eq}

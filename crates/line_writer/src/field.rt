@@ -3,8 +3,7 @@
 ghost use Rattle.std.specs.Prelude.{◌≡◌, ◌+◌, ◌-◌, ◌≤◌, ◌++◌, IfOk, length, map, replicate};
 ghost use Rattle.std.specs.List.{list_all, prefix_len};
 ghost use Rattle.line_writer.specs.Text.{are_zero, is_named, is_printable, millionths};
-ghost use Rattle.line_writer.specs.Field.{field_data, fields_text, human_text, in_column, is_absent, is_short, line_of};
-ghost use Rattle.line_writer.specs.Field.{most_of, next_text, plain_text, reference_text, rest_text, room_of, text_of, width, width_of};
+ghost use Rattle.line_writer.specs.Field.{field_data, fields_text, human_text, in_column, is_absent, is_short, line_of, most_of, next_text, plain_text, reference_text, rest_text, room_of, text_of, width, width_of};
 
 use crate::date::put_time;
 use crate::line::{CAPACITY, Line};

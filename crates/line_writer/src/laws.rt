@@ -1,15 +1,13 @@
 //! What holds of the definitions that the contracts cite. A law is a function that does nothing:
 //! its contract is the law.
 
-ghost use Rattle.std.specs.Prelude.{◌≡◌, ℕ, ◌+◌, ◌-◌, ◌*◌, ◌<◌, ◌≤◌, ◌^◌, ℤ, pos, ◌*ℤ◌, unsigned_abs, Some, true};
-ghost use Rattle.std.specs.Prelude.{List, [], ◌∷◌, ◌++◌, codes, length, replicate};
+ghost use Rattle.std.specs.Prelude.{◌≡◌, ℕ, ◌+◌, ◌-◌, ◌*◌, ◌<◌, ◌≤◌, ◌^◌, ℤ, pos, ◌*ℤ◌, unsigned_abs, Some, true, List, [], ◌∷◌, ◌++◌, codes, length, replicate};
 ghost use Rattle.std.specs.List.{list_all};
 ghost use Rattle.std.specs.Net.Grammar.{IsDotted};
 ghost use Rattle.era_unfold.specs.Ratio.{IsCeiling, IsFloor, IsSignedCeiling, IsSignedFloor};
 ghost use Rattle.era_unfold.specs.Window.{per_second, window_low};
 ghost use Rattle.era_unfold.specs.declared.unit.Unit.{Unit as SubsecondUnit};
-ghost use Rattle.line_writer.specs.Field.{Address, Billionths, High, Low, Nanoseconds, Number, Reference};
-ghost use Rattle.line_writer.specs.Field.{Second, TimeAbove, TimeBelow, human_text};
+ghost use Rattle.line_writer.specs.Field.{Address, Billionths, High, Low, Nanoseconds, Number, Reference, Second, TimeAbove, TimeBelow, human_text};
 ghost use Rattle.line_writer.specs.Millisecond.{longer, nanosecond_above, nanosecond_below, shorter};
 ghost use Rattle.line_writer.specs.Moment.{part_of, second_of};
 ghost use Rattle.line_writer.specs.Reading.{SaysIn, SaysMoment, read_signed, read_whole};

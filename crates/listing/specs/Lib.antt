@@ -1,3 +1,4 @@
+pub mod Common
 pub mod PacketLine
 pub mod Listing
 pub mod Progress

@@ -1,14 +1,9 @@
 -- The whole text of `list`: a line for each NTP packet, and a closing line if the capture ends
 -- whole.
 use Rattle.std.specs.Prelude.{ℕ, List, [], ◌++◌, length, codes, Option, Some, None, Result, Ok, Err}
-use Rattle.std.specs.Fmt.{decimal}
-use Rattle.std.specs.List.{filter_map}
-use Rattle.pcap_reader.specs.declared.fault.CaptureFault.{CaptureFault}
-use Rattle.pcap_reader.specs.Capture.{Record}
-use Rattle.pcap_reader.specs.Remaining.{Coming, capture_of}
+use Rattle.listing.specs.Common.{decimal, filter_map, CaptureFault, Record, Coming, capture_of, Report, refused}
 use Rattle.report.specs.declared.fault.Outcome.TheVariants as outcomes
 use Rattle.report.specs.declared.fault.RunFault.TheVariants as faults
-use Rattle.report.specs.Reports.{Report, refused}
 use Rattle.listing.specs.PacketLine.{line_of}
 
 -- the last line: how many records, and how many of them hold an NTP packet

@@ -1,19 +1,6 @@
 -- The line of `list` for one NTP packet: twenty fields with one blank between them.
 use Rattle.std.specs.Prelude.{ℕ, ◌==◌, List, [], ◌∷◌, ◌++◌, codes, Option, ℤ, pos, if◌then◌else◌}
-use Rattle.std.specs.Option.{option_map}
-use Rattle.std.specs.Fmt.{decimal, signed_decimal}
-use Rattle.std.specs.List.{join_with_byte}
-use Rattle.hex.specs.Hex.{encode_lower}
-use Rattle.era_unfold.specs.declared.unit.Unit.{Unit as SubsecondUnit}
-use Rattle.era_unfold.specs.declared.unit.Unit.TheVariants.{Micro, Nano}
-use Rattle.era_unfold.specs.Window.{window_low, window_high}
-use Rattle.era_unfold.specs.Stamp.{unfolded}
-use Rattle.frame_reader.specs.Frame.{Fields}
-use Rattle.ntp_packet.specs.Header.{leap_of, version_of, mode_of, stratum_of, precision_of, root_delay_of, root_dispersion_of, reference_id_of, reference_of, origin_of, receive_of, transmit_of}
-use Rattle.ntp_packet.specs.Packet.{Packet, packet_of}
-use Rattle.pcap_reader.specs.declared.format.RecordHead.{RecordHead}
-use Rattle.pcap_reader.specs.Capture.{Record}
-use Rattle.line_writer.specs.Text.{zero_padded, endpoint, hexadecimal}
+use Rattle.listing.specs.Common.{option_map, decimal, signed_decimal, join_with_byte, encode_lower, Unit as SubsecondUnit, Micro, Nano, window_low, window_high, unfolded, Fields, leap_of, version_of, mode_of, stratum_of, precision_of, root_delay_of, root_dispersion_of, reference_id_of, reference_of, origin_of, receive_of, transmit_of, Packet, packet_of, RecordHead, Record, zero_padded, endpoint, hexadecimal}
 
 -- the digits of a sub-second field
 abbrev pub sub_digits : SubsecondUnit → ℕ

@@ -1,18 +1,6 @@
 -- How far a listing has come.
 use Rattle.std.specs.Prelude.{◌≡◌, ◌+◌, ◌-◌, ◌*◌, ◌^◌, ◌<◌, ◌≤◌, ℕ, List, [], ◌∷◌, ◌++◌, length, Option, Some, None, Ok, IfSome, false, Result, Err}
-use Rattle.std.specs.Option.{option_map}
-use Rattle.byte_stream.specs.Fault.{CountsFault}
-use Rattle.byte_stream.specs.State.{FeedState, SinkState, IsWritable}
-use Rattle.pcap_reader.specs.Capture.{most_records}
-use Rattle.pcap_reader.specs.Remaining.{Coming}
-use Rattle.pcap_reader.specs.Source.{SourceState, IsFresh, TakesFrom}
-use Rattle.report.specs.declared.fault.Outcome.{Outcome}
-use Rattle.report.specs.declared.fault.RunFault.{RunFault}
-use Rattle.report.specs.declared.fault.RunFault.TheVariants.{Memory}
-use Rattle.report.specs.Closing.{HasRun, CanClose, stops_of}
-use Rattle.report.specs.Output.{OutputState, HasPut, IsReady, Puts, put_count}
-use Rattle.report.specs.Reports.{Reports, is_device, is_claim, is_second, is_capture, is_sums}
-use Rattle.report.specs.Run.{capture_state}
+use Rattle.listing.specs.Common.{option_map, CountsFault, FeedState, SinkState, IsWritable, most_records, Coming, SourceState, IsFresh, TakesFrom, Outcome, RunFault, Memory, HasRun, CanClose, stops_of, OutputState, HasPut, IsReady, Puts, put_count, Reports, is_device, is_claim, is_second, is_capture, is_sums, capture_state}
 use Rattle.listing.specs.Listing.{lines_of, listing}
 
 -- A source may be listed on a sink: it has given nothing, and both may be used.

@@ -1,11 +1,6 @@
 //! The listing as a whole command, with its answer reported.
 
-ghost use Rattle.std.specs.Option.{option_map};
-ghost use Rattle.byte_stream.specs.Intake.{TakesAtMost};
-ghost use Rattle.byte_stream.specs.State.{IsReadable, IsWritable};
-ghost use Rattle.pcap_reader.specs.Limit.{most_taken};
-ghost use Rattle.report.specs.Run.{capture_state};
-ghost use Rattle.report.specs.Conclusion.{Answers};
+ghost use Rattle.listing.specs.Common.{option_map, TakesAtMost, IsReadable, IsWritable, most_taken, capture_state, Answers};
 ghost use Rattle.listing.specs.Listing.{list_report};
 
 use crate::run::run_list;

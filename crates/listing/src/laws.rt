@@ -1,14 +1,7 @@
 //! Laws of the listing. A law is a function that does nothing: its contract is the law.
 
 ghost use Rattle.std.specs.Prelude.{◌≡◌, ◌++◌, ℕ, List, [], length, codes, Ok, Err};
-ghost use Rattle.std.specs.List.{join_with_byte};
-ghost use Rattle.ntp_packet.specs.Packet.{Packet};
-ghost use Rattle.pcap_reader.specs.declared.format.RecordHead.{RecordHead};
-ghost use Rattle.pcap_reader.specs.declared.fault.CaptureFault.{CaptureFault};
-ghost use Rattle.pcap_reader.specs.declared.format.Format.{Format};
-ghost use Rattle.byte_stream.specs.Bytes.{IsBytes};
-ghost use Rattle.pcap_reader.specs.Broken.{IsBrokenAfter};
-ghost use Rattle.pcap_reader.specs.Capture.{Record, IsCapture};
+ghost use Rattle.listing.specs.Common.{join_with_byte, Packet, RecordHead, CaptureFault, Format, IsBytes, IsBrokenAfter, Record, IsCapture};
 ghost use Rattle.listing.specs.Listing.{lines_of, closing_line, list_report};
 ghost use Rattle.listing.specs.PacketLine.{packet_fields, packet_line};
 

@@ -1,10 +1,8 @@
 //! The engine of `list` over any source of records.
 
 ghost use Rattle.std.specs.Prelude.{◌≡◌, ◌-◌, ◌^◌, ◌+◌, ◌<◌, ◌≤◌, ◌⊎◌, [], ◌∷◌, IsTrue, OnOk, vec_capacity};
-ghost use Rattle.pcap_reader.specs.Source.{IsFresh, IsNextShown};
+ghost use Rattle.listing.specs.Common.{IsFresh, IsNextShown, IsReady, Puts, put_count, fresh_output, output_state, sink_name};
 ghost use Rattle.report.specs.declared.output.TheConstants.{OUTPUT_CAPACITY};
-ghost use Rattle.report.specs.Output.{IsReady, Puts, put_count, fresh_output};
-ghost use Rattle.report.specs.State.{output_state, sink_name};
 ghost use Rattle.listing.specs.Listing.{closing_line};
 ghost use Rattle.listing.specs.Progress.{CanList, HasListed, Lists, progress, most_line};
 

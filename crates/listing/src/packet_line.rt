@@ -1,10 +1,7 @@
 //! The line of `list` for one NTP packet.
 
 ghost use Rattle.std.specs.Prelude.{◌≡◌, ◌+◌, ◌<◌, ◌≤◌, ◌∷◌, [], ◌++◌, length, pos, ◌≤ℤ◌, ◌^◌};
-ghost use Rattle.std.specs.Fmt.{decimal};
-ghost use Rattle.era_unfold.specs.Window.{per_second};
-ghost use Rattle.frame_reader.specs.Frame.{fields_of};
-ghost use Rattle.ntp_packet.specs.Packet.{packet_shown};
+ghost use Rattle.listing.specs.Common.{decimal, per_second, fields_of, packet_shown};
 ghost use Rattle.line_writer.specs.declared.line.TheConstants.{CAPACITY};
 ghost use Rattle.listing.specs.PacketLine.{time_field, endpoint_fields, mode_fields, clock_fields, root_fields, stamp_fields, unfolded_text, tick_fields, packet_line, spaced};
 

@@ -1,9 +1,7 @@
 //! What a listing says about one record.
 
 ghost use Rattle.std.specs.Prelude.{◌≡◌, ◌+◌, ◌<◌, ◌≤◌, Some, None, OnOk, if◌then◌else◌};
-ghost use Rattle.era_unfold.specs.Window.{per_second};
-ghost use Rattle.report.specs.Output.{IsReady, put_count};
-ghost use Rattle.report.specs.State.{output_state, sink_name};
+ghost use Rattle.listing.specs.Common.{per_second, IsReady, put_count, output_state, sink_name};
 ghost use Rattle.listing.specs.PacketLine.{line_of};
 ghost use Rattle.listing.specs.Progress.{PutsLine, most_line};
 

@@ -1,14 +1,7 @@
 //! The run of `list` over a feed and a sink.
 
 ghost use Rattle.std.specs.Prelude.{◌≡◌, IfSome, Err};
-ghost use Rattle.std.specs.Option.{option_map};
-ghost use Rattle.byte_stream.specs.Intake.{TakesAtMost};
-ghost use Rattle.byte_stream.specs.State.{IsReadable, IsWritable};
-ghost use Rattle.pcap_reader.specs.declared.fault.CaptureFault.{CaptureFault};
-ghost use Rattle.pcap_reader.specs.Limit.{most_taken, buffer_size};
-ghost use Rattle.pcap_reader.specs.Remaining.{capture_of};
-ghost use Rattle.report.specs.Reports.{Reports};
-ghost use Rattle.report.specs.Run.{capture_state};
+ghost use Rattle.listing.specs.Common.{option_map, TakesAtMost, IsReadable, IsWritable, CaptureFault, most_taken, buffer_size, capture_of, Reports, capture_state};
 ghost use Rattle.listing.specs.Listing.{list_report};
 
 use crate::list::list_from;

@@ -1,14 +1,6 @@
 -- What `collect` answers of a source of records.
 use Rattle.std.specs.Prelude.{◌≡◌, ◌≤◌, List, All, length, slice_get, Bool, true, false, Option, Some, None, Result, Ok, Err, IfErr, IfOk, IfSome, MatchResult, ◌⊎◌}
-use Rattle.byte_stream.specs.Fault.{CountsFault}
-use Rattle.pcap_reader.specs.declared.fault.CaptureFault.{CaptureFault}
-use Rattle.pcap_reader.specs.declared.fault.CaptureFault.TheVariants.{Read}
-use Rattle.pcap_reader.specs.Capture.{Record, IsLawfulHead, most_records}
-use Rattle.pcap_reader.specs.Fault.{IsRecordFault}
-use Rattle.pcap_reader.specs.Remaining.{Coming}
-use Rattle.pcap_reader.specs.Source.{SourceState, TakesFrom}
-use Rattle.byte_stream.specs.Bytes.{IsBytes}
-use Rattle.claim_file.specs.Claim.{ClaimData}
+use Rattle.pairing.specs.Common.{CountsFault, CaptureFault, Read, Record, IsLawfulHead, most_records, IsRecordFault, Coming, SourceState, TakesFrom, IsBytes, ClaimData}
 use Rattle.pairing.specs.declared.fault.PairFault.{PairFault}
 use Rattle.pairing.specs.declared.fault.PairFault.TheVariants.{Capture, TooManyExchanges, Memory}
 use Rattle.pairing.specs.Exchange.{AreLawful}

@@ -1,7 +1,6 @@
 -- What is held of a reply, and the exchange that it says.
 use Rattle.std.specs.Prelude.{ℕ, ◌+◌, pos, unsigned_abs, map}
-use Rattle.era_unfold.specs.Stamp.{unfolded}
-use Rattle.ntp_packet.specs.Header.{leap_of, stratum_of, reference_id_of, origin_of, receive_of, transmit_of}
+use Rattle.pairing.specs.Common.{unfolded, leap_of, stratum_of, reference_id_of, origin_of, receive_of, transmit_of}
 use Rattle.pairing.specs.declared.exchange.Exchange.{Exchange}
 use Rattle.pairing.specs.declared.compact.CompactCollection.{CompactCollection}
 use Rattle.pairing.specs.declared.compact.CompactExchange.{CompactExchange}

@@ -1,8 +1,7 @@
 -- The window of a record's time, as it is held: its first tick, and how many ticks there are from
 -- there to its last one.
 use Rattle.std.specs.Prelude.{ℕ, ◌-◌}
-use Rattle.era_unfold.specs.Window.{window_low, window_high}
-use Rattle.pcap_reader.specs.declared.format.RecordHead.{RecordHead}
+use Rattle.pairing.specs.Common.{window_low, window_high, RecordHead}
 use Rattle.pairing.specs.declared.compact_window.CompactWindow.{CompactWindow}
 
 abbrev pub tick_of : RecordHead → ℕ

@@ -1,8 +1,6 @@
 -- What is gathered of a capture's records so far.
 use Rattle.std.specs.Prelude.{◌≡◌, ℕ, ◌+◌, List, [], ◌∷◌, length, map, filter, count_by, is_none, Bool, false, Option, Some, None}
-use Rattle.pcap_reader.specs.declared.format.RecordHead.{RecordHead}
-use Rattle.pcap_reader.specs.Capture.{Record}
-use Rattle.claim_file.specs.Claim.{ClaimData}
+use Rattle.pairing.specs.Common.{RecordHead, Record, ClaimData}
 use Rattle.pairing.specs.declared.counts.Counts.{Counts}
 use Rattle.pairing.specs.declared.compact.CompactExchange.{CompactExchange}
 use Rattle.pairing.specs.declared.index.IndexedRequest.{IndexedRequest}

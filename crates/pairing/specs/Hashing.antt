@@ -1,9 +1,7 @@
 -- How the index hashes a key. Which hash it is matters to speed alone: the index gives the same for
 -- each.
 use Rattle.std.specs.Prelude.{ℕ, ◌*◌, ◌%◌, ◌^◌, List, bit_or}
-use Rattle.std.specs.Int.{w64, swap_bytes}
-use Rattle.std.specs.List.{fold}
-use Rattle.std.specs.Hash.{u64}
+use Rattle.pairing.specs.Common.{w64, swap_bytes, fold, u64}
 use Rattle.std.specs.Hash.FoldHasher as folding
 use Rattle.pairing.specs.declared.hashing.KeyHasher.{KeyHasher}
 

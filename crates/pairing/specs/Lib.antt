@@ -1,3 +1,4 @@
+pub mod Common
 pub mod Answer
 pub mod Counts
 pub mod Exchange

@@ -1,12 +1,6 @@
 -- Requests and replies (RFC 5905, section 8): packets between a claim's client and its servers.
 use Rattle.std.specs.Prelude.{◌≡◌, ℕ, ◌==◌, ◌&&◌, List, Bool, Option, Some, None, position, slice_get, if◌then◌else◌}
-use Rattle.std.specs.Option.{option_and_then, option_map}
-use Rattle.std.specs.Str.{bytes_eq}
-use Rattle.pcap_reader.specs.declared.format.RecordHead.{RecordHead}
-use Rattle.pcap_reader.specs.Capture.{Record}
-use Rattle.ntp_packet.specs.Header.{version_of, mode_of, transmit_of}
-use Rattle.ntp_packet.specs.Packet.{Packet, packet_of, ntp_port}
-use Rattle.claim_file.specs.Claim.{ClaimData}
+use Rattle.pairing.specs.Common.{option_and_then, option_map, bytes_eq, RecordHead, Record, version_of, mode_of, transmit_of, Packet, packet_of, ntp_port, ClaimData}
 
 -- the modes of a client and of a server (RFC 5905, section 7.3)
 abbrev pub client_mode : ℕ

@@ -1,8 +1,6 @@
 -- A reply and the one and only request that it names.
 use Rattle.std.specs.Prelude.{◌≡◌, List, [], ◌∷◌, Contains, None}
-use Rattle.pcap_reader.specs.Capture.{Record}
-use Rattle.ntp_packet.specs.Header.{origin_of}
-use Rattle.claim_file.specs.Claim.{ClaimData}
+use Rattle.pairing.specs.Common.{Record, origin_of, ClaimData}
 use Rattle.pairing.specs.declared.exchange.Exchange.{Exchange}
 use Rattle.pairing.specs.Message.{Request, Reply}
 use Rattle.pairing.specs.Pairing.{requests_of, replies_of, requests_for, exchange_of}

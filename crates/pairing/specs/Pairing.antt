@@ -5,14 +5,7 @@
 -- one and only request of the whole capture to that server, from that port of the client, with that
 -- timestamp, wherever it stands. Nothing here says how the records are read.
 use Rattle.std.specs.Prelude.{ℕ, ◌==◌, ◌&&◌, ◌||◌, nat_lt, List, [], ◌∷◌, length, map, filter, count_by, Bool, false, ℤ, pos, Option, Some, None, Result, Ok, Err, unwrap_or, if◌then◌else◌}
-use Rattle.std.specs.List.{filter_map}
-use Rattle.std.specs.Result.{result_ok}
-use Rattle.era_unfold.specs.Window.{window_low, window_high}
-use Rattle.era_unfold.specs.Stamp.{unfolded}
-use Rattle.pcap_reader.specs.declared.format.RecordHead.{RecordHead}
-use Rattle.pcap_reader.specs.Capture.{Record}
-use Rattle.ntp_packet.specs.Header.{leap_of, stratum_of, reference_id_of, origin_of, receive_of, transmit_of, root_distance_of}
-use Rattle.claim_file.specs.Claim.{ClaimData}
+use Rattle.pairing.specs.Common.{filter_map, result_ok, window_low, window_high, unfolded, RecordHead, Record, leap_of, stratum_of, reference_id_of, origin_of, receive_of, transmit_of, root_distance_of, ClaimData}
 use Rattle.pairing.specs.declared.collected.Collected.{Collected}
 use Rattle.pairing.specs.declared.counts.Counts.{Counts}
 use Rattle.pairing.specs.declared.exchange.Exchange.{Exchange}

@@ -1,8 +1,6 @@
 -- Where requests, replies and exchanges come from.
 use Rattle.std.specs.Prelude.{◌≡◌, ◌<◌, List, length, slice_get, Some}
-use Rattle.pcap_reader.specs.Capture.{Record, IsLawfulHead}
-use Rattle.byte_stream.specs.Bytes.{IsBytes}
-use Rattle.claim_file.specs.Claim.{ClaimData}
+use Rattle.pairing.specs.Common.{Record, IsLawfulHead, IsBytes, ClaimData}
 use Rattle.pairing.specs.declared.exchange.Exchange.{Exchange}
 use Rattle.pairing.specs.Exchange.{IsLawful}
 use Rattle.pairing.specs.Message.{Request, Reply}

@@ -1,9 +1,6 @@
 -- How far a source was read.
 use Rattle.std.specs.Prelude.{◌≡◌, List, ◌++◌, length, false, Option, Some, None, IfSome}
-use Rattle.pcap_reader.specs.Capture.{Record}
-use Rattle.pcap_reader.specs.Remaining.{Coming}
-use Rattle.pcap_reader.specs.Source.{SourceState, TakesFrom}
-use Rattle.claim_file.specs.Claim.{ClaimData}
+use Rattle.pairing.specs.Common.{Record, Coming, SourceState, TakesFrom, ClaimData}
 use Rattle.pairing.specs.declared.counts.Counts.{Counts}
 use Rattle.pairing.specs.declared.compact.CompactExchange.{CompactExchange}
 use Rattle.pairing.specs.declared.index.IndexedRequest.{IndexedRequest}

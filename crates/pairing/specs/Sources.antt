@@ -1,8 +1,6 @@
 -- Which servers the exchanges of a capture are with, and which clock those say they follow.
 use Rattle.std.specs.Prelude.{ℕ, ◌==◌, Bool, List, [], ◌∷◌, count_by, Option, Some, None, if◌then◌else◌}
-use Rattle.std.specs.List.{list_all, list_any}
-use Rattle.std.specs.Str.{bytes_eq}
-use Rattle.claim_file.specs.Group.{servers_of}
+use Rattle.pairing.specs.Common.{list_all, list_any, bytes_eq, servers_of}
 use Rattle.pairing.specs.declared.exchange.Exchange.{Exchange}
 
 -- whether an exchange is with the server of this number

@@ -1,11 +1,7 @@
 -- What a record states: a request with this key, a reply that its own header refuses, or one that
 -- is held until its request is found.
 use Rattle.std.specs.Prelude.{Option, Some, None}
-use Rattle.std.specs.Option.{option_and_then, option_map}
-use Rattle.claim_file.specs.Claim.{ClaimData}
-use Rattle.ntp_packet.specs.Packet.{Packet, packet_of}
-use Rattle.pcap_reader.specs.declared.format.RecordHead.{RecordHead}
-use Rattle.pcap_reader.specs.Capture.{Record}
+use Rattle.pairing.specs.Common.{option_and_then, option_map, ClaimData, Packet, packet_of, RecordHead, Record}
 use Rattle.pairing.specs.declared.message.Message.{Message}
 use Rattle.pairing.specs.declared.message.Message.TheVariants.{Request as Asks, Refused, Reply as Waits}
 use Rattle.pairing.specs.declared.refusal.Refusal.{Refusal}

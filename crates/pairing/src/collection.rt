@@ -1,8 +1,7 @@
 //! The exchanges of a whole capture.
 
 ghost use Rattle.std.specs.Prelude.{◌≡◌, ◌-◌, ◌^◌, ◌<◌, ◌⊎◌, [], Err, OnOk, IfErr, IfSome};
-ghost use Rattle.pcap_reader.specs.Source.{IsFresh};
-ghost use Rattle.claim_file.specs.Claim.{data_of};
+ghost use Rattle.pairing.specs.Common.{IsFresh, data_of};
 ghost use Rattle.pairing.specs.Answer.{Collects, IsFromOutside, LeavesSource, answer_of};
 ghost use Rattle.pairing.specs.Gathering.{IsGatheredFrom};
 ghost use Rattle.pairing.specs.Compact.{compact_data};

@@ -1,8 +1,7 @@
 //! Exchanges as they are held, in 64 bytes each.
 
 ghost use Rattle.std.specs.Prelude.{◌≡◌, ◌<◌, pos};
-ghost use Rattle.era_unfold.specs.Window.{per_second};
-ghost use Rattle.ntp_packet.specs.Packet.{packet_shown};
+ghost use Rattle.pairing.specs.Common.{per_second, packet_shown};
 ghost use Rattle.pairing.specs.Compact.{exchange_shown, exchange_with, compact_of};
 ghost use Rattle.pairing.specs.Message.{reply_from};
 ghost use Rattle.pairing.specs.Pairing.{distance_of};

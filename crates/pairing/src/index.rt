@@ -1,8 +1,7 @@
 //! The index of requests.
 
 ghost use Rattle.std.specs.Prelude.{◌≡◌, ◌<◌, [], ◌∷◌, ◌++◌, List, IfOk, OnOk};
-ghost use Rattle.indexmap.specs.IndexMap.{get};
-ghost use Rattle.era_unfold.specs.Window.{per_second};
+ghost use Rattle.pairing.specs.Common.{get, per_second};
 ghost use Rattle.pairing.specs.Index.{Finds, indexed_of, request_at, same_key};
 ghost use Rattle.pairing.specs.declared.index.IndexedRequest.{IndexedRequest as Request};
 

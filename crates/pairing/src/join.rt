@@ -1,9 +1,7 @@
 //! The joining of replies with their requests.
 
 ghost use Rattle.std.specs.Prelude.{◌≡◌, ◌<◌, ◌≤◌, length, map, take, IfErr, IfOk};
-ghost use Rattle.std.specs.List.{filter_map};
-ghost use Rattle.std.specs.Result.{result_ok};
-ghost use Rattle.indexmap.specs.IndexMap.{get};
+ghost use Rattle.pairing.specs.Common.{filter_map, result_ok, get};
 ghost use Rattle.pairing.specs.Counts.{HasRoom, IsJoined};
 ghost use Rattle.pairing.specs.Exchange.{most_exchanges};
 ghost use Rattle.pairing.specs.Compact.{exchange_shown};

@@ -2,9 +2,7 @@
 //! parameters, whose contract ranges over all claims and all lists of records.
 
 ghost use Rattle.std.specs.Prelude.{◌≡◌, ◌≢◌, ℕ, ◌+◌, ◌<◌, ◌≤◌, ◌↔◌, [], ◌∷◌, ◌++◌, List, Bool, true, false, Option, Some, None, Err, All, AllPairs, Contains, IsSome, length, slice_get};
-ghost use Rattle.pcap_reader.specs.Capture.{Record};
-ghost use Rattle.ntp_packet.specs.Packet.{Packet};
-ghost use Rattle.claim_file.specs.Claim.{ClaimData};
+ghost use Rattle.pairing.specs.Common.{Record, Packet, ClaimData};
 ghost use Rattle.pairing.specs.declared.refusal.Refusal.TheVariants.{Ambiguous};
 ghost use Rattle.pairing.specs.Answer.{AreGiven};
 ghost use Rattle.pairing.specs.Exchange.{AreLawful, most_exchanges};

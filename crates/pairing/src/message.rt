@@ -1,11 +1,7 @@
 //! Requests and replies among the packets of a capture.
 
 ghost use Rattle.std.specs.Prelude.{◌≡◌, ◌<◌, length, position, IfSome};
-ghost use Rattle.std.specs.Str.{bytes_eq};
-ghost use Rattle.byte_stream.specs.Bytes.{IsBytes};
-ghost use Rattle.era_unfold.specs.Window.{per_second};
-ghost use Rattle.ntp_packet.specs.Packet.{packet_shown};
-ghost use Rattle.claim_file.specs.Claim.{data_of};
+ghost use Rattle.pairing.specs.Common.{bytes_eq, IsBytes, per_second, packet_shown, data_of};
 ghost use Rattle.pairing.specs.Statement.{message_of_reply, message_in, message_of};
 ghost use Rattle.pairing.specs.Message.{reply_from, server_at, requested_server, replying_server};
 

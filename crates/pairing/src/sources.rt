@@ -1,8 +1,7 @@
 //! Which servers the exchanges are with, and which clock those say they follow.
 
 ghost use Rattle.std.specs.Prelude.{◌≡◌, ℕ, ◌<◌, false, get_or, map};
-ghost use Rattle.std.specs.List.{list_all};
-ghost use Rattle.std.specs.Str.{bytes_eq};
+ghost use Rattle.pairing.specs.Common.{list_all, bytes_eq};
 ghost use Rattle.pairing.specs.Compact.{exchange_shown};
 ghost use Rattle.pairing.specs.Sources.{common_reference, is_source, source_count};
 

@@ -1,7 +1,6 @@
 -- What the bytes of a certificate give.
 use Rattle.std.specs.Prelude.{ℕ, List, Result}
-use Rattle.certificate.specs.Certificate.{CertificateData}
-use Rattle.certificate.specs.Reading.{certificate_of}
+use Rattle.report.specs.Common.{CertificateData, certificate_of}
 use Rattle.report.specs.declared.fault.Input.TheVariants as inputs
 use Rattle.report.specs.declared.fault.RunFault.{RunFault}
 use Rattle.report.specs.declared.fault.RunFault.TheVariants.{Certificate, TooBig, Device, Memory}

@@ -1,7 +1,6 @@
 -- What the bytes of a claim give.
 use Rattle.std.specs.Prelude.{ℕ, List, Result}
-use Rattle.claim_file.specs.Claim.{ClaimData}
-use Rattle.claim_file.specs.Reading.{claim_of}
+use Rattle.report.specs.Common.{ClaimData, claim_of}
 use Rattle.report.specs.declared.fault.Input.TheVariants as inputs
 use Rattle.report.specs.declared.fault.RunFault.{RunFault}
 use Rattle.report.specs.declared.fault.RunFault.TheVariants.{Claim, TooBig, Device, Memory}

@@ -1,7 +1,6 @@
 -- How a run ends: what it has put by then, and what its sink has got in the end.
 use Rattle.std.specs.Prelude.{◌≡◌, ◌⊎◌, ◌+◌, ℕ, List, [], ◌++◌, Option, Bool, false, Result, Err}
-use Rattle.std.specs.List.{concat}
-use Rattle.byte_stream.specs.State.{SinkState}
+use Rattle.report.specs.Common.{concat, SinkState}
 use Rattle.report.specs.declared.fault.Input.{Input}
 use Rattle.report.specs.declared.fault.Outcome.{Outcome}
 use Rattle.report.specs.declared.fault.RunFault.{RunFault}

@@ -1,8 +1,6 @@
 -- How a whole text gets to a sink.
 use Rattle.std.specs.Prelude.{◌≡◌, ◌≤◌, ℕ, List, length, take, false, Result, Ok, Err, IfErr, is_err}
-use Rattle.std.specs.Io.KnownBytes.{Appends}
-use Rattle.byte_stream.specs.Fault.{CountsFault}
-use Rattle.byte_stream.specs.State.{SinkState}
+use Rattle.report.specs.Common.{Appends, CountsFault, SinkState}
 
 -- what a sink gets of a text: all of it, or a number of first bytes if it fails
 abbrev pub delivered : List ℕ → Result (Unit {0}) ℕ → List ℕ

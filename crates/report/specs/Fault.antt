@@ -1,12 +1,9 @@
 -- The faults of a run: their numbers, and which of them a fault of the capture is.
 use Rattle.std.specs.Prelude.{ℕ}
-use Rattle.pcap_reader.specs.declared.fault.CaptureFault.{CaptureFault}
+use Rattle.report.specs.Common.{CaptureFault, ClaimFault, CertificateFault, RefutationFault}
 use Rattle.pcap_reader.specs.declared.fault.CaptureFault.TheVariants as captures
-use Rattle.claim_file.specs.declared.fault.ClaimFault.{ClaimFault}
 use Rattle.claim_file.specs.declared.fault.ClaimFault.TheVariants as claims
-use Rattle.certificate.specs.declared.fault.CertificateFault.{CertificateFault}
 use Rattle.certificate.specs.declared.fault.CertificateFault.TheVariants as certificates
-use Rattle.certificate.specs.declared.refutation_fault.RefutationFault.{RefutationFault}
 use Rattle.certificate.specs.declared.refutation_fault.RefutationFault.TheVariants as refutations
 use Rattle.report.specs.declared.fault.Input.TheVariants as inputs
 use Rattle.report.specs.declared.fault.RunFault.{RunFault}

@@ -1,18 +1,8 @@
 -- The line of a run's fault, without its line feed.
 use Rattle.std.specs.Prelude.{ℕ, List, [], ◌∷◌, codes}
-use Rattle.line_writer.specs.Field.{FieldData, fields_text, Word, Named, Number, Nothing}
-use Rattle.line_writer.specs.declared.field.Style.TheVariants.{Plain}
-use Rattle.pcap_reader.specs.Fault.{number_of as capture_number}
-use Rattle.pcap_reader.specs.declared.fault.CaptureFault.{CaptureFault}
-use Rattle.pcap_reader.specs.declared.fault.CaptureFault.TheVariants.{TornHeader, Magic, Version, Link, TornRecord, TooLong, BadFraction, TooMany, Read, Memory, Failed}
-use Rattle.claim_file.specs.Fault.{number_of as claim_number}
-use Rattle.claim_file.specs.declared.fault.ClaimFault.{ClaimFault}
+use Rattle.report.specs.Common.{FieldData, fields_text, Word, Named, Number, Nothing, Plain, number_of as capture_number, CaptureFault, TornHeader, Magic, Version, Link, TornRecord, TooLong, BadFraction, TooMany, Read, Memory, Failed, claim_number, ClaimFault, certificate_number, CertificateFault, refutation_number, RefutationFault}
 use Rattle.claim_file.specs.declared.fault.ClaimFault.TheVariants as claims
-use Rattle.certificate.specs.Fault.{number_of as certificate_number}
-use Rattle.certificate.specs.declared.fault.CertificateFault.{CertificateFault}
 use Rattle.certificate.specs.declared.fault.CertificateFault.TheVariants as certificates
-use Rattle.certificate.specs.RefutationFault.{number_of as refutation_number}
-use Rattle.certificate.specs.declared.refutation_fault.RefutationFault.{RefutationFault}
 use Rattle.certificate.specs.declared.refutation_fault.RefutationFault.TheVariants as refutations
 use Rattle.report.specs.declared.fault.Input.TheVariants as inputs
 use Rattle.report.specs.declared.fault.Input.{Input}

@@ -1,3 +1,4 @@
+pub mod Common
 pub mod Fault
 pub mod Output
 pub mod State

@@ -1,10 +1,7 @@
 -- The way of texts to a sink: which have gone out, which are gathered, and where a sink that fails
 -- cuts them off.
 use Rattle.std.specs.Prelude.{◌≡◌, ◌+◌, ◌^◌, ◌<◌, ℕ, List, [], ◌++◌, length, take, Option, Result, MatchResult, OnOk, IfErr, is_ok, is_err}
-use Rattle.std.specs.List.{concat}
-use Rattle.std.specs.Io.KnownBytes.{Appends}
-use Rattle.byte_stream.specs.Fault.{CountsFault}
-use Rattle.byte_stream.specs.State.{SinkState, IsWritable}
+use Rattle.report.specs.Common.{concat, Appends, CountsFault, SinkState, IsWritable}
 use Rattle.report.specs.declared.fault.RunFault.{RunFault}
 use Rattle.report.specs.declared.fault.RunFault.TheVariants.{Write}
 

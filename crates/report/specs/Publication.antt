@@ -1,7 +1,6 @@
 -- How a run ends that knows its whole text before it writes any.
 use Rattle.std.specs.Prelude.{◌≡◌, ◌⊎◌, ◌+◌, ℕ, List, [], Bool, false, Result, Ok, Err, MatchResult}
-use Rattle.std.specs.List.{concat}
-use Rattle.byte_stream.specs.State.{SinkState}
+use Rattle.report.specs.Common.{concat, SinkState}
 use Rattle.report.specs.declared.fault.Input.{Input}
 use Rattle.report.specs.declared.fault.Input.TheVariants as inputs
 use Rattle.report.specs.declared.fault.Outcome.{Outcome}

@@ -1,7 +1,6 @@
 -- What the bytes of a refutation give.
 use Rattle.std.specs.Prelude.{ℕ, List, Result}
-use Rattle.certificate.specs.Refutation.{RefutationData}
-use Rattle.certificate.specs.RefutationReading.{refutation_of}
+use Rattle.report.specs.Common.{RefutationData, refutation_of}
 use Rattle.report.specs.declared.fault.Input.TheVariants as inputs
 use Rattle.report.specs.declared.fault.RunFault.{RunFault}
 use Rattle.report.specs.declared.fault.RunFault.TheVariants.{Refutation, TooBig, Device, Memory}

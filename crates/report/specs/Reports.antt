@@ -1,8 +1,6 @@
 -- What every engine promises about its answer, its sink and its inputs.
 use Rattle.std.specs.Prelude.{◌≡◌, ◌<◌, ◌⊎◌, ℕ, List, [], ◌++◌, length, take, Option, IfSome, Bool, true, false, Result, Ok, Err, IsOk}
-use Rattle.std.specs.List.{concat}
-use Rattle.std.specs.Io.KnownBytes.{Appends, Keeps}
-use Rattle.byte_stream.specs.Fault.{CountsFault}
+use Rattle.report.specs.Common.{concat, Appends, Keeps, CountsFault}
 use Rattle.report.specs.declared.fault.Input.{Input}
 use Rattle.report.specs.declared.fault.Input.TheVariants as inputs
 use Rattle.report.specs.declared.fault.Outcome.{Outcome}

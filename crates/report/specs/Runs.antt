@@ -1,9 +1,6 @@
 -- What every engine promises that holds a capture against a claim.
 use Rattle.std.specs.Prelude.{◌≡◌, ◌⊎◌, ℕ, List, Option, Result, Err, IfErr, IfSome, IsOk}
-use Rattle.std.specs.Io.KnownBytes.{Keeps}
-use Rattle.byte_stream.specs.Intake.{TakesAtMost}
-use Rattle.pcap_reader.specs.Limit.{most_taken}
-use Rattle.pcap_reader.specs.Remaining.{capture_of}
+use Rattle.report.specs.Common.{Keeps, TakesAtMost, most_taken, capture_of}
 use Rattle.report.specs.declared.fault.Input.TheVariants as inputs
 use Rattle.report.specs.declared.fault.Outcome.{Outcome}
 use Rattle.report.specs.declared.fault.RunFault.{RunFault}

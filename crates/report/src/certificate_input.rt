@@ -1,12 +1,8 @@
 //! The reading of a certificate.
 
 ghost use Rattle.std.specs.Prelude.{◌≤◌, IfOk, IfErr, IfSome, vec_len};
-ghost use Rattle.byte_stream.specs.Fault.{CountsFault};
-ghost use Rattle.byte_stream.specs.Intake.{TakesAtMost};
-ghost use Rattle.byte_stream.specs.State.{IsReadable};
-ghost use Rattle.certificate.specs.Certificate.{data_of, max_pieces};
-ghost use Rattle.certificate.specs.Fault.{Answers};
-ghost use Rattle.certificate.specs.Reading.{certificate_of};
+ghost use Rattle.report.specs.Common.{CountsFault, TakesAtMost, IsReadable, max_pieces, Answers, certificate_of};
+ghost use Rattle.certificate.specs.Certificate.{data_of};
 ghost use Rattle.report.specs.CertificateInput.{IsOfCertificate, certificate_read, max_certificate};
 ghost use Rattle.report.specs.Input.{most_read};
 ghost use Rattle.report.specs.Reading.{Reads};

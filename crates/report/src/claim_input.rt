@@ -1,10 +1,8 @@
 //! The reading of a claim.
 
 ghost use Rattle.std.specs.Prelude.{IfOk, IfErr, IfSome};
-ghost use Rattle.byte_stream.specs.Fault.{CountsFault};
-ghost use Rattle.byte_stream.specs.Intake.{TakesAtMost};
-ghost use Rattle.byte_stream.specs.State.{IsReadable};
-ghost use Rattle.claim_file.specs.Claim.{IsLawful, data_of};
+ghost use Rattle.report.specs.Common.{CountsFault, TakesAtMost, IsReadable, IsLawful};
+ghost use Rattle.claim_file.specs.Claim.{data_of};
 ghost use Rattle.report.specs.ClaimInput.{IsOfClaim, claim_read, max_claim};
 ghost use Rattle.report.specs.Input.{most_read};
 ghost use Rattle.report.specs.Reading.{Reads};

@@ -1,9 +1,7 @@
 //! A whole text, brought to a sink.
 
 ghost use Rattle.std.specs.Prelude.{◌≡◌, ◌<◌, length, take, OnOk, IfErr, is_ok, is_err};
-ghost use Rattle.std.specs.Io.KnownBytes.{Appends};
-ghost use Rattle.byte_stream.specs.Fault.{CountsFault};
-ghost use Rattle.byte_stream.specs.State.{IsWritable};
+ghost use Rattle.report.specs.Common.{Appends, CountsFault, IsWritable};
 ghost use Rattle.report.specs.Delivery.{Delivers};
 
 use byte_stream::Sink;

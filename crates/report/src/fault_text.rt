@@ -2,11 +2,9 @@
 
 ghost use Rattle.std.specs.Prelude.{◌≡◌, ◌+◌, ◌≤◌, ◌++◌, [], ◌∷◌, length, IfOk, string_bytes};
 ghost use Rattle.line_writer.specs.declared.line.TheConstants.{CAPACITY};
-ghost use Rattle.line_writer.specs.declared.field.Style.TheVariants.{Plain};
-ghost use Rattle.line_writer.specs.Field.{Nothing, Word, field_data, fields_text, most_of, room_of};
+ghost use Rattle.report.specs.Common.{Plain, Nothing, Word, field_data, fields_text, most_of, room_of};
 ghost use Rattle.report.specs.FaultText as spec;
-ghost use Rattle.report.specs.FaultText.{capture_word, place_of, claim_word, code_of, certificate_word, piece_of};
-ghost use Rattle.report.specs.FaultText.{fault_text, refutation_word, refused};
+ghost use Rattle.report.specs.FaultText.{capture_word, place_of, claim_word, code_of, certificate_word, piece_of, fault_text, refutation_word, refused};
 
 use crate::fault::{Input, RunFault, SumsFault};
 use certificate::{CertificateFault, RefutationFault};

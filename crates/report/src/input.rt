@@ -1,9 +1,7 @@
 //! An input that is read whole.
 
 ghost use Rattle.std.specs.Prelude.{◌≡◌, ◌≤◌, Ok, Err, IfOk, IfErr, IfSome, MatchResult, length};
-ghost use Rattle.byte_stream.specs.Fault.{CountsFault};
-ghost use Rattle.byte_stream.specs.Intake.{TakesAtMost};
-ghost use Rattle.byte_stream.specs.State.{IsReadable};
+ghost use Rattle.report.specs.Common.{CountsFault, TakesAtMost, IsReadable};
 ghost use Rattle.report.specs.Input.{IsBeyond, IsInputFault, ReadsWhole, Takes, most_read, read_failed};
 
 use crate::fault::{Input, RunFault};

@@ -1,10 +1,7 @@
 //! The reading of a refutation.
 
 ghost use Rattle.std.specs.Prelude.{IfErr, IfSome};
-ghost use Rattle.byte_stream.specs.Fault.{CountsFault};
-ghost use Rattle.byte_stream.specs.Intake.{TakesAtMost};
-ghost use Rattle.byte_stream.specs.State.{IsReadable};
-ghost use Rattle.certificate.specs.Refutation.{data_of};
+ghost use Rattle.report.specs.Common.{CountsFault, TakesAtMost, IsReadable, data_of};
 ghost use Rattle.report.specs.Input.{most_read};
 ghost use Rattle.report.specs.Reading.{Reads};
 ghost use Rattle.report.specs.RefutationInput.{IsOfRefutation, refutation_read, max_refutation};

@@ -2,18 +2,13 @@
 //! for every number. If a moment may fall between two ticks, times and readings are whole
 //! numbers of 1/n tick.
 
-ghost use Rattle.std.specs.Prelude.{◌≡◌, ℕ, ◌<◌, ◌≤◌, ◌*◌, ℤ, pos, ◌+ℤ◌, ◌-ℤ◌, ◌*ℤ◌, ◌≤ℤ◌, ◌↔◌};
-ghost use Rattle.std.specs.Prelude.{◌⊎◌};
+ghost use Rattle.std.specs.Prelude.{◌≡◌, ℕ, ◌<◌, ◌≤◌, ◌*◌, ℤ, pos, ◌+ℤ◌, ◌-ℤ◌, ◌*ℤ◌, ◌≤ℤ◌, ◌↔◌, ◌⊎◌};
 ghost use Rattle.intersection.specs.declared.kinds.Interval.{Interval};
 ghost use Rattle.era_unfold.specs.Ratio.{IsSignedFloor, IsSignedCeiling};
 ghost use Rattle.intersection.specs.Fraction.{HoldsFraction};
 ghost use Rattle.pairing.specs.declared.exchange.Exchange.{Exchange};
-ghost use Rattle.sample_interval.specs.Moment.{Moment, DriftsWithin};
-ghost use Rattle.sample_interval.specs.Moment.{DriftsWithinByReading, IsInWindow, IsWithinDistance};
-ghost use Rattle.sample_interval.specs.Moment.{IsOffAtLeast, IsOffAtMost};
-ghost use Rattle.sample_interval.specs.OnWire.{offset_doubled, delay_of, least_offset_doubled};
-ghost use Rattle.sample_interval.specs.OnWire.{greatest_offset_doubled};
-ghost use Rattle.sample_interval.specs.OnWire.{offset_from, offset_to, delay_from, delay_to};
+ghost use Rattle.sample_interval.specs.Moment.{Moment, DriftsWithin, DriftsWithinByReading, IsInWindow, IsWithinDistance, IsOffAtLeast, IsOffAtMost};
+ghost use Rattle.sample_interval.specs.OnWire.{offset_doubled, delay_of, least_offset_doubled, greatest_offset_doubled, offset_from, offset_to, delay_from, delay_to};
 ghost use Rattle.sample_interval.specs.Sample.{least_error, greatest_error, sample_of};
 ghost use Rattle.sample_interval.specs.Widening.{IsWidening, widening, billion};
 ghost use Rattle.sample_interval.specs.Window.{request_start, request_end, reply_start, reply_end};

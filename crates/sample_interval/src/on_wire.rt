@@ -2,9 +2,7 @@
 
 ghost use Rattle.std.specs.Prelude.{◌≡◌, ◌≤◌, ◌^◌, pos, ◌-ℤ◌, ◌≤ℤ◌, unsigned_abs};
 ghost use Rattle.sample_interval.specs.Exchange.{IsOfSomeClaim};
-ghost use Rattle.sample_interval.specs.OnWire.{offset_doubled, delay_of};
-ghost use Rattle.sample_interval.specs.OnWire.{half_down, half_up, offset_from, offset_to};
-ghost use Rattle.sample_interval.specs.OnWire.{delay_from, delay_to};
+ghost use Rattle.sample_interval.specs.OnWire.{offset_doubled, delay_of, half_down, half_up, offset_from, offset_to, delay_from, delay_to};
 
 use crate::window::{reply_window, request_window};
 use pairing::Exchange;

@@ -2,13 +2,9 @@
 --
 -- For the low end that is the sample whose moved low is greatest, for the high end the one whose
 -- moved high is least. Of several that agree it is the first.
-use Rattle.std.specs.Prelude.{◌≡◌, ◌≢◌, ℕ, ◌+◌, ◌<◌, ℤ, ◌≤ℤ◌, ◌<ℤ◌, neg_ℤ, int_lt, nat_eq}
-use Rattle.std.specs.Prelude.{List, [], ◌∷◌, Option, None, Some, slice_get, if◌then◌else◌}
-use Rattle.std.specs.Option.{option_map}
-use Rattle.sample_interval.specs.declared.kinds.Sample.{Sample}
+use Rattle.std.specs.Prelude.{◌≡◌, ◌≢◌, ℕ, ◌+◌, ◌<◌, ℤ, ◌≤ℤ◌, ◌<ℤ◌, neg_ℤ, int_lt, nat_eq, List, [], ◌∷◌, Option, None, Some, slice_get, if◌then◌else◌}
+use Rattle.span_cover.specs.Common.{option_map, Sample, Side, Low, High}
 use Rattle.span_cover.specs.Piece.{moved_low, moved_high}
-use Rattle.intersection.specs.declared.ends.Side.{Side}
-use Rattle.intersection.specs.declared.ends.Side.TheVariants.{Low, High}
 
 -- none of the samples is of this server
 abbrev pub HasNoSample : List Sample → ℕ → Type 0

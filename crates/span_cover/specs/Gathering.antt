@@ -1,9 +1,7 @@
 -- Samples that are taken one by one, and what has to be kept of them: for each server the interval
 -- of its best samples over one piece of time, the same as if they were chosen from the whole list.
 use Rattle.std.specs.Prelude.{◌≡◌, ℕ, ◌<◌, ℤ, List, Option, Some, None, slice_get, option_and_then}
-use Rattle.intersection.specs.declared.kinds.Interval.{Interval}
-use Rattle.sample_interval.specs.Widening.{IsRate}
-use Rattle.sample_interval.specs.declared.kinds.Sample.{Sample}
+use Rattle.span_cover.specs.Common.{Interval, IsRate, Sample}
 use Rattle.span_cover.specs.Best.{best_of}
 use Rattle.span_cover.specs.Piece.{IsPiece, piece_interval_of}
 

@@ -4,14 +4,8 @@
 -- group: the greatest of their low ends and the least of their high ends, since all of them hold
 -- the error if no server of the group is false. The hull is taken over the groups with a server
 -- that says something.
-use Rattle.std.specs.Prelude.{◌≡◌, ℕ, zero, suc, ◌==◌, ℤ, neg_ℤ, int_le, ◌&&◌, Bool, false}
-use Rattle.std.specs.Prelude.{List, [], ◌∷◌, ◌++◌, length, slice_index, fold, filter, filter_map}
-use Rattle.std.specs.Prelude.{slice_get, Option, Some, None}
-use Rattle.std.specs.Int.{int_max, int_min}
-use Rattle.intersection.specs.Hull.{hull_of}
-use Rattle.intersection.specs.declared.kinds.Interval.{Interval}
-use Rattle.intersection.specs.declared.kinds.Hull.{Hull}
-use Rattle.intersection.specs.declared.kinds.Hull.TheVariants.{Unbounded, Empty, Bounded}
+use Rattle.std.specs.Prelude.{◌≡◌, ℕ, zero, suc, ◌==◌, ℤ, neg_ℤ, int_le, ◌&&◌, Bool, false, List, [], ◌∷◌, ◌++◌, length, slice_index, fold, filter, filter_map, slice_get, Option, Some, None}
+use Rattle.span_cover.specs.Common.{int_max, int_min, hull_of, Interval, Hull, Unbounded, Empty, Bounded}
 use Rattle.span_cover.specs.declared.part.Part.{Part}
 
 -- the numbers from 0 on, as many as this says

@@ -1,3 +1,4 @@
+pub mod Common
 pub mod Piece
 pub mod Best
 pub mod Step

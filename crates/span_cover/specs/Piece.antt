@@ -6,10 +6,7 @@
 -- one between the window and the piece: from the window's begin to the piece's end, or from the
 -- piece's begin to the window's end.
 use Rattle.std.specs.Prelude.{ℕ, ◌^◌, ℤ, pos, ◌+ℤ◌, ◌-ℤ◌, ◌≤ℤ◌, ◌<ℤ◌, unsigned_abs}
-use Rattle.std.specs.Int.{int_max}
-use Rattle.intersection.specs.declared.kinds.Interval.{Interval}
-use Rattle.sample_interval.specs.declared.kinds.Sample.{Sample}
-use Rattle.sample_interval.specs.Widening.{widening}
+use Rattle.span_cover.specs.Common.{int_max, Interval, Sample, widening}
 
 -- a piece of Unix ticks of 32 bits of seconds
 pub record IsPiece (p q : ℤ) : Type 0 where

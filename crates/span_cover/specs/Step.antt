@@ -1,7 +1,6 @@
 -- Pieces of equal length.
 use Rattle.std.specs.Prelude.{ℕ, ◌+◌, ◌*◌, ℤ, pos, ◌+ℤ◌}
-use Rattle.std.specs.Int.{int_min}
-use Rattle.era_unfold.specs.Window.{ticks_per_second}
+use Rattle.span_cover.specs.Common.{int_min, ticks_per_second}
 
 -- the end of piece k, if the span is cut every `step` seconds: the last piece ends with the span
 abbrev pub piece_end_of : ℤ → ℤ → ℕ → ℕ → ℤ

@@ -1,11 +1,9 @@
 //! The best samples of a server.
 
 ghost use Rattle.std.specs.Prelude.{◌≡◌, ℕ, ℤ, ◌≤◌, ◌≤ℤ◌, length, All, IsNone, IfSome, ◌↔◌};
-ghost use Rattle.sample_interval.specs.Sample.{IsLawfulSample};
-ghost use Rattle.sample_interval.specs.Widening.{IsRate};
+ghost use Rattle.span_cover.specs.Common.{IsLawfulSample, IsRate};
 ghost use Rattle.span_cover.specs.Piece.{IsPiece};
-ghost use Rattle.span_cover.specs.Best.{best_of, first_best_of, merit, better};
-ghost use Rattle.span_cover.specs.Best.{IsBestLow, IsBestHigh, HasNoSample};
+ghost use Rattle.span_cover.specs.Best.{best_of, first_best_of, merit, better, IsBestLow, IsBestHigh, HasNoSample};
 
 use crate::piece::{lowered, raised};
 use intersection::Side;

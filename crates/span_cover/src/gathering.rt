@@ -1,10 +1,7 @@
 //! The best samples of every server, of samples that are taken one by one.
 
 ghost use Rattle.std.specs.Prelude.{◌≡◌, ℕ, ℤ, ◌<◌, List, [], ◌∷◌, ◌++◌};
-ghost use Rattle.std.specs.Int.{int_max, int_min};
-ghost use Rattle.sample_interval.specs.Sample.{IsLawfulSample};
-ghost use Rattle.sample_interval.specs.declared.kinds.Sample.{Sample as TheSample};
-ghost use Rattle.sample_interval.specs.Widening.{IsRate};
+ghost use Rattle.span_cover.specs.Common.{int_max, int_min, IsLawfulSample, Sample as TheSample, IsRate};
 ghost use Rattle.span_cover.specs.Piece.{IsPiece, moved_low, moved_high};
 ghost use Rattle.span_cover.specs.Gathering.{Gathered, best_interval};
 

@@ -1,13 +1,8 @@
 //! What holds of the definitions. A law is a function that does nothing: its contract is the law,
 //! for every number.
 
-ghost use Rattle.std.specs.Prelude.{◌≡◌, List, Some, None, MatchOption};
-ghost use Rattle.std.specs.Prelude.{ℕ, ◌<◌, ◌≤◌, ℤ, pos, ◌-ℤ◌, ◌*ℤ◌, ◌≤ℤ◌, unsigned_abs};
-ghost use Rattle.intersection.specs.Fraction.{HoldsFraction};
-ghost use Rattle.sample_interval.specs.declared.kinds.Sample.{Sample};
-ghost use Rattle.sample_interval.specs.Moment.{Moment, error_of, DriftsWithinByReading, IsInWindow};
-ghost use Rattle.sample_interval.specs.Moment.{IsOffAtLeast, IsOffAtMost};
-ghost use Rattle.sample_interval.specs.Widening.{billion, IsRate};
+ghost use Rattle.std.specs.Prelude.{◌≡◌, List, Some, None, MatchOption, ℕ, ◌<◌, ◌≤◌, ℤ, pos, ◌-ℤ◌, ◌*ℤ◌, ◌≤ℤ◌, unsigned_abs};
+ghost use Rattle.span_cover.specs.Common.{HoldsFraction, Sample, Moment, error_of, DriftsWithinByReading, IsInWindow, IsOffAtLeast, IsOffAtMost, billion, IsRate};
 ghost use Rattle.span_cover.specs.Best.{IsFirstBest, IsBestLow, IsBestHigh, HasNoSample, best_of};
 ghost use Rattle.span_cover.specs.Piece.{farthest, moved_low, moved_high, piece_interval_of};
 

@@ -1,8 +1,7 @@
 //! What one server says about a stretch.
 
 ghost use Rattle.std.specs.Prelude.{◌≡◌};
-ghost use Rattle.sample_interval.specs.Sample.{IsLawfulSample};
-ghost use Rattle.sample_interval.specs.Widening.{IsRate};
+ghost use Rattle.span_cover.specs.Common.{IsLawfulSample, IsRate};
 ghost use Rattle.span_cover.specs.Part.{part_of};
 ghost use Rattle.span_cover.specs.Piece.{IsPiece};
 

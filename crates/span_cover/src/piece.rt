@@ -1,10 +1,8 @@
 //! The interval of a piece.
 
 ghost use Rattle.std.specs.Prelude.{◌≡◌, ◌≤◌, ◌^◌, pos, ◌≤ℤ◌, unsigned_abs};
-ghost use Rattle.sample_interval.specs.Sample.{IsLawfulSample};
-ghost use Rattle.sample_interval.specs.Widening.{IsRate};
-ghost use Rattle.span_cover.specs.Piece.{IsPiece, farthest, moved_low, moved_high};
-ghost use Rattle.span_cover.specs.Piece.{piece_interval_of};
+ghost use Rattle.span_cover.specs.Common.{IsLawfulSample, IsRate};
+ghost use Rattle.span_cover.specs.Piece.{IsPiece, farthest, moved_low, moved_high, piece_interval_of};
 
 use intersection::kinds::Interval;
 use sample_interval::kinds::Sample;

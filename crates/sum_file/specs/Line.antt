@@ -3,8 +3,7 @@
 -- A line is a digest as 64 hexadecimal digits in either case, a space, a mark, which is a space for
 -- a text and `*` for a binary file, and a name that isn't empty. A line that begins with a
 -- backslash has its name escaped; in any other the name stands as it is.
-use Rattle.std.specs.Prelude.{◌≡◌, ℕ, ◌<◌, ◌==◌, ◌⊎◌, Bool, true, false, ◌&&◌, ◌||◌, List, ◌∷◌, ◌++◌, length, take, drop, slice_index, nat_lt}
-use Rattle.std.specs.Prelude.{Option, Some, None, option_map, option_and_then, Ok, if◌then◌else◌}
+use Rattle.std.specs.Prelude.{◌≡◌, ℕ, ◌<◌, ◌==◌, ◌⊎◌, Bool, true, false, ◌&&◌, ◌||◌, List, ◌∷◌, ◌++◌, length, take, drop, slice_index, nat_lt, Option, Some, None, option_map, option_and_then, Ok, if◌then◌else◌}
 use Rattle.std.specs.Result.{result_ok}
 use Rattle.hex.specs.Hex.{decode_sized, encode_lower}
 use Rattle.sum_file.specs.Name.{backslash, escaped, has_special, unescaped}

@@ -4,8 +4,7 @@
 -- end belongs to the ending. Every line has to say a sum, and no two lines may give one name two
 -- digests. The fault of a file is its first bad line, numbered from 1: of two lines that disagree
 -- the later one is bad.
-use Rattle.std.specs.Prelude.{◌≡◌, ◌≢◌, ℕ, ◌+◌, ◌-◌, ◌⊎◌, ◌==◌, nat_eq, List, [], ◌∷◌, ◌++◌, length, map, take, find, All, AllPairs, Any, Contains}
-use Rattle.std.specs.Prelude.{Option, Some, None, option_map, option_and_then, is_none, ok_or, unwrap_or, Result, Ok, Err, if◌then◌else◌}
+use Rattle.std.specs.Prelude.{◌≡◌, ◌≢◌, ℕ, ◌+◌, ◌-◌, ◌⊎◌, ◌==◌, nat_eq, List, [], ◌∷◌, ◌++◌, length, map, take, find, All, AllPairs, Any, Contains, Option, Some, None, option_map, option_and_then, is_none, ok_or, unwrap_or, Result, Ok, Err, if◌then◌else◌}
 use Rattle.std.specs.List.{concat, ends_with, range_with_len, slice_split}
 use Rattle.sum_file.specs.declared.fault.SumFault.{SumFault}
 use Rattle.sum_file.specs.declared.fault.SumFault.TheVariants.{Form}

@@ -1,13 +1,11 @@
 //! What holds of the definitions that the contracts cite. A law is a function that does nothing:
 //! its contract is the law, for every text, every line and every sum.
 
-ghost use Rattle.std.specs.Prelude.{◌≡◌, ◌≢◌, ℕ, ◌<◌, ◌↔◌, List, [], ◌∷◌, ◌++◌, Some, Ok, Err};
-ghost use Rattle.std.specs.Prelude.{All, AllPairs, length, map};
+ghost use Rattle.std.specs.Prelude.{◌≡◌, ◌≢◌, ℕ, ◌<◌, ◌↔◌, List, [], ◌∷◌, ◌++◌, Some, Ok, Err, All, AllPairs, length, map};
 ghost use Rattle.sum_file.specs.declared.fault.SumFault.TheVariants.{Form, Memory};
 ghost use Rattle.sum_file.specs.Line.{IsMark, Says, line_of, written};
 ghost use Rattle.sum_file.specs.Name.{carriage_return};
-ghost use Rattle.sum_file.specs.Reading.{HasNoFeed, IsFirstBad, IsGiven, ended, lines_of};
-ghost use Rattle.sum_file.specs.Reading.{sum_given, sums_of, text_of, without_last};
+ghost use Rattle.sum_file.specs.Reading.{HasNoFeed, IsFirstBad, IsGiven, ended, lines_of, sum_given, sums_of, text_of, without_last};
 ghost use Rattle.sum_file.specs.Sum.{Agree, IsWritable, SumData};
 
 /// The lines of a text are those that it is made of, each ended by a line feed, but perhaps the

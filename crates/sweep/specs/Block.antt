@@ -4,8 +4,7 @@
 -- of the arrivals in it, and 0 if there are none: so a height is reached in the block exactly if
 -- it's below the limit. A block of one width holds 128 of a 128th of it. So the first index that
 -- reaches a height is found in three turns, each of which looks at 128 limits at most.
-use Rattle.std.specs.Prelude.{◌≡◌, ℕ, ◌+◌, ◌/◌, ◌<◌, ◌≤◌, ◌⊎◌, List, length, Some, slice_get}
-use Rattle.std.specs.Prelude.{slice_index_or}
+use Rattle.std.specs.Prelude.{◌≡◌, ℕ, ◌+◌, ◌/◌, ◌<◌, ◌≤◌, ◌⊎◌, List, length, Some, slice_get, slice_index_or}
 use Rattle.sweep.specs.declared.block.Blocks.{Blocks}
 use Rattle.sweep.specs.declared.queue.Arrival.{Arrival}
 

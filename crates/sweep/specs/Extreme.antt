@@ -2,11 +2,8 @@
 --
 -- A high end has its sign turned: the least high end becomes the greatest, and to move it up by the
 -- widening becomes to move it down.
-use Rattle.std.specs.Prelude.{◌≡◌, ℕ, ◌+◌, ◌-◌, ◌^◌, ◌<◌, ◌≤◌, ℤ, pos, ◌+ℤ◌, neg_ℤ}
-use Rattle.std.specs.Prelude.{Bool, true, false, List, Some, slice_get, length, map}
-use Rattle.sample_interval.specs.declared.kinds.Sample.{Sample}
-use Rattle.intersection.specs.declared.ends.Side.{Side}
-use Rattle.intersection.specs.declared.ends.Side.TheVariants.{Low, High}
+use Rattle.std.specs.Prelude.{◌≡◌, ℕ, ◌+◌, ◌-◌, ◌^◌, ◌<◌, ◌≤◌, ℤ, pos, ◌+ℤ◌, neg_ℤ, Bool, true, false, List, Some, slice_get, length, map}
+use Rattle.sweep.specs.Common.{Sample, Side, Low, High}
 use Rattle.sweep.specs.declared.extreme.Extreme.{Extreme}
 
 -- the extreme's number of ticks is this one, counted from the origin

@@ -1,3 +1,4 @@
+pub mod Common
 pub mod Extreme
 pub mod Pieces
 pub mod UnsignedStretch

@@ -3,9 +3,7 @@
 -- Piece k ends at `ends[k]`. The first begins at `first`, each other where the one before it ends.
 -- So `first` and the ends, one after another, are the begins.
 use Rattle.std.specs.Prelude.{◌≡◌, ℕ, ℤ, List, ◌∷◌, length, Some, slice_get}
-use Rattle.sample_interval.specs.declared.kinds.Sample.{Sample}
-use Rattle.span_cover.specs.Best.{best_of}
-use Rattle.span_cover.specs.Piece.{IsPiece}
+use Rattle.sweep.specs.Common.{Sample, best_of, IsPiece}
 
 -- piece k runs from p to q
 pub record IsPieceAt (first : ℤ) (ends : List ℤ) (k : ℕ) (p q : ℤ) : Type 0 where

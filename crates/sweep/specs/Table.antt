@@ -1,14 +1,6 @@
 -- A server's samples, laid out so that its interval over any piece is found by a search.
-use Rattle.std.specs.Prelude.{◌≡◌, ℕ, ◌<◌, ◌≤◌, ◌==◌, Bool, ℤ, List, length, map, filter}
-use Rattle.std.specs.Prelude.{Option, All}
-use Rattle.std.specs.List.{filter_map, list_any, range_with_len}
-use Rattle.std.specs.Option.{option_map}
-use Rattle.intersection.specs.declared.kinds.Interval.{Interval}
-use Rattle.intersection.specs.declared.ends.Side.{Side}
-use Rattle.intersection.specs.declared.ends.Side.TheVariants.{Low, High}
-use Rattle.sample_interval.specs.declared.kinds.Sample.{Sample}
-use Rattle.span_cover.specs.Gathering.{best_interval}
-use Rattle.span_cover.specs.declared.part.Part.{Part}
+use Rattle.std.specs.Prelude.{◌≡◌, ℕ, ◌<◌, ◌≤◌, ◌==◌, Bool, ℤ, List, length, map, filter, Option, All}
+use Rattle.sweep.specs.Common.{filter_map, list_any, range_with_len, option_map, Interval, Side, Low, High, Sample, best_interval, Part}
 use Rattle.sweep.specs.Extreme.{AreExtremesOf, mirrored_extreme}
 use Rattle.sweep.specs.PrefixMaximum.{AreMaximaOf}
 use Rattle.sweep.specs.Top.{IsAtLeast}

@@ -7,9 +7,7 @@
 --
 -- A level is a whole number. If an index reaches a level, it reaches each lower one. An extreme
 -- reaches a level over a stretch if its end, moved down for the stretch, is at least the level.
-use Rattle.std.specs.Prelude.{◌≡◌, ℕ, ◌+◌, ◌-◌, ◌*◌, ◌≤◌, max, List}
-use Rattle.std.specs.Prelude.{Option, Some, None, slice_get}
-use Rattle.std.specs.Prelude.{Bool, nat_lt, ◌==◌, ◌&&◌, ◌||◌, if◌then◌else◌, length, map}
+use Rattle.std.specs.Prelude.{◌≡◌, ℕ, ◌+◌, ◌-◌, ◌*◌, ◌≤◌, max, List, Option, Some, None, slice_get, Bool, nat_lt, ◌==◌, ◌&&◌, ◌||◌, if◌then◌else◌, length, map}
 use Rattle.sweep.specs.Extreme.{mirrored_extreme}
 use Rattle.sweep.specs.UnsignedStretch.{mirrored_stretch}
 use Rattle.sample_interval.specs.Widening.{widening, billion}

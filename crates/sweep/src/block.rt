@@ -1,7 +1,6 @@
 //! The first index that reaches a height, found by blocks of indices.
 
-ghost use Rattle.std.specs.Prelude.{◌≡◌, ℕ, ◌+◌, ◌*◌, ◌<◌, ◌≤◌, ◌^◌, length, IfOk, List};
-ghost use Rattle.std.specs.Prelude.{slice_index_or};
+ghost use Rattle.std.specs.Prelude.{◌≡◌, ℕ, ◌+◌, ◌*◌, ◌<◌, ◌≤◌, ◌^◌, length, IfOk, List, slice_index_or};
 ghost use Rattle.sweep.specs.Block.{AreBlocksOf, AreUpto, IsFirstBlock, IsReached};
 ghost use Rattle.sweep.specs.Queue.{AreSmall, AreWithin};
 ghost use Rattle.sweep.specs.declared.queue.Arrival.{Arrival as TheArrival};

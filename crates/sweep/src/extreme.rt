@@ -2,8 +2,7 @@
 
 ghost use Rattle.std.specs.Prelude.{◌≡◌, ◌≤◌, length, All, IfOk, map};
 ghost use Rattle.sample_interval.specs.Sample.{IsLawfulSample};
-ghost use Rattle.sweep.specs.Extreme.{AreExtremesOf, IsExtremeOf, IsLawfulExtreme};
-ghost use Rattle.sweep.specs.Extreme.{seen_one};
+ghost use Rattle.sweep.specs.Extreme.{AreExtremesOf, IsExtremeOf, IsLawfulExtreme, seen_one};
 
 use crate::tick::{from_origin, mirrored_tick};
 use intersection::Side;

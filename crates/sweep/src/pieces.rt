@@ -1,9 +1,7 @@
 //! The best samples of every piece.
 
 ghost use Rattle.std.specs.Prelude.{◌≡◌, ◌≤◌, length, All, IsNone, IfOk, IfSome, ◌↔◌, map};
-ghost use Rattle.sample_interval.specs.Sample.{IsLawfulSample};
-ghost use Rattle.sample_interval.specs.Widening.{IsRate};
-ghost use Rattle.span_cover.specs.Best.{HasNoSample};
+ghost use Rattle.sweep.specs.Common.{IsLawfulSample, IsRate, HasNoSample};
 ghost use Rattle.sweep.specs.Pieces.{ArePieces, AreBestOfPieces, ArePairsOf};
 
 use crate::choice::top_numbers;

@@ -1,7 +1,6 @@
 //! The highest of the extremes that are early, for any stretch.
 
-ghost use Rattle.std.specs.Prelude.{◌≡◌, ℕ, ◌<◌, ◌≤◌, ◌-◌, ◌+◌, ◌/◌, IsTrue, List, length};
-ghost use Rattle.std.specs.Prelude.{All, IfOk, Some, slice_get};
+ghost use Rattle.std.specs.Prelude.{◌≡◌, ℕ, ◌<◌, ◌≤◌, ◌-◌, ◌+◌, ◌/◌, IsTrue, List, length, All, IfOk, Some, slice_get};
 ghost use Rattle.sample_interval.specs.Widening.{IsRate, billion};
 ghost use Rattle.sweep.specs.Extreme.{IsLawfulExtreme, seen};
 ghost use Rattle.sweep.specs.PrefixMaximum.{AreMaximaOf, IsBracket, IsHeightUpto, IsEarlyLevel};

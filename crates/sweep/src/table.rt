@@ -1,16 +1,10 @@
 //! Tables of the best samples, which are asked for any piece.
 
-ghost use Rattle.std.specs.Prelude.{◌≡◌, ℕ, ◌<◌, ◌≤◌, ◌-◌, ◌/◌, ◌^◌, ◌↔◌, List, length, map, All};
-ghost use Rattle.std.specs.Prelude.{Some, IfOk, IfSome, IsNone, pos, ◌-ℤ◌, neg_ℤ};
-ghost use Rattle.sample_interval.specs.Sample.{IsLawfulSample};
-ghost use Rattle.sample_interval.specs.Widening.{IsRate, billion};
-ghost use Rattle.sample_interval.specs.declared.kinds.Sample.{Sample};
-ghost use Rattle.span_cover.specs.Best.{HasNoSample};
-ghost use Rattle.span_cover.specs.Piece.{IsPiece};
+ghost use Rattle.std.specs.Prelude.{◌≡◌, ℕ, ◌<◌, ◌≤◌, ◌-◌, ◌/◌, ◌^◌, ◌↔◌, List, length, map, All, Some, IfOk, IfSome, IsNone, pos, ◌-ℤ◌, neg_ℤ};
+ghost use Rattle.sweep.specs.Common.{IsLawfulSample, IsRate, billion, Sample, HasNoSample, IsPiece};
 ghost use Rattle.sweep.specs.Extreme.{IsLawfulExtreme};
 ghost use Rattle.sweep.specs.UnsignedStretch.{IsLawfulStretch};
-ghost use Rattle.sweep.specs.Table.{best_part, best_parts, AreMaximaBothWays, IsLevelOver};
-ghost use Rattle.sweep.specs.Table.{IsTableOf, AreTablesOf};
+ghost use Rattle.sweep.specs.Table.{best_part, best_parts, AreMaximaBothWays, IsLevelOver, IsTableOf, AreTablesOf};
 ghost use Rattle.sweep.specs.declared.extreme.Extreme.{Extreme as TheExtreme};
 
 use crate::extreme::{Extreme, extremes_of, servers_of};

@@ -1,7 +1,6 @@
 //! Small callers of the crates below, as programs of one's own would have them, each proved.
 
-ghost use Rattle.std.specs.Prelude.{ℤ, [], ◌∷◌, ◌≡◌, ◌≤◌, ◌<◌, ◌^◌, ◌-◌, IsTrue, IfSome, All};
-ghost use Rattle.std.specs.Prelude.{length, vec_len};
+ghost use Rattle.std.specs.Prelude.{ℤ, [], ◌∷◌, ◌≡◌, ◌≤◌, ◌<◌, ◌^◌, ◌-◌, IsTrue, IfSome, All, length, vec_len};
 ghost use Rattle.certificate.specs.Certificate.{max_pieces};
 ghost use Rattle.checker.specs.Traceability.{IsTraceable};
 ghost use Rattle.claim_file.specs.Claim.{data_of};

@@ -1,8 +1,7 @@
 //! What is made for `at`.
 
 ghost use Rattle.std.specs.Prelude.{◌≡◌, IfOk};
-ghost use Rattle.byte_stream.specs.State.{IsWritable};
-ghost use Rattle.span_cover.specs.Piece.{IsPiece};
+ghost use Rattle.audit.specs.Common.{IsWritable, IsPiece};
 ghost use Rattle.audit.specs.At as spec;
 ghost use Rattle.audit.specs.At.{at};
 ghost use Rattle.audit.specs.Evidence.{IsLawfulEvidence, evidence_data};

@@ -1,9 +1,7 @@
 //! What is made for `check`.
 
 ghost use Rattle.std.specs.Prelude.{◌≡◌, ◌≤◌, Some, vec_len};
-ghost use Rattle.certificate.specs.Certificate.{data_of as certificate_data, max_pieces};
-ghost use Rattle.claim_file.specs.Claim.{data_of};
-ghost use Rattle.checker.specs.Traceability.{IsVerdictOn};
+ghost use Rattle.audit.specs.Common.{certificate_data, max_pieces, data_of, IsVerdictOn};
 ghost use Rattle.audit.specs.Check as spec;
 ghost use Rattle.audit.specs.Check.{IsEnoughFor, check, fit_finding};
 ghost use Rattle.audit.specs.Evidence.{IsLawfulEvidence, evidence_data, samples_in};

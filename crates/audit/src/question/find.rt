@@ -1,10 +1,7 @@
 //! What is made for `find`.
 
 ghost use Rattle.std.specs.Prelude.{◌≡◌, ◌++◌, IfOk, codes};
-ghost use Rattle.certificate.specs.Certificate.{data_of as certificate_data};
-ghost use Rattle.certificate.specs.Writing.{certificate_text};
-ghost use Rattle.claim_file.specs.Claim.{data_of};
-ghost use Rattle.finder.specs.Found.{data_of as found_data};
+ghost use Rattle.audit.specs.Common.{certificate_data, certificate_text, data_of, found_data};
 ghost use Rattle.audit.specs.Find as spec;
 ghost use Rattle.audit.specs.Find.{IsFoundBy, find, find_run_fault_of, found_outcome};
 ghost use Rattle.audit.specs.Question.{no_finding};

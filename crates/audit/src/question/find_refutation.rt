@@ -1,10 +1,7 @@
 //! What is made for `find --refutation`.
 
 ghost use Rattle.std.specs.Prelude.{◌≡◌, ◌++◌, IfOk, codes, option_map};
-ghost use Rattle.byte_stream.specs.State.{IsWritable};
-ghost use Rattle.certificate.specs.Refutation.{data_of as refutation_data};
-ghost use Rattle.certificate.specs.RefutationWriting.{refutation_text};
-ghost use Rattle.claim_file.specs.Claim.{data_of};
+ghost use Rattle.audit.specs.Common.{IsWritable, refutation_data, refutation_text, data_of};
 ghost use Rattle.audit.specs.FindRefutation as spec;
 ghost use Rattle.audit.specs.Evidence.{IsLawfulEvidence, evidence_data};
 ghost use Rattle.audit.specs.FindRefutation.{found_refutation_outcome};

@@ -1,9 +1,7 @@
 //! What is made for `refute`.
 
 ghost use Rattle.std.specs.Prelude.{◌≡◌, true, false, IfOk};
-ghost use Rattle.certificate.specs.Refutation.{data_of as refutation_data};
-ghost use Rattle.claim_file.specs.Claim.{data_of};
-ghost use Rattle.checker.specs.Settlement.{Settles};
+ghost use Rattle.audit.specs.Common.{refutation_data, data_of, Settles};
 ghost use Rattle.audit.specs.Evidence.{IsLawfulEvidence, evidence_data};
 ghost use Rattle.audit.specs.Question.{no_finding};
 ghost use Rattle.audit.specs.Refute as spec;

@@ -1,8 +1,7 @@
 //! What is made for `settle`.
 
 ghost use Rattle.std.specs.Prelude.{◌≡◌, Some, IfOk, IfSome};
-ghost use Rattle.finder.specs.Settlement.{settled_data};
-ghost use Rattle.line_writer.specs.declared.field.Style.TheVariants.{Human};
+ghost use Rattle.audit.specs.Common.{settled_data, Human};
 ghost use Rattle.audit.specs.Evidence.{IsLawfulEvidence, evidence_data};
 ghost use Rattle.audit.specs.Least.{IsLeastBoundOf};
 ghost use Rattle.audit.specs.Settle as spec;
