@@ -5,7 +5,10 @@ import hashlib
 import json
 import os
 import re
+import select
 import shutil
+import socket
+import subprocess
 import tempfile
 from base64 import b64encode
 from collections.abc import Callable, Sequence
@@ -41,8 +44,54 @@ def skipped(name: str, why: str) -> None:
     skip(name, why)
 
 
+class Forks:
+    """A process that forks for each call of the dossier (tests/dossier/forks.py). What it has loaded may hang on its
+    environment, so that calls differ from it in nothing but these."""
+    free = "XDG_STATE_HOME", "NTPAUDIT", "NTPAUDIT_SECOND"
+
+    def __init__(self) -> None:
+        self.calls, its_calls = socket.socketpair(socket.AF_UNIX, socket.SOCK_SEQPACKET)
+        python = ["python3", "-I", "-S", "-B", "-X", "utf8"]
+        self.process = subprocess.Popen([*python, Path(__file__).with_name("forks.py"), SCRIPT], stdin=its_calls, stdout=subprocess.PIPE,
+                                        stderr=subprocess.PIPE, env=ENVIRONMENT)
+        its_calls.close()
+        atexit.register(self.end)
+
+    def end(self) -> None:
+        self.calls.close()
+        self.process.wait()
+
+    def run(self, words: Sequence[object], env: dict[str, str], cwd: object = ".") -> Ran:
+        call = json.dumps([[os.fsdecode(word if isinstance(word, bytes) else str(word)) for word in words],
+                           os.path.abspath(str(cwd)), env]).encode()
+        (out, its_out), (err, its_err) = os.pipe(), os.pipe()
+        with open(os.devnull) as nothing:
+            socket.send_fds(self.calls, [call], [nothing.fileno(), its_out, its_err])
+        os.close(its_out)
+        os.close(its_err)
+        said = {out: b"", err: b""}
+        left = {out, err}
+        while left:
+            for file in select.select(left, [], [])[0]:
+                said[file] += (block := os.read(file, 1 << 16))
+                if not block:
+                    left.remove(file)
+                    os.close(file)
+        return int(self.calls.recv(100)), said[out], said[err]
+
+
+forks = functools.cache(Forks)
+ASKED = set[object]()
+"""Commands that were called."""
+
+
 def dossier(*words: object, **how: Any) -> Ran:
+    """A call. The first of each command begins with Python, as a user's."""
     how.setdefault("env", ENVIRONMENT)
+    others = {name for name, _ in how["env"].items() ^ ENVIRONMENT.items()}
+    if words[0] in ASKED and how.keys() <= {"env", "cwd"} and others.issubset(Forks.free):
+        return forks().run(words, **how)
+    ASKED.add(words[0])
     return run([SCRIPT, *words], **how)
 
 
