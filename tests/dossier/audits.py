@@ -51,9 +51,9 @@ class Forks:
 
     def __init__(self) -> None:
         self.calls, its_calls = socket.socketpair(socket.AF_UNIX, socket.SOCK_SEQPACKET)
-        python = ["python3", "-I", "-S", "-B", "-X", "utf8"]
-        self.process = subprocess.Popen([*python, Path(__file__).with_name("forks.py"), SCRIPT], stdin=its_calls, stdout=subprocess.PIPE,
-                                        stderr=subprocess.PIPE, env=ENVIRONMENT)
+        python = ["python3", "-I", "-S", "-B", "-X", "utf8", str(ROOT / "tests/dossier/forks.py"), str(SCRIPT)]
+        self.process = subprocess.Popen(python, env=ENVIRONMENT, stdin=its_calls.fileno(), stdout=subprocess.PIPE,
+                                        stderr=subprocess.PIPE)
         its_calls.close()
         atexit.register(self.end)
 
