@@ -7,6 +7,7 @@ import os
 import re
 import select
 import shutil
+import signal
 import socket
 import subprocess
 import tempfile
@@ -16,7 +17,7 @@ from html.parser import HTMLParser
 from pathlib import Path
 from typing import Any
 
-from tests.support import DATA, ROOT, Ran, check, files_in, program, run, skip
+from tests.support import DATA, ROOT, SECONDS, Ran, check, files_in, program, run, skip
 from tests.dossier.leaps import LATER, leap_list
 
 PROGRAM = program()
@@ -61,18 +62,19 @@ class Forks:
         self.calls.close()
         self.process.wait()
 
-    def run(self, words: Sequence[object], env: dict[str, str], cwd: object = ".") -> Ran:
-        call = json.dumps([[os.fsdecode(word if isinstance(word, bytes) else str(word)) for word in words],
-                           os.path.abspath(str(cwd)), env]).encode()
+    def run(self, words: Sequence[object], env: dict[str, str], cwd: object = ".", memory: int = 0) -> Ran:
+        call = [*map(str, words)], os.path.abspath(str(cwd)), env, memory
         (out, its_out), (err, its_err) = os.pipe(), os.pipe()
         with open(os.devnull) as nothing:
-            socket.send_fds(self.calls, [call], [nothing.fileno(), its_out, its_err])
+            socket.send_fds(self.calls, [json.dumps(call).encode()], [nothing.fileno(), its_out, its_err])
         os.close(its_out)
         os.close(its_err)
-        said = {out: b"", err: b""}
-        left = {out, err}
+        process, said, left = int(self.calls.recv(100)), {out: b"", err: b""}, {out, err}
         while left:
-            for file in select.select(left, [], [])[0]:
+            ready = select.select(left, [], [], SECONDS)[0]
+            if not ready:
+                os.kill(process, signal.SIGKILL)
+            for file in ready:
                 said[file] += (block := os.read(file, 1 << 16))
                 if not block:
                     left.remove(file)
@@ -86,13 +88,17 @@ ASKED = set[object]()
 
 
 def dossier(*words: object, **how: Any) -> Ran:
-    """A call. The first of each command begins with Python, as a user's."""
+    """A call, which may have a limit of memory in bytes. The first of each command begins with Python, as a user's, and
+    so does one that `run` is told more of than its folder and its environment."""
     how.setdefault("env", ENVIRONMENT)
     others = {name for name, _ in how["env"].items() ^ ENVIRONMENT.items()}
-    if words[0] in ASKED and how.keys() <= {"env", "cwd"} and others.issubset(Forks.free):
+    kind = words[0], "memory" in how
+    if kind in ASKED and how.keys() <= {"env", "cwd", "memory"} and others.issubset(Forks.free):
         return forks().run(words, **how)
-    ASKED.add(words[0])
-    return run([SCRIPT, *words], **how)
+    ASKED.add(kind)
+    if memory := how.pop("memory", None):
+        words = "sh", "-c", f'ulimit -v {memory // 1024}; exec "$0" "$@"', SCRIPT, *words
+    return run(words if memory else [SCRIPT, *words], **how)
 
 
 def within(call: Callable[[int], Ran], is_enough: Callable[[Ran], object]) -> tuple[int, Ran]:

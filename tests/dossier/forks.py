@@ -3,12 +3,13 @@ that the dossier's modules are loaded already: that takes longer than most of wh
 
 usage: python3 -I -S -B -X utf8 tests/dossier/forks.py SCRIPT < SOCKET
 
-A call comes over the socket: its words, folder and environment, with its standard input, output and error. What goes
-back is its status.
+A call comes over the socket: its words, folder, environment and limit of memory, with its standard input, output and
+error. What goes back is the process's number, and at its end its status.
 """
 import importlib
 import json
 import os
+import resource
 import socket
 import sys
 from pathlib import Path
@@ -28,6 +29,7 @@ while True:
     process = os.fork()
     if not process:
         break
+    calls.send(b"%d" % process)
     for file in files:
         os.close(file)
     calls.send(b"%d" % os.waitstatus_to_exitcode(os.waitpid(process, 0)[1]))
@@ -35,7 +37,9 @@ calls.detach()
 for number, file in enumerate(files):
     os.dup2(file, number)
     os.close(file)
-words, folder, environment = json.loads(call)
+words, folder, environment, memory = json.loads(call)
+if memory:
+    resource.setrlimit(resource.RLIMIT_AS, (memory, memory))
 os.chdir(folder)
 os.environ.clear()
 os.environ.update(environment)
