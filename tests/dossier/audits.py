@@ -92,7 +92,7 @@ def dossier(*words: object, **how: Any) -> Ran:
     so does one that `run` is told more of than its folder and its environment."""
     how.setdefault("env", ENVIRONMENT)
     others = {name for name, _ in how["env"].items() ^ ENVIRONMENT.items()}
-    kind = words[0], "memory" in how
+    kind = words[:1], "memory" in how
     if kind in ASKED and how.keys() <= {"env", "cwd", "memory"} and others.issubset(Forks.free):
         return forks().run(words, **how)
     ASKED.add(kind)
