@@ -41,6 +41,9 @@ words, folder, environment, memory = json.loads(call)
 if memory:
     resource.setrlimit(resource.RLIMIT_AS, (memory, memory))
 os.chdir(folder)
+home = os.open(".", os.O_PATH | os.O_DIRECTORY)
+os.dup2(home, sys.modules["dossier.folder.files"].HOME, inheritable=False)
+os.close(home)
 os.environ.clear()
 os.environ.update(environment)
 sys.argv[1:] = words
