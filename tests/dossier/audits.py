@@ -5,6 +5,7 @@ import hashlib
 import json
 import os
 import re
+import runpy
 import select
 import shutil
 import signal
@@ -132,8 +133,11 @@ def match_of(pattern: str, text: str) -> re.Match[str]:
     return found
 
 
-def capture_of(path: Path, *words: object) -> Path:
-    path.write_bytes(run([ROOT / "tests" / "tools" / "capture_of", *words])[1])
+CAPTURE = runpy.run_path(str(ROOT / "tests" / "tools" / "capture_of"))["capture"]
+
+
+def capture_of(path: Path, *words: str) -> Path:
+    path.write_bytes(CAPTURE(words))
     return path
 
 
