@@ -55,7 +55,7 @@ def kind_of(ran: Ran) -> str:
 
 
 def text_of(lines: list[str]) -> bytes:
-    return "".join(f"{line}\n" for line in lines).encode()
+    return "\n".join([*lines, ""]).encode()
 
 
 def differs(ran: Ran, status: int, lines: list[str], error: bytes = b"") -> str:
