@@ -318,9 +318,10 @@ def find_case(question: Question, step: int | None = None) -> Iterator[Case]:
     if line:
         yield "find", differs(ran, 1, [line])
         return
+    printed = json.loads(ran[1])["pieces"] if kind_of(ran) == "shown" else []
     ends = [end for _, end in rules.pieces_of(question.claim, step)]
-    is_right = kind_of(ran) == "shown" and ran[0] == 0 and pieces.ends_in(ran[1]) == ends
-    yield "find", named_wrong(question, json.loads(ran[1])["pieces"]) if is_right else short(ran)
+    is_right = ran[0] == 0 and [piece["upto"] for piece in printed] == ends
+    yield "find", named_wrong(question, printed) if is_right else short(ran)
     yield "check of what find printed", unaccepted(question, ran[1])
 
 
