@@ -244,6 +244,7 @@ def unaccepted(question: Question, certificate: bytes) -> str:
 def envelope_case(question: Question) -> Iterator[Case]:
     """`envelope` with each of its options. The line of the least bound is looked at by itself: once for claims that
     differ in nothing but their bound."""
+    known = dict[tuple[object, ...], tuple[int, list[str]]]()
     for command in plain_commands():
         if command.name != "envelope" or question.is_asked_enough:
             continue
@@ -254,8 +255,9 @@ def envelope_case(question: Question) -> Iterator[Case]:
         if has_least:
             *rest, line = ran[1].decode().splitlines() or [""]
             ran = ran[0], text_of(rest), ran[2]
-        wanted = answers.envelope(question.evidence, *(word for word in words if word != "--least"))
-        yield command.title, differs(ran, *wanted) or (least_wrong(question, line) if has_least else "")
+        if (shown := tuple(word for word in words if word != "--least")) not in known:
+            known[shown] = answers.envelope(question.evidence, *shown)
+        yield command.title, differs(ran, *known[shown]) or (least_wrong(question, line) if has_least else "")
 
 
 def least_wrong(question: Question, line: str) -> str:
