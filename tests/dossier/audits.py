@@ -5,7 +5,12 @@ import hashlib
 import json
 import os
 import re
+import runpy
+import select
 import shutil
+import signal
+import socket
+import subprocess
 import tempfile
 from base64 import b64encode
 from collections.abc import Callable, Sequence
@@ -13,7 +18,7 @@ from html.parser import HTMLParser
 from pathlib import Path
 from typing import Any
 
-from tests.support import DATA, ROOT, Ran, check, files_in, program, run, skip
+from tests.support import DATA, ROOT, SECONDS, Ran, check, files_in, program, run, skip
 from tests.dossier.leaps import LATER, leap_list
 
 PROGRAM = program()
@@ -41,9 +46,60 @@ def skipped(name: str, why: str) -> None:
     skip(name, why)
 
 
+class Forks:
+    """A process that forks for each call of the dossier (tests/dossier/forks.py). What it has loaded may hang on its
+    environment, so that calls differ from it in nothing but these."""
+    free = "XDG_STATE_HOME", "NTPAUDIT", "NTPAUDIT_SECOND"
+
+    def __init__(self) -> None:
+        self.calls, its_calls = socket.socketpair(socket.AF_UNIX, socket.SOCK_SEQPACKET)
+        python = ["python3", "-I", "-S", "-B", "-X", "utf8", str(ROOT / "tests/dossier/forks.py"), str(SCRIPT)]
+        self.process = subprocess.Popen(python, env=ENVIRONMENT, stdin=its_calls.fileno(), stdout=subprocess.PIPE,
+                                        stderr=subprocess.PIPE)
+        its_calls.close()
+        atexit.register(self.end)
+
+    def end(self) -> None:
+        self.calls.close()
+        self.process.wait()
+
+    def run(self, words: Sequence[object], env: dict[str, str], cwd: object = ".", memory: int = 0) -> Ran:
+        call = [*map(str, words)], os.path.abspath(str(cwd)), env, memory
+        (out, its_out), (err, its_err) = os.pipe(), os.pipe()
+        with open(os.devnull) as nothing:
+            socket.send_fds(self.calls, [json.dumps(call).encode()], [nothing.fileno(), its_out, its_err])
+        os.close(its_out)
+        os.close(its_err)
+        process, said, left = int(self.calls.recv(100)), {out: b"", err: b""}, {out, err}
+        while left:
+            ready = select.select(left, [], [], SECONDS)[0]
+            if not ready:
+                os.kill(process, signal.SIGKILL)
+            for file in ready:
+                said[file] += (block := os.read(file, 1 << 16))
+                if not block:
+                    left.remove(file)
+                    os.close(file)
+        return int(self.calls.recv(100)), said[out], said[err]
+
+
+forks = functools.cache(Forks)
+ASKED = set[object]()
+"""Commands that were called."""
+
+
 def dossier(*words: object, **how: Any) -> Ran:
+    """A call, which may have a limit of memory in bytes. The first of each command begins with Python, as a user's, and
+    so does one that `run` is told more of than its folder and its environment."""
     how.setdefault("env", ENVIRONMENT)
-    return run([SCRIPT, *words], **how)
+    others = {name for name, _ in how["env"].items() ^ ENVIRONMENT.items()}
+    kind = words[:1], "memory" in how
+    if kind in ASKED and how.keys() <= {"env", "cwd", "memory"} and others.issubset(Forks.free):
+        return forks().run(words, **how)
+    ASKED.add(kind)
+    if memory := how.pop("memory", None):
+        words = "sh", "-c", f'ulimit -v {memory // 1024}; exec "$0" "$@"', SCRIPT, *words
+    return run(words if memory else [SCRIPT, *words], **how)
 
 
 def within(call: Callable[[int], Ran], is_enough: Callable[[Ran], object]) -> tuple[int, Ran]:
@@ -77,8 +133,11 @@ def match_of(pattern: str, text: str) -> re.Match[str]:
     return found
 
 
-def capture_of(path: Path, *words: object) -> Path:
-    path.write_bytes(run([ROOT / "tests" / "tools" / "capture_of", *words])[1])
+CAPTURE = runpy.run_path(str(ROOT / "tests" / "tools" / "capture_of"))["capture"]
+
+
+def capture_of(path: Path, *words: str) -> Path:
+    path.write_bytes(CAPTURE(words))
     return path
 
 

@@ -14,6 +14,7 @@ from unittest.mock import patch
 from tests.support import DATA, check, run
 from tests.dossier.audits import (ENVIRONMENT, PROGRAM, SCRIPT, capture_of, check_page, dossier, folder_of, match_of,
                                   skipped, table)
+from tests.tools import families
 
 HEADER = 24
 
@@ -294,31 +295,17 @@ def test_own_records(place: Path) -> None:
 
 
 def test_many_exchanges(place: Path) -> None:
-    """A capture of several days with more exchanges than the program takes at once, by days."""
-    words = [f"{server}:0..9@{NOON + DAY * day + 3 * 3600}x{9 * 3600 - 100}" for day in range(2) for server in (1, 2)]
-    folder = days_of(place, "many", [f"1:0..9@{NOON}x3600", *words[:1], "2:0..9@" + str(NOON) + "x3600"], days=2)
-    one = (folder / "f.pcap").read_bytes()
-    times = records_of(one)
-    head, blocks = one[:24], []
-    for day in range(2):
-        for copy in range(1 + 500_100 // (len(times) // 2)):
-            for number in range(0, len(times), 2):
-                request, reply = (bytearray(record) for record in times[number : number + 2])
-                for record in (request, reply):
-                    second = int.from_bytes(record[:4], "little") + DAY * day
-                    record[:8] = struct.pack("<II", second, (int.from_bytes(record[4:8], "little") + 37 * copy) % 10**9)
-                request[-8:] = reply[-24:-16] = struct.pack(">Q", (day << 40) + (copy << 24) + number + 1)
-                blocks += [bytes(request), bytes(reply)]
-    (folder / "f.pcap").write_bytes(head + b"".join(blocks))
-    claim = (folder / "claim.json").read_text()
-    (folder / "claim.json").write_text(claim.replace("2001-09-10T12", "2001-09-11T12"))
+    """A capture of two days with more exchanges than the program takes at once, by days."""
+    every, folder = 86_380_000, days_of(place, "many", [], days=2, servers=["192.0.2.101", "192.0.2.102"])
+    asked = enumerate(range(NOON * 10**9, (NOON + DAY) * 10**9 - every, every))
+    exchanges = families.Exchanges((number % 2, at, at + families.WAY_NS, -MS, MS) for number, at in asked)
+    families.write(exchanges, folder / "f.pcap")
     check("so many exchanges at once",
           run=(dossier("audit", folder)[:2],
                (2, f"refused       {folder}: ntpaudit: exchanges over 1000000\n".encode())))
-    (folder / "claim.json").write_text(claim)
-    status, out, err = dossier("audit", "--days", folder, timeout=600)
-    check("so many exchanges by days", status=(status, lambda status: status in (0, 1)), error=(err, b""),
-          lines=(len(out.splitlines()), 2), refused=(b"refused" in out, False))
+    status, out, err = dossier("audit", "--days", folder)
+    check("so many exchanges by days", status=(status, 0), error=(err, b""),
+          verdicts=([line.split()[0] for line in out.splitlines()], [b"yes", b"yes"]))
 
 
 def short_record(second: int) -> bytes:

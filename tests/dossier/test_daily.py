@@ -155,10 +155,11 @@ def test_alerts(place: Path) -> None:
     wanted = [of_alerts(name, severity[name], "5m", *(labels_of(series, folder, name) for folder in folders
                                                       if name in ALERTS[folder.name]))
               for name in severity if name not in timed]
-    tests = [{"interval": "1m", "input_series": series, "promql_expr_test": wanted}, *timed_alerts()]
-    test = {"rule_files": [str(rules)], "evaluation_interval": "1m", "tests": tests}
-    (place / "test.yml").write_text(json.dumps(test))
-    by_promtool("alerts of folders", "test", "rules", place / "test.yml")
+    for name, each, tests in (("folders", "1m", [{"interval": "1m", "input_series": series,
+                                                  "promql_expr_test": wanted}]), ("times", "15m", timed_alerts())):
+        test = {"rule_files": [str(rules)], "evaluation_interval": each, "tests": tests}
+        (place / f"{name}.yml").write_text(json.dumps(test))
+    by_promtool("alerts of folders", "test", "rules", place / "folders.yml", place / "times.yml")
 
 
 def series_of(name: str, values: object, **labels: str) -> dict[str, Any]:

@@ -23,7 +23,7 @@ def at(clock: float, *words: object, **how: object) -> Ran:
     """A call by a clock that shows another time."""
     script = (f"import sys, time; sys.path.insert(0, {str(ROOT)!r}); time.time = lambda: {clock}; "
               "from dossier.command_line import main; sys.exit(main(sys.argv[1:]))")
-    return run(["python3", "-c", script, *words], **{**dict[str, Any](env=ENVIRONMENT), **how})
+    return run(["python3", "-S", "-c", script, *words], **{**dict[str, Any](env=ENVIRONMENT), **how})
 
 
 def listed(folder: Path) -> list[str]:

@@ -110,7 +110,7 @@ def test_budget(place: Path) -> None:
                      **{"from": "2026-11-22T00:00:00Z", "to": "2026-11-23T00:00:00Z"})
     for words, folder, said in rows((("--days",), many, b"more than 1,100 days"),
                                 (("--step", "1"), wide, b"lines, and a folder")):
-        before, (status, out, _) = of_processor(), limited("audit", *words, folder)
+        before, (status, out, _) = of_processor(), limited("audit", *words, folder, timeout=SECONDS)
         check(f"too much: {folder.name}", status=(status, 2), said=(said in out, True),
               cheap=(of_processor() - before < 30, True))
     dossier("audit", one, env=elsewhere(place))

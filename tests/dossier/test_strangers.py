@@ -4,6 +4,7 @@ A victim is a file outside of a folder, which has to stay as it is.
 """
 import errno
 import fcntl
+import functools
 import hashlib
 import http.server
 import json
@@ -26,15 +27,8 @@ from tests.dossier.audits import (ENVIRONMENT, KEEP, PROGRAM, SCRIPT, SEARCH, ch
                                   parts_left, rows, skipped, table, within)
 from tests.dossier.test_evidence import key_of, why_no_link
 
-KILOBYTES = 3_000_000
-"""Of memory that a call may have here, so that one that takes all of it fails by itself."""
-QUICK = SECONDS
-
-
-def limited(*words: object, **how: Any) -> Ran:
-    """A call of the dossier with a limit of memory and of time."""
-    return run(["sh", "-c", f'ulimit -v {KILOBYTES}; exec "$0" "$@"', SCRIPT, *words],
-               **{**dict[str, Any](env=ENVIRONMENT, timeout=QUICK), **how})
+limited = functools.partial(dossier, memory=3 << 30)
+"""A call with a limit of memory, so that one that takes all of it fails by itself."""
 
 
 def elsewhere(place: Path) -> dict[str, str]:

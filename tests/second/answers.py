@@ -94,11 +94,10 @@ def bound_over(found: list[Drawn]) -> tuple[int | None, int]:
 
 def envelope(evidence: Evidence, *words: object) -> Answer:
     """A line for each piece, those of its servers before it, the bound over them, and the least bound."""
-    found, lines = list(drawn(evidence, step_of(words))), list[str]()
+    found, lines, names = list(drawn(evidence, step_of(words))), list[str](), evidence.claim["servers"]
     for number, (begin, end, servers, hull) in enumerate(found):
         if "--servers" in words:
-            lines += [written(PIECE_OF_SERVER, number, evidence.claim["servers"][server], *ends)
-                      for server, ends in servers.items()]
+            lines += [written(PIECE_OF_SERVER, number, names[server], *ends) for server, ends in servers.items()]
         lines.append(written(PIECE, number, begin // TICKS, end // TICKS, *rules.hull_fields(hull)))
     bound, worst = bound_over(found)
     lines.append(f"bound_ns {'none' if bound is None else bound} piece {worst}")

@@ -7,6 +7,7 @@ high end up. A Unix second is a time of UTC. Columns stand one space apart, and 
 """
 from collections.abc import Callable, Iterable, Mapping
 from datetime import datetime, timedelta
+from functools import cache
 from typing import NamedTuple
 
 TICKS = 1 << 32
@@ -77,10 +78,14 @@ PIECES_WITH_SERVERS = *PIECE, SERVER
 """What `envelope --servers` shows of both."""
 
 
+@cache
+def form(columns: Columns) -> str:
+    return " ".join(f"{column.word} %s".lstrip() for column in columns)
+
+
 def written(columns: Columns, *values: object) -> str:
     """A program's line. A hull without ends has a word for the first, and nothing for the second."""
-    pairs = zip(columns, values, strict=True)
-    return " ".join(f"{column.word} {value}".lstrip() for column, value in pairs if value != "")
+    return form(columns) % values if values[-1] != "" else form(columns[:-1]) % values[:-1]
 
 
 def counted(**counts: int) -> str:

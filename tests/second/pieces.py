@@ -7,7 +7,6 @@ tests/system/test_courses.py holds such hulls to those of tests/second/rules.py.
 by doubling and halving, and nothing more. Times are in ticks of 2^-32 s.
 """
 import heapq
-import json
 from bisect import bisect_right
 from collections.abc import Callable, Iterable
 from typing import NamedTuple
@@ -268,8 +267,3 @@ def has_property(claim: Claim, samples: list[Sample], told: tuple[int, int] | No
     if bound_ns and not ends_of(span, hulls, bound_in_ticks(bound_ns - 1))[1]:
         return False
     return piece == piece_of(claim, hulls, bound_ns, step)
-
-
-def ends_in(text: bytes) -> list[int]:
-    """The ends of a certificate's pieces."""
-    return [piece["upto"] for piece in json.loads(text)["pieces"]]

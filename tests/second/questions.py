@@ -55,7 +55,7 @@ def kind_of(ran: Ran) -> str:
 
 
 def text_of(lines: list[str]) -> bytes:
-    return "".join(f"{line}\n" for line in lines).encode()
+    return "\n".join([*lines, ""]).encode()
 
 
 def differs(ran: Ran, status: int, lines: list[str], error: bytes = b"") -> str:
@@ -244,6 +244,7 @@ def unaccepted(question: Question, certificate: bytes) -> str:
 def envelope_case(question: Question) -> Iterator[Case]:
     """`envelope` with each of its options. The line of the least bound is looked at by itself: once for claims that
     differ in nothing but their bound."""
+    known = dict[tuple[object, ...], tuple[int, list[str]]]()
     for command in plain_commands():
         if command.name != "envelope" or question.is_asked_enough:
             continue
@@ -254,8 +255,9 @@ def envelope_case(question: Question) -> Iterator[Case]:
         if has_least:
             *rest, line = ran[1].decode().splitlines() or [""]
             ran = ran[0], text_of(rest), ran[2]
-        wanted = answers.envelope(question.evidence, *(word for word in words if word != "--least"))
-        yield command.title, differs(ran, *wanted) or (least_wrong(question, line) if has_least else "")
+        if (shown := tuple(word for word in words if word != "--least")) not in known:
+            known[shown] = answers.envelope(question.evidence, *shown)
+        yield command.title, differs(ran, *known[shown]) or (least_wrong(question, line) if has_least else "")
 
 
 def least_wrong(question: Question, line: str) -> str:
@@ -318,9 +320,10 @@ def find_case(question: Question, step: int | None = None) -> Iterator[Case]:
     if line:
         yield "find", differs(ran, 1, [line])
         return
+    printed = json.loads(ran[1])["pieces"] if kind_of(ran) == "shown" else []
     ends = [end for _, end in rules.pieces_of(question.claim, step)]
-    is_right = kind_of(ran) == "shown" and ran[0] == 0 and pieces.ends_in(ran[1]) == ends
-    yield "find", named_wrong(question, json.loads(ran[1])["pieces"]) if is_right else short(ran)
+    is_right = ran[0] == 0 and [piece["upto"] for piece in printed] == ends
+    yield "find", named_wrong(question, printed) if is_right else short(ran)
     yield "check of what find printed", unaccepted(question, ran[1])
 
 

@@ -36,8 +36,8 @@ from tests.tools.scenes import Scene
 
 SEED, SCENES = "2026", 125
 """tests/second/test_planted.py needs 60 scenes, beside what is directed, to see each bug that it plants."""
-MOST_CAPTURE = 50_000_000
-"""A transcript with more exchanges is passed over: Python would need minutes for it."""
+PASSED_OVER = "settle/a-million-exchanges"
+"""The transcript for which Python would need minutes."""
 
 Answer = tuple[int | str, str]
 """A status, and the last line on standard output."""
@@ -285,8 +285,6 @@ def typed(name: str, trial: Trial) -> None:
 def answer_again(asked: Trial) -> None:
     """What a call of a transcript was asked. Without a third file it was `settle`, whose answer is the third then."""
     is_settle, drift = not asked.third.exists(), ["--drift"] if (asked.folder / "drift").exists() else []
-    if asked.capture.stat().st_size > MOST_CAPTURE:
-        return
     if is_settle:
         status, answer = asked.ask("settle")
         asked.third.write_bytes(answer)
@@ -302,7 +300,7 @@ def answer_again(asked: Trial) -> None:
 
 def jobs() -> Iterator[tuple[str, Job]]:
     for name in transcript.cases():
-        if name.split("/")[0] in ("check", "refute", "settle", "inputs"):
+        if name.split("/")[0] in ("check", "refute", "settle", "inputs") and name != PASSED_OVER:
             yield name, partial(typed, name)
     for claim in files_in(DATA, "*.claim.json"):
         stem = claim.name.removesuffix(".claim.json")
