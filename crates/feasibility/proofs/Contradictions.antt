@@ -1,5 +1,5 @@
 -- Pairs of exchanges that contradict each other, and the groups that they are of.
-use Rattle.feasibility.proofs.Common.{◌≡◌, ◌≢◌, ℕ, ◌<◌, ◌≤◌, ◌⊎◌, inl, inr, ⊎_elim, List, Some, slice_get, refl, sym, ap, ◌∙◌, arith, ClaimData, Exchange, group_of, HasImpossible, Contradicts, IsBroken, DoConflict, Pair, IsContradiction, IsFirstContradiction, HasContradiction}
+use Rattle.feasibility.proofs.Common.{rules, ◌≡◌, ◌≢◌, ℕ, ◌<◌, ◌≤◌, ◌⊎◌, inl, inr, ⊎_elim, List, Some, slice_get, refl, sym, ap, ◌∙◌, arith, ClaimData, Exchange, group_of, HasImpossible, Contradicts, IsBroken, DoConflict, Pair, IsContradiction, IsFirstContradiction, HasContradiction}
 
 -- ---- the first is one
 
@@ -33,17 +33,7 @@ module _ (claim : ClaimData) (xs : List Exchange) where
   )
 
   turned : (a b : ℕ) → HasContradiction claim xs a b → HasContradiction claim xs b a
-  turned a b (pair, h) = (
-    pair,
-    record {
-      low = h.low;
-      high = h.high;
-      low_stands = h.low_stands;
-      high_stands = h.high_stands;
-      of_groups = ⊎_elim (λ straight. inr straight) (λ crossed. inl crossed) h.of_groups;
-      impossible = h.impossible;
-    },
-  )
+  turned a b (pair, h) = search rules
 
   from_impossible : (group : ℕ) → HasImpossible claim xs group → HasContradiction claim xs group group
   from_impossible group h = (
@@ -77,18 +67,7 @@ module _ (claim : ClaimData) (xs : List Exchange) where
   not_compatible_pair : (a b : ℕ) (pair : Pair) (h : IsContradiction claim xs a b pair) → (c d : ℕ)
       → group_of claim h.low ≡ c → group_of claim h.high ≡ d
       → ((pair.low ≡ pair.high) → ⊥) → Contradicts claim xs c d
-  not_compatible_pair a b pair h c d is_c is_d two = ⊎_elim
-      (λ apart. record {
-        low_number = pair.low;
-        high_number = pair.high;
-        low = h.low;
-        high = h.high;
-        low_stands = h.low_stands;
-        high_stands = h.high_stands;
-        in_low_group = is_c;
-        in_high_group = is_d;
-        not_compatible = apart;
-      }) (λ one. absurd (two one.0)) h.impossible
+  not_compatible_pair a b pair h c d is_c is_d two = search rules
 
   pub pair_is_conflict : (a b : ℕ) → a ≢ b → HasContradiction claim xs a b → DoConflict claim xs a b
   pair_is_conflict a b differ (pair, h) = ⊎_elim

@@ -1,5 +1,5 @@
 -- The first exchange of a group that is impossible by itself, as it is looked for.
-use Rattle.feasibility.proofs.Common.{eqb-true, nat_tests, ◌≡◌, ℕ, ◌+◌, ◌<◌, ◌≤◌, ⊎_elim, true, false, List, Some, length, slice_get, sym, ◌∙◌, subst, arith, ◌==◌, slice_get_within, ClaimData, IsPossible, Exchange, group_of, IsImpossibleAt, lt_next_cases}
+use Rattle.feasibility.proofs.Common.{rules, eqb-true, nat_tests, ◌≡◌, ℕ, ◌+◌, ◌<◌, ◌≤◌, ⊎_elim, true, false, List, Some, length, slice_get, sym, ◌∙◌, subst, arith, ◌==◌, slice_get_within, ClaimData, IsPossible, Exchange, group_of, IsImpossibleAt, lt_next_cases}
 
 module _ (claim : ClaimData) (xs : List Exchange) (group : ℕ) where
   one_exchange : (k : ℕ) (x y : Exchange) → slice_get xs k ≡ Some x → slice_get xs k ≡ Some y → x ≡ y
@@ -7,12 +7,7 @@ module _ (claim : ClaimData) (xs : List Exchange) (group : ℕ) where
 
   pub impossible_here : (k : ℕ) (x : Exchange) → slice_get xs k ≡ Some x → (group_of claim x == group) ≡ true
       → (IsPossible claim.reading x → ⊥) → IsImpossibleAt claim xs group k
-  impossible_here k x at is cannot = record {
-    exchange = x;
-    stands = at;
-    in_group = eqb-true (group_of claim x) group is;
-    impossible = cannot;
-  }
+  impossible_here k x at is cannot = search rules
 
   pub not_of_group : (k : ℕ) (x : Exchange) → slice_get xs k ≡ Some x → (group_of claim x == group) ≡ false
       → IsImpossibleAt claim xs group k → ⊥

@@ -1,5 +1,5 @@
 -- The first marks of two groups that aren't compatible are of the first two exchanges that contradict each other.
-use Rattle.feasibility.proofs.Common.{AreOfGroups, eqb-true, ◌≡◌, ◌≢◌, ℕ, ◌+◌, ◌<◌, ◌≤◌, ◌⊎◌, inl, inr, ⊎_elim, Bool, true, false, List, Option, None, Some, length, map, get_or, slice_get, pos, refl, sym, ap, ◌∙◌, subst, arith, ◌==◌, slice_index, MatchOption, cond-true, cond-false, cases_lt, nat_tests, get_or-map, length-map, get_or_from_slice_get, slice_get_within, ClaimData, low_mark, high_mark, AreCompatible, Mark, Exchange, Pair, IsContradiction, IsNoLater, group_of, group_exchanges, group_lows, group_highs, group_numbers, IsFirstApart, AreNumberedOf, IsFirstIfAny, IsImpossibleAt, IsFirstImpossible, pair_of, is_no_later, earlier, twice, by_test, eq-eqb, slice_get-below}
+use Rattle.feasibility.proofs.Common.{rules, AreOfGroups, eqb-true, ◌≡◌, ◌≢◌, ℕ, ◌+◌, ◌<◌, ◌≤◌, ◌⊎◌, inl, inr, ⊎_elim, Bool, true, false, List, Option, None, Some, length, map, get_or, slice_get, pos, refl, sym, ap, ◌∙◌, subst, arith, ◌==◌, slice_index, MatchOption, cond-true, cond-false, cases_lt, nat_tests, get_or-map, length-map, get_or_from_slice_get, slice_get_within, ClaimData, low_mark, high_mark, AreCompatible, Mark, Exchange, Pair, IsContradiction, IsNoLater, group_of, group_exchanges, group_lows, group_highs, group_numbers, IsFirstApart, AreNumberedOf, IsFirstIfAny, IsImpossibleAt, IsFirstImpossible, pair_of, is_no_later, earlier, twice, by_test, eq-eqb, slice_get-below}
 use Rattle.error_marks.specs.Compatible.{AllCompatible}
 use Rattle.error_marks.specs.Conflict.{IsFirstConflict}
 use Rattle.feasibility.specs.declared.contradiction.Contradiction.{Contradiction}
@@ -234,14 +234,7 @@ module _ (claim : ClaimData) (xs : List Exchange) (a b : ℕ) where
   module _ (pair : Pair) where
     contradiction_of : (c d : ℕ) (h : IsApart claim xs c d pair) → AreOfGroups claim a b h.low h.high
         → IsContradiction claim xs a b pair
-    contradiction_of c d h groups = record {
-      low = h.low;
-      high = h.high;
-      low_stands = h.low_stands;
-      high_stands = h.high_stands;
-      of_groups = groups;
-      impossible = inl h.apart;
-    }
+    contradiction_of c d h groups = search rules
 
     by_low : IsApart claim xs a b pair → IsContradiction claim xs a b pair
     by_low h = contradiction_of a b h (inl (h.in_low, h.in_high))
@@ -253,15 +246,7 @@ module _ (claim : ClaimData) (xs : List Exchange) (a b : ℕ) where
         → (group_of claim h.low ≡ c) × (group_of claim h.high ≡ d)
         → ¬ (AreCompatible claim.drift_ppb (low_mark claim.reading h.low) (high_mark claim.reading h.high))
         → IsApart claim xs c d pair
-    apart_of h c d groups apart = record {
-      low = h.low;
-      high = h.high;
-      low_stands = h.low_stands;
-      high_stands = h.high_stands;
-      in_low = groups.0;
-      in_high = groups.1;
-      apart = apart;
-    }
+    apart_of h c d groups apart = search rules
 
   one_exchange_of : (pair : Pair) (h : IsContradiction claim xs a b pair) → pair.low ≡ pair.high
       → group_of claim h.low ≡ group_of claim h.high
@@ -328,13 +313,7 @@ module _ (claim : ClaimData) (xs : List Exchange) (a : ℕ) where
 
   apart_or_alone : (pair : Pair) → IsContradiction claim xs a a pair
       → IsApart claim xs a a pair ⊎ IsAlone claim xs a pair
-  apart_or_alone pair h =
-      let groups = ⊎_elim (λ g. g) (λ g. g) h.of_groups in
-      ⊎_elim (λ apart. inl (apart_of claim xs a a pair h a a groups apart))
-      (λ one. inr (record {
-        same = one.0;
-        at = record { exchange = h.low; stands = h.low_stands; in_group = groups.0; impossible = one.1 };
-      })) h.impossible
+  apart_or_alone pair h = search rules
 
   pub first_of_own : (ppb : ℕ) → claim.drift_ppb ≡ ppb → (marks : NumberedMarks) (apart : Option Contradiction)
       → AreNumberedOf claim xs a marks → IsSearched ppb marks marks apart

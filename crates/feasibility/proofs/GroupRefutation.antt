@@ -1,6 +1,6 @@
 -- A refutation whose liars are the servers of some groups: it stands exactly if these are a cover, and its own
 -- mark is compatible with those of the other groups.
-use Rattle.feasibility.proofs.Common.{eq-eqb, eqb-true, ◌≡◌, ℕ, ◌+◌, ◌<◌, ◌≤◌, Bool, false, cond, not, List, [], ◌∷◌, length, map, slice_get, Some, refl, sym, ap, ap₂, ◌∙◌, subst, arith, All, ◌==◌, ◌↔◌, IsTrue, nat_tests, All-head, All-tail, All-map, slice_get_within, RefutationData, is_liar, IsAgainst, ClaimData, IsConflictTable, ConflictData, IsCover, is_of, servers_of, IsCompatibleWith, IsRefutedWithDrift, mark_of, true_exchanges, AreAllCompatible, DoAgree, low_mark, high_mark, IsPossible, AreCompatible, Mark, IsLawful as IsLawfulExchange, Exchange, numbers_below, by_test, All-map_back}
+use Rattle.feasibility.proofs.Common.{rules, eq-eqb, eqb-true, ◌≡◌, ℕ, ◌+◌, ◌<◌, ◌≤◌, Bool, false, cond, not, List, [], ◌∷◌, length, map, slice_get, Some, refl, sym, ap, ap₂, ◌∙◌, subst, arith, All, ◌==◌, ◌↔◌, IsTrue, nat_tests, All-head, All-tail, All-map, slice_get_within, RefutationData, is_liar, IsAgainst, ClaimData, IsConflictTable, ConflictData, IsCover, is_of, servers_of, IsCompatibleWith, IsRefutedWithDrift, mark_of, true_exchanges, AreAllCompatible, DoAgree, low_mark, high_mark, IsPossible, AreCompatible, Mark, IsLawful as IsLawfulExchange, Exchange, numbers_below, by_test, All-map_back}
 use Rattle.std.proofs.lemmas.Map.Views.{any-filter_same}
 use Rattle.checker.proofs.Counting.{found_below}
 use Rattle.claim_file.specs.Claim.{IsLawful}
@@ -46,11 +46,7 @@ module _ (claim : ClaimData) (xs : List Exchange) (lawful : IsLawful claim)
 
   -- what holds of the one holds of the other
   agree_by : (f g : ℕ → Bool) → true_exchanges f xs ≡ true_exchanges g xs → DoAgree claim f xs → DoAgree claim g xs
-  agree_by f g is agree = record {
-    possible = subst (All (IsPossible claim.reading)) is agree.possible;
-    compatible = subst (λ ys. AreAllCompatible claim.drift_ppb (map (low_mark claim.reading) ys)
-        (map (high_mark claim.reading) ys)) is agree.compatible;
-  }
+  agree_by f g is agree = search rules
 
   stands_from : IsAgainst claim r → IsCover d is_in → All (IsCompatibleWith claim (mark_of r)) outside
       → IsRefutedWithDrift claim xs r

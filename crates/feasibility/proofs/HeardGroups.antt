@@ -2,7 +2,7 @@
 -- mark is left, and the lowest course of one mark of its own fits.
 use Rattle.std.proofs.Common.{◌==◌}
 use Rattle.std.specs.Prelude.{slice_get}
-use Rattle.feasibility.proofs.Common.{nat_tests, ◌≡◌, ℕ, zero, suc, ◌≤◌, ℤ, pos, ◌+ℤ◌, ◌*ℤ◌, Bool, true, false, ◌||◌, List, [], ◌∷◌, length, Some, refl, sym, ◌∙◌, eq-eqb, arith, All, slice_index, list_any, ints, ClaimData, times_le, IsLawful as IsLawfulExchange, Exchange, Mark, low_mark, high_mark, IsPossible, AreCompatible, Course, IsObservedIn, IsTraceable, samples_of, error_of, group_of, has_exchange, count_with_exchange, IsPossibleError, IsNoEvidence, lowest_course, low_marks, ≤ℤ_refl, or-false}
+use Rattle.feasibility.proofs.Common.{rules, nat_tests, ◌≡◌, ℕ, zero, suc, ◌≤◌, ℤ, pos, ◌+ℤ◌, ◌*ℤ◌, Bool, true, false, ◌||◌, List, [], ◌∷◌, length, Some, refl, sym, ◌∙◌, eq-eqb, arith, All, slice_index, list_any, ints, ClaimData, times_le, IsLawful as IsLawfulExchange, Exchange, Mark, low_mark, high_mark, IsPossible, AreCompatible, Course, IsObservedIn, IsTraceable, samples_of, error_of, group_of, has_exchange, count_with_exchange, IsPossibleError, IsNoEvidence, lowest_course, low_marks, ≤ℤ_refl, or-false}
 use Rattle.claim_file.specs.Claim.{IsLawful}
 use Rattle.feasibility.proofs.Covers.{few_by_cover}
 use Rattle.feasibility.proofs.DriftCourse.{beyond}
@@ -91,9 +91,7 @@ module _ (claim : ClaimData) (xs : List Exchange) where
   pub one_more_heard : (x : Exchange) (left rest : List Exchange) (is_in is_now : ℕ → Bool) (own : ℕ)
       → left ≡ x ∷ rest → own ≡ group_of claim x → ((group : ℕ) → is_now group ≡ ((group == own) || is_in group))
       → AreHeardTo claim xs left is_in → AreHeardTo claim xs rest is_now
-  one_more_heard x left rest is_in is_now own split is now before = record {
-    all = λ group. let so_far = rw split at (before.all group) in grind (arith, nat_tests, now group);
-  }
+  one_more_heard x left rest is_in is_now own split is now before = search rules
 
   pub all_heard : (is_in : ℕ → Bool) → AreHeardTo claim xs [] is_in
       → (group : ℕ) → is_in group ≡ has_exchange claim xs group

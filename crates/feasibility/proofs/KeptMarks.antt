@@ -1,5 +1,5 @@
 -- Two marks that moments of one clock keep are compatible, and each holds at its place.
-use Rattle.feasibility.proofs.Common.{◌≡◌, ℕ, ◌+◌, ◌-◌, ◌*◌, ◌<◌, ◌≤◌, ℤ, pos, ◌-ℤ◌, ◌*ℤ◌, ◌≤ℤ◌, ◌<ℤ◌, unsigned_abs, refl, subst, arith, ints, le_of_mul-le-mul_right, mul-le-mul_right, Mark, AreCompatible, Moment, error_of, error_change, DriftsWithin, billion, time_of, KeepsLow, KeepsHigh, ≤ℤ_trans}
+use Rattle.feasibility.proofs.Common.{rules, ◌≡◌, ℕ, ◌+◌, ◌-◌, ◌*◌, ◌<◌, ◌≤◌, ℤ, pos, ◌-ℤ◌, ◌*ℤ◌, ◌≤ℤ◌, ◌<ℤ◌, unsigned_abs, refl, subst, arith, ints, le_of_mul-le-mul_right, mul-le-mul_right, Mark, AreCompatible, Moment, error_of, error_change, DriftsWithin, billion, time_of, KeepsLow, KeepsHigh, ≤ℤ_trans}
 use Rattle.feasibility.proofs.Scaling.{times-sub, scaled_beyond, bounded}
 use Rattle.feasibility.proofs.Steps.{Drifts, Drifts-turned, rises_by, falls_by, readings_go_on, times_go_on}
 use Rattle.feasibility.proofs.Agreement.{TwoKept, ahead, behind}
@@ -8,12 +8,7 @@ use Rattle.feasibility.proofs.Agreement.{TwoKept, ahead, behind}
 
 -- with a rate below a billion, both parts of it
 pub parts_of : (ppb : ℕ) (a b : Moment) → ppb < billion → DriftsWithin ppb a b → Drifts (billion - ppb) ppb a b
-parts_of ppb a b slow h =
-    let parts : billion ≡ (billion - ppb) + ppb = omega arith in
-    record {
-      some = omega arith;
-      within = subst (λ (n : ℕ). n * error_change a b ≤ ppb * unsigned_abs (b.time -ℤ a.time)) parts h;
-    }
+parts_of ppb a b slow h = search rules
 
 fast_part : (ppb : ℕ) → ppb < billion → (billion - ppb) + ppb + ppb ≡ billion + ppb
 fast_part ppb slow = omega arith

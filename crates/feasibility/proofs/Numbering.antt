@@ -1,5 +1,5 @@
 -- The numbers and marks of a group, as they are gathered.
-use Rattle.feasibility.proofs.Common.{◌≡◌, ℕ, ◌+◌, ◌<◌, ⊎_elim, List, [], ◌∷◌, ◌++◌, drop, length, map, Bool, true, false, refl, sym, ap, ◌∙◌, subst, get_or, arith, All, ◌==◌, filter, get_or-append, length-append, append_snoc, get_or-append_seam, ClaimData, low_mark, high_mark, IsWithinRange, Mark, Exchange, group_of, group_lows, group_highs, numbers_from, group_numbers, not_lt_zero}
+use Rattle.feasibility.proofs.Common.{rules, ◌≡◌, ℕ, ◌+◌, ◌<◌, ⊎_elim, List, [], ◌∷◌, ◌++◌, drop, length, map, Bool, true, false, refl, sym, ap, ◌∙◌, subst, get_or, arith, All, ◌==◌, filter, get_or-append, length-append, append_snoc, get_or-append_seam, ClaimData, low_mark, high_mark, IsWithinRange, Mark, Exchange, group_of, group_lows, group_highs, numbers_from, group_numbers, not_lt_zero}
 use Rattle.feasibility.proofs.KeptMarkLists.{with_last}
 use Rattle.feasibility.proofs.PassingNumbers.{kept, left_out, counted, not_counted}
 
@@ -32,18 +32,7 @@ module _ (claim : ClaimData) (group : ℕ) (xs : List Exchange) where
     rest = drop (k + 1) xs
 
     pub past_other : is_of x ≡ false → IsNumbering claim group xs (k + 1) numbers lows highs
-    past_other other =
-        let out = ap (filter is_of) split ∙ left_out is_of x rest other in
-        record {
-          numbers_are = before.numbers_are ∙ ap (λ (ys : List Exchange). numbers ++ numbers_from is_of k ys) split
-              ∙ ap (λ (ns : List ℕ). numbers ++ ns) (not_counted is_of k x rest other);
-          lows_are = before.lows_are ∙ ap (λ (ys : List Exchange). lows ++ map (low_mark claim.reading) ys) out;
-          highs_are = before.highs_are ∙ ap (λ (ys : List Exchange). highs ++ map (high_mark claim.reading) ys) out;
-          low_count = before.low_count;
-          high_count = before.high_count;
-          low_range = before.low_range;
-          high_range = before.high_range;
-        }
+    past_other other = search rules
 
     module _ (numbers' : List ℕ) (lows' highs' : List Mark) (numbers_grow : numbers' ≡ numbers ++ k ∷ [])
         (lows_grow : lows' ≡ lows ++ low_mark claim.reading x ∷ [])

@@ -1,5 +1,5 @@
 -- The numbers of the elements that pass a test, and the elements that stand under them.
-use Rattle.feasibility.proofs.Common.{◌≡◌, ℕ, zero, suc, ◌+◌, ◌<◌, ◌≤◌, ⊎_elim, Bool, true, false, List, [], ◌∷◌, Some, slice_get, sym, ap, ◌∙◌, subst, arith, filter, cond-true, cond-false, cases_lt, numbers_from, by_test}
+use Rattle.feasibility.proofs.Common.{rules, ◌≡◌, ℕ, zero, suc, ◌+◌, ◌<◌, ◌≤◌, ⊎_elim, Bool, true, false, List, [], ◌∷◌, Some, slice_get, sym, ap, ◌∙◌, subst, arith, filter, cond-true, cond-false, cases_lt, numbers_from, by_test}
 
 pub one_there : {X : Type 0} (xs : List X) (i j : ℕ) (x y : X) → slice_get xs i ≡ Some x → slice_get xs j ≡ Some y
     → i ≡ j → x ≡ y
@@ -66,12 +66,7 @@ module _ {X : Type 0} (p : X → Bool) where
   }
 
   found_here : (k : ℕ) (y : X) (ys : List X) (x : X) → p y ≡ true → y ≡ x → Found k (y ∷ ys) zero x
-  found_here k y ys x first same = record {
-    number = zero;
-    stands = ap Some same;
-    is = rw first (ap Some (here k));
-    passes = subst (λ (z : X). p z ≡ true) same first;
-  }
+  found_here k y ys x first same = search rules
 
   pub found : (k : ℕ) (xs : List X) (j : ℕ) (x : X) → slice_get (filter p xs) j ≡ Some x → Found k xs j x
   found k [] j x is = absurd cc

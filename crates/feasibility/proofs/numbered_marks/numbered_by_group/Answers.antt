@@ -1,15 +1,10 @@
-use Rattle.feasibility.proofs.Common.{◌∙◌, length, map, ap, sym, subst, All, All-nil, All-push, data_of as claim_data, IsNumbered, AreNumberedOf}
+use Rattle.feasibility.proofs.Common.{rules, ◌∙◌, length, map, ap, sym, subst, All, All-nil, All-push, data_of as claim_data, IsNumbered, AreNumberedOf}
 use Rattle.feasibility.proofs.Numbering.{none_in_order, one_longer, one_more_in_order}
 use Rattle.feasibility.proofs.PartialTables.{up_to_end}
 use Rattle.feasibility.proofs.numbered_marks.numbered_by_group.Goals as goal
 
 pub loop-group-init : goal.loop-group-init
-loop-group-init g c = record {
-  count = ap length c.new-marks.ensures.items;
-  numbered = subst (All IsNumbered) (sym c.new-marks.ensures.items) (All-nil IsNumbered);
-  each = none_in_order (AreNumberedOf (claim_data c.args.claim.now) (map g.X.ToExchange.shown c.args.exchanges.now))
-      c.new-marks.result.items c.new-marks.ensures.items;
-}
+loop-group-init g c = search rules
 
 pub loop-group-preserved : goal.loop-group-preserved
 loop-group-preserved g c =
