@@ -24,7 +24,6 @@ EXCEPTIONS = {
     ],
     "program/src/about.rt": [
         ("Err(SumFault::Memory) => Err(AllocError),", "the reading of sums says it in a word of its own")],
-    "program/src/drafted.rt": [("answer: Err(RunFault::Memory),", "it is called where memory was refused")],
     "ntpaudit/src/run.rt": [
         ("conclusion: conclude(&Err(RunFault::Memory), err),", "it is called where memory was refused"),
     ],

@@ -1,6 +1,7 @@
 """What `-o FILE` leaves: at status 0 and 1 what a program reads stands in
 FILE, whole; at any other FILE is as it was, or isn't there. No draft stays beside it, unless a run is killed.
 """
+import hashlib
 import os
 import shlex
 import shutil
@@ -52,6 +53,11 @@ def call(command: Command, file: object, claim: object = CLAIM, capture: object 
     words = [command.name, claim, capture, *command.words, "-o", file]
     ran = run(["sh", "-c", f'{before} "$0" "$@" {streams}', how.pop("program", PROGRAM), *words], **how)
     return fault_alone(ran, command.options)
+
+
+def sha256(*inputs: Path, of: Path | None = None) -> bytes:
+    """What sha256sum writes of these inputs, or of another file under their names."""
+    return b"".join(f"{hashlib.sha256((of or path).read_bytes()).hexdigest()}  {path}\n".encode() for path in inputs)
 
 
 def files_of(folder: Path) -> dict[str, bytes]:
@@ -183,6 +189,30 @@ def test_inputs(folder: Path) -> None:
               files=(files_of(folder), before))
 
 
+def test_sums(folder: Path) -> None:
+    """With `--sums` a draft is made once each input has its sum, and SUMS is an input: no path of it is written."""
+    inside = folder / "in"
+    for command in writers():
+        if command.name != "settle":
+            continue
+        for what, files in beginnings():
+            for made, wanted in ((sha256(CLAIM, CAPTURE), told(command, 2)),
+                                 (sha256(CLAIM), (2, b"", b"ntpaudit: sums missing capture\n")),
+                                 (b"x\n" + sha256(CLAIM, CAPTURE), (2, b"", b"ntpaudit: sums form line 1\n")),
+                                 (sha256(CLAIM, CAPTURE, of=CLAIM), (2, b"", b"ntpaudit: sums differ capture\n"))):
+                fill(inside, files)
+                ran = call(command, inside / "f", streams="--sums /dev/stdin", given=made)
+                is_written = wanted[0] == 0
+                check(f"{command.title} by sums to {what}: {wanted[2]!r}", run=(ran, wanted), files=(
+                    files_of(inside), {"f": text_of(for_a_program(command), 2)[1]} if is_written else files))
+        fill(inside, {"SUMS": sha256(CLAIM, CAPTURE)})
+        (inside / "other").hardlink_to(inside / "SUMS")
+        for file in ("SUMS", "./SUMS", inside / "SUMS", "other"):
+            check(f"{command.title} to its sums as {file}",
+                  run=(call(command, file, streams="--sums SUMS", cwd=inside), NO_OUTPUT),
+                  files=(set(files_of(inside).values()), {sha256(CLAIM, CAPTURE)}))
+
+
 def test_output_fails(folder: Path) -> None:
     """If a person can't be told, the file is as it was, though its draft was whole."""
     for command in writers():
@@ -289,8 +319,7 @@ def test_rights(folder: Path) -> None:
 def test_command_lines(folder: Path) -> None:
     """Outputs that are no path, or that don't go with another option, are refused before anything is done."""
     file = folder / "f"
-    given: list[list[Path | str]] = [["-o", "-"], ["-o", ""], ["--output="], ["-o"], ["-o", file, "-o", file],
-                                     ["-o", file, "--sums", CLAIM]]
+    given: list[list[Path | str]] = [["-o", "-"], ["-o", ""], ["--output="], ["-o"], ["-o", file, "-o", file]]
     for words in given:
         status, output, error = run([PROGRAM, "settle", CLAIM, CAPTURE, *words])
         check(f"settle with {words}", run=((status, output, error[:7]), (5, b"", b"error: ")),

@@ -59,7 +59,7 @@ def refusals(command: str) -> Iterator[Refusal]:
 
 def staged(call: Call, *spoils: Refusal) -> Ran:
     """What is said if all of this is spoiled. Each input has its line with the sum of what it then holds, but for the
-    lines that are spoiled, the last refusal's first."""
+    lines that are spoiled, the last refusal's first. Where it's refused nothing is written."""
     files: dict[str, Content] = {kind: call.data(kind) for kind in call.inputs}
     for spoil in spoils:
         files |= spoil.files
@@ -78,25 +78,27 @@ def staged(call: Call, *spoils: Refusal) -> Ran:
                     opened.truncate(data)
             elif isinstance(data, bytes):
                 path.write_bytes(data)
-        return run([*call._replace(folder=Path(place)).words, "--sums", "SUMS"], cwd=place)
+        status, output, error = run([*call._replace(folder=Path(place)).words, "--sums", "SUMS"], cwd=place)
+        left = sorted(path.name for path in Path(place).glob("written*"))
+        return f"{status}, and {left}" if status != 0 and left else status, output, error
 
 
 def test_order(folder: Path) -> None:
     """Each refusal alone, and each two that don't spoil the same thing: the first of the order is answered."""
-    for name, second, command in (("two-packets", "two-packets.certificate.json", "check"),
-                                  ("two-packets", "two-packets.refutation.json", "refute"),
-                                  ("two-packets", "", "settle")):
-        own = folder / command
+    for second, command, *options in (("two-packets.certificate.json", "check"),
+                                      ("two-packets.refutation.json", "refute"), ("", "settle"),
+                                      ("", "settle", "-o", "written")):
+        own = folder / " ".join([command, *options])
         own.mkdir()
-        call = inputs_in(own, name, second, command)
+        call = inputs_in(own, "two-packets", second, command)._replace(options=tuple(options))
         listed = list(refusals(command))
         pairs = [pair for pair in itertools.combinations(listed, 2) if pair[0].spoils != pair[1].spoils]
-        check(f"{command}: nothing is spoiled", run=(staged(call), call.plain()),
+        check(f"{own.name}: nothing is spoiled", run=(staged(call), call.plain()),
               pairs=(len(pairs), lambda count: count > 100))
         scenes = [(one,) for one in listed] + pairs
         with ThreadPoolExecutor() as pool:
             for scene, seen in zip(scenes, pool.map(lambda scene: staged(call, *scene), scenes)):
-                check(f"{command}: {' before '.join(one.line for one in scene)}",
+                check(f"{own.name}: {' before '.join(one.line for one in scene)}",
                       run=(seen, fault(scene[0].line, scene[0].status)))
 
 

@@ -1,6 +1,6 @@
 -- What the words of a command line call for.
 use Rattle.std.specs.Prelude.{◌≡◌, ◌&&◌, ◌||◌, Bool, true, false, List, [], ◌∷◌, Option}
-use Rattle.std.specs.Prelude.{String, if◌then◌else◌, is_some, nat_lt, codes, count_by, map, option_map}
+use Rattle.std.specs.Prelude.{String, if◌then◌else◌, nat_lt, codes, count_by, map, option_map}
 use Rattle.std.specs.Prelude.{slice_get, string_bytes, take, unwrap_or}
 use Rattle.std.specs.Option.{option_map_or}
 use Rattle.std.specs.Str.{bytes_eq}
@@ -41,8 +41,7 @@ abbrev pub misuses : Paths → Text → Bool
 misuses paths second =
     is_twice (string_bytes paths.claim ∷ string_bytes paths.capture ∷ second
     ∷ unwrap_or (option_map string_bytes paths.sums) [] ∷ [])
-    || (option_map_or (λ path. is_no_file (string_bytes path)) paths.output false
-    || (is_some paths.sums && is_some paths.output))
+    || option_map_or (λ path. is_no_file (string_bytes path)) paths.output false
 
 abbrev pub is_misused : Invocation → Bool
 is_misused (calls.Ask request paths) = misuses paths []

@@ -5,7 +5,7 @@
 
 use crate::second_look::path_of;
 use fault_words::Obstacle;
-use program::{Hindrance, Paths};
+use program::{Hindrance, Paths, path_or_none};
 use std::fs::{File, Files, Metadata, OpenOptions};
 use std::io::{Error, ErrorKind, Write};
 use std::os::unix::fs::MetadataExt;
@@ -52,7 +52,10 @@ fn obstacle_of(rt: &HostRuntime, found: &Metadata, paths: &Paths) -> Option<Obst
     if !found.is_file() {
         return Some(Obstacle::Special);
     }
-    if is_input(rt, found, paths.claim.as_str()) || is_input(rt, found, paths.capture.as_str()) {
+    if is_input(rt, found, paths.claim.as_str())
+        || is_input(rt, found, paths.capture.as_str())
+        || is_input(rt, found, path_or_none(&paths.sums))
+    {
         return Some(Obstacle::Input);
     }
     None

@@ -35,15 +35,6 @@ fn misuse_of(paths: &Paths, second: &str) -> Option<&'static str>
         Some("error: standard input, -, can be one input alone: give each other by its file\n")
     } else if names_no_file(&paths.output) {
         Some("error: -o takes a file's path; standard output needs no -o\n")
-    } else if paths.sums.is_some() && paths.output.is_some() {
-        Some(
-            "error: the argument '--output <FILE>' cannot be used with '--sums <SUMS>'
-
-Usage: ntpaudit settle --output <FILE> <CLAIM> <CAPTURE>
-
-For more information, try '--help'.
-",
-        )
     } else {
         None
     }

@@ -1,8 +1,9 @@
 -- The answer to a question whose text for a program goes into a draft.
-use Rattle.std.specs.Prelude.{◌≡◌, ◌⊎◌, ◌==◌, ℕ, List, true, false, if◌then◌else◌, is_some}
-use Rattle.std.specs.Prelude.{Option, Some, None, Result, Ok, Err, IfOk}
+use Rattle.std.specs.Prelude.{◌≡◌, ◌⊎◌, ◌==◌, ℕ, List, Bool, true, false, if◌then◌else◌, is_some}
+use Rattle.std.specs.Prelude.{Option, Some, None, Result, Ok, Err, IfErr, IfOk, MatchResult}
 use Rattle.byte_stream.specs.State.{FeedState, SinkState}
 use Rattle.fault_words.specs.declared.obstacle.Obstacle.TheVariants.{Full}
+use Rattle.report.specs.Run.{no_feed}
 use Rattle.report.specs.Conclusion.{Concludes, conclusion_of}
 use Rattle.report.specs.declared.conclusion.Conclusion.{Conclusion}
 use Rattle.report.specs.declared.fault.Outcome.{Outcome}
@@ -10,14 +11,18 @@ use Rattle.report.specs.declared.fault.RunFault.{RunFault}
 use Rattle.report.specs.declared.fault.RunFault.TheVariants.{Memory, Write}
 use Rattle.audit.specs.Question.{AskedData}
 use Rattle.audit.specs.Run.{RunsFor, RunsTwice}
-use Rattle.summed_inputs.specs.Holding.{Feeds}
+use Rattle.summed_inputs.specs.Holding.{AreSummed, CountFaults, Feeds, IsUnjudgedFor, TakeAtMost}
+use Rattle.summed_inputs.specs.Holding.{feed_of, feeds}
+use Rattle.summed_inputs.specs.InputBytes.{InputBytesData, data_of}
 use Rattle.program.specs.Files.{DraftsState, IsEmpty, IsHindered, IsPlaced}
-use Rattle.program.specs.Inputs.{run_over}
-use Rattle.program.specs.Invocation.{is_human}
+use Rattle.program.specs.Inputs.{SumNames, run_over, sums_of}
+use Rattle.program.specs.Invocation.{Asking, is_human}
 use Rattle.program.specs.Opening.{AreOpened, Places}
+use Rattle.program.specs.Response.{AreRead, IsUnready, names_of}
 use Rattle.program.specs.World.{World}
 use Rattle.program.specs.declared.drafted.Written.{Written}
 use Rattle.program.specs.declared.hindrance.Hindrance.{Hindrance}
+use Rattle.program.specs.declared.response.Summed.{Summed}
 
 -- The text goes into the draft as it would go to the output, which is as it was.
 pub record IsDraftedAlone (asked : AskedData) (feeds : Feeds) (draft draft' out out' : SinkState)
@@ -82,6 +87,10 @@ pub record HasNoDraft (out out' : SinkState) (before after : DraftsState) (writt
       ⊎ (IsHindered before after × TellsHindrance written)
   pub untouched : out' ≡ out
 
+-- feeds of what was read of a claim and a capture
+abbrev pub feeds_on : InputBytesData → Feeds
+feeds_on read = feeds (feed_of read.claim) no_feed (feed_of read.capture)
+
 -- the answer to a question in a draft of the file of this path
 abbrev pub DraftsOn : AskedData → Feeds → List ℕ → SinkState → SinkState → DraftsState
     → DraftsState → Written → Type 0
@@ -89,16 +98,75 @@ DraftsOn asked feeds path out out' before after written =
     HasDraft asked feeds path out out' before after written
     ⊎ HasNoDraft out out' before after written
 
--- All inputs were opened, and the question was answered in a draft, or it couldn't be.
-pub record IsDraftedOver (asked : AskedData) (places : Places) (path : List ℕ)
-    (before after : World) (hindrance : Option Hindrance) (conclusion : Conclusion)
-    : Type 0 where
+-- No draft was made: the run ends with this fault, and nothing is written.
+pub record IsUndrafted (out out' : SinkState) (before after : DraftsState) (written : Written)
+    (fault : RunFault) : Type 0 where
+  pub unmade : after ≡ before
+  pub untouched : out' ≡ out
+  pub fault_is : written ≡ record { answer = Err fault; hindrance = None }
+
+-- What was read of the inputs is held to the text of a file of sums, which has them by these names.
+-- If it has its sums the question is answered on it, in a draft; if not, no draft was made.
+pub record IsDraftedBy (asked : AskedData) (names : SumNames) (feeds : Feeds) (text : List ℕ)
+    (path : List ℕ) (out out' : SinkState) (before after : DraftsState) (read : InputBytesData)
+    (written : Written) : Type 0 where
+  pub ended : Feeds
+  pub held : Result (Unit {0}) RunFault
+  pub summed : IfOk held (λ _. AreSummed asked.second (sums_of names text) feeds read)
+  pub unjudged : IfErr held (IsUnjudgedFor asked.second (sums_of names text) feeds ended read)
+  pub counts_faults : CountFaults held feeds ended
+  pub at_most : TakeAtMost asked.second feeds ended
+  pub drafts : MatchResult held
+      (λ _. DraftsOn asked (feeds_on read) path out out' before after written)
+      (IsUndrafted out out' before after written)
+
+-- The answer to a question in a draft, by the text of a file of sums if there is one: then what was
+-- read of it and of the inputs is handed back.
+abbrev pub DraftsBy : AskedData → SumNames → Feeds → Option (List ℕ) → List ℕ → SinkState
+    → SinkState → DraftsState → DraftsState → Option Summed → Written → Type 0
+DraftsBy asked names feeds None path out out' before after summed written =
+    DraftsOn asked feeds path out out' before after written × (summed ≡ None)
+DraftsBy asked names feeds (Some text) path out out' before after None written = ⊥
+DraftsBy asked names feeds (Some text) path out out' before after (Some summed) written =
+    (summed.text.items ≡ text) × IsDraftedBy asked names feeds text path out out' before after
+    (data_of summed.read) written
+
+-- The file of sums was read, if there is one, and what is asked on its text is answered.
+pub record IsAskedInDraft (asking : Asking) (names : SumNames) (feeds : Feeds)
+    (sums : Option FeedState) (path : List ℕ) (out out' : SinkState)
+    (before after : DraftsState) (summed : Option Summed) (written : Written) : Type 0 where
+  pub text : Option (List ℕ)
+  pub read : AreRead sums text
+  pub drafts : DraftsBy (asking.by text) names feeds text path out out' before after
+      summed written
+
+-- The run is given up before the question is asked.
+pub record IsGivenUpUndrafted (makes_lines : Bool) (sums : Option FeedState)
+    (out out' : SinkState) (before after : DraftsState) (summed : Option Summed)
+    (written : Written) : Type 0 where
+  pub fault : RunFault
+  pub why : IsUnready makes_lines sums fault
+  pub undrafted : IsUndrafted out out' before after written fault
+  pub unsummed : summed ≡ None
+
+-- the answer to a question in a draft, by a file of sums if there is one
+abbrev pub Drafts : Asking → SumNames → Feeds → Option FeedState → List ℕ → SinkState → SinkState
+    → DraftsState → DraftsState → Option Summed → Written → Type 0
+Drafts asking names feeds sums path out out' before after summed written =
+    IsAskedInDraft asking names feeds sums path out out' before after summed written
+    ⊎ IsGivenUpUndrafted asking.makes_lines sums out out' before after summed written
+
+-- All inputs were opened, and the question was answered in a draft, or it couldn't be. If they are
+-- held to sums, what was read of them is handed back.
+pub record IsDraftedOver (asking : Asking) (places : Places) (path : List ℕ)
+    (before after : World) (hindrance : Option Hindrance) (summed : Option Summed)
+    (conclusion : Conclusion) : Type 0 where
   pub feeds : Feeds
   pub sums : Option FeedState
   pub are_opened : AreOpened before.files places after.files.opened feeds sums
   pub written : Written
-  pub drafts : DraftsOn asked feeds path before.out after.out before.files.drafts
-      after.files.drafts written
+  pub drafts : Drafts asking (names_of places) feeds sums path before.out after.out
+      before.files.drafts after.files.drafts summed written
   pub concludes : Concludes written.answer before.err after.err
   pub conclusion_is : conclusion ≡ conclusion_of written.answer
   pub hindrance_is : hindrance ≡ written.hindrance

@@ -13,7 +13,6 @@ use Rattle.report.specs.Conclusion.{Answers, refused_conclusion}
 use Rattle.report.specs.declared.conclusion.Conclusion.{Conclusion}
 use Rattle.report.specs.declared.fault.Input.TheVariants.{Capture}
 use Rattle.report.specs.declared.fault.Outcome.TheVariants.{Yes}
-use Rattle.audit.specs.Question.{AskedData}
 use Rattle.summed_inputs.specs.Holding.{Feeds}
 use Rattle.program.specs.Drafted.{IsDraftedOver}
 use Rattle.program.specs.Files.{IsFeedOf}
@@ -57,28 +56,27 @@ pub record IsAnsweredOver (asking : Asking) (places : Places) (before after : Wo
   pub responds : Responds asking (names_of places) feeds sums before.out after.out
       before.err after.err summed conclusion
 
--- the answer to a question
+-- the answer to a judgement's question, on the output
 abbrev pub AnswersOver : Asking → Places → World → World → Option Summed → Conclusion → Type 0
 AnswersOver asking places before after summed conclusion =
     (IsUnopened (order_of places) before after conclusion × (summed ≡ None))
     ⊎ IsAnsweredOver asking places before after summed conclusion
 
--- the same of a question whose text for a program goes into the file of this path, whose inputs
--- aren't held to sums
-abbrev pub DraftsOver : AskedData → Places → List ℕ → World → World → Option Hindrance
-    → Conclusion → Type 0
-DraftsOver asked places path before after hindrance conclusion =
-    (IsUnopened (order_of places) before after conclusion × (hindrance ≡ None))
-    ⊎ IsDraftedOver asked places path before after hindrance conclusion
+-- All inputs were opened, and the question was answered on the output, or in a file.
+abbrev pub IsAnsweredTo : Option (String Global) → Asking → Places → World → World
+    → Option Hindrance → Option Summed → Conclusion → Type 0
+IsAnsweredTo None asking places before after hindrance summed conclusion =
+    IsAnsweredOver asking places before after summed conclusion × (hindrance ≡ None)
+IsAnsweredTo (Some file) asking places before after hindrance summed conclusion =
+    IsDraftedOver asking places (string_bytes file) before after hindrance summed conclusion
 
--- the one or the other
+-- the answer to a question whose text for a program may go into a file
 abbrev pub AnswersTo : Option (String Global) → Asking → Places → World → World
     → Option Hindrance → Option Summed → Conclusion → Type 0
-AnswersTo None asking places before after hindrance summed conclusion =
-    AnswersOver asking places before after summed conclusion × (hindrance ≡ None)
-AnswersTo (Some file) asking places before after hindrance summed conclusion =
-    DraftsOver (asking.by None) places (string_bytes file) before after hindrance conclusion
-    × (summed ≡ None)
+AnswersTo file asking places before after hindrance summed conclusion =
+    (IsUnopened (order_of places) before after conclusion
+    × (hindrance ≡ None) × (summed ≡ None))
+    ⊎ IsAnsweredTo file asking places before after hindrance summed conclusion
 
 -- No file was opened or put into its place, and nothing written on the output.
 pub record IsUntouched (before after : World) : Type 0 where

@@ -40,14 +40,14 @@ fn word(input: Input) -> &'static str
 }
 
 /// The sums of a text, none if there is no text or it is refused.
-fn listed(alloc: Global, sums: Option<&[u8]>) -> Result<Vec<Sum>, AllocError>
+fn listed(alloc: Global, sums: &Option<Vec<u8>>) -> Result<Vec<Sum>, AllocError>
     ensures { IfOk result (λ listed. (name : List ℕ) → digest_named name (map sum_data listed.items)
-        ≡ spec.sum_in (option_map (λ text. text.now) sums.entry) name) }
+        ≡ spec.sum_in (option_map (λ text. text.items) sums.now) name) }
 {
     let Some(text) = sums else {
         return Ok(Vec::new(alloc));
     };
-    match read_sums(alloc, text) {
+    match read_sums(alloc, text.as_slice()) {
         Ok(listed) => Ok(listed),
         Err(SumFault::Form(_)) => Ok(Vec::new(alloc)),
         Err(SumFault::Memory) => Err(AllocError),
@@ -88,10 +88,10 @@ fn line(alloc: Global, listed: &[Sum], called: &Called<'_>) -> Result<String, Al
 pub(crate) fn about(
     alloc: Global,
     inputs: &[Called<'_>],
-    sums: Option<&[u8]>,
+    sums: &Option<Vec<u8>>,
 ) -> Result<Vec<u8>, AllocError>
     ensures exact { IfOk result (λ lines. lines.items
-        ≡ about_of (map data_of inputs.now) (option_map (λ text. text.now) sums.entry)) }
+        ≡ about_of (map data_of inputs.now) (option_map (λ text. text.items) sums.now)) }
 {
     let listed = listed(alloc, sums)?;
     let mut lines = String::new(alloc);

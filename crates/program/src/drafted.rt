@@ -1,40 +1,35 @@
 //! The answer to a question whose text for a program goes into a draft.
 
-ghost use Rattle.std.specs.Prelude.{◌≡◌, Err, None};
+ghost use Rattle.std.specs.Prelude.{◌≡◌, [], Err, IfSome, None, option_map};
 ghost use Rattle.byte_stream.specs.State.{IsReadable, IsWritable};
 ghost use Rattle.report.specs.Run.{no_feed};
 ghost use Rattle.audit.specs.Question.{asked_of};
 ghost use Rattle.audit.specs.Run.{MayRun};
 ghost use Rattle.audit.specs.Second.{no_second};
 ghost use Rattle.program.specs.Drafted as spec;
-ghost use Rattle.program.specs.Drafted.{DraftsOn, IsDrafted};
+ghost use Rattle.program.specs.Drafted.{Drafts, DraftsBy, DraftsOn, IsDrafted};
 ghost use Rattle.program.specs.Files.{MayDraft};
-ghost use Rattle.program.specs.Inputs.{feeds_of, run_over};
+ghost use Rattle.program.specs.Inputs.{feeds_of, names_in, run_over};
 ghost use Rattle.program.specs.Invocation.{requested};
 
 use crate::asked::is_human;
 use crate::files::Files;
 use crate::hindrance::Hindrance;
-use crate::inputs::Inputs;
+use crate::inputs::{Inputs, Opened};
 use crate::invocation::Paths;
-use crate::told::{called, told};
+use crate::response::{Prepared, Summed, prepare, read_sums};
+use crate::told::called;
 use audit::{Question, Request, Settle, Style, run, run_twice};
-use byte_stream::Sink;
+use byte_stream::{Feed, Sink};
 use fault_words::Obstacle;
 use report::{Outcome, RunFault};
 use std::alloc::{AllocError, Global};
 use std::hash::BuildHasher;
-use summed_inputs::NamedFeed;
+use summed_inputs::{InputBytes, LentFeed, NamedFeed, hold_inputs};
 
 /// Answers a question for a program in a draft, and for a person on `out` too, if the style is one
 /// for a person.
-fn draft<
-    Q: Question<Second = ()>,
-    N: NamedFeed + Drop,
-    D: Sink,
-    S: Sink,
-    H: BuildHasher + Copy + Drop,
->(
+fn draft<Q: Question<Second = ()>, N: Feed + Drop, D: Sink, S: Sink, H: BuildHasher + Copy + Drop>(
     alloc: Global,
     question: Q,
     style: Style,
@@ -88,12 +83,12 @@ fn hindered(hindrance: Hindrance) -> Written
     }
 }
 
-/// An answer for which memory was refused before any draft was made.
-fn unmade() -> Written
-    ensures { result ≡ record { answer = Err RunFault.Memory; hindrance = None } }
+/// The answer if no draft is made, for this fault.
+fn unmade(fault: RunFault) -> Written
+    ensures { result ≡ record { answer = Err fault; hindrance = None } }
 {
     Written {
-        answer: Err(RunFault::Memory),
+        answer: Err(fault),
         hindrance: None,
     }
 }
@@ -113,7 +108,7 @@ fn hindrance_of(fault: &RunFault, faults: u64) -> Option<Hindrance>
 fn write_file<
     Fs: Files,
     Q: Question<Second = ()>,
-    N: NamedFeed + Drop,
+    N: Feed + Drop,
     S: Sink,
     H: BuildHasher + Copy + Drop,
 >(
@@ -137,7 +132,7 @@ fn write_file<
 {
     let part = match format!(in alloc; "{path}.part") {
         Ok(part) => part,
-        Err(AllocError) => return unmade(),
+        Err(AllocError) => return unmade(RunFault::Memory),
     };
     let mut sink = match files.create(path, part.as_str(), paths) {
         Ok(sink) => sink,
@@ -161,37 +156,101 @@ fn write_file<
     }
 }
 
-/// Answers a request in a file of this path, as `write_file` does. A person is told about the
-/// inputs, which aren't held to sums.
+/// Answers a question as `write_file` does. If there is the text of a file of sums, the inputs are
+/// held to it first, and what was read is returned; no draft is made unless they have their sums.
+fn write_by<
+    Fs: Files,
+    Q: Question<Second = ()>,
+    N: NamedFeed + Drop,
+    S: Sink,
+    H: BuildHasher + Copy + Drop,
+>(
+    alloc: Global,
+    files: &mut Fs,
+    question: Q,
+    paths: &Paths,
+    path: &str,
+    text: Option<Vec<u8>>,
+    inputs: Inputs<N, ()>,
+    out: &mut S,
+    hasher: H,
+) -> (Option<Summed>, Written)
+    requires files { MayDraft (Fs.state files.old).drafts }
+    requires claim { IsReadable (N.state inputs.claim) }
+    requires capture { IsReadable (N.state inputs.capture) }
+    requires out { IsWritable (S.state out.old) }
+    ensures drafts { DraftsBy (asked_of (Q.asks question) no_second paths.now.style)
+        (names_in N.named (λ none. []) inputs) (feeds_of N.state (λ none. no_feed) inputs)
+        (option_map (λ t. t.items) text) path.now (S.state out.old) (S.state out.new)
+        (Fs.state files.old).drafts (Fs.state files.new).drafts result.0 result.1 }
+    ensures kept { (Fs.state files.new).opened ≡ (Fs.state files.old).opened }
+{
+    let Some(text) = text else {
+        let written = write_file(alloc, files, question, paths, path, inputs, out, hasher);
+        return (None, written);
+    };
+    let Inputs {
+        mut claim,
+        mut second,
+        mut capture,
+    } = inputs;
+    let (claim, second, capture) = (&mut claim, &mut second, &mut capture);
+    let mut read = InputBytes::new(alloc);
+    let written = match hold_inputs(alloc, text.as_slice(), claim, second, capture, &mut read) {
+        Ok(()) => {
+            let inputs = Inputs {
+                claim: LentFeed::new(read.claim.as_slice()),
+                second: (),
+                capture: LentFeed::new(read.capture.as_slice()),
+            };
+            write_file(alloc, files, question, paths, path, inputs, out, hasher)
+        }
+        Err(fault) => unmade(fault),
+    };
+    (Some(Summed { text, read }), written)
+}
+
+/// Answers a request in a file of this path, by a file of sums if there is one, as `write_by` does.
 pub(crate) fn write_request<Fs: Files, N: NamedFeed + Drop, S: Sink, H: BuildHasher + Copy + Drop>(
     alloc: Global,
     files: &mut Fs,
     request: Request,
     paths: &Paths,
     path: &str,
-    inputs: Inputs<N, ()>,
+    opened: Opened<N, ()>,
     out: &mut S,
     hasher: H,
-) -> Written
+) -> (Option<Summed>, Written)
     requires files { MayDraft (Fs.state files.old).drafts }
-    requires claim { IsReadable (N.state inputs.claim) }
-    requires capture { IsReadable (N.state inputs.capture) }
+    requires claim { IsReadable (N.state opened.inputs.claim) }
+    requires capture { IsReadable (N.state opened.inputs.capture) }
+    requires sums { IfSome opened.sums (λ file. IsReadable (N.state file)) }
     requires out { IsWritable (S.state out.old) }
-    ensures drafts { DraftsOn ((requested request paths.now).by None)
-        (feeds_of N.state (λ none. no_feed) inputs) path.now (S.state out.old) (S.state out.new)
-        (Fs.state files.old).drafts (Fs.state files.new).drafts result }
+    ensures drafts { Drafts (requested request paths.now)
+        (names_in N.named (λ none. []) opened.inputs)
+        (feeds_of N.state (λ none. no_feed) opened.inputs) (option_map N.state opened.sums)
+        path.now (S.state out.old) (S.state out.new)
+        (Fs.state files.old).drafts (Fs.state files.new).drafts result.0 result.1 }
     ensures kept { (Fs.state files.new).opened ≡ (Fs.state files.old).opened }
 {
+    let Opened { inputs, sums } = opened;
     match request {
-        Request::Settle => match told(alloc, paths.style, &called(paths), &None) {
-            Ok(about) => {
+        Request::Settle => match prepare(alloc, paths.style, &called(paths), sums) {
+            Ok(Prepared { text, about }) => {
                 let question = Settle {
                     about: about.as_slice(),
                 };
-                write_file(alloc, files, question, paths, path, inputs, out, hasher)
+                write_by(
+                    alloc, files, question, paths, path, text, inputs, out, hasher,
+                )
             }
-            Err(AllocError) => unmade(),
+            Err(fault) => (None, unmade(fault)),
         },
-        _ => write_file(alloc, files, request, paths, path, inputs, out, hasher),
+        _ => match read_sums(alloc, sums) {
+            Ok(text) => write_by(
+                alloc, files, request, paths, path, text, inputs, out, hasher,
+            ),
+            Err(fault) => (None, unmade(fault)),
+        },
     }
 }

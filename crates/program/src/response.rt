@@ -18,9 +18,9 @@ use crate::told::{called, called_too, told};
 use audit::{Check, Outputs, Question, Refute, Request, Settle, Style, answer};
 use byte_stream::Sink;
 use report::{Conclusion, Input, RunFault, conclude, read_input};
-use std::alloc::{AllocError, Global};
+use std::alloc::Global;
 use std::hash::BuildHasher;
-use summed_inputs::{InputBytes, MAX_SUMS, NamedFeed, SummedSource, answer_by_sums};
+use summed_inputs::{InputBytes, MAX_SUMS, NamedFeed, SummedInput, SummedSource, answer_by_sums};
 
 /// What was read of the files of a run that is held to sums.
 #[derive(Drop)]
@@ -49,6 +49,8 @@ fn answer_by<
     to: &mut Outputs<S, E>,
     hasher: H,
 ) -> (Option<Summed>, Conclusion)
+where
+    Q::Second: SummedInput,
     requires run { MayRun (run_over (feeds_of N.state T.state inputs) (S.state to.old.out)) }
     requires err { IsWritable (E.state to.old.err) }
     ensures { AnswersBy (asked_of (Q.asks question) Q.Second.kind style)
@@ -80,7 +82,7 @@ fn answer_by<
 }
 
 /// Reads the text of a file of sums, if there is one.
-fn read_sums<N: NamedFeed + Drop>(
+pub(crate) fn read_sums<N: NamedFeed + Drop>(
     alloc: Global,
     sums: Option<N>,
 ) -> Result<Option<Vec<u8>>, RunFault>
@@ -100,15 +102,15 @@ fn read_sums<N: NamedFeed + Drop>(
 
 /// The text of a file of sums, if there is one, and what is told about the inputs that it has.
 #[derive(Drop)]
-struct Prepared {
+pub(crate) struct Prepared {
     /// The text.
-    text: Option<Vec<u8>>,
+    pub(crate) text: Option<Vec<u8>>,
     /// What is told.
-    about: Vec<u8>,
+    pub(crate) about: Vec<u8>,
 }
 
 /// Makes what is told in this style about these inputs, once the file of sums is read.
-fn prepare<N: NamedFeed + Drop>(
+pub(crate) fn prepare<N: NamedFeed + Drop>(
     alloc: Global,
     style: Style,
     inputs: &[Called<'_>],
@@ -121,13 +123,9 @@ fn prepare<N: NamedFeed + Drop>(
         ≡ told_of style (map called_data inputs.now) (option_map (λ t. t.items) p.text)) }
     ensures fault { IfErr result (IsUnready (is_human style) (option_map N.state sums)) }
 {
-    match read_sums(alloc, sums) {
-        Ok(text) => match told(alloc, style, inputs, &text) {
-            Ok(about) => Ok(Prepared { text, about }),
-            Err(AllocError) => Err(RunFault::Memory),
-        },
-        Err(fault) => Err(fault),
-    }
+    let text = read_sums(alloc, sums)?;
+    let about = told(alloc, style, inputs, &text)?;
+    Ok(Prepared { text, about })
 }
 
 /// Answers a request, by a file of sums if there is one. Returns what was read then, and the

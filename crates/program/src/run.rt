@@ -6,7 +6,7 @@ ghost use Rattle.program.specs.Asked.{asked_by};
 ghost use Rattle.program.specs.Files.{MayOpen};
 ghost use Rattle.program.specs.Invocation.{judged_of, judged_places, listed_name, places_of};
 ghost use Rattle.program.specs.Invocation.{requested, second_of};
-ghost use Rattle.program.specs.Run.{AnswersOver, AnswersTo, DraftsOver, Lists, Says};
+ghost use Rattle.program.specs.Run.{AnswersOver, AnswersTo, Lists, Says};
 ghost use Rattle.program.specs.World.{world};
 
 use crate::asked::Asked;
@@ -43,62 +43,6 @@ fn list<Fs: Files, S: Sink, E: Sink>(
     }
 }
 
-/// Answers a question, once its files are opened. Returns what was read, if they are held to sums,
-/// and the conclusion.
-fn ask_of_files<Fs: Files, S: Sink, E: Sink, H: BuildHasher + Drop>(
-    alloc: Global,
-    files: &mut Fs,
-    request: Request,
-    paths: &Paths,
-    to: &mut Outputs<S, E>,
-    hasher: H,
-) -> (Option<Summed>, Conclusion)
-    requires files { MayOpen (Fs.state files.old) }
-    requires out { IsWritable (S.state to.old.out) }
-    requires err { IsWritable (E.state to.old.err) }
-    ensures answers { AnswersOver (requested request paths.now) (places_of paths.now)
-        (world (Fs.state files.old) (S.state to.old.out) (E.state to.old.err))
-        (world (Fs.state files.new) (S.state to.new.out) (E.state to.new.err))
-        result.0 result.1 }
-{
-    match open_evidence(files, paths) {
-        Ok(opened) => ask(alloc, request, paths, opened, to, hasher),
-        Err(fault) => (None, conclude(&Err(fault), &mut to.err)),
-    }
-}
-
-/// Answers a question in a file of this path, and on `out` too if it's a person who asks, once its
-/// files are opened. Returns the conclusion, and what hinders the file from being written, if
-/// that's why.
-fn ask_for_file<Fs: Files, S: Sink, E: Sink, H: BuildHasher + Copy + Drop>(
-    alloc: Global,
-    files: &mut Fs,
-    request: Request,
-    paths: &Paths,
-    path: &str,
-    to: &mut Outputs<S, E>,
-    hasher: H,
-) -> (Conclusion, Option<Hindrance>)
-    requires files { MayOpen (Fs.state files.old) }
-    requires out { IsWritable (S.state to.old.out) }
-    requires err { IsWritable (E.state to.old.err) }
-    ensures drafts { DraftsOver ((requested request paths.now).by None) (places_of paths.now)
-        path.now
-        (world (Fs.state files.old) (S.state to.old.out) (E.state to.old.err))
-        (world (Fs.state files.new) (S.state to.new.out) (E.state to.new.err))
-        result.1 result.0 }
-{
-    match open_evidence(files, paths) {
-        Ok(opened) => {
-            let inputs = opened.inputs;
-            let out = &mut to.out;
-            let written = write_request(alloc, files, request, paths, path, inputs, out, hasher);
-            (conclude(&written.answer, &mut to.err), written.hindrance)
-        }
-        Err(fault) => (conclude(&Err(fault), &mut to.err), None),
-    }
-}
-
 /// Judges a certificate or a refutation, once its files are opened. Returns what was read, if they
 /// are held to sums, and the conclusion.
 fn judge_files<Fs: Files, S: Sink, E: Sink, H: BuildHasher + Drop>(
@@ -124,8 +68,9 @@ fn judge_files<Fs: Files, S: Sink, E: Sink, H: BuildHasher + Drop>(
     }
 }
 
-/// Answers a question on standard output, or in a file if one is named, and returns the
-/// conclusion.
+/// Answers a question, once its files are opened: on standard output, or in a file if one is named,
+/// and on `out` too if it's a person who asks. Returns the conclusion, what hinders the file from
+/// being written, if that's why, and what was read, if the inputs are held to sums.
 fn ask_paths<Fs: Files, S: Sink, E: Sink, H: BuildHasher + Copy + Drop>(
     alloc: Global,
     files: &mut Fs,
@@ -143,16 +88,21 @@ fn ask_paths<Fs: Files, S: Sink, E: Sink, H: BuildHasher + Copy + Drop>(
         (world (Fs.state files.new) (S.state to.new.out) (E.state to.new.err))
         result.1 result.2 result.0 }
 {
+    let opened = match open_evidence(files, paths) {
+        Ok(opened) => opened,
+        Err(fault) => return (conclude(&Err(fault), &mut to.err), None, None),
+    };
     match &paths.output {
         Some(path) => {
-            let path = path.as_str();
-            let (conclusion, hindrance) = ask_for_file(
-                alloc, files, request, paths, path, to, hasher,
+            let (path, out) = (path.as_str(), &mut to.out);
+            let (summed, written) = write_request(
+                alloc, files, request, paths, path, opened, out, hasher,
             );
-            (conclusion, hindrance, None)
+            let conclusion = conclude(&written.answer, &mut to.err);
+            (conclusion, written.hindrance, summed)
         }
         None => {
-            let (summed, conclusion) = ask_of_files(alloc, files, request, paths, to, hasher);
+            let (summed, conclusion) = ask(alloc, request, paths, opened, to, hasher);
             (conclusion, None, summed)
         }
     }

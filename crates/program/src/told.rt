@@ -53,8 +53,5 @@ pub(crate) fn told(
     if !is_human(style) {
         return Ok(Vec::new(alloc));
     }
-    match sums {
-        Some(text) => about(alloc, inputs, Some(text.as_slice())),
-        None => about(alloc, inputs, None),
-    }
+    about(alloc, inputs, sums)
 }

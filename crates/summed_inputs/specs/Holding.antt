@@ -79,13 +79,6 @@ IsSecondUnheld certificate_second digest known read fault =
 IsSecondUnheld refutation_second digest known read fault =
     IsUnheld inputs.Refutation digest known read fault
 
--- All three were read, and have their digests.
-pub record AreHeld (kind : SecondKind) (digests : Digests) (before : Feeds)
-    (read : InputBytesData) : Type 0 where
-  pub claim : IsHeld digests.claim before.claim.remaining read.claim
-  pub second : IsSecondHeld kind digests.second before.second.remaining read.second
-  pub capture : IsHeld digests.capture before.capture.remaining read.capture
-
 -- Why the inputs aren't held: the fault is that of the first, in the order claim, second input,
 -- capture, that isn't. Those before it were read and held, and those after it weren't read.
 abbrev pub AreUnheld : SecondKind → Digests → Feeds → Feeds → InputBytesData → RunFault → Type 0

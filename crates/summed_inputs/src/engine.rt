@@ -10,9 +10,10 @@ ghost use Rattle.summed_inputs.specs.Sums.{sums_data};
 
 use crate::input_bytes::InputBytes;
 use crate::inputs::hold_inputs;
+use crate::lent_feed::{LentFeed, LentSecond};
 use crate::named_feed::NamedFeed;
-use crate::second::SummedSource;
-use audit::{Outputs, Question, Style};
+use crate::second::{SummedInput, SummedSource};
+use audit::{Outputs, Question, Style, answer};
 use byte_stream::Sink;
 use report::{Conclusion, conclude};
 use std::alloc::Global;
@@ -48,6 +49,8 @@ pub fn answer_by_sums<
     to: &mut Outputs<S, E>,
     hasher: H,
 ) -> (InputBytes, Conclusion)
+where
+    Q::Second: SummedInput,
     requires run { MayRun (run_state
         (C.state claim.old) (T.state second.old) (F.state capture.old) (S.state to.old.out)) }
     requires err { IsWritable (E.state to.old.err) }
@@ -62,7 +65,13 @@ pub fn answer_by_sums<
     let mut read = InputBytes::new(alloc);
     match hold_inputs(alloc, sums, claim, second, capture, &mut read) {
         Ok(()) => {
-            let conclusion = T::answer_on(alloc, question, style, &read, to, hasher);
+            let mut claim = LentFeed::new(read.claim.as_slice());
+            let mut second = LentSecond::new(read.second.as_slice());
+            let capture = LentFeed::new(read.capture.as_slice());
+            let (claim, second) = (&mut claim, &mut second);
+            let (_, conclusion) = answer(
+                alloc, question, style, claim, second, capture, to, hasher,
+            );
             (read, conclusion)
         }
         Err(fault) => {

@@ -17,7 +17,7 @@ pub struct InputBytes {
 
 impl InputBytes {
     /// Nothing is read yet.
-    pub(crate) fn new(alloc: Global) -> InputBytes {
+    pub fn new(alloc: Global) -> InputBytes {
         InputBytes {
             claim: Vec::new(alloc),
             second: Vec::new(alloc),

@@ -1,13 +1,17 @@
-//! A feed of bytes that are lent, so that more than one run can be over them.
+//! Feeds of bytes that are lent, so that more than one run can be over them.
 
 ghost use Rattle.std.specs.Prelude.{◌≡◌, ◌≤◌, Some, drop, length};
 ghost use Rattle.summed_inputs.specs.Holding.{feed_of};
 
+use crate::second::SummedInput;
+use audit::SecondSource;
 use byte_stream::{Feed, FeedFault};
+use report::RunFault;
+use std::alloc::Global;
 
 /// Bytes that are lent. No pull fails.
 #[derive(Debug, Drop)]
-pub(crate) struct LentFeed<'a> {
+pub struct LentFeed<'a> {
     bytes: &'a [u8],
     /// How many bytes it gave.
     taken: usize,
@@ -16,7 +20,7 @@ pub(crate) struct LentFeed<'a> {
 
 impl<'a> LentFeed<'a> {
     /// A feed of these bytes.
-    pub(crate) fn new(bytes: &'a [u8]) -> LentFeed<'a>
+    pub fn new(bytes: &'a [u8]) -> LentFeed<'a>
         ensures { ⟦<LentFeed<'a> as Feed>⟧.state result ≡ feed_of bytes.now }
     {
         LentFeed { bytes, taken: 0 }
@@ -38,5 +42,30 @@ impl<'a> Feed for LentFeed<'a> {
 
     fn faults(&self) -> u64 {
         0
+    }
+}
+
+/// The bytes of a second input: none, if the question has no such input.
+#[derive(Debug, Drop)]
+pub(crate) struct LentSecond<'a> {
+    feed: LentFeed<'a>,
+}
+
+impl<'a> LentSecond<'a> {
+    /// These bytes.
+    pub(crate) fn new(bytes: &'a [u8]) -> LentSecond<'a>
+        ensures { ⟦<LentFeed<'a> as Feed>⟧.state result.feed ≡ feed_of bytes.now }
+    {
+        LentSecond {
+            feed: LentFeed::new(bytes),
+        }
+    }
+}
+
+impl<'a, V: SummedInput> SecondSource<V> for LentSecond<'a> {
+    ghost state = { λ second. ⟦<LentFeed<'a> as Feed>⟧.state second.feed };
+
+    fn read_second(&mut self, alloc: Global) -> Result<V, RunFault> {
+        V::read_from(alloc, &mut self.feed)
     }
 }

@@ -7,14 +7,17 @@
 //! sums, and that the answer is the definitions' for it (`specs/Answer`); [`laws`] say what that
 //! shows.
 //!
-//! Once the inputs are held to their sums, their bytes are lent to the engine, as `answer_with` of
-//! `summed_inputs/src/memory_answer.rt` does, with its proof:
+//! Once the inputs are held to their sums by [`hold_inputs`], their bytes are lent to the engine, as
+//! in `summed_inputs/src/engine.rt`:
 //!
 //! ```text
 //! let mut claim = LentFeed::new(read.claim.as_slice());
+//! let mut second = LentSecond::new(read.second.as_slice());
 //! let capture = LentFeed::new(read.capture.as_slice());
-//! let claim = &mut claim;
-//! answer(alloc, question, style, claim, second, capture, to, hasher).1
+//! let (claim, second) = (&mut claim, &mut second);
+//! let (_, conclusion) = answer(
+//!     alloc, question, style, claim, second, capture, to, hasher,
+//! );
 //! ```
 
 #![tactic(auto)]
@@ -25,13 +28,14 @@ mod input_bytes;
 mod inputs;
 pub mod laws;
 mod lent_feed;
-mod memory_answer;
 mod named_feed;
 mod second;
 mod sums;
 
 pub use engine::answer_by_sums;
 pub use input_bytes::InputBytes;
+pub use inputs::hold_inputs;
+pub use lent_feed::LentFeed;
 pub use named_feed::NamedFeed;
-pub use second::SummedSource;
+pub use second::{SummedInput, SummedSource};
 pub use sums::MAX_SUMS;

@@ -1,30 +1,58 @@
 //! The second input of a question, held to its sum.
 
-ghost use Rattle.std.specs.Prelude.{◌≡◌, ℕ, List, [], Some, None, IfOk, IfErr, map};
+ghost use Rattle.std.specs.Prelude.{◌≡◌, ℕ, List, [], Some, None, IfOk, IfErr, IfSome, map};
 ghost use Rattle.byte_stream.specs.Fault.{CountsFault};
 ghost use Rattle.byte_stream.specs.Intake.{TakesAtMost};
-ghost use Rattle.byte_stream.specs.State.{IsReadable, IsWritable};
+ghost use Rattle.byte_stream.specs.State.{IsReadable};
+ghost use Rattle.report.specs.Reading.{Reads};
 ghost use Rattle.report.specs.Reports.{is_device, is_second};
 ghost use Rattle.sum_file.specs.Sum.{data_of as sum_data, digest_named};
-ghost use Rattle.audit.specs.Question.{asked_of};
-ghost use Rattle.audit.specs.Second.{no_second};
-ghost use Rattle.summed_inputs.specs.Answer.{IsAnsweredFor};
+ghost use Rattle.audit.specs.Second.{IsOfSecond, most_second as most_taken, second_read};
 ghost use Rattle.summed_inputs.specs.Holding.{IsSecondHeld, IsSecondUnheld, most_second};
 ghost use Rattle.summed_inputs.specs.Sums.{IsSecondMissing, needed};
 
 use crate::holding::read_held;
-use crate::input_bytes::InputBytes;
-use crate::lent_feed::LentFeed;
-use crate::memory_answer::answer_with;
 use crate::named_feed::NamedFeed;
 use crate::sums::digest_for;
-use audit::{Outputs, Question, SecondInput, SecondSource, Style};
-use byte_stream::Sink;
+use audit::{SecondInput, SecondSource};
+use byte_stream::Feed;
 use certificate::{Certificate, Refutation};
-use report::{Conclusion, Input, RunFault};
+use report::{Input, RunFault};
 use std::alloc::Global;
-use std::hash::BuildHasher;
 use sum_file::Sum;
+
+/// A second input that may be held to its sum.
+pub trait SummedInput: SecondInput {
+    /// Reads it from a feed, as a source of such an input reads it.
+    fn read_from<F: Feed>(alloc: Global, feed: &mut F) -> Result<Self, RunFault>
+        requires { IsReadable (F.state feed.old) }
+        ensures known { IfSome (second_read Self.kind (F.state feed.old).remaining)
+            (λ expected. Reads Self.said expected result) }
+        ensures lawful { IfOk result Self.IsLawful }
+        ensures fault { IfErr result IsOfSecond }
+        ensures counts_fault { CountsFault (is_device is_second result)
+            (F.state feed.old).faults (F.state feed.new).faults }
+        ensures at_most { TakesAtMost (most_taken Self.kind result)
+            (F.state feed.old) (F.state feed.new) };
+}
+
+impl SummedInput for () {
+    fn read_from<F: Feed>(_alloc: Global, _feed: &mut F) -> Result<(), RunFault> {
+        Ok(())
+    }
+}
+
+impl SummedInput for Certificate {
+    fn read_from<F: Feed>(alloc: Global, feed: &mut F) -> Result<Certificate, RunFault> {
+        feed.read_second(alloc)
+    }
+}
+
+impl SummedInput for Refutation {
+    fn read_from<F: Feed>(alloc: Global, feed: &mut F) -> Result<Refutation, RunFault> {
+        feed.read_second(alloc)
+    }
+}
 
 /// Where a second input comes from that is held to its sum: a feed with a name, or `()` if the
 /// question has none, which needs no sum.
@@ -62,24 +90,6 @@ pub trait SummedSource<V: SecondInput>: SecondSource<V> {
             (Self.state self.old).faults (Self.state self.new).faults }
         ensures at_most { TakesAtMost (most_second V.kind)
             (Self.state self.old) (Self.state self.new) };
-
-    /// Answers a question on what was read, reports the answer, and returns the conclusion. A
-    /// question without a second input has no byte of it.
-    fn answer_on<Q: Question<Second = V>, S: Sink, E: Sink, H: BuildHasher + Drop>(
-        alloc: Global,
-        question: Q,
-        style: Style,
-        read: &InputBytes,
-        to: &mut Outputs<S, E>,
-        hasher: H,
-    ) -> Conclusion
-        requires out { IsWritable (S.state to.old.out) }
-        requires err { IsWritable (E.state to.old.err) }
-        ensures { (V.kind ≡ no_second → read.now.second.items ≡ []) →
-            IsAnsweredFor (asked_of (Q.asks question) V.kind style)
-            read.now.claim.items read.now.second.items read.now.capture.items
-            (S.state to.old.out) (S.state to.new.out)
-            (E.state to.old.err) (E.state to.new.err) result };
 }
 
 impl SummedSource<()> for () {
@@ -97,17 +107,6 @@ impl SummedSource<()> for () {
         *read = Vec::new(alloc);
         Ok(())
     }
-
-    fn answer_on<Q: Question<Second = ()>, S: Sink, E: Sink, H: BuildHasher + Drop>(
-        alloc: Global,
-        question: Q,
-        style: Style,
-        read: &InputBytes,
-        to: &mut Outputs<S, E>,
-        hasher: H,
-    ) -> Conclusion {
-        answer_with(alloc, question, style, read, &mut (), to, hasher)
-    }
 }
 
 impl<T: NamedFeed> SummedSource<Certificate> for T {
@@ -124,18 +123,6 @@ impl<T: NamedFeed> SummedSource<Certificate> for T {
     fn hold(&mut self, alloc: Global, sum: &[u8; 32], read: &mut Vec<u8>) -> Result<(), RunFault> {
         read_held(alloc, self, Input::Certificate, sum, read)
     }
-
-    fn answer_on<Q: Question<Second = Certificate>, S: Sink, E: Sink, H: BuildHasher + Drop>(
-        alloc: Global,
-        question: Q,
-        style: Style,
-        read: &InputBytes,
-        to: &mut Outputs<S, E>,
-        hasher: H,
-    ) -> Conclusion {
-        let mut second = LentFeed::new(read.second.as_slice());
-        answer_with(alloc, question, style, read, &mut second, to, hasher)
-    }
 }
 
 impl<T: NamedFeed> SummedSource<Refutation> for T {
@@ -151,17 +138,5 @@ impl<T: NamedFeed> SummedSource<Refutation> for T {
 
     fn hold(&mut self, alloc: Global, sum: &[u8; 32], read: &mut Vec<u8>) -> Result<(), RunFault> {
         read_held(alloc, self, Input::Refutation, sum, read)
-    }
-
-    fn answer_on<Q: Question<Second = Refutation>, S: Sink, E: Sink, H: BuildHasher + Drop>(
-        alloc: Global,
-        question: Q,
-        style: Style,
-        read: &InputBytes,
-        to: &mut Outputs<S, E>,
-        hasher: H,
-    ) -> Conclusion {
-        let mut second = LentFeed::new(read.second.as_slice());
-        answer_with(alloc, question, style, read, &mut second, to, hasher)
     }
 }

@@ -1,4 +1,4 @@
-use Rattle.std.proofs.Common.{◌≡◌, ℕ, ◌+◌, ◌<◌, List, ◌++◌, length, get_or, map, option_map, take, refl, ap, ◌∙◌, Bor, Global, Vec, arith}
+use Rattle.std.proofs.Common.{◌≡◌, ℕ, ◌+◌, ◌<◌, List, ◌++◌, length, get_or, map, option_map, take, refl, ap, ◌∙◌, Global, Vec, arith}
 use Rattle.std.proofs.lemmas.Grind.{common_steps, flat_map-append}
 use Rattle.std.proofs.lemmas.List.{append-nil, map-append, take_all, take_more}
 use Rattle.std.specs.List.{flat_map}
@@ -17,7 +17,7 @@ loop-called-preserved c = grind (arith, common_steps, one_more)
 pub returns : goal.returns
 unfolding about_of
 returns c =
-    let line = line_of (option_map (λ (text : Bor (List ℕ)). text.now) c.args.sums) in
+    let line = line_of (option_map (λ (text : Vec ℕ Global). text.items) c.args.sums.now) in
     let all = take_all c.loop-called.called-index c.args.inputs.now c.loop-called-test.false in
     let lines = c.loop-called.invariant ∙ ap (λ (xs : List Called). flat_map line (map data_of xs)) all in
     record {

@@ -6,4 +6,4 @@ use Rattle.program.proofs.about.about.Given as goal
 
 abbrev pub invariant-loop-called : goal.invariant-loop-called
 invariant-loop-called l = string_bytes l.lines ≡ flat_map
-    (line_of (option_map (λ text. text.now) l.fn.sums)) (map data_of (take l.called-index l.inputs))
+    (line_of (option_map (λ text. text.items) l.fn.sums)) (map data_of (take l.called-index l.inputs))

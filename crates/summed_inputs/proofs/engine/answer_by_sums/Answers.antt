@@ -1,19 +1,13 @@
-use Rattle.std.proofs.Common.{◌≡◌, ℕ, false, List, [], Option, inl, rules, subst}
+use Rattle.std.proofs.Common.{◌≡◌, false, inl, refl}
 use Rattle.byte_stream.specs.State.{SinkState}
 use Rattle.report.specs.Run.{RunState}
 use Rattle.report.specs.declared.conclusion.Conclusion.{Conclusion}
 use Rattle.audit.specs.Question.{AskedData}
 use Rattle.summed_inputs.specs.Answer.{IsJudged, JudgesBySums, feeds_of}
-use Rattle.audit.specs.Second.{SecondKind, no_second}
-use Rattle.summed_inputs.specs.Holding.{IsSecondSummed, TakeAtMost}
+use Rattle.summed_inputs.specs.Holding.{TakeAtMost}
 use Rattle.summed_inputs.specs.InputBytes.{InputBytesData}
 use Rattle.summed_inputs.specs.Sums.{SumsData}
 use Rattle.summed_inputs.proofs.engine.answer_by_sums.Goals as goal
-
--- a question without a second input has no byte of it
-none_without : (kind : SecondKind) (text name : List ℕ) (known : Option (List ℕ)) (read : List ℕ) →
-    IsSecondSummed kind text name known read → kind ≡ no_second → read ≡ []
-none_without kind text name known read summed is = subst (λ k. IsSecondSummed k text name known read) is summed
 
 -- what was judged
 by_judged : {asked : AskedData} {sums : SumsData} {before after : RunState} {err err' : SinkState}
@@ -30,13 +24,33 @@ by_judged judged closed at_most = record {
 
 pub returns-in-Ok : goal.returns-in-Ok
 returns-in-Ok g c =
-    let held = c.in-Ok.ensures.held in
     let counts = c.in-Ok.ensures.counts_faults in
-    let answered = c.answer_on-conclusion.ensures (none_without _ _ _ _ _ held.second) in
+    let lent = rw (
+      c.new-claim.ensures,
+      c.as_slice.ensures.value,
+      c.new-second.ensures,
+      c.as_slice-in-Ok.ensures.value,
+      c.new-capture.ensures,
+      c.as_slice-in-Ok-2.ensures.value,
+    ) at c.answer.ensures in
+    let answers = lent.answers in
     by_judged (record {
-      summed = held;
-      answered = answered;
+      summed = c.in-Ok.ensures.held;
+      answered = record {
+        ended = _;
+        sink_is = refl;
+        unfailed = record { claim = refl; second = refl; capture = refl };
+        finding = answers.promise.finding;
+        found = answers.promise.found;
+        answers = record {
+          answer = answers.answer;
+          promise = answers.promise.runs.reports;
+          concludes = answers.concludes;
+          conclusion_is = answers.conclusion_is;
+        };
+        shows = lent.shows;
+      };
       claim_unfailed = counts.claim;
       second_unfailed = counts.second;
       capture_unfailed = counts.capture;
-    }) (let concludes = answered.answers.concludes in search rules) c.in-Ok.ensures.at_most
+    }) answers.concludes.1.closed c.in-Ok.ensures.at_most
