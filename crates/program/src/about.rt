@@ -1,13 +1,12 @@
 //! What a report for a person ends with: the run's inputs, and the program.
 
 ghost use Rattle.std.specs.Prelude.{◌≡◌, ℕ, List, IfOk, map, option_map, string_bytes};
-ghost use Rattle.report.specs.FaultText.{input_word};
 ghost use Rattle.sum_file.specs.Sum.{data_of as sum_data, digest_named};
 ghost use Rattle.program.specs.About as spec;
 ghost use Rattle.program.specs.About.{about_of, data_of};
 
 use fault_words::shown;
-use report::Input;
+use report::{Input, input_word};
 use std::alloc::{AllocError, Global};
 use sum_file::{Sum, SumFault, digest_of, read_sums};
 
@@ -24,19 +23,6 @@ pub(crate) struct Called<'a> {
     pub(crate) input: Input,
     /// The operand.
     pub(crate) name: &'a str,
-}
-
-/// The word for an input.
-fn word(input: Input) -> &'static str
-    ensures { result.now ≡ input_word input }
-{
-    match input {
-        Input::Claim => "claim",
-        Input::Capture => "capture",
-        Input::Certificate => "certificate",
-        Input::Refutation => "refutation",
-        Input::Sums => "sums",
-    }
 }
 
 /// The sums of a text, none if there is no text or it is refused.
@@ -74,7 +60,7 @@ fn line(alloc: Global, listed: &[Sum], called: &Called<'_>) -> Result<String, Al
 {
     let name = shown(alloc, called.name)?;
     let held = held_to(alloc, digest_of(listed, called.name.as_bytes()))?;
-    let mut text = String::from_str(alloc, word(called.input))?;
+    let mut text = String::from_str(alloc, input_word(called.input))?;
     text.push_str(" ")?;
     text.push_str(name.as_str())?;
     text.push_str(": ")?;
