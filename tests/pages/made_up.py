@@ -17,14 +17,14 @@ from collections.abc import Iterable, Sequence
 # What else is written, with the reason.
 EXCEPTIONS = {
     "json_text/src/text.rt": [("if fault.is_memory() { Err(AllocError) }", "serde_json says it in words of its own")],
-    "ntpaudit/src/command_line.rt": [
+    "command_line/src/words.rt": [
         ("if error.kind() == error::ErrorKind::OutOfMemory { return Err(AllocError); }",
          "clap says it in words of its own"),
         ("Err(_) => return Err(AllocError),", "nothing else is left of how std's `args` fails"),
     ],
     "program/src/about.rt": [
         ("Err(SumFault::Memory) => Err(AllocError),", "the reading of sums says it in a word of its own")],
-    "ntpaudit/src/run.rt": [
+    "command_line/src/run.rt": [
         ("conclusion: conclude(&Err(RunFault::Memory), err),", "it is called where memory was refused"),
     ],
 }

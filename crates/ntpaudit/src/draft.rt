@@ -3,7 +3,7 @@
 //! FILE.part is made anew, so that nobody else's file or link is followed or overwritten. What the
 //! system does with files is in no clause: `tests/system/test_outputs.py` tries it.
 
-use crate::second_look::path_of;
+use command_line::path_of;
 use fault_words::Obstacle;
 use program::{Hindrance, Paths, path_or_none};
 use std::fs::{File, Files, Metadata, OpenOptions};
@@ -12,7 +12,7 @@ use std::os::unix::fs::MetadataExt;
 use std::{fs, io};
 
 /// What the system refuses.
-fn refused(error: Error) -> Hindrance {
+pub(crate) fn refused(error: Error) -> Hindrance {
     Hindrance {
         obstacle: Obstacle::Refused,
         error: Some(error),
@@ -89,20 +89,4 @@ pub(crate) fn create(
         }
         Err(error) => Err(refused(error)),
     }
-}
-
-/// Puts a draft into the file's place, or removes it if that can't be done.
-pub(crate) fn place(rt: &HostRuntime, part: &str, path: &str) -> Result<(), Hindrance> {
-    match fs::rename(rt, part, path) {
-        Ok(()) => Ok(()),
-        Err(error) => {
-            remove(rt, part);
-            Err(refused(error))
-        }
-    }
-}
-
-/// Removes a draft.
-pub(crate) fn remove(rt: &HostRuntime, part: &str) {
-    let _ = fs::remove_file(rt, part);
 }

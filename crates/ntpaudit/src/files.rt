@@ -3,7 +3,7 @@
 ghost use Rattle.std.specs.Prelude.{◌≡◌};
 ghost use Rattle.program.specs.Files.{unknown};
 
-use crate::draft::{SyncedFile, create, place, remove};
+use crate::draft::{SyncedFile, create, refused};
 use byte_stream::{ReadFeed, WriteSink};
 use program::{Files, Hindrance, OpenFault, Paths, STDIN};
 use std::fs::File;
@@ -101,19 +101,16 @@ impl<'a> Files for Host<'a> {
         part: &str,
         path: &str,
     ) -> Result<(), Hindrance> {
-        match place(self.rt, part, path) {
-            Ok(()) => {
-                self.placed += 1;
-                Ok(())
-            }
-            Err(hindrance) => {
-                self.hindered += 1;
-                Err(hindrance)
-            }
+        if let Err(error) = fs::rename(self.rt, part, path) {
+            self.remove(part);
+            self.hindered += 1;
+            return Err(refused(error));
         }
+        self.placed += 1;
+        Ok(())
     }
 
     fn remove(&mut self, part: &str) {
-        remove(self.rt, part);
+        let _ = fs::remove_file(self.rt, part);
     }
 }

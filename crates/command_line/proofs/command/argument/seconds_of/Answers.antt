@@ -1,0 +1,30 @@
+use Rattle.std.proofs.Common.{◌≡◌, ℕ, List, Option, Some, None, Result, Ok, refl, ap, codes, subst, sym}
+use Rattle.std.specs.Prelude.{IfSome, option_map}
+use Rattle.std.specs.Str.Parse.{ExplainsUnsignedError, HasUnsignedDigitsIfOk, ParsesUnsigned, digits_value, without_leading_plus}
+use Rattle.clap.specs.Words.{ReadsOne, found_of, one_text}
+use Rattle.clap.proofs.WalkLemmas.{one_text-rows}
+use Rattle.command_line.proofs.command.argument.seconds_of.Goals as goal
+
+-- the number that a text's digits are
+abbrev number : List ℕ → ℕ
+number text = digits_value 10 (without_leading_plus text)
+
+-- what is read of a text that is given is its number
+reads : (E : Type 0) (G : List ℕ → Result ℕ E → Type 0) →
+    ((text : List ℕ) (x : Result ℕ E) → G text x → ParsesUnsigned 32 10 text x) →
+    (given : Option (List ℕ)) (read : Option ℕ) → (given ≡ None → read ≡ None) →
+    ((text : List ℕ) → given ≡ Some text → ReadsOne G text read) →
+    IfSome read (λ seconds. option_map number given ≡ Some seconds)
+reads E G parses None read none value = rw (none refl) tt
+reads E G parses (Some text) None none value = tt
+reads E G parses (Some text) (Some seconds) none value =
+    ap Some (sym (parses text (Ok seconds) (value text refl)).1)
+
+pub returns : goal.returns
+returns c =
+    let f = found_of c.args.words.now in
+    subst (λ (given : Option (List ℕ)). IfSome c.get_one.result (λ seconds. option_map number given ≡ Some seconds))
+    (one_text-rows f (codes "step"))
+    (reads _ (λ text x. ParsesUnsigned 32 10 text x × ExplainsUnsignedError 10 text x × HasUnsignedDigitsIfOk text x)
+    (λ text x parsed. parsed.0) (one_text f (codes "step")) c.get_one.result
+    c.get_one.ensures.none c.get_one.ensures.value)

@@ -1,0 +1,132 @@
+-- What the words of a command line call for.
+use Rattle.std.specs.Prelude.{◌≡◌, ◌⊎◌, ◌||◌, ℕ, Bool, true, false, List, [], Option, Some, None}
+use Rattle.std.specs.Prelude.{String, IfSome, is_some, option_map, unwrap_or, codes, string_bytes}
+use Rattle.std.specs.Str.{bytes_eq}
+use Rattle.std.specs.Str.Parse.{digits_value, without_leading_plus}
+use Rattle.std.specs.declared.alloc.Global.{Global}
+use Rattle.claim_file.specs.Time.{time_of}
+use Rattle.clap.specs.Words.{Row, Text, first_of, found_of, one_of, rows_of}
+use Rattle.clap.specs.declared.parser.matches.ArgMatches.{ArgMatches}
+use Rattle.line_writer.specs.declared.field.Style.{Style}
+use Rattle.line_writer.specs.declared.field.Style.TheVariants.{Human, Plain}
+use Rattle.audit.specs.declared.question.Request.{Request}
+use Rattle.audit.specs.declared.question.Request.TheVariants as requests
+use Rattle.program.specs.Invocation.{IsRefusal, is_human}
+use Rattle.program.specs.declared.invocation.Invocation.{Invocation}
+use Rattle.program.specs.declared.invocation.Invocation.TheVariants as calls
+use Rattle.program.specs.declared.invocation.JudgedPaths.{JudgedPaths}
+use Rattle.program.specs.declared.invocation.Judgement.{Judgement}
+use Rattle.program.specs.declared.invocation.Judgement.TheVariants as judgements
+use Rattle.program.specs.declared.invocation.Listed.{Listed}
+use Rattle.program.specs.declared.invocation.Paths.{Paths}
+
+-- the rows that clap has found for a command
+abbrev pub found_rows : ArgMatches → List Row
+found_rows words = rows_of (found_of words)
+
+-- the text of an operand among the rows that were found, empty if it was left out
+abbrev pub operand : Text → List Row → Text
+operand name rows = unwrap_or (first_of name rows) []
+
+-- whether an option without a value was given
+pub record IsFlag (name : Text) (rows : List Row) (given : Bool) : Type 0 where
+  pub yes : one_of name rows ≡ Some (codes "true") → given ≡ true
+  pub no : one_of name rows ≡ Some (codes "false") → given ≡ false
+  pub none : one_of name rows ≡ None → given ≡ false
+
+-- the style of lines for a person, or for a program
+abbrev pub style_of : Bool → Style
+style_of true = Human
+style_of false = Plain
+
+-- the number that is given for the length of a piece, in seconds
+abbrev pub step_given : List Row → Option ℕ
+step_given rows =
+    option_map (λ text. digits_value 10 (without_leading_plus text)) (one_of (codes "step") rows)
+
+-- The capture and the style are those of the words.
+pub record IsListed (rows : List Row) (listed : Listed) : Type 0 where
+  pub human : IsFlag (codes "human") rows (is_human listed.style)
+  pub style_is : listed.style ≡ style_of (is_human listed.style)
+  pub path : option_map string_bytes listed.path ≡ first_of (codes "CAPTURE") rows
+
+-- A person is told of the operand TIME.
+pub record IsShownTime (rows : List Row) (shown : Option (String Global)) : Type 0 where
+  pub human : IsFlag (codes "human") rows (is_some shown)
+  pub time : IfSome shown (λ text. string_bytes text ≡ operand (codes "TIME") rows)
+
+-- The claim, the capture, the file of sums, the output and the style are those of the words.
+pub record AreNamed (rows : List Row) (paths : Paths) : Type 0 where
+  pub human : IsFlag (codes "human") rows (is_human paths.style)
+  pub style_is : paths.style ≡ style_of (is_human paths.style)
+  pub claim : string_bytes paths.claim ≡ operand (codes "CLAIM") rows
+  pub capture : string_bytes paths.capture ≡ operand (codes "CAPTURE") rows
+  pub sums : option_map string_bytes paths.sums ≡ first_of (codes "sums") rows
+  pub output : option_map string_bytes paths.output ≡ first_of (codes "output") rows
+
+-- The same of a command with a second input, an operand of this name.
+pub record AreJudgedNamed (second : Text) (rows : List Row) (paths : JudgedPaths) : Type 0 where
+  pub evidence : AreNamed rows paths.evidence
+  pub second_is : string_bytes paths.second ≡ operand second rows
+
+-- the Unix second of the operand TIME, if it is written as a claim's times are
+abbrev pub time_given : List Row → Option ℕ
+time_given rows = time_of (operand (codes "TIME") rows)
+
+-- whether a command has this name
+abbrev pub is_command : Text → Bool
+is_command name = bytes_eq name (codes "list") || bytes_eq name (codes "samples")
+    || bytes_eq name (codes "at") || bytes_eq name (codes "settle") || bytes_eq name (codes "check")
+    || bytes_eq name (codes "find") || bytes_eq name (codes "refute")
+    || bytes_eq name (codes "envelope")
+
+-- Of another name nothing can be said, nor of a command that cuts pieces of no length.
+abbrev pub IsRefusable : Text → Type 0
+IsRefusable name =
+    (is_command name ≡ false) ⊎ ((name ≡ codes "find") ⊎ (name ≡ codes "envelope"))
+
+-- what a command without a second input asks
+abbrev pub IsRequest : Text → List Row → Request → Type 0
+IsRequest name rows requests.Samples = name ≡ codes "samples"
+IsRequest name rows (requests.At at) =
+    (name ≡ codes "at") × (time_given rows ≡ Some at.unix_second)
+IsRequest name rows requests.Settle = name ≡ codes "settle"
+IsRequest name rows (requests.Find find) =
+    (name ≡ codes "find") × IsFlag (codes "refutation") rows false
+    × (step_given rows ≡ Some find.step.seconds)
+IsRequest name rows requests.FindRefutation = (name ≡ codes "find")
+    × IsFlag (codes "refutation") rows true
+IsRequest name rows (requests.Envelope envelope) = (name ≡ codes "envelope")
+    × IsFlag (codes "servers") rows envelope.servers × IsFlag (codes "least") rows envelope.least
+    × (step_given rows ≡ Some envelope.step.seconds)
+
+-- this question is asked of the files that are named
+abbrev pub IsAsking : Request → List Row → Invocation → Type 0
+IsAsking request rows (calls.Ask asked paths) = (asked ≡ request) × AreNamed rows paths
+IsAsking request rows invocation = ⊥
+
+-- what a command with a second input judges, and which of its operands that input is
+abbrev pub IsJudgement : Text → List Row → Judgement → Type 0
+IsJudgement name rows judgements.Check = name ≡ codes "check"
+IsJudgement name rows (judgements.Refute drift) =
+    (name ≡ codes "refute") × IsFlag (codes "drift") rows drift
+
+abbrev pub second_operand : Judgement → Text
+second_operand judgements.Check = codes "CERTIFICATE"
+second_operand (judgements.Refute drift) = codes "REFUTATION"
+
+-- what a command with these rows calls for
+abbrev pub IsCalled : Text → List Row → Invocation → Type 0
+IsCalled name rows (calls.List listed) = (name ≡ codes "list") × IsListed rows listed
+IsCalled name rows (calls.Ask request paths) = IsRequest name rows request × AreNamed rows paths
+IsCalled name rows (calls.Judge judgement paths) = IsJudgement name rows judgement
+    × AreJudgedNamed (second_operand judgement) rows paths
+IsCalled name rows (calls.RefuseTime shown) =
+    (name ≡ codes "at") × (time_given rows ≡ None) × IsShownTime rows shown
+IsCalled name rows (calls.Refuse text) = IsRefusable name
+IsCalled name rows (calls.Show text) = ⊥
+
+-- what the rows of a command line call for: those of its command
+abbrev pub IsCalledBy : Option (Text × List Row) → Invocation → Type 0
+IsCalledBy (Some found) invocation = IsCalled found.0 found.1 invocation
+IsCalledBy None invocation = IsRefusal invocation

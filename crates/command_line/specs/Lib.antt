@@ -1,0 +1,4 @@
+pub mod Commands
+pub mod Invocation
+pub mod Run
+pub mod Words

@@ -1,0 +1,82 @@
+-- What the words of a command line call for.
+use Rattle.std.specs.Prelude.{◌≡◌, ◌&&◌, ◌||◌, Bool, true, false, List, [], ◌∷◌, Option}
+use Rattle.std.specs.Prelude.{String, if◌then◌else◌, nat_lt, codes, count_by, map, option_map}
+use Rattle.std.specs.Prelude.{slice_get, string_bytes, take, unwrap_or}
+use Rattle.std.specs.Option.{option_map_or}
+use Rattle.std.specs.Str.{bytes_eq}
+use Rattle.std.specs.declared.alloc.Global.{Global}
+use Rattle.clap.specs.Kinds.{IsAmong, Kinds}
+use Rattle.clap.specs.Words.{Row, Text, fault_of, subcommand_of}
+use Rattle.clap.specs.declared.error.kind.ErrorKind.{ErrorKind}
+use Rattle.clap.specs.declared.error.kind.ErrorKind.TheVariants.{DisplayHelp, DisplayVersion}
+use Rattle.command_line.specs.Commands.{ntpaudit}
+use Rattle.command_line.specs.Invocation.{IsCalledBy}
+use Rattle.program.specs.Invocation.{IsRefusal}
+use Rattle.program.specs.declared.invocation.Invocation.{Invocation}
+use Rattle.program.specs.declared.invocation.Invocation.TheVariants as calls
+use Rattle.program.specs.declared.invocation.Paths.{Paths}
+
+abbrev pub is_word : Text → Option (String Global) → Bool
+is_word wanted given = option_map_or (λ word. bytes_eq (string_bytes word) wanted) given false
+
+-- the words that count: `help --help` is `help`
+abbrev pub counted : List (String Global) → List (String Global)
+counted words =
+    if is_word (codes "help") (slice_get words 1)
+    && (is_word (codes "--help") (slice_get words 2) || is_word (codes "-h") (slice_get words 2))
+    then take 2 words else words
+
+-- ---- inputs and outputs that can't be told apart
+
+-- whether standard input would be two of these inputs
+abbrev pub is_twice : List Text → Bool
+is_twice names = nat_lt 1 (count_by (λ name. bytes_eq name (codes "-")) names)
+
+-- whether this output is no file
+abbrev pub is_no_file : Text → Bool
+is_no_file path = bytes_eq path (codes "-") || bytes_eq path []
+
+-- whether these paths can't go together, beside a second input of this path
+abbrev pub misuses : Paths → Text → Bool
+misuses paths second =
+    is_twice (string_bytes paths.claim ∷ string_bytes paths.capture ∷ second
+    ∷ unwrap_or (option_map string_bytes paths.sums) [] ∷ [])
+    || option_map_or (λ path. is_no_file (string_bytes path)) paths.output false
+
+abbrev pub is_misused : Invocation → Bool
+is_misused (calls.Ask request paths) = misuses paths []
+is_misused (calls.Judge judgement paths) = misuses paths.evidence (string_bytes paths.second)
+is_misused invocation = false
+
+-- What is called for, refused if its paths can't go together.
+pub record IsReadOnce (called invocation : Invocation) : Type 0 where
+  pub misused : is_misused called ≡ true → IsRefusal invocation
+  pub lawful : is_misused called ≡ false → invocation ≡ called
+
+-- ---- the words
+
+-- whether a text is shown instead of told as a fault
+abbrev pub is_shown : ErrorKind → Bool
+is_shown DisplayHelp = true
+is_shown DisplayVersion = true
+is_shown kind = false
+
+-- a text is shown, or the words are refused
+abbrev pub IsTold : ErrorKind → Invocation → Type 0
+IsTold kind (calls.Show text) = is_shown kind ≡ true
+IsTold kind (calls.Refuse text) = is_shown kind ≡ false
+IsTold kind invocation = ⊥
+
+-- what words call for whose faults may be these: they are told, and with none the command's rows
+-- call for something
+abbrev pub MeansBy : Kinds → Option (Text × List Row) → Invocation → Type 0
+MeansBy [] found invocation =
+    (called : Invocation) × IsCalledBy found called × IsReadOnce called invocation
+MeansBy (kind ∷ kinds) found invocation =
+    (told : ErrorKind) × IsAmong told (kind ∷ kinds) × IsTold told invocation
+
+-- what the words of a command line call for, by the table of commands
+abbrev pub Means : List (String Global) → Invocation → Type 0
+Means words invocation =
+    let texts = map string_bytes (counted words) in
+    MeansBy (fault_of ntpaudit texts) (subcommand_of ntpaudit texts) invocation

@@ -1,0 +1,128 @@
+//! One operand or option of a command: how it's declared, and what is read of it.
+
+ghost use Rattle.std.specs.Prelude.{◌≡◌, IfOk, IfSome, Some, codes, false, option_map};
+ghost use Rattle.std.specs.Prelude.{string_bytes};
+ghost use Rattle.clap.specs.Words.{first_of, rule_of};
+ghost use Rattle.command_line.specs.Commands as table;
+ghost use Rattle.command_line.specs.Invocation as spec;
+ghost use Rattle.command_line.specs.Invocation.{IsFlag, found_rows, step_given};
+ghost use Rattle.program.specs.Invocation.{is_human};
+
+use audit::{Step, Style};
+use clap::{Arg, ArgAction, ArgMatches};
+use std::alloc::{AllocError, Global};
+
+/// An operand that has to be found_rows, with these words about it.
+pub(crate) fn required<'a>(alloc: Global, name: &'a str, help: &'a str) -> Arg<'a>
+    ensures rule { rule_of result ≡ table.required name.now }
+    ensures local { result.global ≡ false }
+{
+    Arg::new(alloc, name).help(help).required(true)
+}
+
+/// An option with a value, which help calls so, with these words about it.
+pub(crate) fn valued<'a>(alloc: Global, name: &'a str, value: &'a str, help: &'a str) -> Arg<'a>
+    ensures rule { rule_of result ≡ table.valued name.now }
+    ensures local { result.global ≡ false }
+{
+    Arg::new(alloc, name)
+        .long(name)
+        .value_name(value)
+        .help(help)
+}
+
+/// An option without a value, with these words about it.
+pub(crate) fn flag<'a>(alloc: Global, name: &'a str, help: &'a str) -> Arg<'a>
+    ensures rule { rule_of result ≡ table.flag name.now }
+    ensures local { result.global ≡ false }
+{
+    Arg::new(alloc, name)
+        .long(name)
+        .help(help)
+        .action(ArgAction::SetTrue)
+}
+
+/// Whether an option without a value was given.
+pub(crate) fn is_given(words: &ArgMatches, name: &str) -> bool
+    ensures { IsFlag name.now (found_rows words.now) result }
+{
+    words.get_flag(name)
+}
+
+/// The first value of an operand or option, as text.
+pub(crate) fn value<'a>(words: &ArgMatches<'a>, name: &str) -> Option<&'a str>
+    ensures { option_map (λ text. text.now) result ≡ first_of name.now (found_rows words.now) }
+{
+    words.get_str(name)
+}
+
+/// The text of an operand, empty if it was left out.
+pub(crate) fn operand(alloc: Global, words: &ArgMatches, name: &str) -> Result<String, AllocError>
+    ensures { IfOk result (λ text.
+        string_bytes text ≡ spec.operand name.now (found_rows words.now)) }
+{
+    match value(words, name) {
+        Some(text) => String::from_str(alloc, text),
+        None => Ok(String::new(alloc)),
+    }
+}
+
+/// The text of an operand or option that may be left out.
+pub(crate) fn text_of(
+    alloc: Global,
+    words: &ArgMatches,
+    name: &str,
+) -> Result<Option<String>, AllocError>
+    ensures { IfOk result (λ text. option_map string_bytes text
+        ≡ first_of name.now (found_rows words.now)) }
+{
+    match value(words, name) {
+        Some(text) => Ok(Some(String::from_str(alloc, text)?)),
+        None => Ok(None),
+    }
+}
+
+/// The option `--human`, with these words about it.
+pub(crate) fn human_option<'a>(alloc: Global, help: &'a str) -> Arg<'a>
+    ensures rule { rule_of result ≡ table.human }
+    ensures local { result.global ≡ false }
+{
+    flag(alloc, "human", help).short('H')
+}
+
+/// For whom the answer is written.
+pub(crate) fn style(words: &ArgMatches) -> Style
+    ensures human { IsFlag (codes "human") (found_rows words.now) (is_human result) }
+    ensures is { result ≡ spec.style_of (is_human result) }
+{
+    if is_given(words, "human") {
+        Style::Human
+    } else {
+        Style::Plain
+    }
+}
+
+/// The option `--step`, with these words about it.
+pub(crate) fn step_option<'a>(alloc: Global, help: &'a str) -> Arg<'a>
+    ensures rule { rule_of result ≡ table.step }
+    ensures local { result.global ≡ false }
+{
+    valued(alloc, "step", "N", help)
+        .value_parser(clap::value_parser!(u32).range(1..=86_400))
+        .default_value("64")
+}
+
+/// The number that is given for the length of a piece, in seconds.
+fn seconds_of(words: &ArgMatches) -> Option<u32>
+    ensures { IfSome result (λ seconds. step_given (found_rows words.now) ≡ Some seconds) }
+{
+    words.get_one::<u32>("step")
+}
+
+/// The length of a piece that is asked for.
+pub(crate) fn step_of(words: &ArgMatches) -> Option<Step>
+    ensures { IfSome result (λ step. step_given (found_rows words.now) ≡ Some step.seconds) }
+{
+    let seconds = seconds_of(words)?;
+    Step::new(seconds)
+}

@@ -1,0 +1,68 @@
+//! The words of a command line, read.
+
+ghost use Rattle.std.specs.Prelude.{◌≡◌, ◌≢◌, IfOk};
+ghost use Rattle.clap.specs.Words.{kind_of};
+ghost use Rattle.clap.specs.declared.error.kind.ErrorKind.TheVariants.{OutOfMemory};
+ghost use Rattle.command_line.specs.Words as spec;
+ghost use Rattle.command_line.specs.Words.{IsTold, Means};
+
+use crate::advice::{advised, counted};
+use crate::command::{invocation_of, program};
+use crate::misuse::read_once;
+use clap::{Error, error};
+use program::Invocation;
+use std::alloc::{AllocError, Global};
+use std::env;
+use std::io::ErrorKind;
+
+/// Whether a text is shown, and not told as a fault.
+fn is_shown(kind: error::ErrorKind) -> bool
+    ensures { result ≡ spec.is_shown kind }
+{
+    matches!(
+        kind,
+        error::ErrorKind::DisplayHelp | error::ErrorKind::DisplayVersion
+    )
+}
+
+/// What a refusal of the command line, or a call for help, asks for.
+fn explained(alloc: Global, words: &[String], error: &Error) -> Result<Invocation, AllocError>
+    ensures { IfOk result (λ told.
+        (kind_of error.now ≢ OutOfMemory) × IsTold (kind_of error.now) told) }
+{
+    if error.kind() == error::ErrorKind::OutOfMemory {
+        return Err(AllocError);
+    }
+    let text = error.to_string(alloc)?;
+    if is_shown(error.kind()) {
+        Ok(Invocation::Show(text))
+    } else {
+        Ok(Invocation::Refuse(advised(alloc, words, text.as_str())?))
+    }
+}
+
+/// Reads the words of a command line. The only error is that it is out of memory.
+pub(crate) fn read_words(alloc: Global, words: &[String]) -> Result<Invocation, AllocError>
+    ensures { IfOk result (Means words.now) }
+{
+    let words = counted(words);
+    match program(alloc)?.try_get_matches_from(words) {
+        Ok(matches) => read_once(alloc, invocation_of(alloc, &matches)?),
+        Err(error) => explained(alloc, words, &error),
+    }
+}
+
+/// The words of the process's command line, and none if one isn't UTF-8. The only error is that it
+/// is out of memory.
+pub fn words_of(rt: &HostRuntime) -> Result<Option<Vec<String>>, AllocError> {
+    let arguments = match env::args(rt) {
+        Ok(arguments) => arguments,
+        Err(error) if error.kind() == ErrorKind::InvalidData => return Ok(None),
+        Err(_) => return Err(AllocError),
+    };
+    let mut words = Vec::new(rt.alloc());
+    for word in arguments {
+        words.push(word)?;
+    }
+    Ok(Some(words))
+}

@@ -1,4 +1,0 @@
-pub mod CommandLine
-pub mod Invocation
-pub mod Run
-pub mod Words
