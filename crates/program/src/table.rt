@@ -12,7 +12,7 @@ use fault_words::Obstacle;
 use std::alloc::Global;
 
 /// How many bytes go into a file that is written.
-const ROOM: usize = 2000;
+const ROOM: usize = 16_777_216;
 
 /// What stands at a path.
 #[derive(Clone, Copy, Debug)]
