@@ -31,7 +31,6 @@ ntpaudit_in_memory, whose files are in memory, has all cases but ON_DISK.
 import difflib
 import os
 import re
-import unittest
 from collections.abc import Callable, Iterator
 from functools import partial
 from pathlib import Path
@@ -53,7 +52,7 @@ ON_DISK = {
     "words/output-beside-a-draft": "nothing hinders a file in memory",
     "words/output-that-cannot-be-written": "nothing hinders a file in memory",
 }
-"""Cases that need the host's files, and what files in memory are instead."""
+"""Cases that need the host's files, which aren't asked of files in memory, and why."""
 
 
 def wanted_of(lines: list[str], seen: bytes, place: Path) -> bytes:
@@ -114,8 +113,6 @@ def with_program(place: Path) -> str:
 
 
 def try_case(name: str, case: Case, place: Path) -> None:
-    if name in ON_DISK and Path(program()).name == "ntpaudit_in_memory":
-        raise unittest.SkipTest(ON_DISK[name])
     trial = Trial(with_program(place), case)
     assert not (difference := trial.difference()), difference
     is_same = transcript.renewed(name, trial.renewed) == transcript.file_of(name).read_text("utf-8")
@@ -123,5 +120,8 @@ def try_case(name: str, case: Case, place: Path) -> None:
 
 
 def cases() -> Iterator[tuple[str, Callable[[Path], None]]]:
+    left_out = ON_DISK if Path(program()).name == "ntpaudit_in_memory" else {}
     for name, case in transcript.cases().items():
+        if name in left_out:
+            continue
         yield f"cases.transcripts.{name.replace('/', '.')}", partial(try_case, name, case)

@@ -1,12 +1,6 @@
 -- The command line as a table: each command with its operands and options, as `--help` has them.
 use Rattle.std.specs.Prelude.{◌≡◌, pos, true, false, List, [], ◌∷◌, ◌++◌, Some, codes}
-use Rattle.clap.specs.Simple.{new_shape}
-use Rattle.clap.specs.Walk.{is_empty}
-use Rattle.clap.specs.Words.{App, Rule, Shape, Text, app_of, new_rule}
-use Rattle.clap.specs.declared.builder.action.ArgAction.TheVariants.{SetTrue}
-use Rattle.clap.specs.declared.builder.command.Command.{Command}
-use Rattle.clap.specs.declared.builder.command.Command.TheViews.{out-Command}
-use Rattle.clap.specs.declared.builder.value_parser.ValueParser.TheVariants.{Signed}
+use Rattle.command_line.specs.Common.{new_shape, is_empty, App, Rule, Shape, Text, app_of, new_rule, SetTrue, Command, out-Command, Signed}
 
 -- ---- operands and options
 

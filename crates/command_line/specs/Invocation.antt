@@ -1,24 +1,9 @@
 -- What the words of a command line call for.
-use Rattle.std.specs.Prelude.{◌≡◌, ◌⊎◌, ◌||◌, ℕ, Bool, true, false, List, [], Option, Some, None}
-use Rattle.std.specs.Prelude.{String, IfSome, is_some, option_map, unwrap_or, codes, string_bytes}
-use Rattle.std.specs.Str.{bytes_eq}
-use Rattle.std.specs.Str.Parse.{digits_value, without_leading_plus}
-use Rattle.std.specs.declared.alloc.Global.{Global}
-use Rattle.claim_file.specs.Time.{time_of}
-use Rattle.clap.specs.Words.{Row, Text, first_of, found_of, one_of, rows_of}
-use Rattle.clap.specs.declared.parser.matches.ArgMatches.{ArgMatches}
-use Rattle.line_writer.specs.declared.field.Style.{Style}
-use Rattle.line_writer.specs.declared.field.Style.TheVariants.{Human, Plain}
-use Rattle.audit.specs.declared.question.Request.{Request}
+use Rattle.std.specs.Prelude.{◌≡◌, ◌⊎◌, ◌||◌, ℕ, Bool, true, false, List, [], Option, Some, None, String, IfSome, is_some, option_map, unwrap_or, codes, string_bytes}
+use Rattle.command_line.specs.Common.{bytes_eq, digits_value, without_leading_plus, Global, time_of, Row, Text, first_of, found_of, one_of, rows_of, ArgMatches, Style, Human, Plain, Request, IsRefusal, is_human, Invocation, JudgedPaths, Judgement, Listed, Paths}
 use Rattle.audit.specs.declared.question.Request.TheVariants as requests
-use Rattle.program.specs.Invocation.{IsRefusal, is_human}
-use Rattle.program.specs.declared.invocation.Invocation.{Invocation}
 use Rattle.program.specs.declared.invocation.Invocation.TheVariants as calls
-use Rattle.program.specs.declared.invocation.JudgedPaths.{JudgedPaths}
-use Rattle.program.specs.declared.invocation.Judgement.{Judgement}
 use Rattle.program.specs.declared.invocation.Judgement.TheVariants as judgements
-use Rattle.program.specs.declared.invocation.Listed.{Listed}
-use Rattle.program.specs.declared.invocation.Paths.{Paths}
 
 -- the rows that clap has found for a command
 abbrev pub found_rows : ArgMatches → List Row

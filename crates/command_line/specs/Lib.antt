@@ -1,3 +1,4 @@
+pub mod Common
 pub mod Commands
 pub mod Invocation
 pub mod Run

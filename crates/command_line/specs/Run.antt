@@ -1,14 +1,7 @@
 -- What the program does: from the words of a command line to its two outputs and the exit status,
 -- over any files.
 use Rattle.std.specs.Prelude.{◌≡◌, ◌⊎◌, List, String, Err}
-use Rattle.std.specs.declared.alloc.Global.{Global}
-use Rattle.report.specs.Conclusion.{Concludes, conclusion_of}
-use Rattle.report.specs.declared.fault.RunFault.TheVariants.{Memory}
-use Rattle.program.specs.Asked.{asked_by}
-use Rattle.program.specs.Run.{IsBare, IsUntouched, Says}
-use Rattle.program.specs.World.{World}
-use Rattle.program.specs.declared.invocation.Invocation.{Invocation}
-use Rattle.program.specs.declared.run.Response.{Response}
+use Rattle.command_line.specs.Common.{Global, Concludes, conclusion_of, Memory, asked_by, IsBare, IsUntouched, Says, World, Invocation, Response}
 use Rattle.command_line.specs.Words.{Means}
 
 -- What the words call for is done.

@@ -1,20 +1,9 @@
 -- What the words of a command line call for.
-use Rattle.std.specs.Prelude.{◌≡◌, ◌&&◌, ◌||◌, Bool, true, false, List, [], ◌∷◌, Option}
-use Rattle.std.specs.Prelude.{String, if◌then◌else◌, nat_lt, codes, count_by, map, option_map}
-use Rattle.std.specs.Prelude.{slice_get, string_bytes, take, unwrap_or}
-use Rattle.std.specs.Option.{option_map_or}
-use Rattle.std.specs.Str.{bytes_eq}
-use Rattle.std.specs.declared.alloc.Global.{Global}
-use Rattle.clap.specs.Kinds.{IsAmong, Kinds}
-use Rattle.clap.specs.Words.{Row, Text, fault_of, subcommand_of}
-use Rattle.clap.specs.declared.error.kind.ErrorKind.{ErrorKind}
-use Rattle.clap.specs.declared.error.kind.ErrorKind.TheVariants.{DisplayHelp, DisplayVersion}
+use Rattle.std.specs.Prelude.{◌≡◌, ◌&&◌, ◌||◌, Bool, true, false, List, [], ◌∷◌, Option, String, if◌then◌else◌, nat_lt, codes, count_by, map, option_map, slice_get, string_bytes, take, unwrap_or}
+use Rattle.command_line.specs.Common.{option_map_or, bytes_eq, Global, IsAmong, Kinds, Row, Text, fault_of, subcommand_of, ErrorKind, DisplayHelp, DisplayVersion, IsRefusal, Invocation, Paths}
 use Rattle.command_line.specs.Commands.{ntpaudit}
 use Rattle.command_line.specs.Invocation.{IsCalledBy}
-use Rattle.program.specs.Invocation.{IsRefusal}
-use Rattle.program.specs.declared.invocation.Invocation.{Invocation}
 use Rattle.program.specs.declared.invocation.Invocation.TheVariants as calls
-use Rattle.program.specs.declared.invocation.Paths.{Paths}
 
 abbrev pub is_word : Text → Option (String Global) → Bool
 is_word wanted given = option_map_or (λ word. bytes_eq (string_bytes word) wanted) given false

@@ -1,12 +1,7 @@
 //! The program: from the words of a command line to its response, over any files and outputs.
 
 ghost use Rattle.std.specs.Prelude.{◌≡◌, Err};
-ghost use Rattle.byte_stream.specs.State.{IsWritable};
-ghost use Rattle.report.specs.Conclusion.{Concludes, conclusion_of};
-ghost use Rattle.report.specs.declared.fault.RunFault.TheVariants.{Memory};
-ghost use Rattle.program.specs.Files.{MayOpen};
-ghost use Rattle.program.specs.Run.{IsBare};
-ghost use Rattle.program.specs.World.{world};
+ghost use Rattle.command_line.specs.Common.{IsWritable, Concludes, conclusion_of, Memory, MayOpen, IsBare, world};
 ghost use Rattle.command_line.specs.Run.{Runs};
 
 use crate::words::read_words;

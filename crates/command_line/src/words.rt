@@ -1,8 +1,7 @@
 //! The words of a command line, read.
 
 ghost use Rattle.std.specs.Prelude.{◌≡◌, ◌≢◌, IfOk};
-ghost use Rattle.clap.specs.Words.{kind_of};
-ghost use Rattle.clap.specs.declared.error.kind.ErrorKind.TheVariants.{OutOfMemory};
+ghost use Rattle.command_line.specs.Common.{kind_of, OutOfMemory};
 ghost use Rattle.command_line.specs.Words as spec;
 ghost use Rattle.command_line.specs.Words.{IsTold, Means};
 

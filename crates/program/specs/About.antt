@@ -1,12 +1,6 @@
 -- What a report for a person ends with: the run's inputs, and the program.
 use Rattle.std.specs.Prelude.{ℕ, List, ◌∷◌, ◌++◌, codes, Option, Some, None}
-use Rattle.std.specs.List.{flat_map}
-use Rattle.std.specs.Option.{option_to_list}
-use Rattle.hex.specs.Hex.{encode_lower}
-use Rattle.sum_file.specs.Reading.{sum_given}
-use Rattle.report.specs.FaultText.{input_word}
-use Rattle.report.specs.declared.fault.Input.TheVariants.{Capture, Claim}
-use Rattle.fault_words.specs.Quote.{shown}
+use Rattle.program.specs.Common.{flat_map, option_to_list, encode_lower, sum_given, input_word, Capture, Claim, shown}
 use Rattle.program.specs.Opening.{Place, Places, place}
 use Rattle.program.specs.declared.about.Called.{Called}
 
@@ -31,7 +25,7 @@ line_of sums input = line_with (sum_in sums input.path) input
 
 -- the line of the program
 abbrev pub program_line : List ℕ
-program_line = codes "ntpaudit 0.10.0 logic dac8208d650f15bf\n"
+program_line = codes "ntpaudit 0.11.0 logic dac8208d650f15bf\n"
 
 -- the lines about inputs in this order, which are held to the text of a file of sums, if there is
 -- one, and about the program

@@ -1,6 +1,5 @@
 -- What may be said of a run behind its fault line.
-use Rattle.std.specs.Prelude.{ℕ, Bool, true, false, List, [], is_some, option_map, unwrap_or}
-use Rattle.std.specs.Prelude.{string_bytes}
+use Rattle.std.specs.Prelude.{ℕ, Bool, true, false, List, [], is_some, option_map, unwrap_or, string_bytes}
 use Rattle.fault_words.specs.Subject.{NamesData}
 use Rattle.program.specs.Invocation.{is_human, listed_name}
 use Rattle.program.specs.declared.asked.Asked.{Asked}

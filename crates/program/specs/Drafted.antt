@@ -1,19 +1,6 @@
 -- The answer to a question whose text for a program goes into a draft.
-use Rattle.std.specs.Prelude.{◌≡◌, ◌⊎◌, ◌==◌, ℕ, List, Bool, true, false, if◌then◌else◌, is_some}
-use Rattle.std.specs.Prelude.{Option, Some, None, Result, Ok, Err, IfErr, IfOk, MatchResult}
-use Rattle.byte_stream.specs.State.{FeedState, SinkState}
-use Rattle.fault_words.specs.declared.obstacle.Obstacle.TheVariants.{Full}
-use Rattle.report.specs.Run.{no_feed}
-use Rattle.report.specs.Conclusion.{Concludes, conclusion_of}
-use Rattle.report.specs.declared.conclusion.Conclusion.{Conclusion}
-use Rattle.report.specs.declared.fault.Outcome.{Outcome}
-use Rattle.report.specs.declared.fault.RunFault.{RunFault}
-use Rattle.report.specs.declared.fault.RunFault.TheVariants.{Memory, Write}
-use Rattle.audit.specs.Question.{AskedData}
-use Rattle.audit.specs.Run.{RunsFor, RunsTwice}
-use Rattle.summed_inputs.specs.Holding.{AreSummed, CountFaults, Feeds, IsUnjudgedFor, TakeAtMost}
-use Rattle.summed_inputs.specs.Holding.{feed_of, feeds}
-use Rattle.summed_inputs.specs.InputBytes.{InputBytesData, data_of}
+use Rattle.std.specs.Prelude.{◌≡◌, ◌⊎◌, ◌==◌, ℕ, List, Bool, true, false, if◌then◌else◌, is_some, Option, Some, None, Result, Ok, Err, IfErr, IfOk, MatchResult}
+use Rattle.program.specs.Common.{FeedState, SinkState, Full, no_feed, Concludes, conclusion_of, Conclusion, Outcome, RunFault, Memory, Write, AskedData, RunsFor, RunsTwice, AreSummed, CountFaults, Feeds, IsUnjudgedFor, TakeAtMost, feed_of, feeds, InputBytesData, data_of}
 use Rattle.program.specs.Files.{DraftsState, IsEmpty, IsHindered, IsPlaced}
 use Rattle.program.specs.Inputs.{SumNames, run_over, sums_of}
 use Rattle.program.specs.Invocation.{Asking, is_human}

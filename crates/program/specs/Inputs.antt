@@ -1,9 +1,6 @@
 -- What the inputs of a run say of themselves.
 use Rattle.std.specs.Prelude.{ℕ, List}
-use Rattle.byte_stream.specs.State.{FeedState, SinkState}
-use Rattle.report.specs.Run.{RunState, run_state}
-use Rattle.summed_inputs.specs.Holding.{Feeds, feeds}
-use Rattle.summed_inputs.specs.Sums.{SumsData, sums_data}
+use Rattle.program.specs.Common.{FeedState, SinkState, RunState, run_state, Feeds, feeds, SumsData, sums_data}
 use Rattle.program.specs.declared.inputs.Inputs.{Inputs}
 
 -- their feeds

@@ -1,18 +1,6 @@
 -- What a command line asks of files.
-use Rattle.std.specs.Prelude.{ℕ, Bool, true, false, List, [], Option, Some, None, codes, option_map}
-use Rattle.std.specs.Prelude.{if◌then◌else◌}
-use Rattle.std.specs.Prelude.{string_bytes, unwrap_or}
-use Rattle.line_writer.specs.declared.field.Style.{Style}
-use Rattle.line_writer.specs.declared.field.Style.TheVariants.{Plain}
-use Rattle.report.specs.declared.fault.Input.{Input}
-use Rattle.report.specs.declared.fault.Input.TheVariants.{Certificate, Refutation}
-use Rattle.audit.specs.Check.{check}
-use Rattle.audit.specs.Question.{AskedData, asked_of}
-use Rattle.audit.specs.Refute.{refute}
-use Rattle.audit.specs.Request.{question_of}
-use Rattle.audit.specs.Second.{certificate_second, no_second, refutation_second}
-use Rattle.audit.specs.Settle.{settle}
-use Rattle.audit.specs.declared.question.Request.{Request}
+use Rattle.std.specs.Prelude.{ℕ, Bool, true, false, List, [], Option, Some, None, codes, option_map, if◌then◌else◌, string_bytes, unwrap_or}
+use Rattle.program.specs.Common.{Style, Plain, Input, Certificate, Refutation, check, AskedData, asked_of, refute, question_of, certificate_second, no_second, refutation_second, settle, Request}
 use Rattle.audit.specs.declared.question.Request.TheVariants as requests
 use Rattle.program.specs.About.{about_of, inputs_of}
 use Rattle.program.specs.Opening.{Place, Places, place}

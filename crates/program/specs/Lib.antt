@@ -1,3 +1,4 @@
+pub mod Common
 pub mod About
 pub mod Asked
 pub mod Drafted

@@ -1,13 +1,7 @@
 -- How the inputs of a run are opened by their paths.
 use Rattle.std.specs.Prelude.{◌≡◌, ◌⊎◌, ◌+◌, ℕ, List, [], ◌∷◌, ◌++◌, length, Option, Some, None}
-use Rattle.std.specs.Option.{option_map, option_to_list}
-use Rattle.byte_stream.specs.State.{FeedState}
-use Rattle.report.specs.Run.{no_feed}
-use Rattle.report.specs.declared.fault.Input.{Input}
+use Rattle.program.specs.Common.{option_map, option_to_list, FeedState, no_feed, Input, RunFault, Device, Feeds}
 use Rattle.report.specs.declared.fault.Input.TheVariants as inputs
-use Rattle.report.specs.declared.fault.RunFault.{RunFault}
-use Rattle.report.specs.declared.fault.RunFault.TheVariants.{Device}
-use Rattle.summed_inputs.specs.Holding.{Feeds}
 use Rattle.program.specs.Files.{FilesState, IsFeedOf, MayBeMissing, MayBeThere, Standing}
 
 -- which input is opened, and by which path

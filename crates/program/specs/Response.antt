@@ -1,19 +1,6 @@
 -- How a run ends over inputs that were opened.
 use Rattle.std.specs.Prelude.{◌≡◌, ◌⊎◌, ℕ, Bool, true, List, [], Option, Some, None, IfSome, Err}
-use Rattle.byte_stream.specs.Fault.{CountsFault}
-use Rattle.byte_stream.specs.State.{FeedState, SinkState}
-use Rattle.report.specs.Input.{IsInputFault, ReadsWhole, read_failed}
-use Rattle.report.specs.Conclusion.{Concludes, conclusion_of}
-use Rattle.report.specs.declared.conclusion.Conclusion.{Conclusion}
-use Rattle.report.specs.declared.fault.Input.TheVariants.{Sums}
-use Rattle.report.specs.declared.fault.Outcome.{Outcome}
-use Rattle.report.specs.declared.fault.RunFault.{RunFault}
-use Rattle.report.specs.declared.fault.RunFault.TheVariants.{Memory}
-use Rattle.audit.specs.Question.{AskedData}
-use Rattle.audit.specs.Run.{AnswersFor, ShowsAt}
-use Rattle.summed_inputs.specs.Answer.{JudgesBySums}
-use Rattle.summed_inputs.specs.Holding.{Feeds, limit_of}
-use Rattle.summed_inputs.specs.InputBytes.{InputBytesData, data_of}
+use Rattle.program.specs.Common.{CountsFault, FeedState, SinkState, IsInputFault, ReadsWhole, read_failed, Concludes, conclusion_of, Conclusion, Sums, Outcome, RunFault, Memory, AskedData, AnswersFor, ShowsAt, JudgesBySums, Feeds, limit_of, InputBytesData, data_of}
 use Rattle.program.specs.Inputs.{SumNames, run_over, sum_names, sums_of}
 use Rattle.program.specs.Invocation.{Asking}
 use Rattle.program.specs.Opening.{Place, Places}

@@ -1,23 +1,10 @@
 -- What a command line does over files: what is opened by which path, what is written, and how
 -- that is reported.
-use Rattle.std.specs.Prelude.{◌≡◌, ◌⊎◌, ◌+◌, ℕ, List, [], ◌∷◌, Option, Some, None, codes}
-use Rattle.std.specs.Prelude.{String, string_bytes}
-use Rattle.std.specs.Option.{option_map}
-use Rattle.std.specs.declared.alloc.Global.{Global}
-use Rattle.byte_stream.specs.State.{FeedState}
-use Rattle.listing.specs.Listing.{list_report}
-use Rattle.report.specs.Delivery.{IsDelivered}
-use Rattle.report.specs.Reports.{whole_text}
-use Rattle.report.specs.Run.{bare_state, capture_state}
-use Rattle.report.specs.Conclusion.{Answers, refused_conclusion}
-use Rattle.report.specs.declared.conclusion.Conclusion.{Conclusion}
-use Rattle.report.specs.declared.fault.Input.TheVariants.{Capture}
-use Rattle.report.specs.declared.fault.Outcome.TheVariants.{Yes}
-use Rattle.summed_inputs.specs.Holding.{Feeds}
+use Rattle.std.specs.Prelude.{◌≡◌, ◌⊎◌, ◌+◌, ℕ, List, [], ◌∷◌, Option, Some, None, codes, String, string_bytes}
+use Rattle.program.specs.Common.{option_map, Global, FeedState, list_report, IsDelivered, whole_text, bare_state, capture_state, Answers, refused_conclusion, Conclusion, Capture, Yes, Feeds}
 use Rattle.program.specs.Drafted.{IsDraftedOver}
 use Rattle.program.specs.Files.{IsFeedOf}
-use Rattle.program.specs.Invocation.{Asking, judged_of, judged_places, listed_name, places_of, requested}
-use Rattle.program.specs.Invocation.{second_of}
+use Rattle.program.specs.Invocation.{Asking, judged_of, judged_places, listed_name, places_of, requested, second_of}
 use Rattle.program.specs.Opening.{AreOpened, Places, order_of, place}
 use Rattle.program.specs.Response.{Responds, names_of}
 use Rattle.program.specs.World.{IsUnopened, World}

@@ -1,9 +1,6 @@
 -- What a run can change, and how it ends where a file can't be opened.
 use Rattle.std.specs.Prelude.{◌≡◌, List, Err}
-use Rattle.byte_stream.specs.State.{SinkState}
-use Rattle.report.specs.Conclusion.{Concludes, conclusion_of}
-use Rattle.report.specs.declared.conclusion.Conclusion.{Conclusion}
-use Rattle.report.specs.declared.fault.RunFault.{RunFault}
+use Rattle.program.specs.Common.{SinkState, Concludes, conclusion_of, Conclusion, RunFault}
 use Rattle.program.specs.Files.{FilesState}
 use Rattle.program.specs.Opening.{IsFirstUnopened, Place}
 

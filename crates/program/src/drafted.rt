@@ -1,11 +1,7 @@
 //! The answer to a question whose text for a program goes into a draft.
 
 ghost use Rattle.std.specs.Prelude.{◌≡◌, [], Err, IfSome, None, option_map};
-ghost use Rattle.byte_stream.specs.State.{IsReadable, IsWritable};
-ghost use Rattle.report.specs.Run.{no_feed};
-ghost use Rattle.audit.specs.Question.{asked_of};
-ghost use Rattle.audit.specs.Run.{MayRun};
-ghost use Rattle.audit.specs.Second.{no_second};
+ghost use Rattle.program.specs.Common.{IsReadable, IsWritable, no_feed, asked_of, MayRun, no_second};
 ghost use Rattle.program.specs.Drafted as spec;
 ghost use Rattle.program.specs.Drafted.{Drafts, DraftsBy, DraftsOn, IsDrafted};
 ghost use Rattle.program.specs.Files.{MayDraft};

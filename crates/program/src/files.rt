@@ -1,8 +1,7 @@
 //! What is opened by a path, and what is put at one.
 
 ghost use Rattle.std.specs.Prelude.{◌≡◌, ◌+◌, ◌-◌, ◌^◌, ◌<◌, IfOk, IfErr};
-ghost use Rattle.program.specs.Files.{FilesState, IsEmpty, IsFeedOf, IsHindered, IsPlaced};
-ghost use Rattle.program.specs.Files.{MayBeMissing, MayDraft};
+ghost use Rattle.program.specs.Files.{FilesState, IsEmpty, IsFeedOf, IsHindered, IsPlaced, MayBeMissing, MayDraft};
 
 use crate::hindrance::Hindrance;
 use crate::invocation::Paths;

@@ -1,12 +1,7 @@
 //! The inputs of a run, opened by their paths.
 
-ghost use Rattle.std.specs.Prelude.{◌≡◌, ◌≤◌, ◌+◌, ◌<◌, ◌^◌, [], ◌∷◌, length, IfOk, IfErr, IfSome};
-ghost use Rattle.std.specs.Prelude.{option_map, string_bytes};
-ghost use Rattle.std.specs.Option.{option_to_list};
-ghost use Rattle.byte_stream.specs.State.{IsReadable};
-ghost use Rattle.report.specs.Run.{no_feed};
-ghost use Rattle.report.specs.declared.fault.Input.TheVariants.{Sums};
-ghost use Rattle.summed_inputs.specs.Holding.{feeds};
+ghost use Rattle.std.specs.Prelude.{◌≡◌, ◌≤◌, ◌+◌, ◌<◌, ◌^◌, [], ◌∷◌, length, IfOk, IfErr, IfSome, option_map, string_bytes};
+ghost use Rattle.program.specs.Common.{option_to_list, IsReadable, no_feed, Sums, feeds};
 ghost use Rattle.program.specs.Files.{IsFeedOf};
 ghost use Rattle.program.specs.Invocation.{judged_places, places_of};
 ghost use Rattle.program.specs.Opening.{AreOpened, IsFirstUnopened, IsSumsOf, order_of, place};

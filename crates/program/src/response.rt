@@ -1,11 +1,7 @@
 //! The answer to a question over inputs that were opened.
 
 ghost use Rattle.std.specs.Prelude.{◌≡◌, [], IfErr, IfOk, IfSome, map, option_map};
-ghost use Rattle.byte_stream.specs.State.{IsReadable, IsWritable};
-ghost use Rattle.report.specs.Run.{no_feed};
-ghost use Rattle.audit.specs.Run.{MayRun};
-ghost use Rattle.audit.specs.Question.{asked_of};
-ghost use Rattle.summed_inputs.specs.InputBytes.{data_of};
+ghost use Rattle.program.specs.Common.{IsReadable, IsWritable, no_feed, MayRun, asked_of, data_of};
 ghost use Rattle.program.specs.Inputs.{feeds_of, names_in, run_over};
 ghost use Rattle.program.specs.About.{data_of as called_data};
 ghost use Rattle.program.specs.Invocation.{is_human, judged_of, requested, told_of};

@@ -4,8 +4,7 @@ ghost use Rattle.std.specs.Prelude.{◌≡◌, None};
 ghost use Rattle.byte_stream.specs.State.{IsWritable};
 ghost use Rattle.program.specs.Asked.{asked_by};
 ghost use Rattle.program.specs.Files.{MayOpen};
-ghost use Rattle.program.specs.Invocation.{judged_of, judged_places, listed_name, places_of};
-ghost use Rattle.program.specs.Invocation.{requested, second_of};
+ghost use Rattle.program.specs.Invocation.{judged_of, judged_places, listed_name, places_of, requested, second_of};
 ghost use Rattle.program.specs.Run.{AnswersOver, AnswersTo, Lists, Says};
 ghost use Rattle.program.specs.World.{world};
 

@@ -1,20 +1,8 @@
 -- What is said of a run whose inputs are held to their sums, with no premise that their bytes are
 -- known beforehand.
 use Rattle.std.specs.Prelude.{◌≡◌, ◌⊎◌, ◌≤◌, ℕ, false, List, Some, Err}
-use Rattle.std.specs.Io.KnownBytes.{Keeps}
-use Rattle.byte_stream.specs.State.{SinkState}
-use Rattle.report.specs.Run.{RunState, run_state}
-use Rattle.report.specs.Conclusion.{Answers, Concludes, conclusion_of}
-use Rattle.report.specs.declared.conclusion.Conclusion.{Conclusion}
-use Rattle.report.specs.declared.fault.Outcome.{Outcome}
-use Rattle.report.specs.declared.fault.RunFault.{RunFault}
-use Rattle.audit.specs.Finding.{ShowsFinding}
-use Rattle.audit.specs.Report.{report_of_bytes}
-use Rattle.audit.specs.Run.{ShowsAt}
-use Rattle.audit.specs.Question.{AskedData, Finding, QuestionData}
-use Rattle.audit.specs.Second.{SecondKind}
-use Rattle.summed_inputs.specs.Holding.{AreSummed, CountFaults, Feeds, IsUnjudgedFor}
-use Rattle.summed_inputs.specs.Holding.{TakeAtMost, feed_of, feeds}
+use Rattle.summed_inputs.specs.Common.{Keeps, SinkState, RunState, run_state, Answers, Concludes, conclusion_of, Conclusion, Outcome, RunFault, ShowsFinding, report_of_bytes, ShowsAt, AskedData, Finding, QuestionData, SecondKind}
+use Rattle.summed_inputs.specs.Holding.{AreSummed, CountFaults, Feeds, IsUnjudgedFor, TakeAtMost, feed_of, feeds}
 use Rattle.summed_inputs.specs.InputBytes.{InputBytesData}
 use Rattle.summed_inputs.specs.Sums.{SumsData}
 

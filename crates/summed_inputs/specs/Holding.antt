@@ -1,21 +1,7 @@
 -- Inputs that are read whole and held to their sums.
 use Rattle.std.specs.Prelude.{◌≡◌, ◌≢◌, ◌⊎◌, ℕ, ◌+◌, ◌<◌, false, List, [], length, Option, Some, IfSome, Result}
-use Rattle.byte_stream.specs.Bytes.{IsBytes}
-use Rattle.byte_stream.specs.Fault.{CountsFault}
-use Rattle.byte_stream.specs.Intake.{TakesAtMost}
-use Rattle.byte_stream.specs.State.{FeedState}
-use Rattle.report.specs.CertificateInput.{max_certificate}
-use Rattle.report.specs.ClaimInput.{max_claim}
-use Rattle.report.specs.RefutationInput.{max_refutation}
-use Rattle.report.specs.Reports.{is_capture, is_claim, is_device, is_second, is_sums}
-use Rattle.report.specs.declared.fault.Input.{Input}
+use Rattle.summed_inputs.specs.Common.{IsBytes, CountsFault, TakesAtMost, FeedState, max_certificate, max_claim, max_refutation, is_capture, is_claim, is_device, is_second, is_sums, Input, RunFault, TooBig, Device, Memory, Sums as Refused, Differ, sha256, sum_given, SecondKind, no_second, certificate_second, refutation_second}
 use Rattle.report.specs.declared.fault.Input.TheVariants as inputs
-use Rattle.report.specs.declared.fault.RunFault.{RunFault}
-use Rattle.report.specs.declared.fault.RunFault.TheVariants.{TooBig, Device, Memory, Sums as Refused}
-use Rattle.report.specs.declared.fault.SumsFault.TheVariants.{Differ}
-use Rattle.sha2.specs.Sha256.{sha256}
-use Rattle.sum_file.specs.Reading.{sum_given}
-use Rattle.audit.specs.Second.{SecondKind, no_second, certificate_second, refutation_second}
 use Rattle.summed_inputs.specs.InputBytes.{InputBytesData}
 use Rattle.summed_inputs.specs.Sums.{AreGiven, Digests, IsOfSums, SumsData}
 

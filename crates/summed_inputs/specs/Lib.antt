@@ -1,3 +1,4 @@
+pub mod Common
 pub mod Answer
 pub mod Holding
 pub mod InputBytes

@@ -1,13 +1,6 @@
 -- What an exit status shows of bytes, question by question, whatever is told about the inputs.
 use Rattle.std.specs.Prelude.{ℕ, List, Bool, Some}
-use Rattle.byte_stream.specs.Bytes.{IsBytes}
-use Rattle.certificate.specs.Certificate.{CertificateData}
-use Rattle.report.specs.declared.fault.Outcome.TheVariants.{No}
-use Rattle.audit.specs.Check.{IsDenied, IsTracedByPieces, IsTracedTo, check}
-use Rattle.audit.specs.Contested.{IsContestedShown}
-use Rattle.audit.specs.Headline.{IsShown}
-use Rattle.audit.specs.Refute.{GiveRefutation, IsContestedOf, IsUncontestedOf, refute}
-use Rattle.audit.specs.Settle.{IsSettledBy, IsShownFrom, settle}
+use Rattle.summed_inputs.specs.Common.{IsBytes, CertificateData, No, IsDenied, IsTracedByPieces, IsTracedTo, check, IsContestedShown, IsShown, GiveRefutation, IsContestedOf, IsUncontestedOf, refute, IsSettledBy, IsShownFrom, settle}
 use Rattle.summed_inputs.specs.Answer.{ShowsOfBytes}
 
 -- The theorem behind a yes of `check`, of the bytes of claim, certificate and capture: for all

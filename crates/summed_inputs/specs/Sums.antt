@@ -1,14 +1,9 @@
 -- What a file of sums gives for the inputs of a run, under the names that a command line has for
 -- them.
 use Rattle.std.specs.Prelude.{◌≡◌, ◌⊎◌, ℕ, List, [], Option, Some, None, IsOk, IsSome, Err}
-use Rattle.report.specs.declared.fault.Input.{Input}
+use Rattle.summed_inputs.specs.Common.{Input, RunFault, Memory, Sums as Refused, Form, Missing, sum_given, sums_of, SecondKind, no_second, certificate_second, refutation_second}
 use Rattle.report.specs.declared.fault.Input.TheVariants as inputs
-use Rattle.report.specs.declared.fault.RunFault.{RunFault}
-use Rattle.report.specs.declared.fault.RunFault.TheVariants.{Memory, Sums as Refused}
-use Rattle.report.specs.declared.fault.SumsFault.TheVariants.{Form, Missing}
 use Rattle.sum_file.specs.declared.fault.SumFault.TheVariants as lines
-use Rattle.sum_file.specs.Reading.{sum_given, sums_of}
-use Rattle.audit.specs.Second.{SecondKind, no_second, certificate_second, refutation_second}
 
 -- The text of a file of sums, and the names that the inputs have in it. That of a second input
 -- plays no part if the question has none.

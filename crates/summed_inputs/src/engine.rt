@@ -1,9 +1,6 @@
 //! The engine of runs that are held to sums.
 
-ghost use Rattle.byte_stream.specs.State.{IsWritable};
-ghost use Rattle.report.specs.Run.{run_state};
-ghost use Rattle.audit.specs.Question.{asked_of};
-ghost use Rattle.audit.specs.Run.{MayRun};
+ghost use Rattle.summed_inputs.specs.Common.{IsWritable, run_state, asked_of, MayRun};
 ghost use Rattle.summed_inputs.specs.Answer.{JudgesBySums};
 ghost use Rattle.summed_inputs.specs.InputBytes.{data_of};
 ghost use Rattle.summed_inputs.specs.Sums.{sums_data};

@@ -1,14 +1,7 @@
 //! One input, read whole and held to its sum.
 
 ghost use Rattle.std.specs.Prelude.{◌≡◌, ◌+◌, ◌↔◌, IsOk, IfOk, IfErr};
-ghost use Rattle.byte_stream.specs.Bytes.{IsBytes};
-ghost use Rattle.byte_stream.specs.Fault.{CountsFault};
-ghost use Rattle.byte_stream.specs.Intake.{TakesAtMost};
-ghost use Rattle.byte_stream.specs.State.{IsReadable};
-ghost use Rattle.report.specs.Input.{read_failed};
-ghost use Rattle.report.specs.declared.fault.RunFault.TheVariants.{Sums as Refused};
-ghost use Rattle.report.specs.declared.fault.SumsFault.TheVariants.{Differ};
-ghost use Rattle.sha2.specs.Sha256.{sha256};
+ghost use Rattle.summed_inputs.specs.Common.{IsBytes, CountsFault, TakesAtMost, IsReadable, read_failed, Sums as Refused, Differ, sha256};
 ghost use Rattle.summed_inputs.specs.Holding.{IsHeld, IsUnheld, limit_of};
 
 use crate::sums::MAX_SUMS;

@@ -2,8 +2,7 @@
 
 ghost use Rattle.std.specs.Prelude.{IfOk, IfErr};
 ghost use Rattle.byte_stream.specs.State.{IsReadable};
-ghost use Rattle.summed_inputs.specs.Holding.{AreSummed, CountFaults, IsUnjudgedFor};
-ghost use Rattle.summed_inputs.specs.Holding.{TakeAtMost, feeds};
+ghost use Rattle.summed_inputs.specs.Holding.{AreSummed, CountFaults, IsUnjudgedFor, TakeAtMost, feeds};
 ghost use Rattle.summed_inputs.specs.InputBytes.{data_of};
 ghost use Rattle.summed_inputs.specs.Sums.{sums_data};
 

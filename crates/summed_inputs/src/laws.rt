@@ -2,8 +2,7 @@
 //! parameters, whose contract ranges over all bytes: those of which `answer_by_sums` says that
 //! there are such.
 
-ghost use Rattle.summed_inputs.specs.Shown.{CheckDenies, CheckProves, RefuteClears, RefuteDisproves};
-ghost use Rattle.summed_inputs.specs.Shown.{SettleAnswers, SettleShows};
+ghost use Rattle.summed_inputs.specs.Shown.{CheckDenies, CheckProves, RefuteClears, RefuteDisproves, SettleAnswers, SettleShows};
 
 /// Status 0 of `check` is the theorem, whole, by pieces and in relations alone; status 1 is a
 /// verdict of no.

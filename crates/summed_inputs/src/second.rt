@@ -1,13 +1,7 @@
 //! The second input of a question, held to its sum.
 
 ghost use Rattle.std.specs.Prelude.{◌≡◌, ℕ, List, [], Some, None, IfOk, IfErr, IfSome, map};
-ghost use Rattle.byte_stream.specs.Fault.{CountsFault};
-ghost use Rattle.byte_stream.specs.Intake.{TakesAtMost};
-ghost use Rattle.byte_stream.specs.State.{IsReadable};
-ghost use Rattle.report.specs.Reading.{Reads};
-ghost use Rattle.report.specs.Reports.{is_device, is_second};
-ghost use Rattle.sum_file.specs.Sum.{data_of as sum_data, digest_named};
-ghost use Rattle.audit.specs.Second.{IsOfSecond, most_second as most_taken, second_read};
+ghost use Rattle.summed_inputs.specs.Common.{CountsFault, TakesAtMost, IsReadable, Reads, is_device, is_second, data_of as sum_data, digest_named, IsOfSecond, most_second as most_taken, second_read};
 ghost use Rattle.summed_inputs.specs.Holding.{IsSecondHeld, IsSecondUnheld, most_second};
 ghost use Rattle.summed_inputs.specs.Sums.{IsSecondMissing, needed};
 

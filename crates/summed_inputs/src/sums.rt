@@ -1,10 +1,7 @@
 //! A file of sums, and what it gives for the inputs of a run.
 
 ghost use Rattle.std.specs.Prelude.{◌≡◌, Some, None, Ok, IfOk, IfErr, map};
-ghost use Rattle.sum_file.specs.Reading.{sums_of};
-ghost use Rattle.sum_file.specs.Sum.{data_of as sum_data, digest_named};
-ghost use Rattle.report.specs.declared.fault.RunFault.TheVariants.{Sums as Refused};
-ghost use Rattle.report.specs.declared.fault.SumsFault.TheVariants.{Missing};
+ghost use Rattle.summed_inputs.specs.Common.{sums_of, data_of as sum_data, digest_named, Sums as Refused, Missing};
 ghost use Rattle.summed_inputs.specs.Sums.{AreGiven, IsOfSums, digests, sums_data};
 
 use crate::named_feed::NamedFeed;

@@ -1,12 +1,10 @@
 //! One operand or option of a command: how it's declared, and what is read of it.
 
-ghost use Rattle.std.specs.Prelude.{◌≡◌, IfOk, IfSome, Some, codes, false, option_map};
-ghost use Rattle.std.specs.Prelude.{string_bytes};
-ghost use Rattle.clap.specs.Words.{first_of, rule_of};
+ghost use Rattle.std.specs.Prelude.{◌≡◌, IfOk, IfSome, Some, codes, false, option_map, string_bytes};
+ghost use Rattle.command_line.specs.Common.{first_of, rule_of, is_human};
 ghost use Rattle.command_line.specs.Commands as table;
 ghost use Rattle.command_line.specs.Invocation as spec;
 ghost use Rattle.command_line.specs.Invocation.{IsFlag, found_rows, step_given};
-ghost use Rattle.program.specs.Invocation.{is_human};
 
 use audit::{Step, Style};
 use clap::{Arg, ArgAction, ArgMatches};

@@ -1,0 +1,35 @@
+-- What the definitions and contracts of this crate name of others.
+pub use Rattle.audit.specs.declared.question.Request.{Request}
+pub use Rattle.byte_stream.specs.State.{IsWritable}
+pub use Rattle.claim_file.specs.Time.{time_of}
+pub use Rattle.clap.specs.Kinds.{IsAmong, Kinds}
+pub use Rattle.clap.specs.Simple.{new_shape}
+pub use Rattle.clap.specs.Walk.{is_empty}
+pub use Rattle.clap.specs.Words.{App, Row, Rule, Shape, Text, app_of, fault_of, first_of, found_of, kind_of, new_rule}
+pub use Rattle.clap.specs.Words.{one_of, rows_of, rule_of, subcommand_of}
+pub use Rattle.clap.specs.declared.builder.action.ArgAction.TheVariants.{SetTrue}
+pub use Rattle.clap.specs.declared.builder.command.Command.{Command}
+pub use Rattle.clap.specs.declared.builder.command.Command.TheViews.{out-Command}
+pub use Rattle.clap.specs.declared.builder.value_parser.ValueParser.TheVariants.{Signed}
+pub use Rattle.clap.specs.declared.error.kind.ErrorKind.{ErrorKind}
+pub use Rattle.clap.specs.declared.error.kind.ErrorKind.TheVariants.{DisplayHelp, DisplayVersion, OutOfMemory}
+pub use Rattle.clap.specs.declared.parser.matches.ArgMatches.{ArgMatches}
+pub use Rattle.line_writer.specs.declared.field.Style.{Style}
+pub use Rattle.line_writer.specs.declared.field.Style.TheVariants.{Human, Plain}
+pub use Rattle.program.specs.Asked.{asked_by}
+pub use Rattle.program.specs.Files.{MayOpen}
+pub use Rattle.program.specs.Invocation.{IsRefusal, is_human}
+pub use Rattle.program.specs.Run.{IsBare, IsUntouched, Says}
+pub use Rattle.program.specs.World.{World, world}
+pub use Rattle.program.specs.declared.invocation.Invocation.{Invocation}
+pub use Rattle.program.specs.declared.invocation.JudgedPaths.{JudgedPaths}
+pub use Rattle.program.specs.declared.invocation.Judgement.{Judgement}
+pub use Rattle.program.specs.declared.invocation.Listed.{Listed}
+pub use Rattle.program.specs.declared.invocation.Paths.{Paths}
+pub use Rattle.program.specs.declared.run.Response.{Response}
+pub use Rattle.report.specs.Conclusion.{Concludes, conclusion_of}
+pub use Rattle.report.specs.declared.fault.RunFault.TheVariants.{Memory}
+pub use Rattle.std.specs.Option.{option_map_or}
+pub use Rattle.std.specs.Str.{bytes_eq}
+pub use Rattle.std.specs.Str.Parse.{digits_value, without_leading_plus}
+pub use Rattle.std.specs.declared.alloc.Global.{Global}
