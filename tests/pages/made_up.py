@@ -24,6 +24,7 @@ EXCEPTIONS = {
     ],
     "program/src/about.rt": [
         ("Err(SumFault::Memory) => Err(AllocError),", "the reading of sums says it in a word of its own")],
+    "report/src/output.rt": [("RunFault::Device(_) | RunFault::Memory => {", "what was told is handed on")],
     "command_line/src/run.rt": [
         ("conclusion: conclude(&Err(RunFault::Memory), err),", "it is called where memory was refused"),
     ],

@@ -13,7 +13,7 @@
 //! [`write_sample_line`] and [`write_counts_line`] write the lines of `samples` for a program one
 //! by one, in one place and with no memory.
 //!
-//! What several servers say, and the hull over their groups, as `hull_text` of
+//! What several servers say, and the hull over their groups, as `at_text` of
 //! `audit/src/question/at.rt` has it shown, with its proof:
 //!
 //! ```text
