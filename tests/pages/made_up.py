@@ -18,7 +18,7 @@ from collections.abc import Iterable, Sequence
 EXCEPTIONS = {
     "json_text/src/text.rt": [("if fault.is_memory() { Err(AllocError) }", "serde_json says it in words of its own")],
     "command_line/src/words.rt": [
-        ("if error.kind() == error::ErrorKind::OutOfMemory { return Err(AllocError); }",
+        ("error::ErrorKind::OutOfMemory => Err(AllocError),",
          "clap says it in words of its own"),
         ("Err(_) => return Err(AllocError),", "nothing else is left of how std's `args` fails"),
     ],

@@ -2,7 +2,6 @@
 
 ghost use Rattle.std.specs.Prelude.{◌≡◌, ◌≢◌, IfOk};
 ghost use Rattle.command_line.specs.Common.{kind_of, OutOfMemory};
-ghost use Rattle.command_line.specs.Words as spec;
 ghost use Rattle.command_line.specs.Words.{IsTold, Means};
 
 use crate::advice::{advised, counted};
@@ -14,29 +13,20 @@ use std::alloc::{AllocError, Global};
 use std::env;
 use std::io::ErrorKind;
 
-/// Whether a text is shown, and not told as a fault.
-fn is_shown(kind: error::ErrorKind) -> bool
-    ensures { result ≡ spec.is_shown kind }
-{
-    matches!(
-        kind,
-        error::ErrorKind::DisplayHelp | error::ErrorKind::DisplayVersion
-    )
-}
-
 /// What a refusal of the command line, or a call for help, asks for.
 fn explained(alloc: Global, words: &[String], error: &Error) -> Result<Invocation, AllocError>
     ensures { IfOk result (λ told.
         (kind_of error.now ≢ OutOfMemory) × IsTold (kind_of error.now) told) }
 {
-    if error.kind() == error::ErrorKind::OutOfMemory {
-        return Err(AllocError);
-    }
-    let text = error.to_string(alloc)?;
-    if is_shown(error.kind()) {
-        Ok(Invocation::Show(text))
-    } else {
-        Ok(Invocation::Refuse(advised(alloc, words, text.as_str())?))
+    match error.kind() {
+        error::ErrorKind::OutOfMemory => Err(AllocError),
+        error::ErrorKind::DisplayHelp | error::ErrorKind::DisplayVersion => {
+            Ok(Invocation::Show(error.to_string(alloc)?))
+        }
+        _ => {
+            let text = error.to_string(alloc)?;
+            Ok(Invocation::Refuse(advised(alloc, words, text.as_str())?))
+        }
     }
 }
 
