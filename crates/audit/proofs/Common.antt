@@ -88,10 +88,10 @@ pub use Rattle.pcap_reader.specs.declared.format.Endian.{Endian}
 pub use Rattle.pcap_reader.specs.declared.format.Format.{Format}
 pub use Rattle.report.proofs.PartedText.{IsGoing, going_done, going_more, going_short, going_start, publishes_over}
 pub use Rattle.report.specs.CertificateInput.{certificate_read, max_certificate}
-pub use Rattle.report.specs.ClaimInput.{claim_or_fault, claim_read, max_claim}
+pub use Rattle.report.specs.ClaimInput.{claim_read, max_claim}
 pub use Rattle.report.specs.Output.{put_count}
 pub use Rattle.report.specs.Publication.{IsAnswerFor, IsMadeFor, IsUnwritten, Publishes, Ready}
-pub use Rattle.report.specs.Reading.{IsFromOutside, Reads}
+pub use Rattle.report.specs.Reading.{IsFromOutside, Reads, or_fault}
 unfoldable pub use Rattle.report.specs.Reading.{whole_read}
 pub use Rattle.report.specs.RefutationInput.{max_refutation, refutation_read}
 pub use Rattle.report.specs.Reports.{GetsText, Report, Reports, is_capture, is_claim, is_device, is_second, is_sums}

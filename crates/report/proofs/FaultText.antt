@@ -1,14 +1,14 @@
 -- The line that reports a fault is ASCII, and so UTF-8.
 use Rattle.report.proofs.Common.{◌≡◌, ℕ, zero, suc, ◌/◌, ◌%◌, ◌<◌, ◌++◌, ◌==◌, Bool, true, false, if◌then◌else◌, List, [], ◌∷◌, codes, refl, arith, IsUtf8, IsAscii, RunFault, fault_text, fault_fields}
 use Rattle.std.proofs.lemmas.Bool.Decides.{nat_tests}
-use Rattle.std.proofs.lemmas.Bool.{and_parts}
+use Rattle.std.proofs.lemmas.Bool.{and_parts, ltb-true}
 use Rattle.std.proofs.lemmas.Str.{IsAscii-append, IsUtf8-from_ascii}
 use Rattle.std.proofs.lemmas.Str.Ascii.{IsAscii-cons, IsAscii-nil}
 use Rattle.std.specs.Fmt.{decimal, digits, digits_onto, digit_glyph}
 use Rattle.std.specs.List.{list_all}
+use Rattle.std.specs.Prelude.{nat_lt}
 use Rattle.pcap_reader.specs.declared.fault.CaptureFault.TheVariants as captures
 use Rattle.claim_file.specs.declared.fault.ClaimFault.TheVariants as claims
-use Rattle.certificate.proofs.Ascii.{are_small, ascii_literal}
 use Rattle.certificate.specs.declared.fault.CertificateFault.TheVariants as certificates
 use Rattle.certificate.specs.declared.refutation_fault.RefutationFault.TheVariants as refutations
 use Rattle.report.specs.declared.fault.Input.TheVariants.{Claim}
@@ -16,6 +16,16 @@ use Rattle.report.specs.declared.fault.RunFault.TheVariants as faults
 use Rattle.report.specs.declared.fault.SumsFault.TheVariants as sums
 use Rattle.line_writer.specs.Field.{FieldData, fields_text, is_absent, next_text, rest_text, text_of, Word, Number, Named, Nothing}
 use Rattle.line_writer.specs.declared.field.Style.TheVariants.{Plain}
+
+-- a text of bytes below 128 alone
+abbrev are_small : List ℕ → Bool
+are_small bytes = list_all (λ byte. nat_lt byte 128) bytes
+
+ascii_literal : (bytes : List ℕ) → are_small bytes ≡ true → IsAscii bytes
+ascii_literal [] small = IsAscii-nil
+ascii_literal (byte ∷ bytes) small =
+    let (first, rest) = and_parts _ _ small in
+    IsAscii-cons byte bytes (ltb-true byte 128 first) (ascii_literal bytes rest)
 
 either_ascii : (b : Bool) (xs ys : List ℕ) → IsAscii xs → IsAscii ys → IsAscii (if b then xs else ys)
 either_ascii true xs ys p q = p
