@@ -2,7 +2,9 @@
 use Rattle.audit.proofs.Common.{◌≡◌, ◌∙◌, ◌+◌, ◌<◌, ◌≤◌, ◌++◌, ℕ, List, [], length, drop, get_or, refl, sym, ap, append_assoc, Plain, ClaimData, Exchange, Collection, sample_line, samples_text}
 use Rattle.audit_text.specs.CountsLine.{counts_line}
 use Rattle.audit_text.specs.Table.{heading, rows_from}
-use Rattle.audit_text.proofs.Rows.{row_added, rows_done}
+use Rattle.std.proofs.Common.{add-one}
+use Rattle.std.proofs.Math.Seq.{drop-cons}
+use Rattle.std.proofs.lemmas.List.{drop_all}
 
 module _ (claim : ClaimData) (collection : Collection) where
   -- the line of counts
@@ -19,14 +21,20 @@ module _ (claim : ClaimData) (collection : Collection) where
   all_left = refl
 
   -- the next line is that of the next exchange
+  next_row : (i : ℕ) (d : Exchange) → i < length collection.exchanges →
+      rows_from (sample_line Plain claim) i (drop i collection.exchanges)
+      ≡ sample_line Plain claim i (get_or collection.exchanges i d)
+      ++ rows_from (sample_line Plain claim) (i + 1) (drop (i + 1) collection.exchanges)
+  next_row i d within =
+      ap (rows_from (sample_line Plain claim) i) (drop-cons collection.exchanges i d within) ∙ rw add-one refl
+
   pub next_line : (i : ℕ) (d : Exchange) → i < length collection.exchanges →
       left_after i ≡ sample_line Plain claim i (get_or collection.exchanges i d) ++ left_after (i + 1)
   next_line i d within =
-      let line = sample_line Plain claim i (get_or collection.exchanges i d) in
-      let added = row_added (sample_line Plain claim) collection.exchanges i d within [] line _ refl refl in
-      sym (ap (λ l. l ++ last_line) added) ∙ append_assoc line _ last_line
+      ap (λ l. l ++ last_line) (next_row i d within)
+      ∙ append_assoc (sample_line Plain claim i (get_or collection.exchanges i d)) _ last_line
 
   -- after all samples the line of counts is left
   pub counts_left : (i : ℕ) → length collection.exchanges ≤ i → left_after i ≡ last_line
   counts_left i past =
-      sym (ap (λ l. l ++ last_line) (rows_done (sample_line Plain claim) collection.exchanges i past [] _ refl))
+      ap (λ l. rows_from (sample_line Plain claim) i l ++ last_line) (drop_all i collection.exchanges past)

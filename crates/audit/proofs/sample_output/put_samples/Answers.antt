@@ -1,7 +1,7 @@
 use Rattle.std.proofs.Common.{length-append}
-use Rattle.audit.proofs.Common.{◌≡◌, ◌≤◌, ◌<◌, ◌∙◌, ◌+◌, ◌++◌, List, ℕ, ap, append-nil, arith, get_or, length, map, subst, sym, [], length-map, Plain, exchange_shown, Yes, put_count, output_state, going_start, going_more, going_short, going_done, sample_line, samples_text, evidence_data}
+use Rattle.audit.proofs.Common.{◌≡◌, ◌≤◌, ◌<◌, ◌∙◌, ◌+◌, ◌++◌, List, ℕ, ap, append-nil, arith, get_or, get_or-map, length, map, subst, sym, [], length-map, Plain, exchange_shown, Yes, put_count, output_state, going_start, going_more, going_short, going_done, sample_line, samples_text, evidence_data}
 use Rattle.pairing.specs.declared.compact.CompactExchange.{CompactExchange}
-use Rattle.audit_text.proofs.Shown.{keeps_limits, stands_at}
+use Rattle.audit_text.proofs.Shown.{keeps_limits}
 use Rattle.audit.proofs.SampleLines.{all_left, counts_left, left_after, next_line}
 use Rattle.audit.proofs.sample_output.put_samples.Goals as goal
 
@@ -38,7 +38,8 @@ loop-number-preserved g c =
     let within : i < length xs = omega (arith, many, all, c.loop-number-test.true) in
     let stands : x ≡ get_or xs i x =
     subst (λ (held : List CompactExchange). x ≡ get_or (map exchange_shown held) i x) c.deref-held-items.ensures.value
-    (stands_at exchange_shown c.deref-held-items.result.now i _ c.loop-number-test.true x c.to_exchange.ensures x) in
+    (c.to_exchange.ensures
+    ∙ sym (get_or-map exchange_shown c.deref-held-items.result.now i _ x c.loop-number-test.true)) in
     let line : part ≡ sample_line Plain e.claim i (get_or xs i x) =
     c.as_bytes.ensures.text ∙ (c.write_sample_line.ensures.text ∙ ap (sample_line Plain e.claim i) stands) in
     let parted = next_line e.claim e.collection i x within
