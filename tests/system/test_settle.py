@@ -112,14 +112,14 @@ def compare(name: str, capture: Capture, given: Claim, changes: dict[str, object
         is_other = kind == "refuted" and kind_of(wanted) in ("refuted", "open")
         human, said, slip = run([PROGRAM, "settle", claim, capture.file, "--human"])
         said, farthest = shown.farthest(said)
-        least = capture.least_line(claim) if farthest else "least none"
+        least = capture.least_line(claim).split()[1] if farthest else "none"
         return name, kind, {
             "answer": (text, text if is_other else wanted),
             "status": ((status, error), (int(kind != "shown"), b"")),
             "confirmed": (is_confirmed(claim, capture, kind, text), True),
             "human": ((human, said, slip), (status, capture.told(claim, kind, text), slips.of(claim, capture.file))),
             "off at most": (len(farthest), int(kind == "open")),
-            "no more than the least": ([n for n in farthest if least != "least none" and int(least[6:]) < n], []),
+            "no more than the least": ([n for n in farthest if least != "none" and int(least) < n], []),
         }
 
 
