@@ -21,7 +21,7 @@ use std::process::ExitCode;
 const BROKEN: u8 = 70;
 
 /// How many bytes are read of a device that may have no end.
-const MOST: u64 = 134_217_728;
+const MOST: u64 = 536_870_912;
 
 /// How many bytes each pull of a file gives.
 const SHARE: usize = 4096;
