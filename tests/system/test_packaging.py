@@ -211,7 +211,7 @@ def test_install(folder: Path) -> None:
 def test_package(folder: Path) -> None:
     if not is_at_hand("the package"):
         return
-    if not is_here("dpkg-deb", "the package"):
+    if not (is_here("dpkg-deb", "the package") and is_here("git", "the package")):
         return
     if not (ROOT / ".git").exists():
         skip("the package", "the repository's history isn't here, and so not its time")
