@@ -8,7 +8,7 @@ from fractions import Fraction
 from pathlib import Path
 from typing import Any
 
-from tests.support import DATA, check, run
+from tests.support import DATA, check, is_here, run
 from tests.dossier.audits import ENVIRONMENT, SCRIPT, capture_of, check_page, dossier, folder_of, skipped, table
 from tests.dossier.leaps import leap_list
 from tests.dossier.test_captures import packed_folder, pcapng, records_of
@@ -133,6 +133,8 @@ def test_copied_days(place: Path) -> None:
 
 def test_free_words(place: Path) -> None:
     """What a stranger writes of program, time and list is never shown: what was found here is."""
+    if not is_here("ssh-keygen", "a page that is signed"):
+        return
     folder = folder_of(place, "host", bound_ns=5_000_004)
     words, mine = "ntpaudit 0.8.0. Signed and verified by PTB", elsewhere(place / "mine")
     dossier("audit", folder, env=elsewhere(place))

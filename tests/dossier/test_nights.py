@@ -12,7 +12,7 @@ from pathlib import Path
 from time import strptime
 from typing import Any
 
-from tests.support import DATA, ROOT, check, run
+from tests.support import DATA, ROOT, check, is_here, run
 from tests.dossier.audits import ENVIRONMENT, SCRIPT, capture_of, check_page, dossier, folder_of, match_of, rows, table
 from tests.dossier.leaps import leap_list
 from tests.dossier.test_captures import MS
@@ -199,6 +199,8 @@ def test_apart_for_a_time(place: Path) -> None:
 
 def test_twice_in_one(place: Path) -> None:
     """A capture of two interfaces: what is said, and the command that mends it."""
+    if not is_here("mergecap", "a capture of two interfaces"):
+        return
     folder = night(place, "twice", [], "23:04:35", "23:05:22")
     joined = run(["mergecap", "-F", "nsecpcap", "-w", folder / "f.pcap", NIGHT / "stepped.pcap", NIGHT / "bridge.pcap"])
     line, row = asked(place, "twice")

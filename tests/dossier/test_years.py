@@ -11,7 +11,7 @@ from html import unescape
 from pathlib import Path
 from typing import Any
 
-from tests.support import check, run, sum_of
+from tests.support import check, is_here, run, sum_of
 from tests.dossier.audits import ENVIRONMENT, capture_of, check_page, dossier
 from tests.dossier.test_evidence import key_of
 from tests.dossier.test_verdicts import CLAIM
@@ -144,6 +144,8 @@ def test_strange_years(place: Path) -> None:
 
 def test_signed_year(place: Path) -> None:
     """A signature on the statements is held to the days, and each day to its inputs."""
+    if not is_here("ssh-keygen", "a year that is signed"):
+        return
     own, pages, (key, allowed) = machine_of(place), place / "pages", key_of(place, "key")
     signers = place / "signers"
     signers.write_text(allowed)
@@ -203,6 +205,8 @@ def test_signed_year(place: Path) -> None:
 
 def test_copied_years(place: Path) -> None:
     """A known audit in another machine's folder, another machine's day, a statement on no days, and the last year."""
+    if not is_here("ssh-keygen", "a year that is signed"):
+        return
     fleet, pages, key = place / "fleet", place / "pages", key_of(place, "key")[0]
     for number in (0, 1):
         dossier("audit", day(fleet / "web 1", number, RIGHT))
