@@ -108,8 +108,9 @@ def test_statuses(place: Path) -> None:
         check(f"the status of {name}", is_one=(status in wanted.get(name, (0, 2, 3, 4, 70)), True),
               yes=(b"verified" in out, status == 0))
     how = nobody("a user who may begin no process")
-    if how:
-        status, out, err = run(["prlimit", "--nproc=1", SCRIPT, "--version"], env=ENVIRONMENT, **how)
+    if how:  # (who can't reach a repository in root's home)
+        words = ["prlimit", "--nproc=1", copied / "ntpaudit-dossier", "--version"]
+        status, out, err = run(words, env={**ENVIRONMENT, "NTPAUDIT": shutil.copy(PROGRAM, copied)}, **how)
         check("no process", run=((status, out), (4, b"")), said=(b"can't be called (Resource" in err, True))
     (text := place / "text").write_text("ntpaudit")
     text.chmod(0o755)
