@@ -342,7 +342,7 @@ def test_tools_and_rights(folder: Path) -> None:
     how = nobody("a checkout of another user")
     if how is None:
         return
-    for kept in (copy.top, copy.crate, copy.crate / "src"):
+    for kept in (copy.top, copy.kept, copy.crate, copy.crate / "src"):
         kept.chmod(0o555)
     copy.check_refused("a read-only checkout", b"read-only", **how)
     copy.top.chmod(0o777 if how else 0o755)
@@ -351,7 +351,7 @@ def test_tools_and_rights(folder: Path) -> None:
     copy.source.chmod(0o644)
     (copy.crate / "specs").chmod(0)
     copy.check_refused("a folder of sources that may not be read", b"a file of the sources cannot be read", **how)
-    for kept in (copy.crate, copy.crate / "src", copy.crate / "specs"):
+    for kept in (copy.kept, copy.crate, copy.crate / "src", copy.crate / "specs"):
         kept.chmod(0o755)
     if how:
         copy.check_run("built by its owner", 1, is_built=True)
