@@ -22,7 +22,7 @@ from ..fault import DEVICE, MEMORY, MISSING, REFUSED, Fault, fault
 from ..schema import read_typed, said
 from .entry import refusal_by
 from .files import BLOCK, own, own_data
-from .placing import ROOM, make_private, nameless, write
+from .placing import END, ROOM, make_private, nameless, write
 from .progress import Progress
 from .result import Result
 
@@ -33,6 +33,8 @@ PART = 3, 4
 """Of the machine's memory, and of what is free for copies, all folders together take no more than this part."""
 MOMENT = 0.5
 """Seconds after which a bar is drawn again, and after which a process looks whether the one that began it is there."""
+GRACE = 2
+"""Seconds that a process has for its end."""
 PLACES = ("/tmp", "/var/tmp")
 """Where copies are made if TMPDIR names no place. The current folder is none of them: it may be a stranger's."""
 FOLDERS = [place for place in os.environ.get("PATH", os.defpath).split(os.pathsep) if os.path.isabs(place)]
@@ -141,29 +143,37 @@ class Process:
 
     def result(self) -> Result:
         """What it handed back, or why it handed nothing back. It is ended, and all that it called."""
-        status = self.ended()
+        ended_by = self.ended()
         with suppress(Fault):
             found: Result = read_typed("the result", Result, bytes(self.data))
             return found
-        if time.monotonic() >= self.end or status == -signal.SIGXCPU:
+        if time.monotonic() >= self.end or ended_by == signal.SIGXCPU:
             return failed(fault(f"not done within {self.bounds.seconds} s (--limit)"))
         if len(self.data) > MOST_OF_A_RESULT:
             return failed(fault("its result is too big"))
         return failed(fault("the process of this folder was ended", MEMORY))
 
     def ended(self) -> int:
-        """Its status. One that can't be ended, since it waits for a device that doesn't answer, is left to itself."""
+        """The signal that ended it, or 0. It is ended at once, or when its files are in their places; then all that it
+        called, and it, whatever it is at. If it waits for a device that doesn't answer, it is left to itself."""
         os.close(self.output)
         with suppress(ProcessLookupError):
+            os.kill(self.process, END)
+            self.end_of(os.WNOWAIT)
             os.killpg(self.process, signal.SIGKILL)
-        status, until = 0, time.monotonic() + 2
-        while time.monotonic() < until:
-            process, status = os.waitpid(self.process, os.WNOHANG)
-            if process:
-                shutil.rmtree(self.private, ignore_errors=True)
+        found = self.end_of()
+        if found:
+            shutil.rmtree(self.private, ignore_errors=True)
+        return found.si_status if found and found.si_code != os.CLD_EXITED else 0
+
+    def end_of(self, more: int = 0) -> os.waitid_result | None:
+        """Waits for its end, but not for long."""
+        until = time.monotonic() + GRACE
+        while not (found := os.waitid(os.P_PID, self.process, os.WEXITED | os.WNOHANG | more)):
+            if time.monotonic() >= until:
                 break
             time.sleep(0.001)
-        return os.waitstatus_to_exitcode(status)
+        return found
 
 
 def limit(parent: int, bounds: Bounds) -> None:
@@ -178,6 +188,7 @@ def limit(parent: int, bounds: Bounds) -> None:
             os.dup2(nothing.fileno(), output.fileno())
     signal.signal(signal.SIGINT, signal.SIG_IGN)
     signal.signal(signal.SIGTERM, signal.SIG_DFL)
+    signal.signal(END, signal.SIG_DFL)
     signal.signal(signal.SIGALRM, look)
     signal.setitimer(signal.ITIMER_REAL, MOMENT, MOMENT)
     gc.disable()

@@ -6,6 +6,7 @@ nothing is taken away but by the name of a file that is known to be one's own.
 """
 import fcntl
 import os
+import signal
 import stat
 from collections.abc import Iterable, Iterator
 from contextlib import contextmanager, suppress
@@ -13,6 +14,10 @@ from contextlib import contextmanager, suppress
 from ..fault import DEVICE, Fault, fault
 from .files import (BLOCK, FILE, HOME, MOST_OF_A_CAPTURE, OF_A_FILE, Folder, folder_at, held, kind_of, own, parent_of,
                     read_named)
+
+END = signal.SIGUSR1
+"""What ends the process of a folder, but not while it is undisturbed: a signal for which Python has no handler, which
+one that has only just been forked would have too."""
 
 
 def unwritable(name: str, error: OSError) -> Fault:
@@ -117,6 +122,16 @@ def copy_of(folder: Folder, name: str, path: str) -> str:
 # ---- outputs
 
 
+@contextmanager
+def undisturbed() -> Iterator[None]:
+    """Has signals wait, while files may have names that only this process knows, for it to take these away."""
+    before = signal.pthread_sigmask(signal.SIG_BLOCK, (signal.SIGINT, signal.SIGTERM, signal.SIGALRM, END))
+    try:
+        yield
+    finally:
+        signal.pthread_sigmask(signal.SIG_SETMASK, before)
+
+
 class New:
     """A new file in a folder, without a name if the file system can, until it is put in its place."""
 
@@ -157,6 +172,7 @@ def is_ones_own(place: int, to_do: str = "call it as that user (runuser)") -> No
         raise fault(f"the folder is user {user}'s, where root writes nothing: {to_do}", DEVICE)
 
 
+@undisturbed()
 def place(folder: Folder, made: dict[str, Iterable[bytes]], old: Iterable[str] = ()) -> None:
     """Puts files into their places in a folder, in this order and after all were made, and takes away what is old."""
     is_ones_own(folder.place)
@@ -301,11 +317,12 @@ def write_named(path: str, data: bytes, is_below: bool = False) -> None:
             if kind not in ("", FILE):
                 raise fault(f"{name} is {kind}, so it isn't written", DEVICE)
             is_ones_own(place)
-            new = New(place, [data])
-            try:
-                new.put(place, name)
-            finally:
-                new.end()
+            with undisturbed():
+                new = New(place, [data])
+                try:
+                    new.put(place, name)
+                finally:
+                    new.end()
     except OSError as error:
         raise unwritable(name, error) from None
 

@@ -584,6 +584,39 @@ def test_ended_workers(place: Path) -> None:
         check("and their folders again", status=(dossier("audit", *folders)[0], 0), left=(parts_left(place), []))
 
 
+def test_stopped_amid_a_name(place: Path) -> None:
+    """A call that is stopped while a folder's file has a name that isn't its own: the file comes into its place."""
+    from dossier.fault import Stopped
+    from dossier.folder import placing
+    from dossier.folder.files import Folder
+    from dossier.folder.jobs import run_all
+    from dossier.folder.progress import Progress
+    from dossier.folder.result import Result
+    folder, begun, rename = folder_of(place, "host"), place / "begun", os.rename
+
+    def late(*names: Any, **how: Any) -> None:
+        begun.touch()
+        time.sleep(0.7)
+        rename(*names, **how)
+
+    def work(path: str, _: int) -> Result:
+        with Folder(path) as opened, patch.object(os, "rename", late):
+            placing.place(opened, {"report.txt": [b"a report"]})
+        time.sleep(SECONDS)
+        return Result()
+
+    class Stopping(Progress):
+        def show(self) -> None:
+            if begun.exists():
+                raise Stopped(signal.SIGTERM)
+    try:
+        ended = list(run_all([str(folder)], work, SECONDS, 1, Stopping(1)))
+    except Stopped:
+        ended = []
+    check("a call that is stopped amid a name", ended=(ended, []),
+          left=(sorted(os.listdir(folder)), ["claim.json", "f.pcap", "report.txt"]))
+
+
 def test_slurm(place: Path) -> None:
     """The script for a Slurm array that docs/FLEET.md shows, its tasks called by hand."""
     text = (ROOT / "docs" / "FLEET.md").read_text("utf-8").split("a file audit.slurm:\n\n")[1].split("\n\n")[0]
