@@ -1,18 +1,11 @@
 -- A verdict is yes exactly if the certificate is accepted.
-use Rattle.checker.proofs.Common.{◌≡◌, ℕ, ◌<◌, ℤ, pos, ◌≤ℤ◌, int_lt, ◌||◌, ◌↔◌, List, [], length, Some, None, refl, ap, ◌∙◌, subst, arith, cond-false, ints, slice_get_within, PieceData, CertificateData, ClaimData, IsHull, hull_of, Interval, Hull, Unbounded, Empty, Bounded, Sample, ShowBound, IsAccepted, group_intervals, piece_hull, begin_of, last_end, parts_after, hull_fault, parts_fault, piece_fault, verdict_of, PassBelow, Stretch, Yes, Cut}
+use Rattle.checker.proofs.Common.{◌≡◌, ℕ, ◌<◌, ℤ, pos, ◌≤ℤ◌, int_lt, ◌||◌, ◌↔◌, List, [], length, Some, None, refl, ap, ◌∙◌, subst, arith, cond-false, ints, slice_get_within, PieceData, CertificateData, ClaimData, IsHull, hull_of, Interval, Hull, Unbounded, Empty, Bounded, Sample, ShowBound, IsAccepted, group_intervals, piece_hull, begin_of, last_end, parts_after, hull_fault, parts_fault, piece_fault, verdict_of, PassBelow, Stretch, Yes, Cut, nat_tests}
 use Rattle.checker.proofs.EntryStatement.{said_from, taken_from}
-use Rattle.checker.proofs.VerdictPieces.{HullGives, tested, inside_from, none_from_inside}
+use Rattle.checker.proofs.PieceVerdict.{all_pass, each_passes}
+use Rattle.checker.proofs.VerdictPieces.{yes_end, HullGives, tested, inside_from, none_from_inside}
 
 -- the laws that the argument stands on
 pub record Laws : Type 0 where
-  pub yes : (samples : List Sample) (claim : ClaimData) (certificate : CertificateData)
-      → 0 < length certificate.pieces → last_end claim.first certificate.pieces ≡ claim.last
-      → PassBelow samples claim certificate (length certificate.pieces) → verdict_of samples claim certificate ≡ Yes
-  pub each : (samples : List Sample) (claim : ClaimData) (certificate : CertificateData)
-      → verdict_of samples claim certificate ≡ Yes → PassBelow samples claim certificate (length certificate.pieces)
-  pub covers : (samples : List Sample) (claim : ClaimData) (certificate : CertificateData)
-      → verdict_of samples claim certificate ≡ Yes
-      → (0 < length certificate.pieces) × (last_end claim.first certificate.pieces ≡ claim.last)
   pub hull : (list : List Interval) (f : ℕ) → IsHull list f (hull_of list f)
   pub one : (list : List Interval) (f : ℕ) (first second : Hull) → IsHull list f first → IsHull list f second
       → first ≡ second
@@ -26,21 +19,7 @@ module _ (laws : Laws) (samples : List Sample) (claim : ClaimData) where
   shows_hull stretch entries found Unbounded is e forward in_span = absurd cc
   shows_hull stretch entries found Empty is e forward in_span = absurd cc
   shows_hull stretch entries found (Bounded lo hi) is e forward in_span =
-      let said = said_from samples stretch claim.drift_ppb entries found.parts found.said in
-      let ends = inside_from claim.bound lo hi e in
-      let list = group_intervals claim.groups found.parts in
-      record {
-        forward = forward;
-        in_span = in_span;
-        parts = found.parts;
-        said = said.0;
-        no_server_twice = said.1;
-        lo = lo;
-        hi = hi;
-        hull = subst (IsHull list claim.false_max) is (laws.hull list claim.false_max);
-        above = ends.0;
-        below = ends.1;
-      }
+      grind (arith, said_from samples stretch claim.drift_ppb entries found.parts found.said)
 
   shows : (begin : ℤ) (piece : PieceData) → piece_fault samples claim begin piece ≡ None
       → ShowBound samples claim (record { begin = begin; end = pos piece.upto }) piece.entries
@@ -72,19 +51,20 @@ module _ (laws : Laws) (samples : List Sample) (claim : ClaimData) where
   accepted_from : (certificate : CertificateData) → verdict_of samples claim certificate ≡ Yes
       → IsAccepted samples claim certificate
   accepted_from certificate e =
-      let ends = laws.covers samples claim certificate e in
+      let ends = yes_end samples claim 0 claim.first certificate.pieces e in
       record {
-        some_piece = ends.0;
+        some_piece = omega (arith, ends.0);
         ends_with_span = ends.1;
         each = λ k piece at. shows (begin_of claim.first certificate.pieces k) piece
-            (laws.each samples claim certificate e k piece (slice_get_within certificate.pieces k piece at) at);
+            (each_passes samples claim 0 claim.first certificate.pieces e k piece at);
       }
 
   yes_from : (certificate : CertificateData) → IsAccepted samples claim certificate
       → verdict_of samples claim certificate ≡ Yes
   yes_from certificate accepted =
-      laws.yes samples claim certificate accepted.some_piece accepted.ends_with_span
-      (λ k piece below at. passes (begin_of claim.first certificate.pieces k) piece (accepted.each k piece at))
+      all_pass samples claim 0 claim.first certificate.pieces (omega (arith, accepted.some_piece))
+      accepted.ends_with_span
+      (λ k piece at. passes (begin_of claim.first certificate.pieces k) piece (accepted.each k piece at))
 
   pub acceptance : (certificate : CertificateData)
       → (verdict_of samples claim certificate ≡ Yes) ↔ IsAccepted samples claim certificate

@@ -1,5 +1,5 @@
 -- What a server's best samples say is said by samples of that server.
-use Rattle.checker.proofs.Common.{◌≡◌, ℕ, List, [], ◌∷◌, length, Option, Some, None, sym, ap, ◌∙◌, All, slice_get, filter_map, option_map, option_and_then, All-nil, All-cons_option, ClaimData, Interval, Sample, piece_interval_of, numbers_below, IsOfSamples, best_part, best_parts, said_by, Part, Stretch}
+use Rattle.checker.proofs.Common.{◌≡◌, ℕ, List, [], ◌∷◌, length, Option, Some, None, sym, ap, ◌∙◌, All, slice_get, filter_map, option_map, option_and_then, All-nil, All-cons_option, ClaimData, Interval, Sample, piece_interval_of, numbers_below, IsOfSamples, best_part, best_parts, said_by, Part, Stretch, rules}
 use Rattle.std.specs.Prelude.{MatchOption}
 use Rattle.span_cover.specs.Best.{HasNoSample}
 use Rattle.span_cover.specs.Gathering.{interval_between}
@@ -13,22 +13,7 @@ module _ (samples : List Sample) (stretch : Stretch) (ppb server : ℕ) where
       ≡ Some part
       → IsOfSamples samples stretch ppb part
   said_by_best None none part e = absurd cc
-  said_by_best (Some best) are part e =
-      let low = are.0 in
-      let high = are.1 in
-      let interval : Interval = piece_interval_of low.sample high.sample stretch.begin stretch.end ppb in
-      let same : said_by server interval ≡ part = (
-      let said : Some (said_by server interval) ≡ Some part = rw (low.stands, high.stands) at e in cc) in
-      record {
-        low_number = best.0;
-        high_number = best.1;
-        low = low.sample;
-        high = high.sample;
-        low_is = low.stands;
-        high_is = high.stands;
-        one_server = low.of_server ∙ sym high.of_server;
-        is = sym same ∙ ap (λ (s : ℕ). said_by s interval) (sym low.of_server);
-      }
+  said_by_best (Some best) are part e = search rules
 
   pub best_part_is : (part : Part) → best_part samples stretch ppb server ≡ Some part
       → IsOfSamples samples stretch ppb part

@@ -1,5 +1,5 @@
 -- How verdicts compare if fewer points are admissible.
-use Rattle.checker.proofs.Common.{◌≡◌, ℕ, ◌+◌, ◌<◌, ◌≤◌, ℤ, pos, ◌≤ℤ◌, Bool, true, false, cond, ◌&&◌, ◌||◌, int_lt, nat_lt, ◌⊎◌, inl, inr, ⊎_elim, List, [], ◌∷◌, length, Option, Some, None, Result, Ok, Err, refl, sym, ap, ◌∙◌, subst, arith, AllZip, int_eq, ints, PieceData, CertificateData, ClaimData, IsAdmissible, IsHull, hull_of, Interval, Hull, Unbounded, Empty, Bounded, Sample, IsYesOr, IsContradiction, group_intervals, piece_hull, parts_after, hull_fault, parts_fault, piece_fault, verdict_after, verdict_from, verdict_of, Part, Stretch, Verdict, Yes, No, Why, Cut, Contradiction, Uncovered, ◌++◌}
+use Rattle.checker.proofs.Common.{◌≡◌, ℕ, ◌+◌, ◌<◌, ◌≤◌, ℤ, pos, ◌≤ℤ◌, Bool, true, false, cond, ◌&&◌, ◌||◌, int_lt, nat_lt, ◌⊎◌, inl, inr, ⊎_elim, List, [], ◌∷◌, length, Option, Some, None, Result, Ok, Err, refl, sym, ap, ◌∙◌, subst, arith, AllZip, int_eq, ints, PieceData, CertificateData, ClaimData, IsAdmissible, IsHull, hull_of, Interval, Hull, Unbounded, Empty, Bounded, Sample, IsYesOr, IsContradiction, group_intervals, piece_hull, parts_after, hull_fault, parts_fault, piece_fault, verdict_after, verdict_from, verdict_of, Part, Stretch, Verdict, Yes, No, Why, Cut, Contradiction, Uncovered, ◌++◌, rules, nat_tests}
 use Rattle.checker.proofs.VerdictPieces.{yes_step, inside_from, none_from_inside}
 
 -- no fault, or such a one
@@ -17,15 +17,12 @@ module _ (samples : List Sample) (claim other : ClaimData) (P : Why → Type 0) 
 
   pub fails_here : (k : ℕ) (fault : Option Why) (rest : Verdict) → FaultIs P fault
       → IsYesOr P rest → IsYesOr P (verdict_after fault k rest)
-  fails_here k fault rest is later = ⊎_elim
-      (λ none. rw none later)
-      (λ found. inr (k, found.0, (ap (λ (f : Option Why). verdict_after f k rest) found.1), found.2)) is
+  fails_here k fault rest is later = grind (arith, ints, nat_tests)
 
   pub verdict_follows : claim.last ≡ other.last → (k : ℕ) (begin : ℤ) (pieces next : List PieceData)
       → AllZip Follows pieces next → verdict_from samples claim k begin pieces ≡ Yes
       → IsYesOr P (verdict_from samples other k begin next)
-  verdict_follows last k begin [] [] zip e =
-      inl (ap (λ (z : ℤ). cond (nat_lt 0 k && int_eq begin z) Yes (No k Uncovered)) (sym last) ∙ e)
+  verdict_follows last k begin [] [] zip e = grind (arith, ints, nat_tests)
   verdict_follows last k begin [] (q ∷ next) zip e = absurd zip
   verdict_follows last k begin (p ∷ pieces) [] zip e = absurd zip
   verdict_follows last k begin (p ∷ pieces) (q ∷ next) zip e =
@@ -40,28 +37,12 @@ module _ (samples : List Sample) (claim other : ClaimData) (P : Why → Type 0) 
   all_follow each [] = tt
   all_follow each (p ∷ pieces) = (each p, all_follow each pieces)
 
-  -- a piece follows if what its entries say does
-  not_cut : (cut : Bool) (fault next : Option Why) → cond cut (Some Cut) fault ≡ None
-      → (fault ≡ None → FaultIs P next) → FaultIs P (cond cut (Some Cut) next)
-  not_cut true fault next e follows = absurd cc
-  not_cut false fault next e follows = follows e
-
   pub piece_follows : claim.last ≡ other.last → (piece next : PieceData) → piece.upto ≡ next.upto
       → ((stretch : Stretch)
       → parts_fault claim (parts_after samples stretch claim.drift_ppb [] piece.entries) ≡ None
       → FaultIs P (parts_fault other (parts_after samples stretch other.drift_ppb [] next.entries)))
       → Follows piece next
-  piece_follows last piece next upto says = record {
-    upto = upto;
-    fault = λ begin e.
-        let stretch : Stretch = record { begin = begin; end = pos piece.upto } in
-        let same = not_cut (int_lt (pos piece.upto) begin || int_lt claim.last (pos piece.upto)) _ _ e (says stretch) in
-        let moved : FaultIs P (cond (int_lt (pos piece.upto) begin || int_lt other.last (pos piece.upto)) (Some Cut)
-        (parts_fault other (parts_after samples stretch other.drift_ppb [] next.entries))) =
-        subst (λ (z : ℤ). FaultIs P (cond (int_lt (pos piece.upto) begin || int_lt z (pos piece.upto)) (Some Cut)
-        (parts_fault other (parts_after samples stretch other.drift_ppb [] next.entries)))) last same in
-        subst (λ (n : ℕ). FaultIs P (piece_fault samples other begin (record next { upto = n }))) upto moved;
-  }
+  piece_follows last piece next upto says = search rules
 
 -- ---- one piece in another's place
 
@@ -101,12 +82,13 @@ module _ (hulls : EveryHull) (bound wider : ℤ) (list other : List Interval) (f
   nested_hull (Bounded lo hi) Unbounded is is' e = absurd (let more = longer is.0 in omega arith)
   nested_hull (Bounded lo hi) Empty is is' e = inr (Contradiction, refl, refl)
   nested_hull (Bounded lo hi) (Bounded lo' hi') is is' e =
-      let ends = inside_from bound lo hi e in
-      let least = is.1.1 lo' (fewer lo' is'.1.0) in
-      let greatest = is.2.1 hi' (fewer hi' is'.2.0) in
-      let above = ends.0 in
-      let below = ends.1 in
-      inl (none_from_inside wider lo' hi' (omega (arith, ints)) (omega (arith, ints)))
+      grind (
+        arith,
+        ints,
+        is.1.1 lo' (fewer lo' is'.1.0),
+        is.2.1 hi' (fewer hi'
+            is'.2.0),
+      )
 
   pub hull_follows : hull_fault bound (hull_of list f) ≡ None
       → FaultIs IsContradiction (hull_fault wider (hull_of other g))
@@ -119,12 +101,7 @@ parts_narrow : (hulls : EveryHull) (claim other : ClaimData) (said : Result (Lis
     → parts_fault claim said ≡ None
     → FaultIs IsContradiction (parts_fault other said)
 parts_narrow hulls claim other (Err why) bound groups few e = absurd cc
-parts_narrow hulls claim other (Ok parts) bound groups few e =
-    subst (λ (gs : List ℕ). FaultIs IsContradiction (hull_fault other.bound (piece_hull gs other.false_max parts)))
-    groups
-    (hull_follows hulls claim.bound other.bound (group_intervals claim.groups parts)
-    (group_intervals claim.groups parts)
-    claim.false_max other.false_max bound (λ point some. omega arith) (λ some. omega arith) e)
+parts_narrow hulls claim other (Ok parts) bound groups few e = grind (arith, ints, nat_tests, hull_follows)
 
 pub fewer_false : (hulls : EveryHull) (samples : List Sample) (claim : ClaimData) (g : ℕ)
     (certificate : CertificateData) → g ≤ claim.false_max → verdict_of samples claim certificate ≡ Yes
@@ -138,22 +115,10 @@ fewer_false hulls samples claim g certificate few e =
     certificate.pieces)
     e
 
--- a hull that lies in one bound lies in a wider one
-wider_hull : (bound wider : ℤ) (hull : Hull) → bound ≤ℤ wider → hull_fault bound hull ≡ None
-    → hull_fault wider hull ≡ None
-wider_hull bound wider Unbounded le e = absurd cc
-wider_hull bound wider Empty le e = absurd cc
-wider_hull bound wider (Bounded lo hi) le e =
-    let ends = inside_from bound lo hi e in
-    let above = ends.0 in
-    let below = ends.1 in
-    none_from_inside wider lo hi (omega (arith, ints)) (omega (arith, ints))
-
 wider_parts : (claim : ClaimData) (wider : ℤ) (said : Result (List Part) Why) → claim.bound ≤ℤ wider
     → parts_fault claim said ≡ None → parts_fault (record claim { bound = wider }) said ≡ None
 wider_parts claim wider (Err why) le e = absurd cc
-wider_parts claim wider (Ok parts) le e =
-    wider_hull claim.bound wider (piece_hull claim.groups claim.false_max parts) le e
+wider_parts claim wider (Ok parts) le e = search rules
 
 pub wider_bound : (samples : List Sample) (claim : ClaimData) (wider : ℤ) (certificate : CertificateData)
     → claim.bound ≤ℤ wider → verdict_of samples claim certificate ≡ Yes

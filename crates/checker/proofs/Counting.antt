@@ -33,10 +33,7 @@ found_below p n k below passes = true_from_ne_false (list_any p (numbers_below n
 
 meet_holds : (a b : Interval) (e : ℤ) (n : ℕ) → HoldsFraction a e n → HoldsFraction b e n
     → HoldsFraction (meet_of a b) e n
-meet_holds a b e n in_a in_b = (
-  elim (int_lt b.lo a.lo) as (λ t. (cond t a.lo b.lo *ℤ pos n) ≤ℤ e) [ true ↦ in_a.0 | false ↦ in_b.0 ],
-  elim (int_lt b.hi a.hi) as (λ t. e ≤ℤ (cond t b.hi a.hi *ℤ pos n)) [ true ↦ in_b.1 | false ↦ in_a.1 ],
-)
+meet_holds a b e n in_a in_b = grind (arith, ints, nat_tests)
 
 module _ (e : ℤ) (n : ℕ) where
   -- what is common so far holds the fraction, if there is anything
@@ -65,8 +62,7 @@ module _ (e : ℤ) (n : ℕ) where
 -- where one test implies another, the other counts no less
 pub implies_le : (p q : Bool) → (p ≡ true → q ≡ true) → cond p 1 0 ≤ cond q 1 0
 implies_le true q h = rw (h refl) (omega arith)
-implies_le false true h = omega arith
-implies_le false false h = omega arith
+implies_le false _ h = omega arith
 
 pub counted : (r : ℕ → Bool) (g : ℕ) (gs : List ℕ) → count_by r (g ∷ gs) ≡ cond (r g) 1 0 + count_by r gs
 counted r g gs = sum_by-cons _ g gs
@@ -88,8 +84,7 @@ module _ (h : ℕ → Option Interval) (q : Interval → Bool) (r : ℕ → Bool
   counts_le : (gs : List ℕ) → count_by q (filter_map h gs) ≤ count_by r gs
   counts_le [] = omega arith
   counts_le (g ∷ gs) =
-      let step = one_counted g gs (h g) (r g) refl refl (counts_le gs) in
-      rw (counted r g gs) step
+      grind (arith, ints, nat_tests, one_counted g gs (h g) (r g) refl refl (counts_le gs), one_counted, counted)
 
 -- ---- groups
 
@@ -117,7 +112,4 @@ module _ (groups : List ℕ) (parts : List Part) (is_false : ℕ → Bool) (e : 
   -- so at most as many groups leave the error out as hold a false server
   pub few_leave_it_out : (f : ℕ) → false_group_count groups is_false ≤ f
       → IsAdmissibleFraction (group_intervals groups parts) f e n
-  few_leave_it_out f few =
-      let counts = counts_le (group_interval groups parts) (λ interval. leaves_fraction_out interval e n)
-      (holds_false groups is_false) group_holds (numbers_below (length groups)) in
-      omega arith
+  few_leave_it_out f few = grind (arith, ints, nat_tests, counts_le, group_holds)

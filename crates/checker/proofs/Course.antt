@@ -1,6 +1,5 @@
 -- Courses that fit.
-use Rattle.checker.proofs.Common.{◌≡◌, ℕ, zero, suc, ◌+◌, ◌-◌, ◌<◌, ℤ, pos, ◌-ℤ◌, ◌+ℤ◌, ◌*ℤ◌, ◌≤ℤ◌, unsigned_abs, Bool, false, ◌&&◌, ◌⊎◌, inl, inr, ⊎_elim, List, [], ◌∷◌, length, Some, count_by, refl, sym, ap, ◌∙◌, subst, arith, slice_get, slice_index, ◌==◌, ints, sum_by-cons, ClaimData, IsLawful, Exchange, Moment, error_of, error_change, DriftsWithin, IsInWindow, IsWithinDistance, Fits, FitsInWindows, IsClientMoment, OfEach, ReadsInWindows, KeepsRootDistance, LeavesAfterStamp, ArrivesBeforeStamp, holds_false, false_group_count, numbers_below, OfEachEntry, FitsPiece, IsTraceable, worked_second, worked_claim, worked_exchange, moment_with, served_course, slow_reply, slow_course, slow_claim, stamped_course, earlier_exchange, stepped_course, lone_course, ◌<ℤ◌, get_or, and_right, list_any_none}
-use Rattle.std.proofs.lemmas.Option.{some_pair_parts}
+use Rattle.checker.proofs.Common.{◌≡◌, ℕ, zero, suc, ◌+◌, ◌-◌, ◌<◌, ℤ, pos, ◌-ℤ◌, ◌+ℤ◌, ◌*ℤ◌, ◌≤ℤ◌, unsigned_abs, Bool, false, ◌&&◌, ◌⊎◌, inl, inr, ⊎_elim, List, [], ◌∷◌, length, Some, count_by, refl, sym, ap, ◌∙◌, subst, arith, slice_get, slice_index, ◌==◌, ints, sum_by-cons, ClaimData, IsLawful, Exchange, Moment, error_of, error_change, DriftsWithin, IsInWindow, IsWithinDistance, Fits, FitsInWindows, IsClientMoment, OfEach, ReadsInWindows, KeepsRootDistance, LeavesAfterStamp, ArrivesBeforeStamp, holds_false, false_group_count, numbers_below, OfEachEntry, FitsPiece, IsTraceable, worked_second, worked_claim, worked_exchange, moment_with, served_course, slow_reply, slow_course, slow_claim, stamped_course, earlier_exchange, stepped_course, lone_course, ◌<ℤ◌, get_or, and_right, list_any_none, nat_tests, rules}
 use Rattle.checker.proofs.PieceFit.{few_from_count}
 
 -- ---- no false server
@@ -10,18 +9,13 @@ count_none p [] none = refl
 count_none p (x ∷ xs) none = sum_by-cons _ x xs ∙ rw (none x, count_none p xs none) refl
 
 pub no_false_group : (groups : List ℕ) → false_group_count groups (λ server. false) ≡ 0
-no_false_group groups =
-    count_none (holds_false groups (λ server. false)) (numbers_below (length groups))
-    (λ g. list_any_none (λ (server : ℕ). (slice_index groups server == g) && false) (numbers_below (length groups))
-    (λ k d below. and_right (slice_index groups (get_or (numbers_below (length groups)) k d) == g) false refl))
+no_false_group groups = grind (arith, ints, nat_tests, count_none, list_any_none, and_right)
 
 -- ---- one error throughout
 
 -- between moments with one error there is no drift
 pub one_error : (ppb : ℕ) (a b : Moment) (e : ℤ) → error_of a ≡ e → error_of b ≡ e → DriftsWithin ppb a b
-one_error ppb a b e at_a at_b =
-    let none : error_change a b ≡ 0 = rw (at_a, at_b) (omega (arith, ints)) in
-    rw none (omega arith)
+one_error ppb a b e at_a at_b = grind (arith, ints, nat_tests)
 
 pub reads_back : (error reading : ℤ) → reading -ℤ (reading -ℤ error) ≡ error
 reads_back error reading = omega (arith, ints)
@@ -43,42 +37,20 @@ keeps_its_distance : (error left arrived served : ℤ) → pos (worked_second + 
 keeps_its_distance error left arrived served no_sooner no_later = (omega (arith, ints), omega (arith, ints))
 
 module _ (allowance error left arrived served : ℤ) where
-  stamped_error : (count : ℕ) (m : Moment) → IsClientMoment (stamped_course error left arrived served) count m
-      → error_of m ≡ error
-  stamped_error count m = ⊎_elim
-      (λ e. ap error_of e ∙ reads_back error (pos worked_second))
-      (λ found. ⊎_elim
-      (λ e. ap error_of e ∙ reads_back error left)
-      (λ e. ap error_of e ∙ reads_back error arrived) found.2)
-
   pub stamped_fits : (pos worked_second -ℤ allowance) ≤ℤ left
       → arrived ≤ℤ (pos (worked_second + 85903641) +ℤ allowance)
       → pos (worked_second + 42949672) ≤ℤ served → served ≤ℤ pos (worked_second + 42949674)
       → (left -ℤ error) ≤ℤ served → served ≤ℤ (arrived -ℤ error)
       → Fits (record worked_claim { reading = allowance }) (worked_exchange ∷ [])
       (stamped_course error left arrived served)
-  stamped_fits after before no_sooner no_later sent_before arrived_after =
-      let course = stamped_course error left arrived served in
-      record {
-        some_fineness = omega arith;
-        few_false = rw (no_false_group (0 ∷ [])) (omega arith);
-        leaves_after_stamp = of_one (LeavesAfterStamp allowance course 0) (omega (arith, ints, after));
-        arrives_before_stamp = of_one (ArrivesBeforeStamp allowance course 0) (omega (arith, ints, before));
-        drift = λ a b at_a at_b. one_error 0 a b error (stamped_error 1 a at_a) (stamped_error 1 b at_b);
-        ordered = λ k x at true'. (sent_before, omega (arith, ints), arrived_after);
-        within_root_distance = λ k x at true'. of_one (KeepsRootDistance course 0)
-            (keeps_its_distance error left arrived served no_sooner no_later) k x at;
-      }
+  stamped_fits after before no_sooner no_later sent_before arrived_after = grind (arith, ints, nat_tests)
 
 module _ (error reply_reading served : ℤ) where
   -- the readings lie in the windows of the worked exchange
   in_its_windows : pos (worked_second + 85899345) ≤ℤ reply_reading
       → reply_reading ≤ℤ pos (worked_second + 85903641)
       → ReadsInWindows (pos 0) (served_course error reply_reading served) 0 worked_exchange
-  in_its_windows from to = (
-    (omega (arith, ints), omega (arith, ints)),
-    (omega (arith, ints), omega (arith, ints)),
-  )
+  in_its_windows from to = grind (arith, ints, nat_tests)
 
   pub worked_fits : pos (worked_second + 85899345) ≤ℤ reply_reading
       → reply_reading ≤ℤ pos (worked_second + 85903641)
@@ -94,74 +66,29 @@ module _ (error reply_reading served : ℤ) where
 pub stamped_out_of_windows : FitsInWindows worked_claim (worked_exchange ∷ [])
     (stamped_course (pos 0) (pos (worked_second + 21474836)) (pos (worked_second + 60129542))
     (pos (worked_second + 42949673))) → ⊥
-stamped_out_of_windows narrow =
-    let window = (narrow.in_windows 0 worked_exchange refl).0.1 in
-    omega (arith, ints, window)
+stamped_out_of_windows narrow = omega (arith, ints, (narrow.in_windows 0 worked_exchange refl).0.1)
 
 pub late_at_request : (error reply served : ℤ) → FitsPiece worked_claim (worked_exchange ∷ []) ((0, 0) ∷ [])
     (stamped_course error (pos (worked_second - 1)) reply served) → ⊥
 late_at_request error reply served fits =
-    let after = fits.leaves_after_stamp 0 0 0 worked_exchange worked_exchange refl refl refl in
-    omega (arith, ints, after)
+    omega (arith, ints, fits.leaves_after_stamp 0 0 0 worked_exchange worked_exchange refl refl refl)
 
 pub early_at_reply : (error request served : ℤ) → FitsPiece worked_claim (worked_exchange ∷ []) ((0, 0) ∷ [])
     (stamped_course error request (pos (worked_second + 85903642)) served) → ⊥
 early_at_reply error request served fits =
-    let before = fits.arrives_before_stamp 0 0 0 worked_exchange worked_exchange refl refl refl in
-    omega (arith, ints, before)
+    omega (arith, ints, fits.arrives_before_stamp 0 0 0 worked_exchange worked_exchange refl refl refl)
 
 -- ---- the slow clock
 
-slow_moment : (count : ℕ) (m : Moment) → IsClientMoment slow_course count m
-    → (m ≡ moment_with (pos 0) (pos worked_second)) ⊎ (m ≡ slow_reply)
-slow_moment count m = ⊎_elim (λ e. inl e) (λ found. found.2)
-
-slow_drift : (a b : Moment) → (a ≡ moment_with (pos 0) (pos worked_second)) ⊎ (a ≡ slow_reply)
-    → (b ≡ moment_with (pos 0) (pos worked_second)) ⊎ (b ≡ slow_reply) → DriftsWithin 500000000 a b
-slow_drift a b (inl p) (inl q) = rw (p, q) (omega (arith, ints))
-slow_drift a b (inl p) (inr q) = rw (p, q) (omega (arith, ints))
-slow_drift a b (inr p) (inl q) = rw (p, q) (omega (arith, ints))
-slow_drift a b (inr p) (inr q) = rw (p, q) (omega (arith, ints))
-
 pub slow_fits : FitsInWindows slow_claim (worked_exchange ∷ []) slow_course
-slow_fits =
-    let error = pos 0 in
-    let reading = pos (worked_second + 85899345) in
-    let served = pos (worked_second + 42949673) in
-    let windows : OfEach (worked_exchange ∷ []) (ReadsInWindows (pos 0) slow_course) =
-    of_one (ReadsInWindows (pos 0) slow_course 0)
-    (in_its_windows error reading served (omega (arith, ints)) (omega (arith, ints))) in
-    record {
-      fits = record {
-        some_fineness = omega arith;
-        few_false = rw (no_false_group (0 ∷ [])) (omega arith);
-        leaves_after_stamp = λ k x at. (windows k x at).0.0;
-        arrives_before_stamp = λ k x at. (windows k x at).1.1;
-        drift = λ a b at_a at_b. slow_drift a b (slow_moment 1 a at_a) (slow_moment 1 b at_b);
-        ordered = λ k x at true'. (omega (arith, ints), omega (arith, ints), omega (arith, ints));
-        within_root_distance = λ k x at true'. of_one (KeepsRootDistance slow_course 0)
-            (keeps_its_distance error reading reading served (omega (arith, ints)) (omega (arith, ints))) k x at;
-      };
-      in_windows = windows;
-    }
+slow_fits = search rules
 
 -- ---- the clock that is stepped
-
-second_of_two : (a : ℕ) (x : Exchange) → 1 ≡ a
-    → slice_get (earlier_exchange ∷ worked_exchange ∷ []) a ≡ Some x → worked_exchange ≡ x
-second_of_two a x is at =
-    let here : slice_get (earlier_exchange ∷ worked_exchange ∷ []) 1 ≡ Some x =
-    ap (slice_get (earlier_exchange ∷ worked_exchange ∷ [])) is ∙ at in
-    cc
 
 -- what holds of the worked exchange holds of what is named
 of_worked : (P : ℕ → Exchange → ℕ → Exchange → Type 0) → P 1 worked_exchange 1 worked_exchange
     → OfEachEntry (earlier_exchange ∷ worked_exchange ∷ []) ((1, 1) ∷ []) P
-of_worked P holds zero a b x y named at_a at_b =
-    let (first, second) = some_pair_parts 1 a 1 b named in
-    let low : worked_exchange ≡ x = second_of_two a x first at_a in
-    let high : worked_exchange ≡ y = second_of_two b y second at_b in
-    rw (sym first, sym second, sym low, sym high) holds
+of_worked P holds zero a b x y named at_a at_b = search rules
 of_worked P holds (suc j) a b x y named at_a at_b = absurd cc
 
 pub stepped_fits : FitsPiece worked_claim (earlier_exchange ∷ worked_exchange ∷ []) ((1, 1) ∷ []) stepped_course
@@ -201,9 +128,16 @@ stepped_fits =
 
 pub stepped_fits_no_capture : Fits worked_claim (earlier_exchange ∷ worked_exchange ∷ []) stepped_course → ⊥
 stepped_fits_no_capture fits =
-    let drift = fits.drift (stepped_course.request 0) stepped_course.observation
-    (inr (0, omega arith, inl refl)) (inl refl) in
-    omega (arith, ints, drift)
+    omega (
+      arith,
+      ints,
+      fits.drift (stepped_course.request 0) stepped_course.observation (inr (
+        0,
+        omega arith,
+        inl
+            refl,
+      )) (inl refl),
+    )
 
 pub ruleset stepped_clock = (stepped_fits, stepped_fits_no_capture)
 

@@ -1,5 +1,5 @@
 -- Pieces that share their ends hold every reading of the span, fractions of a tick too.
-use Rattle.checker.proofs.Common.{◌≡◌, ℕ, zero, suc, ◌<◌, ℤ, pos, ◌*ℤ◌, List, [], ◌∷◌, length, Some, refl, ap, arith, slice_get, IsSomeAnd, by_lt_z, PieceData, IsInWindow, stretches_from, begin_of, last_end, SomeHoldsReading, Stretch, ≤ℤ-from_lt}
+use Rattle.checker.proofs.Common.{◌≡◌, ℕ, zero, suc, ◌<◌, ℤ, pos, ◌*ℤ◌, List, [], ◌∷◌, length, Some, refl, ap, arith, slice_get, IsSomeAnd, by_lt_z, PieceData, IsInWindow, stretches_from, begin_of, last_end, SomeHoldsReading, Stretch, ≤ℤ-from_lt, rules}
 
 later : (n : ℕ) (reading : ℤ) (first : Stretch) (stretches : List Stretch) → SomeHoldsReading stretches n reading
     → SomeHoldsReading (first ∷ stretches) n reading
@@ -36,7 +36,5 @@ pub stretch_of_piece : (begin : ℤ) (pieces : List PieceData) (k : ℕ) (piece 
     → slice_get (stretches_from begin pieces) k
     ≡ Some (record { begin = begin_of begin pieces k; end = pos piece.upto })
 stretch_of_piece begin [] k piece at = absurd cc
-stretch_of_piece begin (first ∷ pieces) zero piece at =
-    let here : first ≡ piece = cc in
-    ap (λ (p : PieceData). Some (record { begin = begin; end = pos p.upto })) here
+stretch_of_piece begin (first ∷ pieces) zero piece at = search rules
 stretch_of_piece begin (first ∷ pieces) (suc k) piece at = stretch_of_piece (pos first.upto) pieces k piece at

@@ -1,5 +1,5 @@
 -- What the entries of a piece say, all in their order, and that no server says it twice.
-use Rattle.checker.proofs.Common.{◌≡◌, ◌≢◌, ℕ, suc, ◌<◌, Bool, false, List, [], ◌∷◌, ◌++◌, Some, Result, Ok, length, get_or, refl, sym, ap, ◌∙◌, subst, arith, All, AllPairs, slice_get, ◌==◌, AllZip, list_any, nat_tests, append-nil, append_assoc, All-cons, All-nil, list_any_at, list_any_none, Sample, IsSaidBy, AreSaidBy, part_from, parts_after, unless_refused, Part, Stretch, Why, by_test, ne_eqb, All-slice_get}
+use Rattle.checker.proofs.Common.{◌≡◌, ◌≢◌, ℕ, suc, ◌<◌, Bool, false, List, [], ◌∷◌, ◌++◌, Some, Result, Ok, length, get_or, refl, sym, ap, ◌∙◌, subst, arith, All, AllPairs, slice_get, ◌==◌, AllZip, list_any, nat_tests, append-nil, append_assoc, All-cons, All-nil, list_any_at, list_any_none, Sample, IsSaidBy, AreSaidBy, part_from, parts_after, unless_refused, Part, Stretch, Why, by_test, ne_eqb, All-slice_get, ints, rules}
 use Rattle.std.proofs.lemmas.Grind.{common_steps}
 use Rattle.std.proofs.lemmas.List.Quantifiers.{all_pairs_push}
 use Rattle.checker.proofs.Part.{takes, accepted, begins}
@@ -24,11 +24,7 @@ differ a b h = λ same. grind (arith, nat_tests)
 -- a server that isn't named yet is apart from all that are
 apart_from : (server : ℕ) (earlier : List Part) → list_any (λ part. part.server == server) earlier ≡ false
     → All (λ part. part.server ≢ server) earlier
-apart_from server earlier none k d below =
-    let test : Part → Bool = λ part. part.server == server in
-    by_test (test (get_or earlier k d))
-    (λ passes. absurd (let any = list_any_at test earlier k d below passes in cc))
-    (λ fails. differ (get_or earlier k d).server server fails)
+apart_from server earlier none k d below = grind (arith, ints, nat_tests, by_test, list_any_at, differ)
 
 -- and so it is, if the parts of the whole list are apart
 new_from : (earlier later : List Part) (part : Part) → AllPairs AreApart (earlier ++ part ∷ later)
@@ -74,14 +70,7 @@ module _ (samples : List Sample) (stretch : Stretch) (ppb : ℕ) where
 
   said_after : (earlier : List Part) (entries : List (ℕ × ℕ)) (parts : List Part) → AllPairs AreApart earlier
       → parts_after samples stretch ppb earlier entries ≡ Ok parts → SaidAfter earlier entries parts
-  said_after earlier [] parts apart e =
-      let same : earlier ≡ parts = cc in
-      record {
-        more = [];
-        joined = sym same ∙ sym (append-nil earlier);
-        said = tt;
-        apart = subst (AllPairs AreApart) same apart;
-      }
+  said_after earlier [] parts apart e = search rules
   said_after earlier (entry ∷ entries) parts apart e =
       let first = begins samples stretch ppb earlier entry entries parts e in
       let here = said_once earlier entry first.part first.said in
@@ -101,9 +90,7 @@ module _ (samples : List Sample) (stretch : Stretch) (ppb : ℕ) where
   pub said_from : (entries : List (ℕ × ℕ)) (parts : List Part)
       → parts_after samples stretch ppb [] entries ≡ Ok parts
       → AreSaidBy samples stretch ppb entries parts × AllPairs AreApart parts
-  said_from entries parts e =
-      let found = said_after [] entries parts no_pairs e in
-      (subst (AreSaidBy samples stretch ppb entries) (sym found.joined) found.said, found.apart)
+  said_from entries parts e = grind (arith, ints, nat_tests, said_after [] entries parts no_pairs e)
 
   -- what holds of whatever an entry can say holds of all that the entries say
   pub all_said : (P : Part → Type 0) (entries : List (ℕ × ℕ)) (parts : List Part)

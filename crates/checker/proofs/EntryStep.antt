@@ -1,5 +1,5 @@
 -- One more entry in a piece leaves no more points admissible.
-use Rattle.checker.proofs.Common.{◌≡◌, ℕ, ◌⊎◌, inl, inr, ⊎_elim, List, [], ◌∷◌, ◌++◌, length, Option, None, Result, Ok, Err, refl, sym, ap, ◌∙◌, subst, arith, slice_get, ints, PieceData, CertificateData, ClaimData, Sample, IsYesOr, IsContradiction, IsRefusedEntry, HasOneMoreEntry, part_from, parts_after, unless_refused, parts_fault, verdict_from, verdict_of, Part, Stretch, Yes, Why, get_or, ◌<◌, get_or_default, AreNarrower}
+use Rattle.checker.proofs.Common.{◌≡◌, ℕ, ◌⊎◌, inl, inr, ⊎_elim, List, [], ◌∷◌, ◌++◌, length, Option, None, Result, Ok, Err, refl, sym, ap, ◌∙◌, subst, arith, slice_get, ints, PieceData, CertificateData, ClaimData, Sample, IsYesOr, IsContradiction, IsRefusedEntry, HasOneMoreEntry, part_from, parts_after, unless_refused, parts_fault, verdict_from, verdict_of, Part, Stretch, Yes, Why, get_or, ◌<◌, get_or_default, AreNarrower, nat_tests}
 use Rattle.std.proofs.lemmas.Grind.{common_steps}
 use Rattle.checker.proofs.Comparison.{FaultIs, one_changed, EveryHull}
 use Rattle.checker.proofs.Narrow.{narrower_hull}
@@ -29,9 +29,7 @@ module _ (hulls : EveryHull) (samples : List Sample) (claim : ClaimData) (stretc
   -- what entries say, with one more
   entries_split : (earlier : List Part) (entries : List (ℕ × ℕ)) (entry : ℕ × ℕ) (parts : List Part)
       → after earlier entries ≡ Ok parts → after earlier (entries ++ entry ∷ []) ≡ after parts (entry ∷ [])
-  entries_split earlier [] entry parts e =
-      let same : earlier ≡ parts = cc in
-      ap (λ (ps : List Part). after ps (entry ∷ [])) same
+  entries_split earlier [] entry parts e = grind (arith, ints, nat_tests, after)
   entries_split earlier (first ∷ entries) entry parts e =
       let begin = begins samples stretch claim.drift_ppb earlier first entries parts e in
       begin_with samples stretch claim.drift_ppb earlier first (entries ++ entry ∷ []) begin.part begin.said

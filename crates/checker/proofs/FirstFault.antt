@@ -1,5 +1,6 @@
 -- The first fault of a piece and of a certificate, step by step.
-use Rattle.checker.proofs.Common.{◌≡◌, ◌≢◌, ℕ, suc, ◌+◌, ◌<◌, ◌≤◌, ◌^◌, ℤ, pos, ◌≤ℤ◌, ◌<ℤ◌, Bool, true, false, ◌&&◌, ◌||◌, int_lt, nat_lt, if◌then◌else◌, List, [], ◌∷◌, length, map, drop, get_or, Option, Some, None, Result, refl, sym, ap, ap₂, ◌∙◌, subst, add-one, arith, int_eq, cond-true, cond-false, nat_tests, ints, PieceData, piece_data, ClaimData, Sample, parts_after, parts_fault, piece_fault, verdict_after, verdict_from, IsPiece, Part, Verdict, Yes, No, Why, Cut, Uncovered, int_lt-false}
+use Rattle.std.proofs.lemmas.Grind.{common_steps}
+use Rattle.checker.proofs.Common.{◌≡◌, ◌≢◌, ℕ, suc, ◌+◌, ◌<◌, ◌≤◌, ◌^◌, ℤ, pos, ◌≤ℤ◌, ◌<ℤ◌, Bool, true, false, ◌&&◌, ◌||◌, int_lt, nat_lt, if◌then◌else◌, List, [], ◌∷◌, length, map, drop, get_or, Option, Some, None, Result, refl, sym, ap, ap₂, ◌∙◌, subst, add-one, arith, int_eq, cond-true, cond-false, nat_tests, ints, PieceData, piece_data, ClaimData, Sample, parts_after, parts_fault, piece_fault, verdict_after, verdict_from, IsPiece, Part, Verdict, Yes, No, Why, Cut, Uncovered, int_lt-false, rules}
 use Rattle.std.proofs.Math.ListN.{drop_of_length-le}
 use Rattle.std.proofs.Math.Seq.{drop-cons}
 use Rattle.certificate.specs.declared.certificate.Piece.{Piece}
@@ -9,41 +10,20 @@ use Rattle.certificate.specs.declared.certificate.Piece.{Piece}
 -- a piece with its begin, its end and the last reading of the span, as a program holds them
 module _ (samples : List Sample) (claim : ClaimData) (begin : ℤ) (piece : PieceData) (b e l : ℤ)
     (is_b : b ≡ begin) (is_e : e ≡ pos piece.upto) (is_l : l ≡ claim.last) where
-  cut_by : (before after : Bool) → int_lt e b ≡ before → int_lt l e ≡ after
-      → (int_lt (pos piece.upto) begin || int_lt claim.last (pos piece.upto)) ≡ (before || after)
-  cut_by before after is_before is_after =
-      ap₂ (λ p q. p || q) (ap₂ int_lt (sym is_e) (sym is_b) ∙ is_before) (ap₂ int_lt (sym is_l) (sym is_e) ∙ is_after)
-
   pub cut_before : int_lt e b ≡ true → Some Cut ≡ piece_fault samples claim begin piece
-  cut_before before =
-      sym (cond-true (int_lt (pos piece.upto) begin || int_lt claim.last (pos piece.upto)) _ _
-      (cut_by true (int_lt l e) before refl))
+  cut_before before = search rules
 
   pub cut_after : int_lt e b ≡ false → int_lt l e ≡ true → Some Cut ≡ piece_fault samples claim begin piece
-  cut_after before after =
-      sym (cond-true (int_lt (pos piece.upto) begin || int_lt claim.last (pos piece.upto)) _ _
-      (cut_by false true before after))
+  cut_after before after = search rules
 
   pub uncut : (read : Result (List Part) Why) → int_lt e b ≡ false → int_lt l e ≡ false
       → parts_after samples (record { begin = b; end = e }) claim.drift_ppb [] piece.entries ≡ read
       → parts_fault claim read ≡ piece_fault samples claim begin piece
-  uncut read before after is =
-      ap (parts_fault claim)
-      (sym is
-      ∙ ap₂ (λ x y. parts_after samples (record { begin = x; end = y }) claim.drift_ppb [] piece.entries) is_b is_e)
-      ∙ sym (cond-false (int_lt (pos piece.upto) begin || int_lt claim.last (pos piece.upto)) _ _
-      (cut_by false false before after))
+  uncut read before after is = search rules
 
   pub uncut_piece : pos 0 ≤ℤ begin → claim.last <ℤ pos (2 ^ 64) → int_lt e b ≡ false → int_lt l e ≡ false
       → IsPiece b e
-  uncut_piece begins ends before after =
-      let most : e ≤ℤ l = int_lt-false l e after in
-      let below : l <ℤ pos (2 ^ 64) = subst (λ z. z <ℤ pos (2 ^ 64)) (sym is_l) ends in
-      record {
-        from_zero = subst (λ z. pos 0 ≤ℤ z) (sym is_b) begins;
-        in_order = int_lt-false e b before;
-        in_range = omega (arith, ints);
-      }
+  uncut_piece begins ends before after = search rules
 
 -- ---- the test after the last piece
 
@@ -64,10 +44,7 @@ module _ (samples : List Sample) (claim : ClaimData) (pieces : List Piece) (n : 
   module _ (held : List Piece) (piece : Piece) (same : held ≡ pieces) (is : piece ≡ get_or held n piece)
       (within : n < length held) where
     left : drop n pieces ≡ piece ∷ drop (n + 1) pieces
-    left =
-        let inside : n < length pieces = subst (λ (l : List Piece). n < length l) same within in
-        let here : get_or pieces n piece ≡ piece = sym (is ∙ ap (λ (l : List Piece). get_or l n piece) same) in
-        drop-cons pieces n piece inside ∙ ap (λ (p : Piece). p ∷ drop (suc n) pieces) here ∙ rw add-one refl
+    left = grind (arith, ints, nat_tests, drop-cons)
 
     by_fault : (fault : Option Why) → piece_fault samples claim begin (piece_data piece) ≡ fault
         → whole ≡ verdict_after fault n
@@ -83,9 +60,7 @@ module _ (samples : List Sample) (claim : ClaimData) (pieces : List Piece) (n : 
 
     pub passes_to : (next : ℤ) → next ≡ pos piece.upto → piece_fault samples claim begin (piece_data piece) ≡ None
         → verdict_from samples claim (n + 1) next (map piece_data (drop (n + 1) pieces)) ≡ whole
-    passes_to next is_next passes =
-        ap (λ (e : ℤ). verdict_from samples claim (n + 1) e (map piece_data (drop (n + 1) pieces))) is_next
-        ∙ sym (by_fault None passes)
+    passes_to next is_next passes = grind (arith, ints, nat_tests, common_steps, by_fault)
 
   -- none is left
   module _ (over : length pieces ≤ n) where

@@ -1,5 +1,5 @@
 -- Why a hull holds the error: from what entries name of a course to the hull of what they say.
-use Rattle.checker.proofs.Common.{◌≡◌, ℕ, ◌<◌, ◌≤◌, ℤ, pos, ◌*ℤ◌, ◌≤ℤ◌, Bool, false, List, [], ◌∷◌, length, Option, Some, None, refl, sym, ap, ◌∙◌, subst, arith, All, slice_get, option_map, slice_get-map, ClaimData, IsLawful, HoldsFraction, IsAdmissibleFraction, HullHoldsFraction, IsHull, hull_of, Interval, Hull, Exchange, Moment, error_of, DriftsWithin, DriftsWithinByReading, IsInWindow, IsWithinDistance, IsOffAtLeast, IsOffAtMost, sample_of, least_error, greatest_error, IsLawfulSample, IsRate, billion, request_start, reply_end, Sample, piece_interval_of, IsSaidBy, AreSaidBy, IsOfSamples, Course, Fits, false_group_count, group_intervals, piece_hull, FitsPiece, AreSamplesOf, samples_of, IsObservedIn, IsInHull, HoldsError, HoldsErrorOfPiece, Part, Stretch, All-slice_get}
+use Rattle.checker.proofs.Common.{◌≡◌, ℕ, ◌<◌, ◌≤◌, ℤ, pos, ◌*ℤ◌, ◌≤ℤ◌, Bool, false, List, [], ◌∷◌, length, Option, Some, None, refl, sym, ap, ◌∙◌, subst, arith, All, slice_get, option_map, slice_get-map, ClaimData, IsLawful, HoldsFraction, IsAdmissibleFraction, HullHoldsFraction, IsHull, hull_of, Interval, Hull, Exchange, Moment, error_of, DriftsWithin, DriftsWithinByReading, IsInWindow, IsWithinDistance, IsOffAtLeast, IsOffAtMost, sample_of, least_error, greatest_error, IsLawfulSample, IsRate, billion, request_start, reply_end, Sample, piece_interval_of, IsSaidBy, AreSaidBy, IsOfSamples, Course, Fits, false_group_count, group_intervals, piece_hull, FitsPiece, AreSamplesOf, samples_of, IsObservedIn, IsInHull, HoldsError, HoldsErrorOfPiece, Part, Stretch, All-slice_get, rules, ints, nat_tests}
 use Rattle.checker.proofs.Counting.{few_leave_it_out}
 use Rattle.checker.proofs.PieceFit.{counts_as_false, count_from_few, true_if_uncounted, fits_piece}
 use Rattle.checker.proofs.EntryStatement.{zip_all}
@@ -41,8 +41,7 @@ module _ (xs : List Exchange) (claim : ClaimData) (samples : List Sample) where
   made_from : (k : ℕ) (sample : Sample) (o : Option Exchange) → slice_get xs k ≡ o
       → option_map (λ x. sample_of x claim.reading) o ≡ Some sample → MadeOf k sample
   made_from k sample None at is = absurd cc
-  made_from k sample (Some x) at is =
-      record { exchange = x; at = at; is = (let same : sample_of x claim.reading ≡ sample = cc in same) }
+  made_from k sample (Some x) at is = search rules
 
   made_of : (k : ℕ) (sample : Sample) → samples ≡ samples_of xs claim → slice_get samples k ≡ Some sample
       → MadeOf k sample
@@ -64,9 +63,7 @@ module _ (laws : Laws) (claim : ClaimData) (samples : List Sample) (lawful : IsL
 
   by_reading : (moment : Moment) → DriftsWithin claim.drift_ppb moment course.observation
       → DriftsWithinByReading claim.drift_ppb moment course.observation
-  by_reading moment drifts =
-      let rate = lawful.drift_in_range in
-      laws.drift claim.drift_ppb moment course.observation (omega arith) drifts
+  by_reading moment drifts = grind (arith, ints, nat_tests)
 
   -- the sample of an exchange that one is made of keeps its limits
   made_lawful : (k : ℕ) (sample : Sample) (at : slice_get samples k ≡ Some sample)
@@ -79,9 +76,7 @@ module _ (laws : Laws) (claim : ClaimData) (samples : List Sample) (lawful : IsL
   server_of : (stretch : Stretch) (entry : ℕ × ℕ) (part : Part)
       (said : IsSaidBy samples stretch claim.drift_ppb entry part)
       → (made_of xs claim samples entry.0 said.low made said.low_is).exchange.server ≡ part.server
-  server_of stretch entry part said =
-      let first = made_of xs claim samples entry.0 said.low made said.low_is in
-      ap (λ (s : Sample). s.server) first.is ∙ sym (ap (λ (p : Part). p.server) said.is)
+  server_of stretch entry part said = search rules
 
   module _ (entries : List (ℕ × ℕ)) (fits : FitsPiece claim xs entries course) (stretch : Stretch)
       (observed : IsObservedIn course stretch.begin stretch.end) where
@@ -146,14 +141,7 @@ module _ (laws : Laws) (claim : ClaimData) (samples : List Sample) (lawful : IsL
 
   said_of : (stretch : Stretch) (part : Part) (given : IsOfSamples samples stretch claim.drift_ppb part)
       → IsSaidBy samples stretch claim.drift_ppb (given.low_number, given.high_number) part
-  said_of stretch part given = record {
-    low = given.low;
-    high = given.high;
-    low_is = given.low_is;
-    high_is = given.high_is;
-    one_server = given.one_server;
-    is = given.is;
-  }
+  said_of stretch part given = search rules
 
   lone_holds : (fits : Fits claim xs course) (stretch : Stretch)
       (observed : IsObservedIn course stretch.begin stretch.end) (part : Part)
@@ -168,11 +156,12 @@ module _ (laws : Laws) (claim : ClaimData) (samples : List Sample) (lawful : IsL
   listed_at : (stretch : Stretch) (entry : ℕ × ℕ) (part : Part)
       → IsSaidBy samples stretch claim.drift_ppb entry part → part.server < length claim.groups
   listed_at stretch entry part said =
-      let low = All-slice_get (λ (s : Sample). s.server < length claim.servers) samples entry.0 said.low are.listed
-      said.low_is in
-      let same = ap (λ (p : Part). p.server) said.is in
-      let count = lawful.group_for_each in
-      omega (arith, same, low, count)
+      omega (
+        arith,
+        All-slice_get (λ (s : Sample). s.server < length claim.servers) samples entry.0 said.low are.listed
+            said.low_is,
+        ap (λ (p : Part). p.server) said.is,
+      )
 
   -- the hull of parts that hold the error, but those of a server that is false
   hull_of_parts : (is_false : ℕ → Bool) (parts : List Part) → 0 < course.fineness
@@ -215,10 +204,8 @@ module _ (laws : Laws) (claim : ClaimData) (samples : List Sample) (lawful : IsL
   pub piece_holds : (stretch : Stretch) (entries : List (ℕ × ℕ)) (parts : List Part)
       → AreSaidBy samples stretch claim.drift_ppb entries parts
       → HoldsErrorOfPiece claim samples entries stretch (piece_hull claim.groups claim.false_max parts)
-  piece_holds stretch entries parts said xs course made fits observed =
-      holds_of_piece laws claim samples lawful xs course made are entries parts stretch fits observed said
+  piece_holds stretch entries parts said xs course made fits observed = search (rules, holds_of_piece)
 
   pub capture_holds : (stretch : Stretch) (parts : List Part) → All (IsOfSamples samples stretch claim.drift_ppb) parts
       → HoldsError claim samples stretch (piece_hull claim.groups claim.false_max parts)
-  capture_holds stretch parts of_samples xs course made fits observed =
-      holds_of_capture laws claim samples lawful xs course made are parts stretch fits observed of_samples
+  capture_holds stretch parts of_samples xs course made fits observed = search (rules, holds_of_capture)

@@ -1,5 +1,5 @@
 -- Narrower intervals of the same servers, and more of them, leave no more points admissible.
-use Rattle.checker.proofs.Common.{◌≡◌, ℕ, ◌≤◌, ℤ, Bool, true, cond, ◌&&◌, ◌⊎◌, inl, inr, ⊎_elim, List, [], length, Some, None, Ok, count_by, refl, sym, ap, ◌∙◌, subst, arith, All, slice_index, ◌==◌, Any, ints, and_parts, and_from, Any-from_list_any, sum_by-le-sum_by, All-get_or, any_passes_from_place, slice_get_read, leaves_out, Interval, Empty, Sample, IsContradiction, IsNarrower, AreNarrower, IsOfSamples, numbers_below, group_interval, group_intervals, piece_hull, parts_after, hull_fault, Part, Stretch}
+use Rattle.checker.proofs.Common.{◌≡◌, ℕ, ◌≤◌, ℤ, Bool, true, cond, ◌&&◌, ◌⊎◌, inl, inr, ⊎_elim, List, [], length, Some, None, Ok, count_by, refl, sym, ap, ◌∙◌, subst, arith, All, slice_index, ◌==◌, Any, ints, and_parts, and_from, Any-from_list_any, sum_by-le-sum_by, All-get_or, any_passes_from_place, slice_get_read, leaves_out, Interval, Empty, Sample, IsContradiction, IsNarrower, AreNarrower, IsOfSamples, numbers_below, group_interval, group_intervals, piece_hull, parts_after, hull_fault, Part, Stretch, nat_tests, rules}
 use Rattle.checker.proofs.Counting.{implies_le}
 use Rattle.checker.proofs.EntryStatement.{all_said}
 use Rattle.checker.proofs.Comparison.{FaultIs, EveryHull, hull_follows}
@@ -30,14 +30,7 @@ module _ (p : Interval → Bool) (either : IsOfEither p)
 
   -- so no fewer groups pass
   pub no_fewer_groups : count_by p (group_intervals groups parts) ≤ count_by p (group_intervals groups next)
-  no_fewer_groups =
-      let numbers = numbers_below (length groups) in
-      let before = counted p either (group_interval groups parts) numbers in
-      let after = counted p either (group_interval groups next) numbers in
-      let step = sum_by-le-sum_by (λ g. cond (passes p (group_interval groups parts g)) 1 0)
-      (λ g. cond (passes p (group_interval groups next g)) 1 0) numbers
-      (λ g. implies_le _ _ (group_still_passes g)) in
-      omega (arith, before, after, step)
+  no_fewer_groups = search (rules, counted, sum_by-le-sum_by, passes, implies_le, group_still_passes)
 
 pub still_left_out : (point : ℤ) (part next : Part) → IsNarrower part next → leaves_out part.interval point ≡ true
     → leaves_out next.interval point ≡ true
@@ -62,10 +55,7 @@ narrower_hull hulls groups f bound parts next each e =
 pub empty_or_inside : (hulls : EveryHull) (groups : List ℕ) (f : ℕ) (bound : ℤ) (parts next : List Part)
     → AreNarrower parts next → hull_fault bound (piece_hull groups f parts) ≡ None
     → (hull_fault bound (piece_hull groups f next) ≡ None) ⊎ (piece_hull groups f next ≡ Empty)
-empty_or_inside hulls groups f bound parts next each e = ⊎_elim
-    (λ none. inl none)
-    (λ found. inr (empty_hull bound (piece_hull groups f next) (found.1 ∙ ap Some found.2)))
-    (narrower_hull hulls groups f bound parts next each e)
+empty_or_inside hulls groups f bound parts next each e = grind (arith, ints, nat_tests, empty_hull, narrower_hull)
 
 pub of_samples : (samples : List Sample) (stretch : Stretch) (ppb : ℕ) (entries : List (ℕ × ℕ)) (parts : List Part)
     → parts_after samples stretch ppb [] entries ≡ Ok parts → All (IsOfSamples samples stretch ppb) parts

@@ -1,5 +1,5 @@
 -- The order in which the entries of a piece stand changes nothing of what they say together.
-use Rattle.checker.proofs.Common.{◌≡◌, ℕ, Bool, true, false, cond, ◌||◌, inl, ⊎_elim, List, [], ◌∷◌, ◌++◌, length, Option, Some, None, Result, Ok, Err, refl, sym, ap, ◌∙◌, subst, arith, slice_get, slice_index, ◌==◌, fold, filter, filter_map, cons_option, list_any, int_max, int_min, ints, clamps, nat_tests, list_any-append, fold-append, filter-append, PieceData, CertificateData, ClaimData, hull_of, Interval, Sample, HasEntriesSwapped, numbers_below, meet_of, narrowed, group_interval, part_from, parts_after, hull_fault, parts_fault, verdict_from, verdict_of, Part, Stretch, Yes, Why}
+use Rattle.checker.proofs.Common.{◌≡◌, ℕ, Bool, true, false, cond, ◌||◌, inl, ⊎_elim, List, [], ◌∷◌, ◌++◌, length, Option, Some, None, Result, Ok, Err, refl, sym, ap, ◌∙◌, subst, arith, slice_get, slice_index, ◌==◌, fold, filter, filter_map, cons_option, list_any, int_max, int_min, ints, clamps, nat_tests, list_any-append, fold-append, filter-append, PieceData, CertificateData, ClaimData, hull_of, Interval, Sample, HasEntriesSwapped, numbers_below, meet_of, narrowed, group_interval, part_from, parts_after, hull_fault, parts_fault, verdict_from, verdict_of, Part, Stretch, Yes, Why, rules}
 use Rattle.checker.proofs.Part.{takes, accepted, says, begins, begin_with}
 use Rattle.checker.proofs.Comparison.{one_changed}
 
@@ -16,10 +16,7 @@ meet_swapped i x y =
     cc
 
 pub meet_turned : (x y : Interval) → meet_of x y ≡ meet_of y x
-meet_turned x y =
-    let low : int_max x.lo y.lo ≡ int_max y.lo x.lo = omega (arith, ints, clamps) in
-    let high : int_min x.hi y.hi ≡ int_min y.hi x.hi = omega (arith, ints, clamps) in
-    cc
+meet_turned x y = grind (arith, ints, nat_tests)
 
 narrowed_swapped : (o : Option Interval) (x y : Part) → narrowed (narrowed o x) y ≡ narrowed (narrowed o y) x
 narrowed_swapped None x y = ap Some (meet_turned x.interval y.interval)
@@ -33,18 +30,13 @@ with_parts_swapped : (s t : Bool) (o : Option Interval) (x y : Part)
     → with_part t (with_part s o x) y ≡ with_part s (with_part t o y) x
 unfolding with_part
 with_parts_swapped true true o x y = narrowed_swapped o x y
-with_parts_swapped true false o x y = refl
-with_parts_swapped false true o x y = refl
-with_parts_swapped false false o x y = refl
+with_parts_swapped _ _ o x y = refl
 
 module _ (groups : List ℕ) where
   pushed : (parts : List Part) (part : Part) (g : ℕ) → group_interval groups (parts ++ part ∷ []) g
       ≡ with_part (slice_index groups part.server == g) (group_interval groups parts g) part
   unfolding with_part
-  pushed parts part g =
-      let test : Part → Bool = λ p. slice_index groups p.server == g in
-      ap (λ (ps : List Part). fold narrowed None ps) (filter-append test parts (part ∷ []))
-      ∙ fold-append narrowed None (filter test parts) (filter test (part ∷ []))
+  pushed parts part g = grind (arith, ints, nat_tests, narrowed, filter-append, fold-append)
 
   -- parts that say the same of servers and of groups
   pub record Similar (parts other : List Part) : Type 0 where
@@ -93,10 +85,7 @@ module _ (groups : List ℕ) where
   same_intervals : (parts other : List Part) (gs : List ℕ) → Similar parts other
       → filter_map (group_interval groups parts) gs ≡ filter_map (group_interval groups other) gs
   same_intervals parts other [] is = refl
-  same_intervals parts other (g ∷ gs) is =
-      ap (λ (o : Option Interval). cons_option o (filter_map (group_interval groups parts) gs)) (is.common g)
-      ∙ ap (λ (list : List Interval). cons_option (group_interval groups other g) list)
-      (same_intervals parts other gs is)
+  same_intervals parts other (g ∷ gs) is = grind (arith, ints, nat_tests)
 
 -- ---- entries
 
@@ -128,14 +117,7 @@ module _ (samples : List Sample) (claim : ClaimData) (stretch : Stretch) where
 
   says_similar : (earlier other : List Part) (entries : List (ℕ × ℕ)) (parts : List Part)
       → Similar claim.groups earlier other → after earlier entries ≡ Ok parts → SaysSimilar other entries parts
-  says_similar earlier other [] parts is e =
-      let same : earlier ≡ parts = cc in
-      record {
-        parts' = other;
-        said = refl;
-        similar = subst (λ (ps : List Part). Similar claim.groups ps other) same
-            is;
-      }
+  says_similar earlier other [] parts is e = search rules
   says_similar earlier other (entry ∷ entries) parts is e =
       let first = begins samples stretch claim.drift_ppb earlier entry entries parts e in
       let again = says_again (slice_get samples entry.0) (slice_get samples entry.1) earlier first.part first.said in
@@ -188,14 +170,12 @@ module _ (samples : List Sample) (claim : ClaimData) (stretch : Stretch) where
       → after earlier (front ++ x ∷ y ∷ back) ≡ Ok parts → SaysSimilar earlier (front ++ y ∷ x ∷ back) parts
   turned_after earlier [] x y back parts e = turned earlier x y back parts e
   turned_after earlier (entry ∷ front) x y back parts e =
-      let first = begins samples stretch claim.drift_ppb earlier entry (front ++ x ∷ y ∷ back) parts e in
-      let rest = turned_after (earlier ++ first.part ∷ []) front x y back parts first.rest in
-      record {
-        parts' = rest.parts';
-        said = begin_with samples stretch claim.drift_ppb earlier entry (front ++ y ∷ x ∷ back) first.part first.said
-            ∙ rest.said;
-        similar = rest.similar;
-      }
+      grind (
+        arith,
+        turned_after (earlier ++ (begins samples stretch claim.drift_ppb earlier entry (front ++ x ∷ y ∷ back) parts
+            e).part ∷ []) front x y back parts (begins samples stretch claim.drift_ppb earlier entry (front ++ x ∷ y ∷ back)
+            parts e).rest,
+      )
 
   turned_passes : (front : List (ℕ × ℕ)) (x y : ℕ × ℕ) (back : List (ℕ × ℕ)) (said : Result (List Part) Why)
       → after [] (front ++ x ∷ y ∷ back) ≡ said → parts_fault claim said ≡ None

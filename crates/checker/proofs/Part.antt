@@ -1,9 +1,5 @@
 -- What the entries of a piece say, each by itself.
-use Rattle.checker.proofs.Common.{◌≡◌, ◌≢◌, ℕ, ◌<◌, Bool, true, false, cond, not, List, [], ◌∷◌, ◌++◌, Option, Some, None, Result, Ok, Err, length, refl, sym, ◌∙◌, subst, arith, All, slice_get, ◌==◌, list_any, inl, inr, ap, IsRefusedEntry, BadSample, cond-true, cond-false, nat_tests, Sample, part_of, part_from, parts_after, unless_refused, Part, Stretch, Why, MixedServers, RepeatedServer}
-
--- one server: the test on two samples fails
-pub same_server : (a b : ℕ) → not (a == b) ≡ false → a ≡ b
-same_server a b h = grind (arith, nat_tests)
+use Rattle.checker.proofs.Common.{◌≡◌, ◌≢◌, ℕ, ◌<◌, Bool, true, false, cond, not, List, [], ◌∷◌, ◌++◌, Option, Some, None, Result, Ok, Err, length, refl, sym, ◌∙◌, subst, arith, All, slice_get, ◌==◌, list_any, inl, inr, ap, IsRefusedEntry, BadSample, cond-true, cond-false, nat_tests, Sample, part_of, part_from, parts_after, unless_refused, Part, Stretch, Why, MixedServers, RepeatedServer, ints, rules}
 
 -- the tests on two samples pass
 test_fails : (a b : ℕ) → a ≡ b → not (a == b) ≡ false
@@ -14,10 +10,7 @@ pub accepted : (stretch : Stretch) (ppb : ℕ) (earlier : List Part) (low high :
     → at_low ≡ Some low → at_high ≡ Some high → low.server ≡ high.server
     → list_any (λ part. part.server == low.server) earlier ≡ false
     → part_from stretch ppb earlier at_low at_high ≡ Ok (part_of low high stretch ppb)
-accepted stretch ppb earlier low high at_low at_high is_low is_high one new =
-    rw (is_low, is_high)
-    (cond-false (not (low.server == high.server)) _ _ (test_fails low.server high.server one)
-    ∙ cond-false (list_any (λ (part : Part). part.server == low.server) earlier) _ _ new)
+accepted stretch ppb earlier low high at_low at_high is_low is_high one new = search rules
 
 -- of two servers, or of one that is named already, they are refused
 test_holds : (a b : ℕ) → a ≢ b → not (a == b) ≡ true
@@ -26,16 +19,11 @@ test_holds a b h = grind (arith, nat_tests)
 module _ (stretch : Stretch) (ppb : ℕ) (earlier : List Part) (low high : Sample) (at_low at_high : Option Sample)
     (is_low : at_low ≡ Some low) (is_high : at_high ≡ Some high) where
   pub mixed : low.server ≢ high.server → Err MixedServers ≡ part_from stretch ppb earlier at_low at_high
-  mixed two =
-      rw (is_low, is_high)
-      (sym (cond-true (not (low.server == high.server)) _ _ (test_holds low.server high.server two)))
+  mixed two = grind (arith, ints, nat_tests, cond-true, test_holds)
 
   pub repeated : low.server ≡ high.server → list_any (λ part. part.server == low.server) earlier ≡ true
       → Err RepeatedServer ≡ part_from stretch ppb earlier at_low at_high
-  repeated one named =
-      rw (is_low, is_high)
-      (sym (cond-false (not (low.server == high.server)) _ _ (test_fails low.server high.server one)
-      ∙ cond-true (list_any (λ (part : Part). part.server == low.server) earlier) _ _ named))
+  repeated one named = grind (arith, ints, nat_tests, cond-false, test_fails, cond-true)
 
 -- ---- and what follows of an entry that isn't refused
 
@@ -57,22 +45,13 @@ takes_tested : (stretch : Stretch) (ppb : ℕ) (earlier : List Part) (low high :
     → Takes stretch ppb earlier (Some low) (Some high) part
 takes_tested stretch ppb earlier low high true repeated part one new e = absurd cc
 takes_tested stretch ppb earlier low high false true part one new e = absurd cc
-takes_tested stretch ppb earlier low high false false part one new e = record {
-  low = low;
-  high = high;
-  low_is = refl;
-  high_is = refl;
-  one_server = same_server low.server high.server one;
-  new = new;
-  is = (let same : part_of low high stretch ppb ≡ part = cc in same);
-}
+takes_tested stretch ppb earlier low high false false part one new e = search rules
 
 pub takes : (stretch : Stretch) (ppb : ℕ) (earlier : List Part) (at_low at_high : Option Sample) (part : Part)
     → part_from stretch ppb earlier at_low at_high ≡ Ok part → Takes stretch ppb earlier at_low at_high part
 takes stretch ppb earlier None at_high part e = absurd cc
 takes stretch ppb earlier (Some low) None part e = absurd cc
-takes stretch ppb earlier (Some low) (Some high) part e =
-    takes_tested stretch ppb earlier low high _ _ part refl refl e
+takes stretch ppb earlier (Some low) (Some high) part e = grind (arith, ints, nat_tests, takes_tested)
 
 -- ---- and of one that is
 
@@ -84,9 +63,8 @@ refused_test false false part why e = absurd cc
 
 pub refused : (stretch : Stretch) (ppb : ℕ) (earlier : List Part) (low high : Option Sample) (why : Why)
     → part_from stretch ppb earlier low high ≡ Err why → IsRefusedEntry why
-refused stretch ppb earlier None high why e = inl (let same : why ≡ BadSample = cc in same)
-refused stretch ppb earlier (Some low) None why e = inl (let same : why ≡ BadSample = cc in same)
 refused stretch ppb earlier (Some low) (Some high) why e = refused_test _ _ _ why e
+refused stretch ppb earlier _ _ why e = inl (let same : why ≡ BadSample = cc in same)
 
 -- ---- the first of several entries, and the rest
 
@@ -113,13 +91,9 @@ module _ (samples : List Sample) (stretch : Stretch) (ppb : ℕ) where
   pub begin_with : (earlier : List Part) (entry : ℕ × ℕ) (entries : List (ℕ × ℕ)) (part : Part)
       → says earlier entry ≡ Ok part → parts_after samples stretch ppb earlier (entry ∷ entries)
       ≡ parts_after samples stretch ppb (earlier ++ part ∷ []) entries
-  begin_with earlier entry entries part said =
-      ap (λ (r : Result Part Why).
-      unless_refused r (λ p. parts_after samples stretch ppb (earlier ++ p ∷ []) entries)) said
+  begin_with earlier entry entries part said = grind (arith, ints, nat_tests)
 
 -- the servers of parts are listed, if they are those of a list that is the same
 pub listed_again : (xs ys : List Part) (groups : List ℕ) (n : ℕ) → xs ≡ ys → length groups ≡ n
     → All (λ part. part.server < n) ys → All (λ part. part.server < length groups) xs
-listed_again xs ys groups n same count all =
-    subst (λ (m : ℕ). All (λ part. part.server < m) xs) (sym count)
-    (subst (λ (parts : List Part). All (λ part. part.server < n) parts) (sym same) all)
+listed_again xs ys groups n same count all = grind (arith, ints, nat_tests)

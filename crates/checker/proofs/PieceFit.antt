@@ -1,15 +1,12 @@
 -- A course that fits a capture fits what any entries name of it.
-use Rattle.checker.proofs.Common.{◌≡◌, ℕ, zero, suc, ◌+◌, ◌<◌, ◌≤◌, Bool, true, false, cond, ◌&&◌, List, [], ◌∷◌, ◌++◌, length, Some, count_by, refl, sym, ap, ◌∙◌, subst, inl, inr, arith, slice_get, slice_index, ◌==◌, range_with_len, and_parts, and_from, nat_tests, Any-from_list_any, sum_by-le-sum_by, get_or_from_slice_get, slice_get-get_or, slice_get_within, ClaimData, Exchange, DriftsWithin, Course, Fits, holds_false, false_group_count, numbers_below, HasFewFalse, OfEachEntry, FitsPiece, by_test}
+use Rattle.checker.proofs.Common.{◌≡◌, ℕ, zero, suc, ◌+◌, ◌<◌, ◌≤◌, Bool, true, false, cond, ◌&&◌, List, [], ◌∷◌, ◌++◌, length, Some, count_by, refl, sym, ap, ◌∙◌, subst, inl, inr, arith, slice_get, slice_index, ◌==◌, range_with_len, and_parts, and_from, nat_tests, Any-from_list_any, sum_by-le-sum_by, get_or_from_slice_get, slice_get-get_or, slice_get_within, ClaimData, Exchange, DriftsWithin, Course, Fits, holds_false, false_group_count, numbers_below, HasFewFalse, OfEachEntry, FitsPiece, by_test, ints}
 use Rattle.checker.proofs.Counting.{fails_below, implies_le}
 
 -- ---- numbers
 
 one_more : (a n : ℕ) → range_with_len a (suc n) ≡ range_with_len a n ++ (a + n) ∷ []
 one_more a zero = let is : a ≡ a + 0 = omega arith in ap (λ (k : ℕ). k ∷ []) is
-one_more a (suc n) =
-    let is : a + 1 + n ≡ a + suc n = omega arith in
-    ap (λ (l : List ℕ). a ∷ l) (one_more (a + 1) n)
-    ∙ ap (λ (k : ℕ). a ∷ (range_with_len (a + 1) n ++ k ∷ [])) is
+one_more a (suc n) = grind (arith, ints, nat_tests, one_more (a + 1) n)
 
 -- the numbers of n groups
 pub all_numbers : (n : ℕ) → numbers_below n ≡ range_with_len 0 n
@@ -64,12 +61,13 @@ module _ (claim : ClaimData) (xs : List Exchange) (entries : List (ℕ × ℕ)) 
 
     pub count_from_few : false_group_count claim.groups counts_as_false ≤ claim.false_max
     count_from_few =
-        let less = sum_by-le-sum_by (λ g. cond (holds_false claim.groups counts_as_false g) 1 0)
-        (λ g. cond (few.is_wrong g) 1 0) (numbers_below (length claim.groups))
-        (λ g. implies_le _ _ (is_wrong_group g)) in
-        let most = subst (λ (l : List ℕ). count_by few.is_wrong l ≤ claim.false_max)
-        (sym (all_numbers (length claim.groups))) few.few in
-        omega arith
+        omega (
+          arith,
+          sum_by-le-sum_by (λ g. cond (holds_false claim.groups counts_as_false g) 1 0) (λ g. cond
+              (few.is_wrong g) 1 0) (numbers_below (length claim.groups)) (λ g. implies_le _ _ (is_wrong_group g)),
+          subst (λ
+              (l : List ℕ). count_by few.is_wrong l ≤ claim.false_max) (sym (all_numbers (length claim.groups))) few.few,
+        )
 
     -- a server of an entry that doesn't count as false isn't false
     pub true_if_uncounted : (j a b : ℕ) (x y : Exchange) → slice_get entries j ≡ Some (a, b)

@@ -1,5 +1,5 @@
 -- A verdict by its pieces: all pass, or there is a first that fails.
-use Rattle.checker.proofs.Common.{◌≡◌, ℕ, zero, suc, ◌+◌, ◌<◌, ℤ, pos, ◌&&◌, nat_lt, List, [], ◌∷◌, length, Option, Some, None, refl, ap, ◌∙◌, subst, arith, slice_get, int_eq, ints, cond-true, nat_tests, PieceData, ClaimData, Sample, begin_of, last_end, piece_fault, verdict_after, verdict_from, Verdict, Yes, No, Why, Uncovered}
+use Rattle.checker.proofs.Common.{◌≡◌, ℕ, zero, suc, ◌+◌, ◌<◌, ℤ, pos, ◌&&◌, nat_lt, List, [], ◌∷◌, length, Option, Some, None, refl, ap, ◌∙◌, subst, arith, slice_get, int_eq, ints, cond-true, nat_tests, PieceData, ClaimData, Sample, begin_of, last_end, piece_fault, verdict_after, verdict_from, Verdict, Yes, No, Why, Uncovered, rules}
 use Rattle.checker.proofs.VerdictPieces.{yes_step}
 
 module _ (samples : List Sample) (claim : ClaimData) where
@@ -14,9 +14,7 @@ module _ (samples : List Sample) (claim : ClaimData) where
       → last_end begin pieces ≡ claim.last
       → ((k : ℕ) (piece : PieceData) → slice_get pieces k ≡ Some piece → fault_at begin pieces k piece ≡ None)
       → verdict_from samples claim m begin pieces ≡ Yes
-  all_pass m begin [] some ends each =
-      cond-true (nat_lt 0 m && int_eq begin claim.last) Yes (No m Uncovered)
-      (let counted : 0 < m = omega (arith, some) in grind (arith, ints, nat_tests))
+  all_pass m begin [] some ends each = search rules
   all_pass m begin (piece ∷ pieces) some ends each =
       passes_on m (piece_fault samples claim begin piece) (verdict_from samples claim (m + 1) (pos piece.upto) pieces)
       (each 0 piece refl)
@@ -25,10 +23,7 @@ module _ (samples : List Sample) (claim : ClaimData) where
   pub each_passes : (m : ℕ) (begin : ℤ) (pieces : List PieceData) → verdict_from samples claim m begin pieces ≡ Yes
       → (k : ℕ) (piece : PieceData) → slice_get pieces k ≡ Some piece → fault_at begin pieces k piece ≡ None
   each_passes m begin [] e k piece at = absurd cc
-  each_passes m begin (first ∷ pieces) e zero piece at =
-      let step = yes_step samples claim m (piece_fault samples claim begin first) _ e in
-      let here : first ≡ piece = cc in
-      subst (λ (p : PieceData). piece_fault samples claim begin p ≡ None) here step.0
+  each_passes m begin (first ∷ pieces) e zero piece at = grind (arith, ints, nat_tests, yes_step)
   each_passes m begin (first ∷ pieces) e (suc k) piece at =
       let step = yes_step samples claim m (piece_fault samples claim begin first) _ e in
       each_passes (m + 1) (pos first.upto) pieces step.1 k piece at
@@ -39,13 +34,7 @@ module _ (samples : List Sample) (claim : ClaimData) where
       → fault_at begin pieces j earlier ≡ None)
       → fault_at begin pieces k piece ≡ Some why → verdict_from samples claim m begin pieces ≡ No n why
   one_fails m n begin [] piece why k is at below fails = absurd cc
-  one_fails m n begin (first ∷ pieces) piece why zero is at below fails =
-      let here : first ≡ piece = cc in
-      let number : m ≡ n = omega arith in
-      let fault : piece_fault samples claim begin first ≡ Some why =
-      ap (λ (p : PieceData). piece_fault samples claim begin p) here ∙ fails in
-      let rest : Verdict = verdict_from samples claim (m + 1) (pos first.upto) pieces in
-      ap (λ (f : Option Why). verdict_after f m rest) fault ∙ ap (λ (i : ℕ). No i why) number
+  one_fails m n begin (first ∷ pieces) piece why zero is at below fails = search rules
   one_fails m n begin (first ∷ pieces) piece why (suc k) is at below fails =
       passes_on m (piece_fault samples claim begin first) (verdict_from samples claim (m + 1) (pos first.upto) pieces)
       (below 0 first (omega arith) refl)

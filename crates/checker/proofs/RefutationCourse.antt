@@ -1,5 +1,5 @@
 -- The course that an accepted refutation stands for.
-use Rattle.checker.proofs.Common.{◌≡◌, ℕ, ◌<◌, ℤ, pos, ◌+ℤ◌, ◌-ℤ◌, ◌*ℤ◌, ◌≤ℤ◌, unsigned_abs, false, ⊎_elim, List, length, Option, Some, None, refl, sym, ap, ◌∙◌, subst, arith, All, AllPairs, slice_get, int_max, slice_index_or, ints, clamps, nat_tests, get_or_from_slice_get, slice_get_within, RefutationData, ClaimData, SameRequest, Exchange, Moment, error_of, IsInWindow, IsWithinDistance, request_start, reply_end, Course, Fits, FitsInWindows, IsClientMoment, ReadsInWindows, ComesInOrder, KeepsRootDistance, is_liar, AdmitsError, Admits, IsRefuted, SharesRequests, HasCourse, SomeCourseFits, IsObservedIn, IsTraceable, samples_of, moment_with, by_test, All-slice_get, int_max-least, ≤ℤ-sub, ≤ℤ-<ℤ_trans}
+use Rattle.checker.proofs.Common.{◌≡◌, ℕ, ◌<◌, ℤ, pos, ◌+ℤ◌, ◌-ℤ◌, ◌*ℤ◌, ◌≤ℤ◌, unsigned_abs, false, ⊎_elim, List, length, Option, Some, None, refl, sym, ap, ◌∙◌, subst, arith, All, AllPairs, slice_get, int_max, slice_index_or, ints, clamps, nat_tests, get_or_from_slice_get, slice_get_within, RefutationData, ClaimData, SameRequest, Exchange, Moment, error_of, IsInWindow, IsWithinDistance, request_start, reply_end, Course, Fits, FitsInWindows, IsClientMoment, ReadsInWindows, ComesInOrder, KeepsRootDistance, is_liar, AdmitsError, Admits, IsRefuted, SharesRequests, HasCourse, SomeCourseFits, IsObservedIn, IsTraceable, samples_of, moment_with, by_test, All-slice_get, int_max-least, ≤ℤ-sub, ≤ℤ-<ℤ_trans, rules}
 use Rattle.std.specs.Prelude.{nat_lt}
 use Rattle.checker.proofs.Course.{one_error, reads_back, at_start, beyond}
 use Rattle.pairing.specs.Exchange.{IsLawful as IsLawfulExchange}
@@ -48,9 +48,6 @@ module _ (start end t2 t3 distance error : ℤ) where
 once : (a : ℤ) → (a *ℤ pos 1) ≡ a
 once a = omega (arith, ints)
 
-at_end : (start end : ℤ) → start ≤ℤ end → IsInWindow 1 start end end
-at_end start end forward = (omega (arith, ints), omega (arith, ints))
-
 pub widened : (low high allowance : ℤ) → low ≤ℤ high → pos 0 ≤ℤ allowance → (low -ℤ allowance) ≤ℤ (high +ℤ allowance)
 widened low high allowance forward some = omega (arith, ints)
 
@@ -59,10 +56,7 @@ widened low high allowance forward some = omega (arith, ints)
 module _ {X : Type 0} where
   module _ (R : X → X → Type 0) (xs : List X) (all : AllPairs R xs) where
     pair_at : (i j : ℕ) (x y : X) → i < j → slice_get xs i ≡ Some x → slice_get xs j ≡ Some y → R x y
-    pair_at i j x y before at_i at_j =
-        let found = all i j x before (slice_get_within xs j y at_j) in
-        subst (λ (b : X). R x b) (get_or_from_slice_get xs j y x at_j)
-        (subst (λ (a : X). R a (slice_index_or xs j x)) (get_or_from_slice_get xs i x x at_i) found)
+    pair_at i j x y before at_i at_j = grind (arith, ints, nat_tests, slice_get_within, get_or_from_slice_get)
 
 module _ (xs : List Exchange) (agree : AllPairs SameRequest xs) where
   -- exchanges of one request agree in when it was sent
@@ -120,10 +114,7 @@ module _ (claim : ClaimData) (xs : List Exchange) (r : RefutationData) where
       (refuted : IsRefuted claim xs r) where
     windows : (k : ℕ) (x : Exchange) → slice_get xs k ≡ Some x → ReadsInWindows claim.reading course k x
     windows k x at =
-        let lawful = All-slice_get (IsLawfulExchange servers) xs k x each at in
-        let request = widened x.t1_low x.t1_high claim.reading lawful.t1_ordered some in
-        let reply = widened x.t4_low x.t4_high claim.reading lawful.t4_ordered some in
-        rw at (at_start _ _ request, at_end _ _ reply)
+        grind (arith, ints, All-slice_get (IsLawfulExchange servers) xs k x each at)
 
     room : (k : ℕ) (x : Exchange) → slice_get xs k ≡ Some x → is_liar r.liars x.server ≡ false
         → Admits claim.reading r.error x
@@ -157,9 +148,7 @@ module _ (claim : ClaimData) (xs : List Exchange) (r : RefutationData) where
 
     shared : AllPairs SameRequest xs → SharesRequests xs course
     shared agree i j x y at_i at_j same =
-        let start : start_of x ≡ start_of y =
-        ap (λ (t : ℤ). t -ℤ claim.reading) (one_start xs agree i j x y at_i at_j same) in
-        rw (at_i, at_j) (ap (moment_with r.error) start)
+        grind (arith, ints, nat_tests, ap (λ (t : ℤ). t -ℤ claim.reading) (one_start xs agree i j x y at_i at_j same))
 
     pub has_course : AllPairs SameRequest xs → HasCourse claim xs r
     has_course agree = (
@@ -176,38 +165,25 @@ module _ (claim : ClaimData) (xs : List Exchange) (r : RefutationData) where
     )
 
     observed_in_span : IsObservedIn course claim.first claim.last
-    observed_in_span =
-        let span = refuted.against.in_span in
-        (omega (arith, ints, span.0), omega (arith, ints, span.1))
+    observed_in_span = search rules
 
     pub some_fits : SomeCourseFits claim xs
     some_fits = (course, fits, observed_in_span)
 
     -- so nothing is traceable to the samples of these exchanges
     pub not_traceable : IsTraceable claim (samples_of xs claim) → ⊥
-    not_traceable traceable =
-        let within' = traceable xs course refl fits.fits observed_in_span in
-        beyond claim.bound r.error (pos r.reading) refuted.against.beyond_bound within'
+    not_traceable traceable = grind (arith, ints, nat_tests, traceable xs course refl fits.fits observed_in_span)
 
 -- ---- another bound
 
 module _ (claim : ClaimData) (bound : ℤ) (bound_ns : ℕ) (xs : List Exchange) where
   pub other_bound : (course' : Course) → Fits (record claim { bound = bound; bound_ns = bound_ns }) xs course'
       → Fits claim xs course'
-  other_bound course' f = record {
-    some_fineness = f.some_fineness;
-    few_false = f.few_false;
-    leaves_after_stamp = f.leaves_after_stamp;
-    arrives_before_stamp = f.arrives_before_stamp;
-    drift = f.drift;
-    ordered = f.ordered;
-    within_root_distance = f.within_root_distance;
-  }
+  other_bound course' f = search rules
 
   pub other_bound_in_windows : (course' : Course)
       → FitsInWindows (record claim { bound = bound; bound_ns = bound_ns }) xs course' → FitsInWindows claim xs course'
-  other_bound_in_windows course' f =
-      record { fits = other_bound course' f.fits; in_windows = f.in_windows }
+  other_bound_in_windows course' f = grind (arith, ints, nat_tests, fits, other_bound)
 
   pub some_fits_any_bound : (r : RefutationData) → pos 0 ≤ℤ claim.reading → (servers : ℕ)
       → All (IsLawfulExchange servers) xs
@@ -219,15 +195,4 @@ module _ (claim : ClaimData) (bound : ℤ) (bound_ns : ℕ) (xs : List Exchange)
 pub refuted_with_less : (claim : ClaimData) (narrower : ℤ) (drift_ppb : ℕ) (xs : List Exchange) (r : RefutationData)
     → narrower ≤ℤ claim.bound → IsRefuted claim xs r
     → IsRefuted (record claim { bound = narrower; drift_ppb = drift_ppb }) xs r
-refuted_with_less claim narrower drift_ppb xs r less h =
-    let against = h.against in
-    record {
-      against = record {
-        beyond_bound = ≤ℤ-<ℤ_trans narrower claim.bound (pos (unsigned_abs r.error)) less against.beyond_bound;
-        in_span = against.in_span;
-        liars_listed = against.liars_listed;
-        liars_differ = against.liars_differ;
-        few_false = against.few_false;
-      };
-      admits = h.admits;
-    }
+refuted_with_less claim narrower drift_ppb xs r less h = search rules

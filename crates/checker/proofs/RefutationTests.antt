@@ -33,17 +33,7 @@ admits_from allowance error x e =
     }
 
 pub admits_to : (allowance error : ℤ) (x : Exchange) → Admits allowance error x → admits allowance error x ≡ true
-admits_to allowance error x h =
-    let w = request_start x allowance in
-    let z = reply_end x allowance in
-    rw (
-      le-int_le _ _ h.leaves_before_receipt,
-      le-int_le _ _ h.leaves_before_answer,
-      le-int_le _ _ (≤ℤ-sub w z error h.leaves_before_arrival),
-      le-int_le _ _ h.receives_before_answer,
-      le-int_le _ _ h.receives_before_arrival,
-      le-int_le _ _ h.answers_before_arrival,
-    ) refl
+admits_to allowance error x h = grind (arith, ints, nat_tests, le-int_le)
 
 -- ---- numbers that differ
 
@@ -55,9 +45,7 @@ not_any x (y ∷ ys) e (suc k) d below = let parts = or_parts (y == x) _ e in no
 differ_from : (xs : List ℕ) → are_different xs ≡ true → AllPairs (λ a b. a ≢ b) xs
 differ_from [] e i j d before below = absurd (omega arith)
 differ_from (x ∷ xs) e zero zero d before below = absurd (omega arith)
-differ_from (x ∷ xs) e zero (suc j) d before below =
-    let apart = not_any x xs (not-true _ (and_parts _ _ e).0) j d (omega arith) in
-    λ same. apart (sym same)
+differ_from (x ∷ xs) e zero (suc j) d before below = grind (arith, ints, nat_tests, not_any, not-true)
 differ_from (x ∷ xs) e (suc i) zero d before below = absurd (omega arith)
 differ_from (x ∷ xs) e (suc i) (suc j) d before below =
     differ_from xs (and_parts _ _ e).1 i j d (omega arith) (omega arith)
@@ -68,11 +56,13 @@ apart_fails x y apart = grind (arith, nat_tests)
 differ_to : (xs : List ℕ) → AllPairs (λ a b. a ≢ b) xs → are_different xs ≡ true
 differ_to [] differ = refl
 differ_to (x ∷ xs) differ =
-    let first : list_any (λ y. y == x) xs ≡ false =
-    list_any_none (λ y. y == x) xs
-    (λ k d below. apart_fails x (slice_index_or xs k d) (differ 0 (suc k) d (omega arith) (omega arith))) in
-    let rest = differ_to xs (λ i j d before below. differ (suc i) (suc j) d (omega arith) (omega arith)) in
-    rw (first, rest) refl
+    grind (
+      arith,
+      list_any_none (λ y. y == x) xs (λ k d below. apart_fails x (slice_index_or xs k d)
+          (differ 0 (suc k) d (omega arith) (omega arith))),
+      differ_to xs (λ i j d before below. differ (suc i) (suc j) d
+          (omega arith) (omega arith)),
+    )
 
 -- ---- what is said by the refutation itself
 

@@ -2,57 +2,49 @@
 --
 -- A group leaves a point out if one of its parts does, and that part's finer group leaves it out too. Finer groups
 -- of different groups are different, so at least as many of them leave the point out.
-use Rattle.checker.proofs.Common.{◌≡◌, ℕ, zero, suc, ◌+◌, ◌<◌, ◌≤◌, ℤ, Bool, true, false, cond, not, ◌&&◌, ◌||◌, List, [], ◌∷◌, length, Option, Some, None, Result, Ok, Err, count_by, refl, sym, ap, ◌∙◌, subst, arith, All, slice_index, ◌==◌, fold, filter, filter_map, list_any, cons_option, ints, clamps, cond-true, cond-false, and_parts, and_from, and_left, and_right, not-true, or_left, or_right, or_from, nat_tests, Any-from_list_any, sum_by-cons, sum_by-append, All-get_or, any_passes_from_place, slice_get_read, CertificateData, ClaimData, leaves_out, Interval, Sample, IsYesOr, IsContradiction, IsTakenApart, numbers_below, meet_of, narrowed, group_interval, parts_after, parts_fault, verdict_of, Part, Stretch, Yes, Why, by_test, or_rest, cond-le_one, or-false, or_assoc, ◌≤ℤ◌}
+use Rattle.checker.proofs.Common.{◌≡◌, ℕ, zero, suc, ◌+◌, ◌<◌, ◌≤◌, ℤ, Bool, true, false, cond, not, ◌&&◌, ◌||◌, List, [], ◌∷◌, length, Option, Some, None, Result, Ok, Err, count_by, refl, sym, ap, ◌∙◌, subst, arith, All, slice_index, ◌==◌, fold, filter, filter_map, list_any, cons_option, ints, clamps, cond-true, cond-false, and_parts, and_from, and_left, and_right, not-true, or_left, or_right, or_from, nat_tests, Any-from_list_any, sum_by-cons, sum_by-append, All-get_or, any_passes_from_place, slice_get_read, CertificateData, ClaimData, leaves_out, Interval, Sample, IsYesOr, IsContradiction, IsTakenApart, numbers_below, meet_of, narrowed, group_interval, parts_after, parts_fault, verdict_of, Part, Stretch, Yes, Why, by_test, or_rest, cond-le_one, or-false, or_assoc, ◌≤ℤ◌, rules}
 use Rattle.std.specs.Prelude.{nat_lt}
 use Rattle.checker.proofs.EntryStatement.{listed_parts}
 use Rattle.checker.proofs.Comparison.{FaultIs, verdict_follows, all_follow, piece_follows, EveryHull, hull_follows}
-use Rattle.checker.proofs.Order.{meet_turned}
 use Rattle.checker.proofs.Counting.{found_below}
 
 -- ---- counts of the numbers below n
 
 pub count_push : (q : ℕ → Bool) (n : ℕ)
     → count_by q (numbers_below (suc n)) ≡ count_by q (numbers_below n) + cond (q n) 1 0
-count_push q n =
-    let split = sum_by-append (λ k. cond (q k) 1 0) (numbers_below n) (n ∷ []) in
-    let last = sum_by-cons (λ k. cond (q k) 1 0) n [] in
-    omega (arith, split, last)
+count_push q n = grind (arith, ints, nat_tests, sum_by-append, sum_by-cons)
 
 -- a test that no number below n passes
 none_counted : (q : ℕ → Bool) (n : ℕ) → ((k : ℕ) → k < n → q k ≡ true → ⊥) → count_by q (numbers_below n) ≡ 0
 none_counted q zero none = refl
 none_counted q (suc n) none =
-    let rest = none_counted q n (λ k below passes. none k (omega arith) passes) in
-    let push = count_push q n in
-    by_test (q n) (λ passes. absurd (none n (omega arith) passes))
-    (λ fails. omega (arith, push, rest, cond-false {A = ℕ} (q n) 1 0 fails))
+    grind (arith, ints, nat_tests, none_counted q n (λ k below passes. none k (omega arith) passes), count_push q n)
 
 -- one number left out of a count, at its own place or elsewhere
 left_out : (passes same : Bool) (rest rest' below above : ℕ) → rest ≤ rest' + below → below ≤ above
     → (same ≡ true → below + 1 ≤ above) → (rest + cond passes 1 0) ≤ (rest' + cond (passes && not same) 1 0) + above
 left_out true true rest rest' below above h more here = let step = here refl in omega arith
-left_out true false rest rest' below above h more here = omega arith
-left_out false same rest rest' below above h more here = omega arith
+left_out _ _ rest rest' below above h more here = omega arith
 
 -- with one number left out the count falls by one at most
 without_one : (q : ℕ → Bool) (m n : ℕ) → count_by q (numbers_below n)
     ≤ count_by (λ k. q k && not (m == k)) (numbers_below n) + cond (nat_lt m n) 1 0
 without_one q m zero = omega arith
 without_one q m (suc n) =
-    let rest = without_one q m n in
-    let push = count_push q n in
-    let push' = count_push (λ k. q k && not (m == k)) n in
-    let step = left_out (q n) (m == n) _ _ (cond (nat_lt m n) 1 0) (cond (nat_lt m (suc n)) 1 0) rest
-    (grind (arith, nat_tests)) (λ same. grind (arith, nat_tests)) in
-    omega (arith, push, push', step)
+    omega (
+      arith,
+      count_push q n,
+      count_push (λ k. q k && not (m == k)) n,
+      left_out (q n) (m == n) _
+          _ (cond (nat_lt m n) 1 0) (cond (nat_lt m (suc n)) 1 0) (without_one q m n) (grind (arith, nat_tests)) (λ same.
+          grind (arith, nat_tests)),
+    )
 
 -- if each number that passes q is `whole` of one that passes r, no more pass q than r
 pub counted_through : (whole : ℕ → ℕ) (r : ℕ → Bool) (n : ℕ) (js : List ℕ) (q : ℕ → Bool)
     → ((k : ℕ) → k < n → q k ≡ true → list_any (λ j. r j && (whole j == k)) js ≡ true)
     → count_by q (numbers_below n) ≤ count_by r js
-counted_through whole r n [] q each =
-    let none = none_counted q n (λ k below passes. let h = each k below passes in cc) in
-    omega (arith, none)
+counted_through whole r n [] q each = grind (arith, ints, nat_tests, none_counted)
 counted_through whole r n (j ∷ js) q each =
     let count = sum_by-cons (λ i. cond (r i) 1 0) j js in
     by_test (r j)
@@ -161,12 +153,15 @@ module _ (p : Interval → Bool) (either : IsOfEither p) (groups finer : List �
       ≤ count_by p (filter_map (group_interval finer parts) (numbers_below (length finer)))
   unfolding finer_passes
   no_fewer_pass =
-      let numbers = numbers_below (length groups) in
-      let through = counted_through apart.whole (λ j. passes p (group_interval finer parts j)) (length groups) numbers
-      (λ k. passes p (group_interval groups parts k)) (λ k below holds. part_passes k holds) in
-      let coarse = counted p either (group_interval groups parts) numbers in
-      let fine = counted p either (group_interval finer parts) numbers in
-      rw apart.same_servers (omega (arith, through, coarse, fine))
+      grind (
+        arith,
+        counted_through apart.whole (λ j. passes p
+            (group_interval finer parts j)) (length groups) (numbers_below (length groups)) (λ k. passes p (group_interval
+            groups parts k)) (λ k below holds. part_passes k holds),
+        counted p either (group_interval groups parts)
+            (numbers_below (length groups)),
+        counted p either (group_interval finer parts) (numbers_below (length groups)),
+      )
 
 -- ---- the two tests
 
@@ -176,39 +171,14 @@ held_ends i point h = (grind (arith, ints), grind (arith, ints))
 pub held_test : (i : Interval) (point : ℤ) → i.lo ≤ℤ point → point ≤ℤ i.hi → leaves_out i point ≡ false
 held_test i point low high = grind (arith, ints)
 
-pub meet_leaves_out : (a b : Interval) (point : ℤ) → leaves_out a point ≡ true → leaves_out (meet_of a b) point ≡ true
-meet_leaves_out a b point out = by_test (leaves_out (meet_of a b) point) (λ is. is)
-    (λ held. absurd (
-    let ends = held_ends (meet_of a b) point held in
-    let low = ends.0 in
-    let high = ends.1 in
-    let in_a = held_test a point (omega (arith, ints, clamps)) (omega (arith, ints, clamps)) in
-    cc))
-
 -- a meet leaves a point out exactly if one of the two does
 pub meet_leaves_it_out : (point : ℤ) (a b : Interval)
     → leaves_out (meet_of a b) point ≡ (leaves_out a point || leaves_out b point)
-meet_leaves_it_out point a b = by_test (leaves_out a point)
-    (λ out. meet_leaves_out a b point out ∙ sym (or_left (leaves_out a point) (leaves_out b point) out))
-    (λ held. by_test (leaves_out b point)
-    (λ out. ap (λ (i : Interval). leaves_out i point) (meet_turned a b) ∙ meet_leaves_out b a point out
-    ∙ sym (or_right (leaves_out a point) (leaves_out b point) out))
-    (λ held'.
-    let in_a = held_ends a point held in
-    let in_b = held_ends b point held' in
-    let low_a = in_a.0 in
-    let high_a = in_a.1 in
-    let low_b = in_b.0 in
-    let high_b = in_b.1 in
-    held_test (meet_of a b) point (omega (arith, ints, clamps)) (omega (arith, ints, clamps))
-    ∙ sym (or_from (leaves_out a point) (leaves_out b point) held held')))
+meet_leaves_it_out point a b = search rules
 
 pub all_counted : (list : List Interval) → count_by (λ i. true) list ≡ length list
 all_counted [] = refl
-all_counted (i ∷ list) =
-    let rest = all_counted list in
-    let count = sum_by-cons (λ (j : Interval). cond true 1 0) i list in
-    omega arith
+all_counted (i ∷ list) = omega (arith, all_counted list, sum_by-cons (λ (j : Interval). cond true 1 0) i list)
 
 -- ---- the verdict
 

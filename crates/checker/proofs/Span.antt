@@ -1,5 +1,5 @@
 -- A shorter piece has narrower intervals, so what is left of a certificate in a span shows no less.
-use Rattle.checker.proofs.Common.{◌≡◌, ℕ, ◌+◌, ◌<◌, ◌≤◌, ℤ, pos, ◌≤ℤ◌, ◌<ℤ◌, Bool, true, false, cond, ◌&&◌, ◌||◌, int_lt, nat_lt, inl, List, [], ◌∷◌, ◌++◌, length, Option, Some, None, Result, Ok, Err, refl, sym, ap, ◌∙◌, subst, arith, get_or, All, slice_get, ◌==◌, nat_le, AllZip, int_eq, ints, cond-true, cond-false, nat_tests, get_or_default, AllZip-push, AllZip-get_or, length_all_zip, PieceData, CertificateData, ClaimData, IsLawfulSample, billion, Sample, moved_low, moved_high, IsYesOr, IsContradiction, IsNarrower, AreNarrower, part_of, part_from, parts_after, parts_fault, piece_fault, verdict_from, verdict_of, Part, Stretch, Yes, No, Why, Cut, Uncovered, by_test, All-slice_get}
+use Rattle.checker.proofs.Common.{◌≡◌, ℕ, ◌+◌, ◌<◌, ◌≤◌, ℤ, pos, ◌≤ℤ◌, ◌<ℤ◌, Bool, true, false, cond, ◌&&◌, ◌||◌, int_lt, nat_lt, inl, List, [], ◌∷◌, ◌++◌, length, Option, Some, None, Result, Ok, Err, refl, sym, ap, ◌∙◌, subst, arith, get_or, All, slice_get, ◌==◌, nat_le, AllZip, int_eq, ints, cond-true, cond-false, nat_tests, get_or_default, AllZip-push, AllZip-get_or, length_all_zip, PieceData, CertificateData, ClaimData, IsLawfulSample, billion, Sample, moved_low, moved_high, IsYesOr, IsContradiction, IsNarrower, AreNarrower, part_of, part_from, parts_after, parts_fault, piece_fault, verdict_from, verdict_of, Part, Stretch, Yes, No, Why, Cut, Uncovered, by_test, All-slice_get, rules}
 use Rattle.checker.specs.Span.{IsSpanWithin, claim_within, pieces_within, certificate_within}
 use Rattle.checker.proofs.VerdictPieces.{yes_step, yes_end}
 use Rattle.checker.proofs.Comparison.{FaultIs, fails_here, EveryHull}
@@ -23,9 +23,7 @@ same_names : (server : ℕ) (parts other : List Part) → AllZip IsNarrower part
 same_names server [] [] zip = refl
 same_names server [] (y ∷ other) zip = absurd zip
 same_names server (x ∷ parts) [] zip = absurd zip
-same_names server (x ∷ parts) (y ∷ other) zip =
-    ap (λ (s : ℕ). (s == server) || names server parts) zip.0.server
-    ∙ ap (λ (b : Bool). (y.server == server) || b) (same_names server parts other zip.1)
+same_names server (x ∷ parts) (y ∷ other) zip = grind (arith, ints, nat_tests, same_names server parts other zip.1)
 
 -- if each part has a narrower one at its place, it has one among them
 narrower_from_zip : (parts next : List Part) → AllZip IsNarrower parts next → AreNarrower parts next
@@ -45,13 +43,7 @@ module _ (laws : PieceLaws) (hulls : EveryHull) (samples : List Sample) (claim :
       (end : inner.end ≤ℤ outer.end) where
     narrower_part : (low high : Sample) → IsLawfulSample low → IsLawfulSample high
         → IsNarrower (part_of low high outer claim.drift_ppb) (part_of low high inner claim.drift_ppb)
-    narrower_part low high is_low is_high = record {
-      server = refl;
-      low = laws.low claim.drift_ppb low outer.begin outer.end inner.begin inner.end rate
-          is_low.low_window_in_order begin forward end;
-      high = laws.high claim.drift_ppb high outer.begin outer.end inner.begin inner.end rate
-          is_high.high_window_in_order begin forward end;
-    }
+    narrower_part low high is_low is_high = grind (arith, ints, nat_tests)
 
     -- what an entry says about the shorter piece, after parts of the same servers
     record SaysNarrower (low high : Option Sample) (other : List Part) (part : Part) : Type 0 where
@@ -83,13 +75,7 @@ module _ (laws : PieceLaws) (hulls : EveryHull) (samples : List Sample) (claim :
     entries_narrower : (earlier other : List Part) (entries : List (ℕ × ℕ)) (parts : List Part)
         → AllZip IsNarrower earlier other → parts_after samples outer claim.drift_ppb earlier entries ≡ Ok parts
         → SayNarrower other entries parts
-    entries_narrower earlier other [] parts zip e =
-        let same : earlier ≡ parts = cc in
-        record {
-          next = other;
-          said = refl;
-          narrower = subst (λ (ps : List Part). AllZip IsNarrower ps other) same zip;
-        }
+    entries_narrower earlier other [] parts zip e = search rules
     entries_narrower earlier other (entry ∷ entries) parts zip e =
         let first = begins samples outer claim.drift_ppb earlier entry entries parts e in
         let next = says_narrower earlier other zip entry.0 entry.1 first.part first.said in
@@ -144,17 +130,12 @@ module _ (laws : PieceLaws) (hulls : EveryHull) (samples : List Sample) (claim :
         follows
 
     covered : (j : ℕ) → verdict_from samples other (j + 1) (pos last) [] ≡ Yes
-    covered j = cond-true (nat_lt 0 (j + 1) && int_eq (pos last) (pos last)) Yes (No (j + 1) Uncovered)
-        (grind (arith, ints, nat_tests))
+    covered j = grind (arith, ints, nat_tests, cond-true)
 
     verdict_cut : (k j : ℕ) (begin : ℤ) (first : ℕ) (pieces : List PieceData) → begin ≤ℤ pos first → first ≤ last
         → (0 < k → begin <ℤ pos last) → verdict_from samples claim k begin pieces ≡ Yes
         → IsYesOr IsContradiction (verdict_from samples other j (pos first) (pieces_within first last pieces))
-    verdict_cut k j begin first [] from forward short e =
-        let ended = yes_end samples claim k begin [] e in
-        let some = ended.0 in
-        let at_end = ended.1 in
-        absurd (let less = short (omega (arith, some)) in omega (arith, ints))
+    verdict_cut k j begin first [] from forward short e = grind (arith, ints, nat_tests, yes_end)
     verdict_cut k j begin first (piece ∷ pieces) from forward short e =
         let step = yes_step samples claim k (piece_fault samples claim begin piece) _ e in
         let later = pieces_within first last pieces in

@@ -1,5 +1,6 @@
 -- Why a yes can be relied on: from the hulls of the pieces to the bound on the error over the span.
-use Rattle.checker.proofs.Common.{◌≡◌, ℕ, ◌*◌, ◌≤◌, ℤ, pos, neg_ℤ, ◌*ℤ◌, ◌≤ℤ◌, unsigned_abs, List, Option, Some, None, inl, refl, sym, subst, arith, slice_get, IsSomeAnd, ints, ticks_per_second, CertificateData, ClaimData, IsLawful, times_le, Hull, Unbounded, Empty, Bounded, Exchange, error_of, Sample, AreSaidBy, Course, Fits, piece_hull, FitsPiece, AreSamplesOf, begin_of, last_end, stretch_of, stretches_of, IsObservedIn, IsWithin, IsWithinNanoseconds, IsInHull, IsTraceable, IsTraceableByPieces, IsContradicted, HoldsErrorOfPiece, HasHull, IsOfHull, IsRefusedByHull, hull_fault, verdict_of, Part, Stretch, Yes, No, Why, Contradiction, times-add}
+use Rattle.checker.proofs.Common.{◌≡◌, ℕ, ◌*◌, ◌≤◌, ℤ, pos, neg_ℤ, ◌*ℤ◌, ◌≤ℤ◌, unsigned_abs, List, Option, Some, None, inl, refl, sym, subst, arith, slice_get, IsSomeAnd, ints, ticks_per_second, CertificateData, ClaimData, IsLawful, times_le, Hull, Unbounded, Empty, Bounded, Exchange, error_of, Sample, AreSaidBy, Course, Fits, piece_hull, FitsPiece, AreSamplesOf, begin_of, last_end, stretch_of, stretches_of, IsObservedIn, IsWithin, IsWithinNanoseconds, IsInHull, IsTraceable, IsTraceableByPieces, IsContradicted, HoldsErrorOfPiece, HasHull, IsOfHull, IsRefusedByHull, hull_fault, verdict_of, Part, Stretch, Yes, No, Why, Contradiction, times-add, nat_tests}
+use Rattle.checker.proofs.PieceFit.{fits_piece}
 use Rattle.std.proofs.Math.Nat.{mul-le-mul_right}
 use Rattle.era_unfold.specs.Nanoseconds.{nanoseconds_per_second, ticks_down}
 use Rattle.checker.proofs.Cover.{all_covered, piece_at, stretch_of_piece}
@@ -13,10 +14,14 @@ use Rattle.checker.proofs.VerdictPieces.{HullGives, empty_hull, inside_from, fro
 inside : (bound : ℤ) (n : ℕ) (lo hi e : ℤ) → (lo *ℤ pos n) ≤ℤ e → e ≤ℤ (hi *ℤ pos n) → neg_ℤ bound ≤ℤ lo
     → hi ≤ℤ bound → pos (unsigned_abs e) ≤ℤ (bound *ℤ pos n)
 inside bound n lo hi e from to above below =
-    let low = times_le (neg_ℤ bound) lo n above in
-    let high = times_le hi bound n below in
-    let none = times-add (pos 0) bound (neg_ℤ bound) n (omega (arith, ints)) in
-    omega (arith, ints)
+    omega (
+      arith,
+      ints,
+      times_le (neg_ℤ bound) lo n above,
+      times_le hi bound n below,
+      times-add (pos 0) bound (neg_ℤ
+          bound) n (omega (arith, ints)),
+    )
 
 -- ---- verdicts
 
@@ -25,11 +30,6 @@ abbrev pub HullLaw : Type 0
 HullLaw = (claim : ClaimData) (samples : List Sample) (stretch : Stretch) (entries : List (ℕ × ℕ)) (parts : List Part)
     → IsLawful claim → AreSamplesOf claim samples → AreSaidBy samples stretch claim.drift_ppb entries parts
     → HoldsErrorOfPiece claim samples entries stretch (piece_hull claim.groups claim.false_max parts)
-
--- the law on courses that fit the whole capture
-abbrev pub PieceFitLaw : Type 0
-PieceFitLaw = (claim : ClaimData) (xs : List Exchange) (entries : List (ℕ × ℕ)) (course : Course)
-    → Fits claim xs course → FitsPiece claim xs entries course
 
 module _ (hulls : HullLaw) (claim : ClaimData) (samples : List Sample) (certificate : CertificateData)
     (lawful : IsLawful claim) (are : AreSamplesOf claim samples) where
@@ -80,44 +80,38 @@ module _ (hulls : HullLaw) (claim : ClaimData) (samples : List Sample) (certific
             }),
       )
 
-  module _ (fit : PieceFitLaw) where
-    pub traceable : verdict_of samples claim certificate ≡ Yes → IsTraceable claim samples
-    traceable e xs course made fits observed =
-        let ends = yes_end samples claim 0 claim.first certificate.pieces e in
-        let in_pieces : IsObservedIn course claim.first (last_end claim.first certificate.pieces) =
-        subst (λ (z : ℤ). IsObservedIn course claim.first z) (sym ends.1) observed in
-        let covered = all_covered course.fineness course.observation.reading claim.first certificate.pieces
-        (omega (arith, ends.0)) in_pieces in
-        let found = piece_at (λ stretch. IsObservedIn course stretch.begin stretch.end) claim.first certificate.pieces
-        covered.0 covered.1 in
-        traceable_by_pieces e xs covered.0 found.0 course made found.1 (fit claim xs found.0.entries course fits)
-        found.2
+  pub traceable : verdict_of samples claim certificate ≡ Yes → IsTraceable claim samples
+  traceable e xs course made fits observed =
+      let ends = yes_end samples claim 0 claim.first certificate.pieces e in
+      let in_pieces : IsObservedIn course claim.first (last_end claim.first certificate.pieces) =
+      subst (λ (z : ℤ). IsObservedIn course claim.first z) (sym ends.1) observed in
+      let covered = all_covered course.fineness course.observation.reading claim.first certificate.pieces
+      (omega (arith, ends.0)) in_pieces in
+      let found = piece_at (λ stretch. IsObservedIn course stretch.begin stretch.end) claim.first certificate.pieces
+      covered.0 covered.1 in
+      traceable_by_pieces e xs covered.0 found.0 course made found.1 (fits_piece claim xs found.0.entries course fits)
+      found.2
 
-    pub contradiction : (k : ℕ) → verdict_of samples claim certificate ≡ No k Contradiction
-        → IsSomeAnd (slice_get (stretches_of claim certificate) k) (IsContradicted claim samples)
-    contradiction k e =
-        let found = refused_by_hull k Contradiction e (inl refl) in
-        let at = found.2 in
-        let empty : found.0 ≡ Empty = empty_hull claim.bound found.0 found.1 in
-        let stretch = stretch_of claim certificate k at.piece in
-        subst (λ (o : Option Stretch). IsSomeAnd o (IsContradicted claim samples))
-        (sym (stretch_of_piece claim.first certificate.pieces k at.piece at.stands))
-        (λ xs course made fits observed.
-        subst (λ (h : Hull). IsInHull course h) empty
-        (at.holds xs course made (fit claim xs at.piece.entries course fits) observed))
+  pub contradiction : (k : ℕ) → verdict_of samples claim certificate ≡ No k Contradiction
+      → IsSomeAnd (slice_get (stretches_of claim certificate) k) (IsContradicted claim samples)
+  contradiction k e =
+      let found = refused_by_hull k Contradiction e (inl refl) in
+      let at = found.2 in
+      let empty : found.0 ≡ Empty = empty_hull claim.bound found.0 found.1 in
+      let stretch = stretch_of claim certificate k at.piece in
+      subst (λ (o : Option Stretch). IsSomeAnd o (IsContradicted claim samples))
+      (sym (stretch_of_piece claim.first certificate.pieces k at.piece at.stands))
+      (λ xs course made fits observed.
+      subst (λ (h : Hull). IsInHull course h) empty
+      (at.holds xs course made (fits_piece claim xs at.piece.entries course fits) observed))
 
 -- ---- nanoseconds
 
 ns_at : (b e n ns : ℕ) → b * nanoseconds_per_second ≤ ns * ticks_per_second → e ≤ b * n
     → nanoseconds_per_second * e ≤ n * (ns * ticks_per_second)
-ns_at b e n ns down within =
-    let scaled = mul-le-mul_right n down in
-    omega (arith, scaled, within)
+ns_at b e n ns down within = omega (arith, mul-le-mul_right n down)
 
 pub in_nanoseconds : (course : Course) (bound : ℤ) (bound_ns : ℕ) → bound ≡ pos (ticks_down bound_ns)
     → ticks_down bound_ns * nanoseconds_per_second ≤ bound_ns * ticks_per_second → IsWithin course bound
     → IsWithinNanoseconds course bound_ns
-in_nanoseconds course bound bound_ns is down within =
-    let within_ticks : IsWithin course (pos (ticks_down bound_ns)) = subst (IsWithin course) is within in
-    ns_at (ticks_down bound_ns) (unsigned_abs (error_of course.observation)) course.fineness bound_ns down
-    (omega (arith, ints))
+in_nanoseconds course bound bound_ns is down within = grind (arith, ints, nat_tests, ns_at)

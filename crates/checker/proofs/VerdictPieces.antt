@@ -1,5 +1,5 @@
 -- What a verdict says about the pieces.
-use Rattle.checker.proofs.Common.{◌≡◌, ℕ, suc, ◌+◌, ◌<◌, ℤ, pos, neg_ℤ, ◌≤ℤ◌, Bool, true, false, cond, ◌&&◌, ◌||◌, int_le, int_lt, nat_lt, List, [], ◌∷◌, ◌++◌, length, Option, Some, None, Result, Ok, Err, inl, inr, refl, sym, ap, ◌∙◌, subst, arith, slice_get, int_eq, ints, cond-true, nat_tests, PieceData, ClaimData, Hull, Unbounded, Empty, Bounded, Sample, piece_hull, begin_of, last_end, IsOfHull, parts_after, unless_refused, hull_fault, parts_fault, piece_fault, verdict_after, verdict_from, Part, Stretch, Verdict, Yes, No, Why, Cut, Contradiction, Exceeds, Uncovered, and_parts, IsRefusedEntry, int_le-true}
+use Rattle.checker.proofs.Common.{◌≡◌, ℕ, suc, ◌+◌, ◌<◌, ℤ, pos, neg_ℤ, ◌≤ℤ◌, Bool, true, false, cond, ◌&&◌, ◌||◌, int_le, int_lt, nat_lt, List, [], ◌∷◌, ◌++◌, length, Option, Some, None, Result, Ok, Err, inl, inr, refl, sym, ap, ◌∙◌, subst, arith, slice_get, int_eq, ints, cond-true, nat_tests, PieceData, ClaimData, Hull, Unbounded, Empty, Bounded, Sample, piece_hull, begin_of, last_end, IsOfHull, parts_after, unless_refused, hull_fault, parts_fault, piece_fault, verdict_after, verdict_from, Part, Stretch, Verdict, Yes, No, Why, Cut, Contradiction, Exceeds, Uncovered, and_parts, IsRefusedEntry, int_le-true, rules}
 use Rattle.checker.proofs.Part.{says, refused}
 
 exceeds_or_none : (t : Bool) → cond t None (Some Exceeds) ≡ Some Contradiction → ⊥
@@ -18,14 +18,11 @@ empty_hull bound (Bounded lo hi) e = absurd (exceeds_or_none (int_le (neg_ℤ bo
 -- a bounded hull gives no fault exactly if it lies inside the bound
 pub inside_from : (bound lo hi : ℤ) → hull_fault bound (Bounded lo hi) ≡ None
     → (neg_ℤ bound ≤ℤ lo) × (hi ≤ℤ bound)
-inside_from bound lo hi e =
-    let tests = and_parts (int_le (neg_ℤ bound) lo) (int_le hi bound) (passed _ e) in
-    (int_le-true _ _ tests.0, int_le-true _ _ tests.1)
+inside_from bound lo hi e = grind (arith, ints, nat_tests, passed, int_le-true)
 
 pub none_from_inside : (bound lo hi : ℤ) → neg_ℤ bound ≤ℤ lo → hi ≤ℤ bound
     → hull_fault bound (Bounded lo hi) ≡ None
-none_from_inside bound lo hi above below =
-    cond-true (int_le (neg_ℤ bound) lo && int_le hi bound) None (Some Exceeds) (grind (arith, ints))
+none_from_inside bound lo hi above below = grind (arith, ints, nat_tests, cond-true)
 
 -- a fault that a hull gives, or none
 abbrev pub IsFromHull : Option Why → Type 0
@@ -60,8 +57,7 @@ module _ (samples : List Sample) (claim : ClaimData) where
       → unless_refused first (λ part. parts_after samples stretch claim.drift_ppb (earlier ++ part ∷ []) entries)
       ≡ Err why
       → IsRefusedEntry why
-  refused_step stretch earlier entries why (Err other) here rest e =
-      here (let same : other ≡ why = cc in ap Err same)
+  refused_step stretch earlier entries why (Err other) here rest e = grind (arith, ints, nat_tests)
   refused_step stretch earlier entries why (Ok part) here rest e = rest part e
 
   refused_parts : (stretch : Stretch) (earlier : List Part) (entries : List (ℕ × ℕ)) (why : Why)
@@ -75,8 +71,7 @@ module _ (samples : List Sample) (claim : ClaimData) where
   parts_tested : (stretch : Stretch) (entries : List (ℕ × ℕ)) (said : Result (List Part) Why) (fault : Option Why)
       → IsFromHull fault → parts_after samples stretch claim.drift_ppb [] entries ≡ said
       → parts_fault claim said ≡ fault → HullGives stretch entries fault
-  parts_tested stretch entries (Err why) fault from is e =
-      absurd (not_from_hull why (refused_parts stretch [] entries why is) (subst IsFromHull (sym e) from))
+  parts_tested stretch entries (Err why) fault from is e = grind (arith, ints, nat_tests, not_from_hull, refused_parts)
   parts_tested stretch entries (Ok parts) fault from is e = record { parts = parts; said = is; gives = e }
 
   cut_tested : (stretch : Stretch) (entries : List (ℕ × ℕ)) (cut : Bool) (fault : Option Why) → IsFromHull fault
@@ -85,18 +80,18 @@ module _ (samples : List Sample) (claim : ClaimData) where
   cut_tested stretch entries true fault from e = absurd (subst IsFromHull (sym e) from)
   cut_tested stretch entries false fault from e = (refl, parts_tested stretch entries _ fault from refl e)
 
-  in_order : (begin end last : ℤ) → (int_lt end begin || int_lt last end) ≡ false → (begin ≤ℤ end) × (end ≤ℤ last)
-  in_order begin end last h = (grind (arith, ints), grind (arith, ints))
-
   -- a piece that passes all tests, or fails at its hull: its stretch is in order, and its entries are taken
   pub tested : (begin : ℤ) (piece : PieceData) (fault : Option Why) → IsFromHull fault
       → piece_fault samples claim begin piece ≡ fault
       → ((begin ≤ℤ pos piece.upto) × (pos piece.upto ≤ℤ claim.last))
       × HullGives (record { begin = begin; end = pos piece.upto }) piece.entries fault
   tested begin piece fault from e =
-      let step = cut_tested (record { begin = begin; end = pos piece.upto }) piece.entries
-      (int_lt (pos piece.upto) begin || int_lt claim.last (pos piece.upto)) fault from e in
-      (in_order begin (pos piece.upto) claim.last step.0, step.1)
+      grind (
+        arith,
+        ints,
+        cut_tested (record { begin = begin; end = pos piece.upto }) piece.entries (int_lt
+            (pos piece.upto) begin || int_lt claim.last (pos piece.upto)) fault from e,
+      )
 
   -- ---- all pieces
 
@@ -105,18 +100,9 @@ module _ (samples : List Sample) (claim : ClaimData) where
   yes_step k None rest e = (refl, e)
   yes_step k (Some why) rest e = absurd cc
 
-  same_number : (a b : ℤ) → int_eq a b ≡ true → a ≡ b
-  same_number a b h = grind (arith, ints)
-
-  yes_passed : (t : Bool) (k : ℕ) → cond t Yes (No k Uncovered) ≡ Yes → t ≡ true
-  yes_passed true k e = refl
-  yes_passed false k e = absurd cc
-
   covers_test : (k : ℕ) (begin : ℤ) → cond (nat_lt 0 k && int_eq begin claim.last) Yes (No k Uncovered) ≡ Yes
       → (0 < k) × (begin ≡ claim.last)
-  covers_test k begin e =
-      let parts = and_parts (nat_lt 0 k) (int_eq begin claim.last) (yes_passed _ k e) in
-      (grind (arith, nat_tests), same_number begin claim.last parts.1)
+  covers_test k begin e = search rules
 
   -- if the verdict is yes, the pieces end with the span
   pub yes_end : (k : ℕ) (begin : ℤ) (pieces : List PieceData) → verdict_from samples claim k begin pieces ≡ Yes

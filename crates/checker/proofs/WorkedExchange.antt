@@ -1,5 +1,5 @@
 -- The worked exchange, computed from the bytes of its capture.
-use Rattle.checker.proofs.Common.{◌≡◌, ℕ, ◌<◌, List, [], ◌∷◌, length, take, drop, refl, arith, ⊤, window_low, window_high, worked_claim, worked_exchange}
+use Rattle.checker.proofs.Common.{◌≡◌, ℕ, ◌<◌, List, [], ◌∷◌, length, take, drop, refl, arith, ⊤, window_low, window_high, worked_claim, worked_exchange, rules}
 use Rattle.era_unfold.specs.Ratio.{floor_of, ceiling_of}
 use Rattle.era_unfold.specs.declared.unit.Unit.TheVariants.{Micro}
 use Rattle.era_unfold.specs.Stamp.{unfolded}
@@ -50,19 +50,7 @@ is_record : (number place sub : ℕ) (bytes : List ℕ) → number < 2 → sub <
       };
       bytes = bytes;
     })
-is_record number place sub bytes few below whole = record {
-  lawful = record {
-    number = omega arith;
-    sec = omega arith;
-    sub = omega arith;
-    captured = omega arith;
-    original = omega arith;
-  };
-  number_is = refl;
-  place_is = refl;
-  unit_is = refl;
-  whole = whole;
-}
+is_record number place sub bytes few below whole = search rules
 
 pub is_capture : IsCapture worked_capture worked_format worked_records
 is_capture = record {

@@ -75,6 +75,7 @@ pub fn capture_fits_each_piece()
 /// In every course that fits, the error of the client's clock lies in the hull of a piece at every
 /// moment whose reading lies there, whether the hull is inside a bound or not. An unbounded hull
 /// says nothing, and an empty one that no course that fits has such a moment.
+#[tactic(auto, using(crate::proofs::Hull::piece_holds, crate::proofs::Hull::capture_holds))]
 pub fn hulls_hold_the_error()
     // The hull of what entries say, in every course that fits what they name.
     ensures piece { (claim : ClaimData) (samples : List Sample) (stretch : Stretch)
@@ -149,6 +150,7 @@ pub fn yes_is_acceptance()
 /// with an error of 42,953,968 ticks, and, if the server's clock is off by the tick that it
 /// announces, one with each of these two errors. So neither end could be narrower. And a clock that
 /// drifts by half keeps a drift of half, which is counted by true time and not by what it shows.
+#[tactic(auto, using(crate::proofs::Course::worked_fits, crate::proofs::Course::slow_fits))]
 pub fn worked_courses_fit()
     ensures exact { FitsInWindows worked_claim (worked_exchange ∷ [])
         (worked_course (pos 0) (pos (worked_second + 85899345))) }
@@ -168,6 +170,7 @@ pub fn worked_courses_fit()
 /// window of its record. The other side of each counts. No course fits what an entry names if the
 /// request left a tick before its stamp, or if the reply arrived a tick after. Were a tick allowed,
 /// one would fit, with an error a tick beyond what the exchange leaves room for.
+#[tactic(auto, using(crate::proofs::Course::stamped_fits, crate::proofs::Course::stamped_out_of_windows))]
 pub fn stamps_err_on_one_side()
     ensures early_and_late { Fits worked_claim (worked_exchange ∷ [])
         (stamped_course (pos 0) (pos (worked_second + 21474836)) (pos (worked_second + 60129542))

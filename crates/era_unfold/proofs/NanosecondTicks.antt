@@ -21,3 +21,5 @@ ticks_down-mono m n h =
 pub ticks_up-mono : (m n : ℕ) → m ≤ n → ticks_up m ≤ ticks_up n
 ticks_up-mono m n h =
     (IsCeiling-ticks_up m).least (ticks_up n) (omega (arith, (IsCeiling-ticks_up n).not_below))
+
+pub ruleset no_fewer_ticks = (ticks_down-mono, ticks_up-mono)

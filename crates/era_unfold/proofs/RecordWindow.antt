@@ -85,3 +85,7 @@ window_high-last_unit unit sec =
     omega (arith, ones, last.not_below, first.not_above) in
     let f = le_of_products (window_low unit (sec + 1) 0) (window_high unit sec (d - 1)) d some e in
     omega arith
+
+pub ruleset no_gap = (window_low-next_unit, window_high-last_unit)
+
+pub ruleset within_second = (window_low-from_second, window_low-lt-window_high, window_high-to_second)

@@ -64,3 +64,5 @@ le_of_products a b d some h =
     let next : a * d < (b + 1) * d = omega arith in
     let below : a < b + 1 = lt_of_products a (b + 1) d next in
     omega arith
+
+pub ruleset signed_rounding = (IsSignedFloor-IsFloor, IsSignedCeiling-IsCeiling)

@@ -75,9 +75,9 @@ nearest : (stamp : ℕ) (near s t j k : ℤ) → pos stamp +ℤ j *ℤ pos era �
     → s <ℤ (near +ℤ pos half_era) → unsigned_abs (s -ℤ near) ≤ unsigned_abs (t -ℤ near)
 nearest stamp near s t j k e f a b = omega (arith, ints)
 
-pub unfolded-nearest : (stamp : ℕ) (near other : ℤ) → StandsFor stamp other
+pub unfolded_nearest : (stamp : ℕ) (near other : ℤ) → StandsFor stamp other
     → unsigned_abs (unfolded stamp near -ℤ near) ≤ unsigned_abs (other -ℤ near)
-unfolded-nearest stamp near other g =
+unfolded_nearest stamp near other g =
     let h = IsUnfolded-unfolded stamp near in
     nearest stamp near (unfolded stamp near) other h.stands_for.eras g.eras h.stands_for.ticks_since_1900
     g.ticks_since_1900 h.not_before h.before

@@ -22,6 +22,7 @@ pub fn constants_are_those_of_the_definitions()
 
 /// `floor_of` gives the greatest whole number that is not above a ratio, and `ceiling_of` the least
 /// that is not below, also among numbers below zero.
+#[tactic(auto, using(crate::proofs::Rounding::signed_rounding))]
 pub fn ratios_are_rounded_as_little_as_can_be()
     ensures down { (n d : ℕ) → 0 < d → IsFloor n d (floor_of n d) }
     ensures up { (n d : ℕ) → 0 < d → IsCeiling n d (ceiling_of n d) }
@@ -51,6 +52,7 @@ pub fn window_is_as_near_as_whole_ticks_can_be()
 {}
 
 /// A window lies inside its record's second, and is more than one tick.
+#[tactic(auto, using(crate::proofs::RecordWindow::within_second))]
 pub fn window_lies_in_its_second()
     ensures begin { (unit : SubsecondUnit) (sec sub : ℕ) →
         sec * ticks_per_second ≤ window_low unit sec sub }
@@ -62,6 +64,7 @@ pub fn window_lies_in_its_second()
 
 /// There is no gap between the windows of one unit and the next, and the last window of a second
 /// ends exactly where the first of the next second begins.
+#[tactic(auto, using(crate::proofs::RecordWindow::no_gap))]
 pub fn windows_leave_no_gap()
     ensures next_unit { (unit : SubsecondUnit) (sec sub : ℕ) →
         window_low unit sec (sub + 1) ≤ window_high unit sec sub }
@@ -81,6 +84,7 @@ pub fn nanoseconds_lie_between_their_ticks()
 {}
 
 /// More nanoseconds have no fewer ticks.
+#[tactic(auto, using(crate::proofs::NanosecondTicks::no_fewer_ticks))]
 pub fn more_nanoseconds_have_no_fewer_ticks()
     ensures down { (m n : ℕ) → m ≤ n → ticks_down m ≤ ticks_down n }
     ensures up { (m n : ℕ) → m ≤ n → ticks_up m ≤ ticks_up n }
@@ -98,6 +102,7 @@ pub fn unfolded_is_one_number()
 {}
 
 /// Of all ticks that a timestamp stands for, in any era, none is nearer.
+#[tactic(auto, using(crate::proofs::StampTick::unfolded_nearest))]
 pub fn unfolded_is_nearest()
     ensures { (stamp : ℕ) (near other : ℤ) → StandsFor stamp other →
         unsigned_abs (unfolded stamp near -ℤ near) ≤ unsigned_abs (other -ℤ near) }

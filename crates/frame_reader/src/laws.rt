@@ -31,6 +31,7 @@ pub fn skipped_where_none_is_held()
 {}
 
 /// Bytes after what a frame holds are padding, and change nothing.
+#[tactic(auto, using(crate::proofs::Truncation::more_padding))]
 pub fn padding_is_ignored()
     ensures { (frame more : List ℕ) (d : Fields) → HoldsDatagram frame d
         → HoldsDatagram (frame ++ more) d }

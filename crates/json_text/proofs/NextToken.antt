@@ -1,14 +1,14 @@
 -- What comes next, under what is made of it.
-use Rattle.json_text.proofs.Common.{◌≡◌, ℕ, ◌<◌, List, length, Option, Some, None, refl, sym, ap, ◌∙◌, parse_map, after_end_array, Token, left_some, Data, Items, no_items, item, next_value, next_items, rest_after}
+use Rattle.std.proofs.lemmas.Bool.Decides.{nat_tests}
+use Rattle.std.proofs.lemmas.Int.{ints}
+use Rattle.json_text.proofs.Common.{◌≡◌, ℕ, ◌<◌, List, length, Option, Some, None, refl, sym, ap, ◌∙◌, parse_map, after_end_array, Token, left_some, Data, Items, no_items, item, next_value, next_items, rest_after, arith}
 use Rattle.json_text.proofs.NextTokens.{pick, items_over, item_refused, item_read, value-shorter}
 
 module _ {A B : Type 0} (f : A → B) where
   pub mapped_some : (o : Option (A × List Token)) (b : B) (r : List Token) → parse_map f o ≡ Some (b, r) →
       (a : A) × (f a ≡ b) × (o ≡ Some (a, r))
   mapped_some None b r is = absurd (cc)
-  mapped_some (Some p) b r is =
-      let same = ap (pick (b, r)) is in
-      (p.0, ap (λ q. q.0) same, ap (λ s. Some (p.0, s)) (ap (λ q. q.1) same))
+  mapped_some (Some p) b r is = grind (arith, ints, nat_tests, pick)
 
   pub mapped_none : (o : Option (A × List Token)) → parse_map f o ≡ None → o ≡ None
   mapped_none None is = refl

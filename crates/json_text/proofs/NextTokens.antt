@@ -1,4 +1,6 @@
 -- What comes next, token by token.
+use Rattle.std.proofs.lemmas.Bool.Decides.{nat_tests}
+use Rattle.std.proofs.lemmas.Int.{ints}
 use Rattle.json_text.proofs.Common.{◌≡◌, Bool, ℕ, zero, suc, ◌-◌, ◌<◌, ◌≤◌, List, [], ◌∷◌, length, Option, Some, None, option_map, option_and_then, refl, sym, ap, ◌∙◌, arith, Parse, parse_map, after_end_array, read_key, items_step, members_step, items, members, value, tokens, Token, left, Takes, skip_value-shorter, items_end, items_more, items_fail, members_end, members_no_key, members_more, value_is, value-begin_array, value-begin_object, read_key-shorter, left_some, left-parse_map, Data, Num, unsigned, negative, float, null, boolean, number, string, array, object, no_items, item, Members, no_members, put, as_u64, of_json, of_items, of_members, number_of, converted, read, max_depth, next_value, next_items, next_members, rest_after, IsOther}
 use Rattle.json.specs.Json as json
 
@@ -10,8 +12,7 @@ module _ (p : Parse json.Json) (takes : Takes p) where
       option_and_then (λ q. parse_map (json.item q.0) (items p m q.1)) o
       ≡ option_and_then (λ q. parse_map (json.item q.0) (items p n q.1)) o
   items_enough_step m n ts None is rest = refl
-  items_enough_step m n ts (Some q) is rest =
-      ap (λ o. parse_map (json.item q.0) o) (rest q.1 (takes ts q.1 (ap left is)))
+  items_enough_step m n ts (Some q) is rest = grind (arith, ints, nat_tests, item, left)
 
   items_enough_at : (m n : ℕ) (ts : List Token) (o : Option (List Token)) → after_end_array ts ≡ o →
       ((r : List Token) → length r < length ts → items p m r ≡ items p n r) →
@@ -43,18 +44,16 @@ module _ (p : Parse json.Json) (takes : Takes p) where
       option_and_then (λ q. parse_map (json.member k q.0) (members p m q.1)) o
       ≡ option_and_then (λ q. parse_map (json.member k q.0) (members p n q.1)) o
   members_enough_step m n k ts None is rest = refl
-  members_enough_step m n k ts (Some q) is rest =
-      ap (λ o. parse_map (json.member k q.0) o) (rest q.1 (takes ts q.1 (ap left is)))
+  members_enough_step m n k ts (Some q) is rest = grind (arith, ints, nat_tests, left)
 
   members_enough_at : (m n : ℕ) (ts : List Token) (o : Option (Option (List ℕ) × List Token)) → read_key ts ≡ o →
       ((r : List Token) → length r < length ts → members p m r ≡ members p n r) →
       option_and_then (λ q. members_step p (members p m) q.0 q.1) o
       ≡ option_and_then (λ q. members_step p (members p n) q.0 q.1) o
-  members_enough_at m n ts None is rest = refl
-  members_enough_at m n ts (Some (None, s)) is rest = refl
   members_enough_at m n ts (Some (Some k, s)) is rest =
       let less = read_key-shorter ts (Some k) s is in
       members_enough_step m n k s (p s) refl (λ r shorter. rest r (omega arith))
+  members_enough_at m n ts _ is rest = refl
 
   members_enough : (m n : ℕ) (ts : List Token) → length ts ≤ m → length ts ≤ n → members p m ts ≡ members p n ts
   unfolding members
@@ -73,14 +72,12 @@ module _ {A B : Type 0} (f : A → Option B) where
   converted_pair : (a : A) (r s : List Token) (o : Option B) (b : B) →
       option_map {U = B × List Token} (λ y. (y, r)) o ≡ Some (b, s) → (r ≡ s) × (o ≡ Some b)
   converted_pair a r s None b is = absurd (cc)
-  converted_pair a r s (Some y) b is =
-      let same = ap (pick (y, r)) is in (ap (λ p. p.1) same, ap (λ p. Some p.0) same)
+  converted_pair a r s (Some y) b is = grind (arith, ints, nat_tests, pick)
 
   converted_some : (o : Option (A × List Token)) (b : B) (r : List Token) → converted f o ≡ Some (b, r) →
       (a : A) × (o ≡ Some (a, r)) × (f a ≡ Some b)
   converted_some None b r is = absurd (cc)
-  converted_some (Some p) b r is =
-      let both = converted_pair p.0 p.1 r (f p.0) b is in (p.0, ap (λ s. Some (p.0, s)) both.0, both.1)
+  converted_some (Some p) b r is = grind (arith, ints, nat_tests, converted_pair)
 
   not_converted : (r : List Token) (o : Option B) → option_map {U = B × List Token} (λ y. (y, r)) o ≡ None → o ≡ None
   not_converted r None is = refl
@@ -230,15 +227,13 @@ module _ (p : Parse json.Json) where
       converted of_items (items p n ts) ≡ None
   unfolding items
   no_items_at zero ts going is = refl
-  no_items_at (suc n) ts going is =
-      ap (λ o. converted of_items (items_step p (items p n) ts o)) going ∙ no_item (items p n) (p ts) is
+  no_items_at (suc n) ts going is = grind (arith, ints, nat_tests, items, no_item)
 
   no_member : (old : Members) (k : List ℕ) (more : Parse json.Members) (o : Option (json.Json × List Token)) →
       converted of_json o ≡ None →
       converted (λ ms. of_members ms old) (option_and_then (λ q. parse_map (json.member k q.0) (more q.1)) o) ≡ None
   no_member old k more None is = refl
-  no_member old k more (Some q) is =
-      without_member k q.0 old (not_converted of_json q.1 (of_json q.0) is) (more q.1)
+  no_member old k more (Some q) is = grind (arith, ints, nat_tests, without_member, not_converted)
 
   no_members_at : (old : Members) (n : ℕ) (k : List ℕ) (ts s : List Token) → read_key ts ≡ Some (Some k, s) →
       converted of_json (p s) ≡ None → converted (λ ms. of_members ms old) (members p n ts) ≡ None
@@ -317,9 +312,8 @@ whole_and_more text v t r is =
 
 refused_whole : (o : Option (json.Json × List Token)) → converted of_json o ≡ None →
     option_and_then of_json (option_and_then (λ p. json.if_last p.0 p.1) o) ≡ None
-refused_whole None is = refl
 refused_whole (Some (j, [])) is = not_converted of_json [] (of_json j) is
-refused_whole (Some (j, t ∷ r)) is = refl
+refused_whole _ is = refl
 
 pub whole_refused : (text : List ℕ) → next_value max_depth (tokens text) ≡ None → read text ≡ None
 unfolding next_value

@@ -26,12 +26,11 @@ with_members (member name value rest) found = with_members rest (put name value 
 -- its numbers are whole, its texts UTF-8, its names ASCII, and each name of an object stands once and in order
 abbrev mutual
   pub IsPlain : Data → Type 0
-  IsPlain null = ⊤
-  IsPlain (boolean b) = ⊤
   IsPlain (number n) = IsPlainNumber n
   IsPlain (string text) = IsUtf8 text
   IsPlain (array values) = ArePlain values
   IsPlain (object members) = (with_members members no_members ≡ members) × HasPlain members
+  IsPlain _ = ⊤
 
   pub ArePlain : Items → Type 0
   ArePlain no_items = ⊤

@@ -13,9 +13,9 @@ use Rattle.ntp_packet.specs.Header.{field}
 -- the bits that a mask leaves
 pub ruleset bits = (and_numeral)
 
-pub field-lt : (first width : ℕ) (bytes : List ℕ) → IsBytes bytes → field first width bytes < 256 ^ width
+pub field_lt : (first width : ℕ) (bytes : List ℕ) → IsBytes bytes → field first width bytes < 256 ^ width
 unfolding field
-field-lt first width bytes h =
+field_lt first width bytes h =
     let rest = All-drop (λ (byte : ℕ). byte < 256) first bytes h in
     let part = All-take (λ (byte : ℕ). byte < 256) (first + width - first) _ rest in
     big_from-lt 0 width (slice_range bytes first (first + width)) (byte_at-lt _ part)
@@ -29,3 +29,7 @@ twos_complement-greatest byte h = grind (arith, nat_tests, ints)
 pub twos_complement-same : (byte : ℕ) → (twos_complement 1 byte ≡ pos byte)
     ⊎ (twos_complement 1 byte +ℤ pos 256 ≡ pos byte)
 twos_complement-same byte = grind (arith, nat_tests, ints)
+
+pub ruleset signed_range = (field_lt, twos_complement-least, twos_complement-greatest, twos_complement-same)
+
+pub ruleset byte_range = (byte_at-lt)

@@ -38,7 +38,7 @@ from_skip : (skip : Option Skip) (d : Fields) → IsBytes d.payload →
 from_skip None d h = from_fields (is_ntp d) d h
 from_skip (Some skip) d h = tt
 
-pub packet_of-header-bytes : (frame : List ℕ) → IsBytes frame → IfSome (packet_of frame) (λ p. IsBytes p.header)
+pub packet_header_bytes : (frame : List ℕ) → IsBytes frame → IfSome (packet_of frame) (λ p. IsBytes p.header)
 unfolding packet_of datagram_of
-packet_of-header-bytes frame h = from_skip (skip_of frame) (fields_at (ip_packet frame) (segment_of
+packet_header_bytes frame h = from_skip (skip_of frame) (fields_at (ip_packet frame) (segment_of
     (ip_packet frame))) (payload_bytes frame h)

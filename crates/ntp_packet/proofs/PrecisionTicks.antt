@@ -5,16 +5,17 @@ use Rattle.std.proofs.Math.Nat.{pow-suc, pow-le-pow_right}
 use Rattle.std.proofs.lemmas.Int.{ints}
 use Rattle.std.proofs.lemmas.Nat.{pow_pos}
 use Rattle.ntp_packet.specs.Header.{precision_ticks_of}
+use Rattle.ntp_packet.proofs.Fields.{field_lt}
 
 -- the next power of two
 pow-next : (a b : ℕ) → a ≡ suc b → 2 ^ a ≡ 2 * 2 ^ b
 pow-next a b e = rw e (omega (arith, pow-suc 2 b))
 
-pub precision_ticks_of-suc : (precision : ℤ) → negsuc 31 ≤ℤ precision →
+pub precision_doubles : (precision : ℤ) → negsuc 31 ≤ℤ precision →
     precision_ticks_of (precision +ℤ pos 1) ≡ 2 * precision_ticks_of precision
-precision_ticks_of-suc (pos p) h = pow-next (32 + (p + 1)) (32 + p) (omega arith)
-precision_ticks_of-suc (negsuc zero) h = refl
-precision_ticks_of-suc (negsuc (suc n)) h =
+precision_doubles (pos p) h = pow-next (32 + (p + 1)) (32 + p) (omega arith)
+precision_doubles (negsuc zero) h = refl
+precision_doubles (negsuc (suc n)) h =
     let next : negsuc (suc n) +ℤ pos 1 ≡ negsuc n = omega (arith, ints) in
     ap precision_ticks_of next ∙ pow-next (31 - n) (31 - suc n) (omega (arith, ints))
 
@@ -36,3 +37,5 @@ pub distance-greatest : (delay dispersion : ℕ) (precision : ℤ) → delay < 2
     IfSome (if int_lt (pos 16) precision then None else Some (pos
     (delay * 32768 + dispersion * 65536 + precision_ticks_of precision))) (λ ticks. ticks <ℤ pos (2 ^ 50))
 distance-greatest delay dispersion precision d e = grind (arith, ints, precision_ticks_of-greatest precision)
+
+pub ruleset distance_range = (distance-least, distance-greatest, field_lt)

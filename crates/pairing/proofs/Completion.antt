@@ -1,5 +1,6 @@
 -- From what was gathered to the answer.
-use Rattle.pairing.proofs.Common.{◌≡◌, ℕ, ◌≤◌, List, Option, Some, None, Result, Ok, Err, refl, sym, ap, subst, inl, inr, length, arith, IfOk, IfSome, MatchResult, filter, nat_lt, ◌⊎◌, if◌then◌else◌, nat_tests, length-map, count_by-le-length, length-filter, Record, most_records, Coming, SourceState, ClaimData, Counts, Exchange, PairFault, Memory, TooManyExchanges, CompactExchange, IndexedRequest, IsAnswerTo, IsFromOutside, LeavesSource, MayAnswer, answer_of, capture_failed, device_failed, AreLawful, most_exchanges, IsGatheredFrom, is_accepted, HasRoom, compact_data, compact_of, reply_of, Collection, collection_of, counts_of, exchanges_of, replies_of, IsWhole}
+use Rattle.std.proofs.lemmas.Int.{ints}
+use Rattle.pairing.proofs.Common.{◌≡◌, ℕ, ◌≤◌, List, Option, Some, None, Result, Ok, Err, refl, sym, ap, subst, inl, inr, length, arith, IfOk, IfSome, MatchResult, filter, nat_lt, ◌⊎◌, if◌then◌else◌, nat_tests, length-map, count_by-le-length, length-filter, Record, most_records, Coming, SourceState, ClaimData, Counts, Exchange, PairFault, Memory, TooManyExchanges, CompactExchange, IndexedRequest, IsAnswerTo, IsFromOutside, LeavesSource, MayAnswer, answer_of, capture_failed, device_failed, AreLawful, most_exchanges, IsGatheredFrom, is_accepted, HasRoom, compact_data, compact_of, reply_of, Collection, collection_of, counts_of, exchanges_of, replies_of, IsWhole, rules}
 use Rattle.std.specs.Prelude.{Bool, true, false}
 use Rattle.pairing.specs.declared.compact.CompactCollection.{CompactCollection}
 use Rattle.pairing.proofs.JoinSteps.{length-filter_map}
@@ -38,54 +39,30 @@ pub answer-whole : (claim : ClaimData) (remaining : Option Coming) (records : Li
 unfolding answer_of
 answer-whole claim None records r whole exact = tt
 answer-whole claim (Some coming) records (Ok held) (are, ends) exact = rw (ends, are) exact
-answer-whole claim (Some coming) records (Err fault) (are, ends) (inl no_memory) =
-    inl (subst IsFromOutside (sym no_memory) tt)
+answer-whole claim (Some coming) records (Err fault) (are, ends) (inl no_memory) = grind (arith, ints, nat_tests)
 answer-whole claim (Some coming) records (Err fault) (are, ends) (inr refused) = inr (rw (ends, are) refused)
-
--- a collection is refused only for its size
-limited-fault : (many : Bool) (c : Collection) (fault : PairFault) →
-    (if many then Err TooManyExchanges else Ok c) ≡ Err fault → fault ≡ TooManyExchanges
-limited-fault true c fault is = cc
-limited-fault false c fault is = cc
 
 collection-fault : (claim : ClaimData) (records : List Record) (fault : PairFault) →
     collection_of claim records ≡ Err fault → fault ≡ TooManyExchanges
 unfolding collection_of
-collection-fault claim records fault is =
-    limited-fault (nat_lt most_exchanges (length (exchanges_of claim records))) (record {
-      exchanges =
-          exchanges_of claim records;
-      counts = counts_of claim records;
-    }) fault is
+collection-fault claim records fault is = search rules
 
 -- a fault that is no device's and none of the capture's
 left_as_it_was : (old new : SourceState) (fault : PairFault) → LeavesSource {X = Unit {0}} old (Ok tt) new →
     MayAnswer fault → device_failed {X = CompactCollection} (Err fault) ≡ false →
     capture_failed {X = CompactCollection} (Err fault) ≡ false
     → LeavesSource {X = CompactCollection} old (Err fault) new
-left_as_it_was old new fault leaves may device capture = record {
-  may_answer = may;
-  counts_fault = rw device leaves.counts_fault;
-  failed_iff = rw capture leaves.failed_iff;
-  takes = leaves.takes;
-}
+left_as_it_was old new fault leaves may device capture = search rules
 
 -- what is joined leaves the source alone
 pub leaves-whole : (claim : ClaimData) (records : List Record) (old new : SourceState)
     (r : Result CompactCollection PairFault) → LeavesSource {X = Unit {0}} old (Ok tt) new →
     IsCollected claim records r →
     LeavesSource old r new
-leaves-whole claim records old new (Ok held) leaves exact = record {
-  may_answer = tt;
-  counts_fault = leaves.counts_fault;
-  failed_iff = leaves.failed_iff;
-  takes = leaves.takes;
-}
-leaves-whole claim records old new (Err fault) leaves (inl no_memory) =
-    rw no_memory (left_as_it_was old new Memory leaves tt refl refl)
+leaves-whole claim records old new (Ok held) leaves exact = search rules
+leaves-whole claim records old new (Err fault) leaves (inl no_memory) = grind (arith, ints, nat_tests, left_as_it_was)
 leaves-whole claim records old new (Err fault) leaves (inr refused) =
-    rw (collection-fault claim records fault refused)
-    (left_as_it_was old new TooManyExchanges leaves tt refl refl)
+    grind (arith, ints, nat_tests, collection-fault, left_as_it_was)
 
 not_above : (a b : ℕ) → nat_lt a b ≡ false → b ≤ a
 not_above a b h = grind (arith, nat_tests)
@@ -94,18 +71,12 @@ limited-parts : (many : Bool) (xs : List Exchange) (counts : Counts) (c : Collec
     (if many then Err TooManyExchanges else Ok (record { exchanges = xs; counts = counts })) ≡ Ok c →
     (c.exchanges ≡ xs) × (many ≡ false)
 limited-parts true xs counts c is = absurd cc
-limited-parts false xs counts c is =
-    let made : Collection = record { exchanges = xs; counts = counts } in
-    let same : made ≡ c = cc in
-    (ap (λ (d : Collection). d.exchanges) (sym same), refl)
+limited-parts false xs counts c is = search rules
 
 pub lawful-whole : (claim : ClaimData) (records : List Record) (r : Result CompactCollection PairFault) →
     (length (exchanges_of claim records) ≤ most_exchanges →
     AreLawful (length claim.servers) (exchanges_of claim records)) → IsCollected claim records r →
     IfOk r (λ held. AreLawful (length claim.servers) (compact_data held).exchanges)
 unfolding collection_of
-lawful-whole claim records (Ok held) lawful exact =
-    let parts = limited-parts (nat_lt most_exchanges (length (exchanges_of claim records))) (exchanges_of claim records)
-    (counts_of claim records) (compact_data held) exact in
-    subst (AreLawful (length claim.servers)) (sym parts.0) (lawful (not_above most_exchanges _ parts.1))
+lawful-whole claim records (Ok held) lawful exact = grind (arith, ints, nat_tests, limited-parts, not_above)
 lawful-whole claim records (Err fault) lawful exact = tt

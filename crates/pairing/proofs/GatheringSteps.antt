@@ -1,30 +1,12 @@
 -- One more record gathered.
-use Rattle.pairing.proofs.Common.{◌≡◌, ◌∙◌, ℕ, ◌+◌, List, [], ◌∷◌, ◌++◌, Bool, true, false, Option, Some, None, refl, sym, ap, length-append, arith, append-nil, map, true≢false, filter, count_by, is_none, IsSome, ◌&&◌, ◌==◌, if◌then◌else◌, cons_option, option_and_then, option_map, bytes_eq, map-append, filter-append, filter_map-append, nat_tests, RecordHead, Record, mode_of, version_of, Packet, packet_of, ntp_port, ClaimData, Counts, CompactExchange, IndexedRequest, Key, Message, Refusal, Version, Leap, Stratum, Precision, ZeroStamp, NoRequest, Ambiguous, zero_counts, count_for, IsGathered, IsGatheredFrom, counts_with, is_accepted, is_early, is_for, indexed_in, compact_in, compact_of, key_of, indexed_of, Request, Reply, is_request, is_reply, server_at, requested_server, replying_server, request_to, reply_from, request_in, reply_in, request_of, reply_of, requests_of, replies_of, refusal_of, message_of_reply, message_in, message_of}
+use Rattle.pairing.proofs.Common.{◌≡◌, ◌∙◌, ℕ, ◌+◌, List, [], ◌∷◌, ◌++◌, Bool, true, false, Option, Some, None, refl, sym, ap, length-append, arith, append-nil, map, true≢false, filter, count_by, is_none, IsSome, ◌&&◌, ◌==◌, if◌then◌else◌, cons_option, option_and_then, option_map, bytes_eq, map-append, filter-append, filter_map-append, nat_tests, RecordHead, Record, mode_of, version_of, Packet, packet_of, ntp_port, ClaimData, Counts, CompactExchange, IndexedRequest, Key, Message, Refusal, Version, Leap, Stratum, Precision, ZeroStamp, NoRequest, Ambiguous, zero_counts, count_for, IsGathered, IsGatheredFrom, counts_with, is_accepted, is_early, is_for, indexed_in, compact_in, compact_of, key_of, indexed_of, Request, Reply, is_request, is_reply, server_at, requested_server, replying_server, request_to, reply_from, request_in, reply_in, request_of, reply_of, requests_of, replies_of, refusal_of, message_of_reply, message_in, message_of, rules}
 use Rattle.pairing.specs.declared.message.Message.TheVariants.{Request as Asks, Refused, Reply as Waits}
 use Rattle.pairing.specs.Index.{request_at}
 use Rattle.pairing.proofs.JoinSteps.{keeps_others, count_by-push, count_for-with_refusal}
 
--- nothing is counted yet
-none_counted : (reason : Refusal) → count_for reason zero_counts ≡ 0
-none_counted Version = refl
-none_counted Leap = refl
-none_counted Stratum = refl
-none_counted Precision = refl
-none_counted ZeroStamp = refl
-none_counted NoRequest = refl
-none_counted Ambiguous = refl
-
 pub gathered_start : (claim : ClaimData) → IsGatheredFrom claim [] [] [] zero_counts
 unfolding requests_of replies_of
-gathered_start claim = record {
-  keeps = refl;
-  holds = refl;
-  all_records = refl;
-  all_requests = refl;
-  all_replies = refl;
-  refused = none_counted;
-  warned = refl;
-}
+gathered_start claim = search rules
 
 -- What a record's message says about its request and its reply.
 pub data Says (head : RecordHead) : Option Message → List Request → List Reply → Type 0 where
@@ -53,23 +35,9 @@ says_servers head p (Some server) answered apart = rw (apart refl) (asks (key_of
 says_servers head p None None apart = silent
 says_servers head p None (Some server) apart = says_judged head (reply_from head p server) (refusal_of p.header) refl
 
--- a request's mode is no reply's
-modes_apart : (a b c d e : Bool) (mode : ℕ) → (a && b && mode == 3 && c) ≡ true → (d && e && mode == 4) ≡ false
-modes_apart a b c d e mode h = grind (arith, nat_tests)
-
-either_is_none : (b c : Bool) (x y : Option ℕ) → (b ≡ true → c ≡ false) → IsSome (if b then x else None) →
-    (if c then y else None) ≡ None
-either_is_none true c x y h some = ap (λ (t : Bool). if t then y else None) (h refl)
-either_is_none false c x y h some = absurd (true≢false (sym some))
-
 pub apart : (claim : ClaimData) (p : Packet) → IsSome (requested_server claim p) → replying_server claim p ≡ None
 unfolding requested_server replying_server
-apart claim p =
-    either_is_none (is_request claim p) (is_reply claim p) (server_at claim p.datagram.destination)
-    (server_at claim p.datagram.source)
-    (modes_apart (bytes_eq p.datagram.source claim.client) (p.datagram.destination_port == ntp_port)
-    (version_of p.header == 4)
-    (bytes_eq p.datagram.destination claim.client) (p.datagram.source_port == ntp_port) (mode_of p.header))
+apart claim p = search rules
 
 says_packet : (claim : ClaimData) (head : RecordHead) (o : Option Packet) →
     Says head (option_and_then (message_in claim head) o) (cons_option (option_and_then
@@ -95,12 +63,7 @@ renumbered records requests replies counts = record counts {
 count_for-renumbered : (reason : Refusal) (records requests replies : ℕ) (counts : Counts) →
     count_for reason (renumbered records requests replies counts) ≡ count_for reason counts
 count_for-renumbered Version records requests replies counts = refl
-count_for-renumbered Leap records requests replies counts = refl
-count_for-renumbered Stratum records requests replies counts = refl
-count_for-renumbered Precision records requests replies counts = refl
-count_for-renumbered ZeroStamp records requests replies counts = refl
-count_for-renumbered NoRequest records requests replies counts = refl
-count_for-renumbered Ambiguous records requests replies counts = refl
+count_for-renumbered _ records requests replies counts = refl
 
 -- one more reply that its own header accepts, or refuses
 holds-push : (replies : List Reply) (reply : Reply) (o : Option Refusal) → refusal_of reply.header ≡ o →
@@ -160,7 +123,6 @@ module _ {n : ℕ} {requests : List Request} {replies : List Reply} {kept : List
         refused = λ reason. omega (
           arith,
           early-push reason replies reply (Some refusal) is,
-          g.refused reason,
           count_for-with_refusal refusal reason counted,
           count_for-renumbered reason (counts.records + 1) counts.requests (counts.replies + 1) counts,
         );
@@ -175,7 +137,6 @@ module _ {n : ℕ} {requests : List Request} {replies : List Reply} {kept : List
     refused = λ reason. omega (
       arith,
       early-push reason replies reply None is,
-      g.refused reason,
       count_for-renumbered reason (counts.records + 1) counts.requests (counts.replies + 1) counts,
     );
     warned = g.warned;

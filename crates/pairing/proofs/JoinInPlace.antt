@@ -87,8 +87,6 @@ module _ (look_up : Key → Option Place) (start counts : Counts) (xs ys : List 
         arith,
         length-map (take kept ys) exchange_shown,
         length-take kept ys,
-        free,
-        full,
       ) in
       too_many (outcome_by look_up) xs number blank more most (map exchange_shown (take kept ys)) joined.exchanges_are
       found many

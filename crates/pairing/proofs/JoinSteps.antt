@@ -1,5 +1,5 @@
 -- One more reply joined with its request.
-use Rattle.pairing.proofs.Common.{◌≡◌, ◌∙◌, ℕ, suc, ◌+◌, ◌≤◌, ◌<◌, List, [], ◌∷◌, ◌++◌, Bool, Result, Ok, Err, refl, sym, ap, length, arith, zero-add, append-nil, Option, Some, None, map, take, drop, get_or, length-append, take-append-drop, true≢false, count_by, IsOk, if◌then◌else◌, filter_map, cons_option, result_ok, filter_map-append, map-append, take_more, sum_by-append, Counts, Exchange, Refusal, Version, Leap, Stratum, Precision, ZeroStamp, NoRequest, Ambiguous, count_for, with_refusal, with_outcome, IsJoined, is_refused, is_warning, same_refusal}
+use Rattle.pairing.proofs.Common.{◌≡◌, ◌∙◌, ℕ, suc, ◌+◌, ◌≤◌, ◌<◌, List, [], ◌∷◌, ◌++◌, Bool, Result, Ok, Err, refl, sym, ap, length, arith, zero-add, append-nil, Option, Some, None, map, take, drop, get_or, length-append, take-append-drop, true≢false, count_by, IsOk, if◌then◌else◌, filter_map, cons_option, result_ok, filter_map-append, map-append, take_more, sum_by-append, Counts, Exchange, Refusal, Version, Leap, Stratum, Precision, ZeroStamp, NoRequest, Ambiguous, count_for, with_refusal, with_outcome, IsJoined, is_refused, is_warning, same_refusal, rules}
 use Rattle.std.proofs.Math.Seq.{drop-cons}
 
 abbrev Outcome : Type 0
@@ -40,29 +40,14 @@ pub record KeepsOthers (before after : Counts) : Type 0 where
   pub same_replies : after.replies ≡ before.replies
   pub same_warnings : after.warnings ≡ before.warnings
 
-kept : {before after : Counts} → after.records ≡ before.records → after.requests ≡ before.requests →
-    after.replies ≡ before.replies → after.warnings ≡ before.warnings → KeepsOthers before after
-kept records requests replies warnings =
-    record { same_records = records; same_requests = requests; same_replies = replies; same_warnings = warnings }
-
 pub keeps_others : (refusal : Refusal) (counts : Counts) → KeepsOthers counts (with_refusal refusal counts)
-keeps_others Version counts = kept refl refl refl refl
-keeps_others Leap counts = kept refl refl refl refl
-keeps_others Stratum counts = kept refl refl refl refl
-keeps_others Precision counts = kept refl refl refl refl
-keeps_others ZeroStamp counts = kept refl refl refl refl
-keeps_others NoRequest counts = kept refl refl refl refl
-keeps_others Ambiguous counts = kept refl refl refl refl
+keeps_others Version counts = search rules
+keeps_others _ counts = search rules
 
 accepted : (reason : Refusal) (counts : Counts) (x : Exchange) →
     count_for reason (with_outcome (Ok x) counts) ≡ count_for reason counts
 accepted Version counts x = refl
-accepted Leap counts x = refl
-accepted Stratum counts x = refl
-accepted Precision counts x = refl
-accepted ZeroStamp counts x = refl
-accepted NoRequest counts x = refl
-accepted Ambiguous counts x = refl
+accepted _ counts x = refl
 
 -- one more outcome
 pub joined-push : (start counts : Counts) (outcomes : List Outcome) (exchanges : List Exchange) (o : Outcome) →
@@ -89,7 +74,6 @@ joined-push start counts outcomes exchanges (Err refusal) j =
       ) j.exchanges_are;
       refused = λ reason. omega (
         arith,
-        j.refused reason,
         count_by-push (is_refused reason) outcomes (Err refusal),
         count_for-with_refusal refusal reason counts,
       );
@@ -124,5 +108,4 @@ module _ {W : Type 0} (f : W → Outcome) (xs : List W) (i : ℕ) (d : W) (more 
         length-append (filter_map result_ok before) (filter_map result_ok after),
         some_given (f (get_or xs i d)) (map f (drop (suc i) xs)) ok,
         ap length is,
-        full,
       )

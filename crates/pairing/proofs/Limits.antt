@@ -1,6 +1,6 @@
 -- Every exchange keeps its limits.
 use Rattle.std.proofs.Common.{◌*◌}
-use Rattle.pairing.proofs.Common.{◌≡◌, ◌∙◌, ℕ, ◌+◌, ◌^◌, ◌≤◌, ◌<◌, List, [], ◌∷◌, Bool, true, false, Option, Some, None, Result, Ok, Err, refl, sym, ap, length, get_or, arith, map, All, ℤ, pos, ◌≤ℤ◌, ◌<ℤ◌, IfOk, IfSome, slice_get, unwrap_or, position, if◌then◌else◌, cons_option, filter_map, option_and_then, option_map, result_ok, bytes_eq, All-nil, All-cons, All-filter, All-map, position-Some, Unit as SubsecondUnit, per_second, ticks_per_second, window_low, window_high, RecordHead, Record, IsLawfulHead, IsBytes, receive_of, root_distance_of, transmit_of, Packet, packet_of, ClaimData, Exchange, Refusal, AreGiven, IsGiven, AreLawful, IsInRange, SameRequest, most_exchanges, Request, Reply, is_reply, server_at, requested_server, replying_server, request_to, reply_from, request_in, reply_in, request_of, reply_of, requests_of, replies_of, answers, requests_for, low_of, high_of, distance_of, exchange_of, paired, unless_refused, outcome_of, exchanges_of, refusal_of, subst, All-tail}
+use Rattle.pairing.proofs.Common.{◌≡◌, ◌∙◌, ℕ, ◌+◌, ◌^◌, ◌≤◌, ◌<◌, List, [], ◌∷◌, Bool, true, false, Option, Some, None, Result, Ok, Err, refl, sym, ap, length, get_or, arith, map, All, ℤ, pos, ◌≤ℤ◌, ◌<ℤ◌, IfOk, IfSome, slice_get, unwrap_or, position, if◌then◌else◌, cons_option, filter_map, option_and_then, option_map, result_ok, bytes_eq, All-nil, All-cons, All-filter, All-map, position-Some, Unit as SubsecondUnit, per_second, ticks_per_second, window_low, window_high, RecordHead, Record, IsLawfulHead, IsBytes, receive_of, root_distance_of, transmit_of, Packet, packet_of, ClaimData, Exchange, Refusal, AreGiven, IsGiven, AreLawful, IsInRange, SameRequest, most_exchanges, Request, Reply, is_reply, server_at, requested_server, replying_server, request_to, reply_from, request_in, reply_in, request_of, reply_of, requests_of, replies_of, answers, requests_for, low_of, high_of, distance_of, exchange_of, paired, unless_refused, outcome_of, exchanges_of, refusal_of, subst, All-tail, nat_tests, rules}
 use Rattle.std.proofs.lemmas.Int.{ints}
 use Rattle.era_unfold.specs.Stamp.{IsUnfolded, unfolded}
 use Rattle.pairing.specs.Provenance.{IsExchangeAmong, IsListedReply, IsRequestAmong}
@@ -46,26 +46,11 @@ request_of-among : (claim : ClaimData) (records : List Record) (r : Record) → 
     slice_get records r.head.number ≡ Some r →
     IfSome (request_of claim r) (IsRequestAmong records)
 unfolding request_of
-request_of-among claim records r lawful stands =
-    IfSome-and_then (request_in claim r.head) (IsRequestAmong records) (packet_of r.bytes)
-    (λ p is. IfSome-mapped (request_to r.head p) (IsRequestAmong records) (requested_server claim p)
-    (λ server asked. record { source = r; stands = stands; same_head = refl; lawful = lawful }))
-
-within_servers : (servers : List (List ℕ)) (test : List ℕ → Bool) (o : Option ℕ) → position test servers ≡ o →
-    IfSome o (λ s. s < length servers)
-within_servers servers test None h = tt
-within_servers servers test (Some s) h = (position-Some test servers s [] h).0
-
-if_either : (b : Bool) (o : Option ℕ) (n : ℕ) → IfSome o (λ s. s < n) → IfSome (if b then o else None) (λ s. s < n)
-if_either true o n h = h
-if_either false o n h = tt
+request_of-among claim records r lawful stands = search rules
 
 replying-within : (claim : ClaimData) (p : Packet) → IfSome (replying_server claim p) (λ s. s < length claim.servers)
 unfolding replying_server
-replying-within claim p =
-    if_either (is_reply claim p) (server_at claim p.datagram.source) (length claim.servers)
-    (within_servers claim.servers (λ server. bytes_eq server p.datagram.source)
-    (server_at claim p.datagram.source) refl)
+replying-within claim p = search rules
 
 module _ (claim : ClaimData) (records : List Record) (given : AreGiven records) where
   pub requests-among : All (IsRequestAmong records) (requests_of claim records)
@@ -76,34 +61,6 @@ module _ (claim : ClaimData) (records : List Record) (given : AreGiven records) 
       (given.numbered k d below))
 
 -- ---- exchanges
-
-in_range_pos : (k : ℕ) → k ≤ 2 ^ 64 → IsInRange (pos k)
-in_range_pos k h = record { least = omega (arith, ints); greatest = omega (arith, ints) }
-
--- a record's window lies in the first era of Unix ticks
-record HasWindow (head : RecordHead) : Type 0 where
-  pub low : IsInRange (low_of head)
-  pub high : IsInRange (high_of head)
-  pub forward : low_of head ≤ℤ high_of head
-  pub begins : window_low head.unit head.sec head.sub ≤ 2 ^ 64
-
-distance_positive : (o : Option ℤ) → IfSome o (λ ticks. pos 1 ≤ℤ ticks) → pos 0 ≤ℤ unwrap_or o (pos 0)
-distance_positive None h = omega (arith, ints)
-distance_positive (Some ticks) h = omega (arith, ints)
-
-distance_below : (o : Option ℤ) → IfSome o (λ ticks. ticks <ℤ pos (2 ^ 50)) → unwrap_or o (pos 0) ≤ℤ pos (2 ^ 70)
-distance_below None h = omega (arith, ints)
-distance_below (Some ticks) h = omega (arith, ints)
-
-same_request : (claim : ClaimData) (records : List Record) (x y : Exchange) → IsExchangeAmong claim records x →
-    IsExchangeAmong claim records y → SameRequest x y
-same_request claim records x y a b same =
-    let one : Some a.source ≡ Some b.source = sym a.stands ∙ ap (slice_get records) same ∙ b.stands in
-    let sources : a.source ≡ b.source = cc in (
-      a.same_low ∙ ap (λ (r : Record). low_of r.head) sources ∙ sym b.same_low,
-      a.same_high
-          ∙ ap (λ (r : Record). high_of r.head) sources ∙ sym b.same_high,
-    )
 
 module _ (laws : Laws) where
   reply_of-listed : (claim : ClaimData) (r : Record) → IsGiven r → IfSome (reply_of claim r) (IsListedReply claim)
@@ -124,70 +81,17 @@ module _ (laws : Laws) where
       All-filter_map (reply_of claim) (IsListedReply claim) records
       (λ k d below. reply_of-listed claim (get_or records k d) (given.each k d below))
 
-  has_window : (head : RecordHead) → IsLawfulHead head → HasWindow head
-  has_window head h =
-      let forward = laws.forward head.unit head.sec head.sub in
-      let ends : window_high head.unit head.sec head.sub ≤ (head.sec + 1) * ticks_per_second =
-      laws.ends head.unit head.sec head.sub h.sub in
-      let high : window_high head.unit head.sec head.sub ≤ 2 ^ 64 = omega (arith, ends, h.sec) in
-      record {
-        low = in_range_pos (window_low head.unit head.sec head.sub) (omega (arith, forward, high));
-        high = in_range_pos (window_high head.unit head.sec head.sub) high;
-        forward = omega (arith, ints, forward);
-        begins = omega (arith, forward, high);
-      }
-
-  in_range_unfolded : (stamp k : ℕ) → k ≤ 2 ^ 64 → IsInRange (unfolded stamp (pos k))
-  in_range_unfolded stamp k h =
-      let is = laws.unfolds stamp (pos k) in
-      record { least = omega (arith, ints, is.not_before); greatest = omega (arith, ints, is.before) }
-
-  module _ (header : List ℕ) (bytes : IsBytes header) where
-    distance-least : pos 0 ≤ℤ distance_of header
-    distance-least = distance_positive (root_distance_of header) (laws.least header bytes)
-
-    distance-greatest : distance_of header ≤ℤ pos (2 ^ 70)
-    distance-greatest = distance_below (root_distance_of header) (laws.greatest header bytes)
-
   module _ (claim : ClaimData) (records : List Record) where
     -- the exchange of a request and a reply
     exchange_of-among : (q : Request) (reply : Reply) → IsRequestAmong records q → IsListedReply claim reply →
         IsExchangeAmong claim records (exchange_of q reply)
-    exchange_of-among q reply asked answered =
-        let sent = has_window q.head asked.lawful in
-        let received = has_window reply.head answered.lawful in
-        let least = distance-least reply.header answered.header in
-        let low = window_low q.head.unit q.head.sec q.head.sub in
-        record {
-          lawful = record {
-            listed = answered.listed;
-            t1_low = sent.low;
-            t1_high = sent.high;
-            t1_ordered = sent.forward;
-            t4_low = received.low;
-            t4_high = received.high;
-            t4_ordered = received.forward;
-            t2 = in_range_unfolded (receive_of reply.header) low sent.begins;
-            t3 = in_range_unfolded (transmit_of reply.header) low sent.begins;
-            distance = record {
-              least = omega (arith, ints, least);
-              greatest =
-                  distance-greatest reply.header answered.header;
-            };
-            distance_not_negative = least;
-          };
-          source = asked.source;
-          stands = asked.stands;
-          same_low = ap low_of asked.same_head;
-          same_high = ap high_of asked.same_head;
-        }
+    exchange_of-among q reply asked answered = search rules
 
     paired-among : (reply : Reply) (requests : List Request) → All (IsRequestAmong records) requests →
         IsListedReply claim reply →
         IfOk (paired reply requests) (IsExchangeAmong claim records)
-    paired-among reply [] asked answered = tt
     paired-among reply (q ∷ []) asked answered = exchange_of-among q reply (asked 0 q (omega arith)) answered
-    paired-among reply (q ∷ other ∷ others) asked answered = tt
+    paired-among reply _ asked answered = tt
 
     unless_refused-among : (o : Option Refusal) (outcome : Result Exchange Refusal) →
         IfOk outcome (IsExchangeAmong claim records) →
@@ -221,14 +125,7 @@ module _ (laws : Laws) where
         (replies-listed claim records given k d below)))
 
   -- what is collected is lawful
-  pub exchanges-lawful : (claim : ClaimData) (records : List Record) → AreGiven records →
+  pub exchanges_lawful : (claim : ClaimData) (records : List Record) → AreGiven records →
       length (exchanges_of claim records) ≤ most_exchanges →
       AreLawful (length claim.servers) (exchanges_of claim records)
-  exchanges-lawful claim records given few =
-      let among = exchanges-among claim records given in
-      record {
-        few = few;
-        each = λ k d below. (among k d below).lawful;
-        agree = λ i j d less below.
-            same_request claim records _ _ (among i d (omega (arith, less, below))) (among j d below);
-      }
+  exchanges_lawful claim records given few = grind (arith, ints, nat_tests, exchanges-among claim records given)

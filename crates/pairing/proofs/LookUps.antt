@@ -1,5 +1,6 @@
 -- A look-up among what is kept of requests is one among them.
-use Rattle.pairing.proofs.Common.{◌≡◌, ◌∙◌, List, [], ◌∷◌, Bool, true, false, refl, ap, map, if◌then◌else◌, Key, IndexedRequest, Indexes, found_in, having, indexed_of, indexed_with, key_of, place_at, place_of, same_key, Request}
+use Rattle.std.proofs.lemmas.Int.{ints}
+use Rattle.pairing.proofs.Common.{◌≡◌, ◌∙◌, List, [], ◌∷◌, Bool, true, false, refl, ap, map, if◌then◌else◌, Key, IndexedRequest, Indexes, found_in, having, indexed_of, indexed_with, key_of, place_at, place_of, same_key, Request, arith, nat_tests}
 
 indexed_with-head : (same : Bool) (q : Request) (ks : List IndexedRequest) (qs : List Request) →
     ks ≡ map indexed_of qs →
@@ -11,8 +12,7 @@ indexed_with-map : (k : Key) (requests : List Request) →
     indexed_with k (map indexed_of requests) ≡ map indexed_of (having k requests)
 indexed_with-map k [] = refl
 indexed_with-map k (q ∷ requests) =
-    indexed_with-head (same_key k (key_of q)) q (indexed_with k (map indexed_of requests)) (having k requests)
-    (indexed_with-map k requests)
+    grind (arith, ints, nat_tests, indexed_with-map k requests, indexed_with-head, same_key)
 
 place_at-map : (requests : List Request) → place_at (map indexed_of requests) ≡ place_of requests
 place_at-map [] = refl
@@ -21,6 +21,4 @@ place_at-map (q ∷ other ∷ others) = refl
 
 pub indexed_as_found : (requests : List Request) (kept : List IndexedRequest) → kept ≡ map indexed_of requests →
     Indexes (found_in kept) requests
-indexed_as_found requests kept is k =
-    ap (λ items. place_at (indexed_with k items)) is ∙ ap place_at (indexed_with-map k requests)
-    ∙ place_at-map (having k requests)
+indexed_as_found requests kept is k = grind (arith, ints, nat_tests, place_at, indexed_with-map, place_at-map)

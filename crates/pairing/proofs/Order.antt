@@ -1,5 +1,6 @@
 -- What the order of records, and one more request, change.
-use Rattle.pairing.proofs.Common.{◌≡◌, ◌∙◌, ◌+◌, ◌≤◌, ◌<◌, List, [], ◌∷◌, ◌++◌, Bool, true, Option, Some, None, Err, refl, sym, ap, length, length-append, arith, if◌then◌else◌, cons_option, filter_map, filter-append, filter_map-append, Record, RecordHead, ClaimData, Message, Refusal, Ambiguous, Request, Reply, request_of, reply_of, requests_of, replies_of, answers, requests_for, outcome_of, paired, unless_refused, collection_of, counts_of, exchanges_of, refusal_of, message_of}
+use Rattle.std.proofs.lemmas.Int.{ints}
+use Rattle.pairing.proofs.Common.{◌≡◌, ◌∙◌, ◌+◌, ◌≤◌, ◌<◌, List, [], ◌∷◌, ◌++◌, Bool, true, Option, Some, None, Err, refl, sym, ap, length, length-append, arith, if◌then◌else◌, cons_option, filter_map, filter-append, filter_map-append, Record, RecordHead, ClaimData, Message, Refusal, Ambiguous, Request, Reply, request_of, reply_of, requests_of, replies_of, answers, requests_for, outcome_of, paired, unless_refused, collection_of, counts_of, exchanges_of, refusal_of, message_of, nat_tests, common_steps}
 use Rattle.pairing.proofs.GatheringSteps.{Says, silent, asks, refused, accepted, says}
 
 -- neighbours of which one gives nothing may change places
@@ -10,27 +11,18 @@ one_silent (Some x) b xs h = cc
 
 filter_map-swap : {X Y : Type 0} (h : X → Option Y) (before after : List X) (x y : X) → h x ≡ None →
     filter_map h (before ++ x ∷ y ∷ after) ≡ filter_map h (before ++ y ∷ x ∷ after)
-filter_map-swap h before after x y nothing =
-    filter_map-append h before (x ∷ y ∷ after)
-    ∙ ap (λ ys. filter_map h before ++ ys) (one_silent (h x) (h y) (filter_map h after) nothing)
-    ∙ sym (filter_map-append h before (y ∷ x ∷ after))
+filter_map-swap h before after x y nothing = grind (arith, ints, nat_tests, filter_map-append, one_silent)
 
 length-swap : {X : Type 0} (before after : List X) (x y : X) →
     length (before ++ x ∷ y ∷ after) ≡ length (before ++ y ∷ x ∷ after)
-length-swap before after x y = omega (
-  arith,
-  length-append before (x ∷ y ∷ after),
-  length-append before (y ∷ x ∷ after),
-)
+length-swap before after x y = grind (arith, ints, nat_tests, common_steps)
 
-pub collection-swap : (claim : ClaimData) (before after : List Record) (request reply : Record) →
+pub collection_swap : (claim : ClaimData) (before after : List Record) (request reply : Record) →
     reply_of claim request ≡ None → request_of claim reply ≡ None →
     collection_of claim (before ++ request ∷ reply ∷ after) ≡ collection_of claim (before ++ reply ∷ request ∷ after)
 unfolding collection_of counts_of exchanges_of requests_of replies_of
-collection-swap claim before after request reply no_reply no_request =
-    let asked = sym (filter_map-swap (request_of claim) before after reply request no_request) in
-    let answered = filter_map-swap (reply_of claim) before after request reply no_reply in
-    rw (asked, answered, length-swap before after request reply) refl
+collection_swap claim before after request reply no_reply no_request =
+    grind (arith, ints, nat_tests, filter_map-swap, request_of, length-swap)
 
 several : (reply : Reply) (before after : List Request) (q : Request) → 0 < length (before ++ after) →
     paired reply (before ++ q ∷ after) ≡ Err Ambiguous
@@ -56,9 +48,7 @@ repeated before after q reply named some passes =
 at_most_one : (head : RecordHead) (m : Option Message) (asked : List Request) (answered : List Reply) →
     Says head m asked answered → length asked + length answered ≤ 1
 at_most_one head m asked answered silent = omega arith
-at_most_one head m asked answered (asks key) = omega arith
-at_most_one head m asked answered (refused reply refusal is) = omega arith
-at_most_one head m asked answered (accepted reply is) = omega arith
+at_most_one head m asked answered _ = omega arith
 
 length-cons_option : {X : Type 0} (o : Option X) (xs : List X) →
     length (cons_option o xs) ≡ length (cons_option o []) + length xs
@@ -78,7 +68,7 @@ few_messages claim (r ∷ records) =
       length-cons_option (reply_of claim r) (filter_map (reply_of claim) records),
     )
 
-pub messages-le : (claim : ClaimData) (records : List Record) →
+pub messages_le : (claim : ClaimData) (records : List Record) →
     length (requests_of claim records) + length (replies_of claim records) ≤ length records
 unfolding requests_of replies_of
-messages-le = few_messages
+messages_le = few_messages

@@ -1,6 +1,6 @@
 -- Exchanges are those of the pairs.
 use Rattle.std.proofs.Common.{◌==◌, ◌&&◌}
-use Rattle.pairing.proofs.Common.{◌≡◌, ◌∙◌, ℕ, zero, suc, ◌<◌, List, [], ◌∷◌, true, Option, Some, None, Ok, refl, sym, ap, subst, length, get_or, arith, map, All, AllPairs, Contains, IfSome, ◌≢◌, cons_option, filter_map, result_ok, nat_tests, All-contains_itself, filter_passes, RecordHead, Record, origin_of, packet_of, ClaimData, Exchange, Refusal, Request, Reply, reply_from, reply_in, reply_of, replying_server, requests_of, replies_of, answers, requests_for, exchange_of, outcome_of, paired, unless_refused, exchanges_of, refusal_of}
+use Rattle.pairing.proofs.Common.{◌≡◌, ◌∙◌, ℕ, zero, suc, ◌<◌, List, [], ◌∷◌, true, Option, Some, None, Ok, refl, sym, ap, subst, length, get_or, arith, map, All, AllPairs, Contains, IfSome, ◌≢◌, cons_option, filter_map, result_ok, nat_tests, All-contains_itself, filter_passes, RecordHead, Record, origin_of, packet_of, ClaimData, Exchange, Refusal, Request, Reply, reply_from, reply_in, reply_of, replying_server, requests_of, replies_of, answers, requests_for, exchange_of, outcome_of, paired, unless_refused, exchanges_of, refusal_of, rules}
 use Rattle.std.proofs.lemmas.List.Kept.{AllPairs-cons}
 use Rattle.pairing.specs.Pair.{IsExchangeOf, IsPair, NameEachOther}
 use Rattle.pairing.proofs.Limits.{All-filter_map, IfSome-mapped, IfSome-and_then}
@@ -28,8 +28,6 @@ module _ (claim : ClaimData) (records : List Record) where
       refusal_of reply.header ≡ o → (qs : List Request) →
       requests_for reply (requests_of claim records) ≡ qs →
       IfSome (result_ok (unless_refused o (paired reply qs))) (IsExchangeOf claim records)
-  pair_at reply given (Some refusal) is qs only = tt
-  pair_at reply given None is [] only = tt
   pair_at reply given None is (q ∷ []) only = record {
     request = q;
     reply = reply;
@@ -37,11 +35,11 @@ module _ (claim : ClaimData) (records : List Record) where
     named = names reply (requests_of claim records) q only;
     made = refl;
   }
-  pair_at reply given None is (q ∷ other ∷ others) only = tt
+  pair_at reply given _ is _ only = tt
 
-  pub exchanges-sound : All (IsExchangeOf claim records) (exchanges_of claim records)
+  pub exchanges_sound : All (IsExchangeOf claim records) (exchanges_of claim records)
   unfolding exchanges_of
-  exchanges-sound =
+  exchanges_sound =
       let replies = replies_of claim records in
       let requests = requests_of claim records in
       rw (filter_map-map result_ok (outcome_of requests) replies)
@@ -66,11 +64,11 @@ contains-given h (z ∷ xs) zero x d y below at is = contains-first (h z) (filte
 contains-given h (z ∷ xs) (suc k) x d y below at is =
     contains-kept (h z) (filter_map h xs) y (contains-given h xs k x d y (omega (arith, below)) at is)
 
-pub exchanges-complete : (claim : ClaimData) (records : List Record) (q : Request) (reply : Reply) →
+pub exchanges_complete : (claim : ClaimData) (records : List Record) (q : Request) (reply : Reply) →
     IsPair claim records q reply →
     Contains (exchanges_of claim records) (exchange_of q reply)
 unfolding exchanges_of
-exchanges-complete claim records q reply pair =
+exchanges_complete claim records q reply pair =
     let requests = requests_of claim records in
     let outcome : outcome_of requests reply ≡ Ok (exchange_of q reply) =
     ap (λ (o : Option Refusal). unless_refused o (paired reply (requests_for reply requests))) pair.accepted
@@ -108,30 +106,17 @@ module _ {X Y : Type 0} (h : X → Option Y) (R : X → X → Type 0) (S : Y →
 
 reply_head : (claim : ClaimData) (r : Record) (reply : Reply) → reply_of claim r ≡ Some reply → reply.head ≡ r.head
 unfolding reply_of
-reply_head claim r reply is =
-    let IsHeaded = λ (a : Reply). a.head ≡ r.head in
-    subst (λ (o : Option Reply). IfSome o IsHeaded) is
-    (IfSome-and_then (reply_in claim r.head) IsHeaded (packet_of r.bytes)
-    (λ p at. IfSome-mapped (reply_from r.head p) IsHeaded (replying_server claim p) (λ server from. refl)))
-
-paired-number : (reply : Reply) (o : Option Refusal) (qs : List Request) →
-    IfSome (result_ok (unless_refused o (paired reply qs))) (λ x. x.reply ≡ reply.head.number)
-paired-number reply (Some refusal) qs = tt
-paired-number reply None [] = tt
-paired-number reply None (q ∷ []) = refl
-paired-number reply None (q ∷ other ∷ others) = tt
+reply_head claim r reply is = search rules
 
 outcome-number : (requests : List Request) (reply : Reply) (x : Exchange) →
     result_ok (outcome_of requests reply) ≡ Some x → x.reply ≡ reply.head.number
-outcome-number requests reply x is =
-    subst (λ (o : Option Exchange). IfSome o (λ (y : Exchange). y.reply ≡ reply.head.number)) is
-    (paired-number reply (refusal_of reply.header) (requests_for reply requests))
+outcome-number requests reply x is = search rules
 
-pub exchanges-distinct : (claim : ClaimData) (records : List Record) →
+pub exchanges_distinct : (claim : ClaimData) (records : List Record) →
     AllPairs (λ (a b : Record). a.head.number ≢ b.head.number) records →
     AllPairs (λ (x y : Exchange). x.reply ≢ y.reply) (exchanges_of claim records)
 unfolding exchanges_of replies_of
-exchanges-distinct claim records numbered =
+exchanges_distinct claim records numbered =
     let requests = requests_of claim records in
     let Apart = λ (a b : Reply). a.head.number ≢ b.head.number in
     let replies = AllPairs-filter_map (reply_of claim) (λ (a b : Record). a.head.number ≢ b.head.number) Apart

@@ -1,5 +1,6 @@
 -- One more record read.
-use Rattle.pairing.proofs.Common.{◌≡◌, ◌∙◌, ℕ, zero, suc, ◌≤◌, ◌<◌, List, [], ◌∷◌, ◌++◌, false, Option, Some, None, Result, Ok, Err, refl, sym, ap, subst, inl, inr, length, length-append, append_assoc, arith, true≢false, slice_get, IfSome, IfErr, ◌⊎◌, All-push, All-weaker, count_by-le-length, RecordHead, Record, most_records, Coming, SourceState, IsNext, IsStep, read_failed, TakesFrom-trans, IsBytes, ClaimData, Counts, PairFault, Capture, CompactExchange, IndexedRequest, AreGiven, IsFromOutside, IsGiven, LeavesSource, MayAnswer, answer_of, capture_failed, device_failed, HasRoom, IsGatheredFrom, is_early, request_of, reply_of, requests_of, replies_of, Continues, IsRead}
+use Rattle.std.proofs.lemmas.Int.{ints}
+use Rattle.pairing.proofs.Common.{◌≡◌, ◌∙◌, ℕ, zero, suc, ◌≤◌, ◌<◌, List, [], ◌∷◌, ◌++◌, false, Option, Some, None, Result, Ok, Err, refl, sym, ap, subst, inl, inr, length, length-append, append_assoc, arith, true≢false, slice_get, IfSome, IfErr, ◌⊎◌, All-push, All-weaker, count_by-le-length, RecordHead, Record, most_records, Coming, SourceState, IsNext, IsStep, read_failed, TakesFrom-trans, IsBytes, ClaimData, Counts, PairFault, Capture, CompactExchange, IndexedRequest, AreGiven, IsFromOutside, IsGiven, LeavesSource, MayAnswer, answer_of, capture_failed, device_failed, HasRoom, IsGatheredFrom, is_early, request_of, reply_of, requests_of, replies_of, Continues, IsRead, rules, nat_tests}
 use Rattle.byte_stream.specs.Fault.{CountsFault}
 use Rattle.pcap_reader.specs.declared.fault.CaptureFault.{CaptureFault}
 use Rattle.pcap_reader.specs.declared.fault.CaptureFault.TheVariants.{Read, Failed}
@@ -81,9 +82,7 @@ leaves-unfailed start before now done next result read step may device capture =
 not_failed : (start before now : SourceState) (done : List Record) (fault : CaptureFault) →
     IsRead start before done → IsStep before (Err fault) now →
     fault ≡ Failed → ⊥
-not_failed start before now done fault read step same =
-    let yes_failed = step.failed_iff.0 (ap Err same) in
-    true≢false (sym yes_failed ∙ read.unfailed)
+not_failed start before now done fault read step same = grind (arith, ints, nat_tests)
 
 may_first : (fault : CaptureFault) → MayStep fault → (fault ≡ Failed → ⊥) → MayAnswer (Capture fault)
 may_first Failed h not = absurd (not refl)
@@ -149,20 +148,9 @@ gathered-room claim done kept held counts g few =
       records = omega (arith, g.all_records);
       requests = omega (arith, g.all_requests, asked);
       replies = omega (arith, g.all_replies, answered);
-      refused = λ reason. omega (
-        arith,
-        g.refused reason,
-        count_by-le-length (is_early reason) (replies_of claim done),
-        answered,
-      );
+      refused = λ reason. omega (arith, count_by-le-length (is_early reason) (replies_of claim done));
       warned = omega (arith, g.warned);
     }
 
 pub HasRoom-weaker : (counts : Counts) (more less : ℕ) → less ≤ more → HasRoom counts more → HasRoom counts less
-HasRoom-weaker counts more less h room = record {
-  records = omega (arith, room.records);
-  requests = omega (arith, room.requests);
-  replies = omega (arith, room.replies);
-  refused = λ reason. omega (arith, room.refused reason);
-  warned = omega (arith, room.warned);
-}
+HasRoom-weaker counts more less h room = search rules

@@ -1,5 +1,6 @@
 -- To which server a packet is a request, and of which it is a reply.
-use Rattle.pairing.proofs.Common.{◌≡◌, ◌∙◌, ℕ, ◌<◌, List, [], Bool, true, false, Option, Some, None, refl, sym, ap, length, get_or, arith, cond, AllPairs, ◌≢◌, ◌↔◌, ◌&&◌, ◌==◌, nat_lt, slice_get, if◌then◌else◌, position_or_len, bytes_eq, nat_tests, position-Some, position_or_len_is, bytes_eq-Decides, mode_of, version_of, Packet, ntp_port, ClaimData, IsReplyOf, IsRequestTo, client_mode, server_mode, is_reply, is_request, replying_server, requested_server, server_at}
+use Rattle.std.proofs.lemmas.Int.{ints}
+use Rattle.pairing.proofs.Common.{◌≡◌, ◌∙◌, ℕ, ◌<◌, List, [], Bool, true, false, Option, Some, None, refl, sym, ap, length, get_or, arith, cond, AllPairs, ◌≢◌, ◌↔◌, ◌&&◌, ◌==◌, nat_lt, slice_get, if◌then◌else◌, position_or_len, bytes_eq, nat_tests, position-Some, position_or_len_is, bytes_eq-Decides, mode_of, version_of, Packet, ntp_port, ClaimData, IsReplyOf, IsRequestTo, client_mode, server_mode, is_reply, is_request, replying_server, requested_server, server_at, rules}
 use Rattle.std.proofs.lemmas.Bool.{and_parts, eqb-true}
 use Rattle.std.proofs.lemmas.Option.{get_or_from_slice_get, slice_get-get_or, slice_get_within}
 
@@ -25,15 +26,7 @@ server_at-is : (claim : ClaimData) (address : List ℕ) (server : ℕ) →
     AllPairs (λ (a b : List ℕ). a ≢ b) claim.servers →
     slice_get claim.servers server ≡ Some address → server_at claim address ≡ Some server
 server_at-is claim address server apart at =
-    let test = λ (s : List ℕ). bytes_eq s address in
-    let below : server < length claim.servers = slice_get_within claim.servers server address at in
-    let there : get_or claim.servers server [] ≡ address = get_or_from_slice_get claim.servers server address [] at in
-    let first = position_or_len_is test claim.servers server [] (omega (arith, below))
-    (λ k less. differs (test (get_or claim.servers k []))
-    (λ same. apart k server [] less below ((bytes_eq-Decides (get_or claim.servers k []) address).0 same
-    ∙ sym there)))
-    (λ _. (bytes_eq-Decides (get_or claim.servers server []) address).1 there) in
-    place_is (position_or_len test claim.servers) (length claim.servers) server first below
+    search (rules, slice_get_within, get_or_from_slice_get, position_or_len_is, differs, bytes_eq-Decides, place_is)
 
 if_some : (b : Bool) (o : Option ℕ) (s : ℕ) → (if b then o else None) ≡ Some s → (b ≡ true) × (o ≡ Some s)
 if_some true o s is = (refl, is)
@@ -98,10 +91,10 @@ module _ (claim : ClaimData) (p : Packet) (server : ℕ) where
       ap (λ (b : Bool). if b then server_at claim p.datagram.source else None) tests
       ∙ server_at-is claim p.datagram.source server apart is.from_server
 
-  pub request-exact : AllPairs (λ (a b : List ℕ). a ≢ b) claim.servers →
+  pub request_exact : AllPairs (λ (a b : List ℕ). a ≢ b) claim.servers →
       (requested_server claim p ≡ Some server) ↔ IsRequestTo claim server p
-  request-exact apart = (request-sound, request-complete apart)
+  request_exact apart = (request-sound, request-complete apart)
 
-  pub reply-exact : AllPairs (λ (a b : List ℕ). a ≢ b) claim.servers →
+  pub reply_exact : AllPairs (λ (a b : List ℕ). a ≢ b) claim.servers →
       (replying_server claim p ≡ Some server) ↔ IsReplyOf claim server p
-  reply-exact apart = (reply-sound, reply-complete apart)
+  reply_exact apart = (reply-sound, reply-complete apart)

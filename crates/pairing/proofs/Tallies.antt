@@ -1,5 +1,6 @@
 -- Sums of counts.
-use Rattle.pairing.proofs.Common.{◌≡◌, ◌∙◌, ℕ, ◌+◌, List, [], ◌∷◌, Result, Ok, Err, refl, sym, length, arith, if◌then◌else◌, cons_option, filter_map, result_ok, length-map, Record, ClaimData, Exchange, Refusal, Version, Leap, Stratum, Precision, ZeroStamp, NoRequest, Ambiguous, requests_of, replies_of, outcome_of, outcomes_of, is_refused, refused_for, exchanges_of}
+use Rattle.std.proofs.lemmas.Int.{ints}
+use Rattle.pairing.proofs.Common.{◌≡◌, ◌∙◌, ℕ, ◌+◌, List, [], ◌∷◌, Result, Ok, Err, refl, sym, length, arith, if◌then◌else◌, cons_option, filter_map, result_ok, length-map, Record, ClaimData, Exchange, Refusal, Version, Leap, Stratum, Precision, ZeroStamp, NoRequest, Ambiguous, requests_of, replies_of, outcome_of, outcomes_of, is_refused, refused_for, exchanges_of, nat_tests, common_steps}
 use Rattle.pairing.proofs.Exactness.{count_by-cons}
 
 abbrev Outcome : Type 0
@@ -21,12 +22,7 @@ one_each : (o : Outcome) (os : List Exchange) →
     + length (cons_option (result_ok o) os) ≡ 1 + length os
 one_each (Ok x) os = omega arith
 one_each (Err Version) os = omega arith
-one_each (Err Leap) os = omega arith
-one_each (Err Stratum) os = omega arith
-one_each (Err Precision) os = omega arith
-one_each (Err ZeroStamp) os = omega arith
-one_each (Err NoRequest) os = omega arith
-one_each (Err Ambiguous) os = omega arith
+one_each (Err _) os = omega arith
 
 each_once : (os : List Outcome) → length os ≡ refused_in_all os + length (filter_map result_ok os)
 each_once [] = refl
@@ -44,9 +40,7 @@ each_once (o ∷ os) =
       count_by-cons (is_refused Ambiguous) o os,
     )
 
-pub replies-counted : (claim : ClaimData) (records : List Record) → length (replies_of claim records)
+pub replies_counted : (claim : ClaimData) (records : List Record) → length (replies_of claim records)
     ≡ refused_in_all (outcomes_of claim records) + length (exchanges_of claim records)
 unfolding exchanges_of
-replies-counted claim records =
-    let requests = requests_of claim records in
-    sym (length-map (replies_of claim records) (outcome_of requests)) ∙ each_once (outcomes_of claim records)
+replies_counted claim records = grind (arith, ints, nat_tests, common_steps, each_once)

@@ -1,4 +1,5 @@
 -- Four bytes and the number that they spell.
+use Rattle.std.proofs.lemmas.Int.{ints}
 use Rattle.pairing.proofs.Common.{◌≡◌, ◌∙◌, ℕ, ◌<◌, List, Bool, true, false, refl, sym, ap, length, get_or, arith, ◌==◌, bytes_eq, nat_tests, be_bytes_4, bytes_eq-Decides}
 use Rattle.std.specs.Int.{w32, from_be_bytes, to_be_bytes}
 
@@ -22,7 +23,4 @@ test_is m n false same back = grind (arith, nat_tests, back)
 -- two words are the same exactly if their numbers are
 pub same_words : (a b : List ℕ) → IsWord a → IsWord b →
     (from_be_bytes w32 a == from_be_bytes w32 b) ≡ bytes_eq a b
-same_words a b of_a of_b =
-    test_is (from_be_bytes w32 a) (from_be_bytes w32 b) (bytes_eq a b)
-    (λ same. ap (from_be_bytes w32) ((bytes_eq-Decides a b).0 same))
-    (λ is. (bytes_eq-Decides a b).1 (one_word a b of_a of_b is))
+same_words a b of_a of_b = grind (arith, ints, nat_tests, test_is, bytes_eq-Decides, one_word)

@@ -15,6 +15,7 @@ use era_unfold::laws::{every_stamp_is_unfolded, window_lies_in_its_second};
 use ntp_packet::laws::{packet_header_is_bytes, root_distance_range};
 
 /// Every reply is counted under exactly one reason, or gives one exchange.
+#[tactic(auto, using(crate::proofs::Tallies::replies_counted), unfolding(crate::specs::Pairing::counts_of))]
 pub fn every_reply_counts_once()
     ensures { (claim : ClaimData) (records : List Record) → let c = counts_of claim records in
         c.replies ≡ c.version + c.leap + c.stratum + c.precision + c.zero_stamp + c.no_request
@@ -22,6 +23,7 @@ pub fn every_reply_counts_once()
 {}
 
 /// No count exceeds the records, and no record is both a request and a reply.
+#[tactic(auto, using(crate::proofs::Order::messages_le), unfolding(crate::specs::Pairing::counts_of))]
 pub fn counts_are_at_most_the_records()
     ensures all { (claim : ClaimData) (records : List Record) →
         (counts_of claim records).records ≡ length records }
@@ -34,6 +36,7 @@ pub fn counts_are_at_most_the_records()
 
 /// An exchange is that of a reply and of the one and only request that it names by server, port and
 /// timestamp, and each such pair gives its exchange.
+#[tactic(auto, using(crate::proofs::Pairs::exchanges_sound, crate::proofs::Pairs::exchanges_complete))]
 pub fn exchanges_are_those_of_the_pairs()
     ensures sound { (claim : ClaimData) (records : List Record) →
         All (IsExchangeOf claim records) (exchanges_of claim records) }
@@ -42,6 +45,7 @@ pub fn exchanges_are_those_of_the_pairs()
 {}
 
 /// The exchanges of the records that a source gives keep every limit, if they aren't too many.
+#[tactic(auto, using(crate::proofs::Limits::exchanges_lawful))]
 pub fn exchanges_keep_their_limits()
     ensures { (claim : ClaimData) (records : List Record) → AreGiven records →
         length (exchanges_of claim records) ≤ most_exchanges →
@@ -54,6 +58,7 @@ pub fn exchanges_keep_their_limits()
 }
 
 /// No two exchanges have one reply, if records have different numbers.
+#[tactic(auto, using(crate::proofs::Pairs::exchanges_distinct))]
 pub fn no_reply_gives_two_exchanges()
     ensures { (claim : ClaimData) (records : List Record) →
         AllPairs (λ a b. a.head.number ≢ b.head.number) records →
@@ -62,6 +67,7 @@ pub fn no_reply_gives_two_exchanges()
 
 /// It doesn't matter whether a request stands before its reply or after it: neighbours that aren't
 /// both requests nor both replies may change places.
+#[tactic(auto, using(crate::proofs::Order::collection_swap))]
 pub fn order_of_request_and_reply_is_open()
     ensures { (claim : ClaimData) (before after : List Record) (request reply : Record) →
         reply_of claim request ≡ None → request_of claim reply ≡ None →

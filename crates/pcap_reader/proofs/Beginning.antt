@@ -2,6 +2,7 @@
 use Rattle.pcap_reader.proofs.Common.{◌≡◌, ◌-◌, ◌<◌, ◌≤◌, ℕ, List, [], ◌++◌, length, take, drop, Option, Some, None, Ok, Err, IfSome, refl, sym, ap, ◌∙◌, arith, Keeps, IsAtEnd, prepend_known, drop-append-le, CountsFault, TakesAtMost, FeedState, Buffered, Format, CaptureFault, Read, Memory, held_bytes, IsHeaderFault, header_of, buffer_size, capture_of, is_read}
 use Rattle.pcap_reader.specs.Refusal.{IsRefusal, most_refused}
 use Rattle.pcap_reader.proofs.Prefix.{header_front, header_fault}
+use Rattle.pcap_reader.proofs.Remaining.{capture_of_refused}
 
 -- at first nothing is held
 pub held-none : {F : Type 0} (b : Buffered F) → b.end ≡ 0 → held_bytes b ≡ []
@@ -12,9 +13,6 @@ pub Keeps-first : (all a : Option (List ℕ)) (held held' : List ℕ) → held �
 Keeps-first None a held held' none keeps = tt
 Keeps-first (Some x) None held held' none keeps = absurd keeps
 Keeps-first (Some x) (Some y) held held' none keeps = keeps ∙ ap (λ l. l ++ x) none
-
-capture_refused : (bytes : List ℕ) (e : CaptureFault) → header_of bytes ≡ Err e → capture_of bytes ≡ Err e
-capture_refused bytes e h = rw (capture_of, h) refl
 
 refusal_is : (all : Option (List ℕ)) (e : CaptureFault) → IsHeaderFault e →
     IfSome all (λ bytes. capture_of bytes ≡ Err e) →
@@ -29,7 +27,7 @@ pub header_refused : (all a : Option (List ℕ)) (held : List ℕ) (e : CaptureF
 header_refused None a held e keeps end h = refusal_is None e (header_fault held e h) tt
 header_refused (Some x) None held e keeps end h = absurd keeps
 header_refused (Some x) (Some y) held e keeps end h =
-    grind (arith, capture_refused, header_front, refusal_is, header_fault)
+    grind (arith, capture_of_refused, header_front, refusal_is, header_fault)
 
 -- the header is lawful, and was taken
 pub header_begun : (all a : Option (List ℕ)) (held rest : List ℕ) (f : Format) → Keeps all (prepend_known held a) →

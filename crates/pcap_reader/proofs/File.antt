@@ -1,7 +1,7 @@
 -- What is read of the whole bytes of a file, and what they are.
 use Rattle.pcap_reader.proofs.Common.{◌≡◌, ◌+◌, ◌<◌, ◌≤◌, ◌⊎◌, ℕ, List, [], ◌++◌, length, take, drop, Option, Some, None, Result, Ok, Err, refl, sym, ap, subst, ◌∙◌, arith, inl, inr, append_assoc, append-nil, length-append, zero-add, MatchOption, take-append-drop, CaptureFault, Format, IsBytes, BeginsWith, IsBrokenAfter, HasHeaderFault, HasFault, Record, IsHeader, IsRecordAt, IsCapture, record_spelling, spelling, most_records, header_of, Coming, coming_from, capture_of, fault_at}
 use Rattle.pcap_reader.proofs.RecordList.{IsReadFrom, after_records, coming_from-spelled, read_from, same_place}
-use Rattle.pcap_reader.proofs.Remaining.{coming_from-nil, coming_from_fault, capture_of_begun}
+use Rattle.pcap_reader.proofs.Remaining.{coming_from-nil, coming_from_fault, capture_of_begun, capture_of_refused}
 use Rattle.pcap_reader.proofs.FileHeader.{spelled_header, header_read, header_is_read, header_has_fault, header_fault_read}
 use Rattle.pcap_reader.proofs.Parts.{bytes_after}
 use Rattle.pcap_reader.proofs.RecordBytes.{fault_at-faultless, not_some, spelled_record}
@@ -152,13 +152,10 @@ broken_read bytes records e h =
     capture_of-begins bytes f records h.rest h.begins ∙ ap (λ c. Ok (after_records records c)) end
     ∙ ap (λ rs. answer rs (Some e)) (append-nil records)
 
-refused : (bytes : List ℕ) (e : CaptureFault) → header_of bytes ≡ Err e → capture_of bytes ≡ Err e
-refused bytes e h = rw (capture_of, h) refl
-
 header_refused : (bytes : List ℕ) (e : CaptureFault) (r : Result Format CaptureFault) → header_of bytes ≡ r →
     capture_of bytes ≡ Err e → header_of bytes ≡ Err e
 header_refused bytes e (Ok f) h found = grind (arith, capture_of_begun)
-header_refused bytes e (Err d) h found = grind (arith, refused)
+header_refused bytes e (Err d) h found = grind (arith, capture_of_refused)
 
 pub refused_for_header : (bytes : List ℕ) (e : CaptureFault) → IsBytes bytes → capture_of bytes ≡ Err e →
     HasHeaderFault bytes e
@@ -166,7 +163,7 @@ refused_for_header bytes e are_bytes h = grind (arith, header_has_fault, header_
 
 pub header_fault_refused : (bytes : List ℕ) (e : CaptureFault) → IsBytes bytes → HasHeaderFault bytes e →
     capture_of bytes ≡ Err e
-header_fault_refused bytes e are_bytes h = refused bytes e (header_fault_read bytes e are_bytes h)
+header_fault_refused bytes e are_bytes h = capture_of_refused bytes e (header_fault_read bytes e are_bytes h)
 
 pub no_header : (bytes : List ℕ) (e : CaptureFault) (f : Format) (header rest : List ℕ) → capture_of bytes ≡ Err e →
     IsHeader f header → ¬ (bytes ≡ header ++ rest)
@@ -187,33 +184,22 @@ pub capture_or_fault : (bytes : List ℕ) (r : Result Coming CaptureFault) → c
 capture_or_fault bytes (Err e) h are_bytes = inr (e, inl (refused_for_header bytes e are_bytes h))
 capture_or_fault bytes (Ok c) h are_bytes = ended bytes c.records c.fault h are_bytes
 
--- the answer that a fault gives
-faulted : (bytes : List ℕ) (e : CaptureFault) → IsBytes bytes → HasFault bytes e → (capture_of bytes ≡ Err e)
-    ⊎ ((records : List Record) × (capture_of bytes ≡ Ok (record { records = records; fault = Some e })))
-faulted bytes e are_bytes (inl h) = inl (header_fault_refused bytes e are_bytes h)
-faulted bytes e are_bytes (inr h) = inr (h.0, broken_read bytes h.0 e h.1)
+-- the fault of an answer, if it has one
+abbrev fault_of : Result Coming CaptureFault → Option CaptureFault
+fault_of (Ok c) = c.fault
+fault_of (Err e) = Some e
+
+faulted : (bytes : List ℕ) (e : CaptureFault) → IsBytes bytes → HasFault bytes e → fault_of (capture_of bytes) ≡ Some e
+faulted bytes e are_bytes (inl h) = ap fault_of (header_fault_refused bytes e are_bytes h)
+faulted bytes e are_bytes (inr h) = ap fault_of (broken_read bytes h.0 e h.1)
 
 -- a capture has none
 pub capture_faultless : (bytes : List ℕ) (f : Format) (records : List Record) (e : CaptureFault) → IsBytes bytes →
     IsCapture bytes f records → ¬ HasFault bytes e
 capture_faultless bytes f records e are_bytes h fault =
-    let read = capture_read bytes f records h in
-    elim (faulted bytes e are_bytes fault) [
-      | inl refused ↦ let wrong : answer records None ≡ Err e = sym read ∙ refused in cc
-      | inr broken ↦ let wrong : None ≡ Some e = (same_answer records broken.0 None (Some e) (sym read ∙ broken.1)).1
-          in cc
-    ]
+    not_some _ e (ap fault_of (capture_read bytes f records h)) (faulted bytes e are_bytes fault)
 
 -- no bytes have two
 pub one_fault : (bytes : List ℕ) (e d : CaptureFault) → IsBytes bytes → HasFault bytes e → HasFault bytes d → e ≡ d
 one_fault bytes e d are_bytes first second =
-    elim (faulted bytes e are_bytes first) [
-      | inl h ↦ elim (faulted bytes d are_bytes second) [
-        | inl k ↦ let same : Err e ≡ Err d = sym h ∙ k in cc
-        | inr k ↦ let wrong : Err e ≡ answer k.0 (Some d) = sym h ∙ k.1 in cc
-      ]
-      | inr h ↦ elim (faulted bytes d are_bytes second) [
-        | inl k ↦ let wrong : answer h.0 (Some e) ≡ Err d = sym h.1 ∙ k in cc
-        | inr k ↦ let same : Some e ≡ Some d = (same_answer h.0 k.0 (Some e) (Some d) (sym h.1 ∙ k.1)).1 in cc
-      ]
-    ]
+    let same : Some e ≡ Some d = sym (faulted bytes e are_bytes first) ∙ faulted bytes d are_bytes second in cc

@@ -1,6 +1,9 @@
 -- The header of a file: the bytes that spell it are read as its format, what is read is spelled by its bytes, and
 -- which fault is the first.
-use Rattle.pcap_reader.proofs.Common.{◌≡◌, ◌<◌, ◌≤◌, ℕ, List, ◌++◌, length, take, drop, Option, Some, None, Result, Ok, Err, refl, sym, ap, subst, ◌∙◌, arith, inl, inr, append_assoc, length-append, length-take, length-drop, drop-drop, cases_lt, cases_eq, lt-ltb, le-ltb, eq-eqb, ne_eqb, take-append-drop, take-add, Unit as TimeUnit, Micro, Nano, CaptureFault, TornHeader, Magic, Version, Link, Endian, Big, Little, Format, IsBytes, HasMagic, HasVersion, HasLink, HasHeaderFault, IsHeader, magic_of, number_in, spelled, format_of, version_and_link, header_of}
+use Rattle.std.proofs.lemmas.Grind.{common_steps}
+use Rattle.std.proofs.lemmas.Bool.Decides.{nat_tests}
+use Rattle.std.proofs.lemmas.Int.{ints}
+use Rattle.pcap_reader.proofs.Common.{◌≡◌, ◌<◌, ◌≤◌, ℕ, List, ◌++◌, length, take, drop, Option, Some, None, Result, Ok, Err, refl, sym, ap, subst, ◌∙◌, arith, inl, inr, append_assoc, length-append, length-take, length-drop, drop-drop, cases_lt, cases_eq, lt-ltb, le-ltb, eq-eqb, ne_eqb, take-append-drop, take-add, Unit as TimeUnit, Micro, Nano, CaptureFault, TornHeader, Magic, Version, Link, Endian, Big, Little, Format, IsBytes, HasMagic, HasVersion, HasLink, HasHeaderFault, IsHeader, magic_of, number_in, spelled, format_of, version_and_link, header_of, rules}
 use Rattle.pcap_reader.proofs.Parts.{bytes_after, front, after, further, six_parts, taken_24}
 use Rattle.pcap_reader.proofs.Spelling.{number_in-spelled, length-spelled, spelled-number_in_2, spelled-number_in_4}
 
@@ -12,41 +15,13 @@ format_of-magic Big Nano rest = refl
 format_of-magic Little Micro rest = refl
 format_of-magic Little Nano rest = refl
 
--- the format, test by test
-format_big_micro : (bytes : List ℕ) → number_in Big 4 bytes ≡ magic_of Micro →
-    format_of bytes ≡ Some (record { order = Big; unit = Micro })
-format_big_micro bytes h = rw (eq-eqb _ _ h) refl
-
-format_big_nano : (bytes : List ℕ) → ¬ (number_in Big 4 bytes ≡ magic_of Micro) →
-    number_in Big 4 bytes ≡ magic_of Nano →
-    format_of bytes ≡ Some (record { order = Big; unit = Nano })
-format_big_nano bytes d h = rw (ne_eqb _ _ d, eq-eqb _ _ h) refl
-
-format_little_micro : (bytes : List ℕ) → ¬ (number_in Big 4 bytes ≡ magic_of Micro) →
-    ¬ (number_in Big 4 bytes ≡ magic_of Nano) →
-    number_in Little 4 bytes ≡ magic_of Micro →
-    format_of bytes ≡ Some (record { order = Little; unit = Micro })
-format_little_micro bytes d e h = rw (ne_eqb _ _ d, ne_eqb _ _ e, eq-eqb _ _ h) refl
-
-format_little_nano : (bytes : List ℕ) → ¬ (number_in Big 4 bytes ≡ magic_of Micro) →
-    ¬ (number_in Big 4 bytes ≡ magic_of Nano) →
-    ¬ (number_in Little 4 bytes ≡ magic_of Micro) →
-    number_in Little 4 bytes ≡ magic_of Nano → format_of bytes ≡ Some (record { order = Little; unit = Nano })
-format_little_nano bytes d e i h = rw (ne_eqb _ _ d, ne_eqb _ _ e, ne_eqb _ _ i, eq-eqb _ _ h) refl
-
-format_none : (bytes : List ℕ) → ¬ (number_in Big 4 bytes ≡ magic_of Micro) →
-    ¬ (number_in Big 4 bytes ≡ magic_of Nano) → ¬ (number_in Little 4 bytes ≡ magic_of Micro) →
-    ¬ (number_in Little 4 bytes ≡ magic_of Nano) → format_of bytes ≡ None
-format_none bytes d e i j = rw (ne_eqb _ _ d, ne_eqb _ _ e, ne_eqb _ _ i, ne_eqb _ _ j) refl
-
 -- a format is found by its magic number, and none where there is none
 abbrev HasMagicNumber : List ℕ → Option Format → Type 0
 HasMagicNumber bytes None = Unit {0}
 HasMagicNumber bytes (Some f) = number_in f.order 4 bytes ≡ magic_of f.unit
 
 format_number : (bytes : List ℕ) → HasMagicNumber bytes (format_of bytes)
-format_number bytes =
-    grind (arith, cases_eq, format_big_micro, format_big_nano, format_little_micro, format_little_nano, format_none)
+format_number bytes = grind (arith, ints, nat_tests)
 
 -- the magic number, the version and the link type, as bytes and as numbers
 pub format_magic : (bytes : List ℕ) (f : Format) → IsBytes bytes → 4 ≤ length bytes → format_of bytes ≡ Some f →
@@ -68,8 +43,7 @@ link_in f bytes = number_in f.order 4 (drop 20 bytes)
 
 has_version : (bytes : List ℕ) (f : Format) → IsBytes bytes → 24 ≤ length bytes → major_in f bytes ≡ 2 →
     minor_in f bytes ≡ 4 → HasVersion f bytes
-has_version bytes f are_bytes long major minor =
-    grind (arith, spelled-number_in_2, bytes_after, length-drop, take-add, drop-drop)
+has_version bytes f are_bytes long major minor = search rules
 
 version_numbers : (bytes : List ℕ) (f : Format) → HasVersion f bytes → (major_in f bytes ≡ 2) × (minor_in f bytes ≡ 4)
 version_numbers bytes f h = grind (arith, take-append-drop, append_assoc, further, length-spelled, number_in-spelled)
@@ -80,10 +54,7 @@ has_link bytes f are_bytes long h =
     (simp length-drop (omega arith))) ∙ ap (spelled f.order 4) h
 
 link_number : (bytes : List ℕ) (f : Format) → HasLink f bytes → link_in f bytes ≡ 1
-link_number bytes f h =
-    let at_20 : drop 20 bytes ≡ spelled f.order 4 1 ++ drop 4 (drop 20 bytes) =
-    sym (take-append-drop 4 (drop 20 bytes)) ∙ ap (λ xs. xs ++ drop 4 (drop 20 bytes)) h in
-    ap (number_in f.order 4) at_20 ∙ number_in-spelled f.order 4 1 _ (omega arith)
+link_number bytes f h = grind (arith, ints, nat_tests, common_steps)
 
 -- what is read of a version and a link type
 version_fine : (bytes : List ℕ) (f : Format) → major_in f bytes ≡ 2 → minor_in f bytes ≡ 4 → link_in f bytes ≡ 1 →
@@ -106,7 +77,7 @@ version_wrong : (bytes : List ℕ) (f : Format) → IsBytes bytes → 24 ≤ len
 version_wrong bytes f are_bytes long wrong = grind (arith, cases_eq, major_wrong, minor_wrong, has_version)
 
 -- the header, test by test
-header_short : (bytes : List ℕ) → length bytes < 24 → header_of bytes ≡ Err TornHeader
+pub header_short : (bytes : List ℕ) → length bytes < 24 → header_of bytes ≡ Err TornHeader
 unfolding header_of
 header_short bytes short = rw (lt-ltb (length bytes) 24 short) refl
 
@@ -231,8 +202,5 @@ header_fault_read bytes Version are_bytes h =
     let f = h.1.0 in
     header_format bytes f h.0 (magic_format bytes f h.1.1.0) ∙ version_wrong bytes f are_bytes h.0 h.1.1.1
 header_fault_read bytes Link are_bytes h =
-    let f = h.1.0 in
-    let version = version_numbers bytes f h.1.1.1 in
-    header_format bytes f h.0 (magic_format bytes f h.1.1.0)
-    ∙ link_wrong bytes f version.0 version.1 (λ l. h.1.1.2 (has_link bytes f are_bytes h.0 l))
+    grind (arith, version_numbers bytes (h.1.0) h.1.1.1, header_format, magic_format, has_link)
 header_fault_read bytes e are_bytes h = absurd h

@@ -1,4 +1,7 @@
 -- Bytes that were pulled from a feed, after those that were held.
+use Rattle.std.proofs.lemmas.Grind.{common_steps}
+use Rattle.std.proofs.lemmas.Bool.Decides.{nat_tests}
+use Rattle.std.proofs.lemmas.Int.{ints}
 use Rattle.pcap_reader.proofs.Common.{◌≡◌, ◌+◌, ◌-◌, ◌≤◌, ℕ, List, Result, [], ◌++◌, length, Option, Some, None, sym, ap, ◌∙◌, arith, append_assoc, append-nil, length-append, take, drop, length-take, length-drop, Consumes, Keeps, prepend_known, FeedState, Buffered, Pulls, Refills, held_bytes, last_bytes, still_has, supply_of, most_taken, TakesFrom}
 use Rattle.std.proofs.KnownBytes.{Consumes-nil, Consumes-trans, Keeps-trans}
 use Rattle.byte_stream.specs.declared.feed.FeedFault.{FeedFault}
@@ -10,8 +13,7 @@ Pulls-none a held held' same = grind (arith, Consumes-nil, append-nil)
 pub Pulls-more : (a b c : FeedState) (held held' held'' part : List ℕ) → Pulls a b held held' →
     Consumes b.remaining c.remaining part → c.taken ≤ b.taken + length part → held'' ≡ held' ++ part →
     Pulls a c held held''
-Pulls-more a b c held held' held'' part p consumed counted joined =
-    grind (arith, Consumes-trans, append_assoc, length-append)
+Pulls-more a b c held held' held'' part p consumed counted joined = grind (arith, ints, nat_tests, common_steps)
 
 keeps : (a b : Option (List ℕ)) (pulled held held' : List ℕ) → Consumes a b pulled → held' ≡ held ++ pulled →
     Keeps (prepend_known held a) (prepend_known held' b)
@@ -27,9 +29,7 @@ refilled state a b p = grind (arith, keeps)
 pub refilled_twice : {F : Type 0} (state : F → FeedState) (a b c : Buffered F) →
     Pulls (state a.feed) (state b.feed) (held_bytes a) (held_bytes b) →
     Pulls (state b.feed) (state c.feed) (held_bytes b) (held_bytes c) → Keeps (still_has state a) (still_has state c)
-refilled_twice state a b c p q =
-    Keeps-trans (still_has state a) (still_has state b) (still_has state c)
-    (refilled state a b p) (refilled state b c q)
+refilled_twice state a b c p q = grind (arith, ints, nat_tests, common_steps, refilled)
 
 -- so many bytes are held
 pub length-held : {F : Type 0} (b : Buffered F) → length (held_bytes b) ≡ b.end - b.start
@@ -40,13 +40,12 @@ pub Refills-takes : {F : Type 0} (state : F → FeedState) (wanted : ℕ) (old :
     (result : Result (Unit {0}) FeedFault) (new : Buffered F) → Refills state wanted old result new →
     TakesFrom (supply_of state old) (supply_of state new)
 Refills-takes state wanted old result new h =
-    let size : length (held_bytes new) ≡ length (held_bytes old) + length h.pulls.pulled =
-    ap length h.pulls.joined ∙ length-append (held_bytes old) h.pulls.pulled in
-    let before = length-held old in
-    let after = length-held new in
-    let place = h.place in
-    let limit : new.place + (new.end - new.start) ≤ most_taken = new.in_limit in
-    record { taken = h.pulls.pulled; consumed = h.pulls.consumed; at_most = omega arith; counted = h.pulls.counted }
+    grind (
+      arith,
+      ap length h.pulls.joined ∙ length-append (held_bytes old) h.pulls.pulled,
+      length-held old,
+      length-held new,
+    )
 
 -- no bytes are the last 0 that were consumed
 pub last-none : {F : Type 0} (b : Buffered F) → last_bytes b 0 ≡ []

@@ -1,6 +1,10 @@
 -- What the bytes at the front say, whatever follows them.
+use Rattle.std.proofs.lemmas.Grind.{common_steps}
+use Rattle.std.proofs.lemmas.Bool.Decides.{nat_tests}
+use Rattle.std.proofs.lemmas.Int.{ints}
 use Rattle.pcap_reader.proofs.Common.{◌≡◌, ◌+◌, ◌*◌, ◌^◌, ◌<◌, ◌≤◌, ℕ, zero, suc, List, [], ◌++◌, length, drop, Option, Some, None, Result, Ok, Err, Bool, true, false, refl, sym, ap, ap₂, subst, ◌∙◌, arith, length-append, append-nil, length-drop, ⊎_elim, ◌==◌, if◌then◌else◌, drop-append-le, get_or_append_left, lt-ltb, le-ltb, cases_lt, CaptureFault, TornHeader, Magic, Version, Link, TornRecord, Endian, Big, Little, Format, IsHeaderFault, number_in, RecordHead, most_records, ShowsHead, ShowsFault, format_of, version_and_link, header_of, head_at, fault_at, captured_in, sub_in, head_fault}
 use Rattle.byteorder.specs.Endian.{big_from, little_from}
+use Rattle.pcap_reader.proofs.FileHeader.{header_short}
 use Rattle.pcap_reader.proofs.RecordFault.{fault_at_none, fault_at_torn}
 
 big_front : (i n : ℕ) (xs ys : List ℕ) → i + n ≤ length xs → big_from i n (xs ++ ys) ≡ big_from i n xs
@@ -27,10 +31,7 @@ number_within order width k xs ys long = grind (arith, length-drop, drop-append-
 pub head_fault_front : (f : Format) (p : ℕ) (xs ys : List ℕ) → 16 ≤ length xs → head_fault f p (xs ++ ys)
     ≡ head_fault f p xs
 head_fault_front f p xs ys long =
-    let captured : captured_in f.order (xs ++ ys) ≡ captured_in f.order xs = number_within f.order 4 8 xs ys
-    (omega arith) in
-    let sub : sub_in f.order (xs ++ ys) ≡ sub_in f.order xs = number_within f.order 4 4 xs ys (omega arith) in
-    simp (captured, sub)
+    grind (arith, number_within f.order 4 8 xs ys (omega arith))
 
 -- what a header of 24 bytes settles once its format is known
 abbrev settled : Option Format → List ℕ → Result Format CaptureFault
@@ -42,23 +43,14 @@ header_long bytes long = rw (le-ltb (length bytes) 24 long) refl
 
 version_front : (f : Format) (xs ys : List ℕ) → 24 ≤ length xs → version_and_link f (xs ++ ys) ≡ version_and_link f xs
 version_front f xs ys long =
-    let major : number_in f.order 2 (drop 4 (xs ++ ys)) ≡ number_in f.order 2 (drop 4 xs) =
-    number_within f.order 2 4 xs ys (omega arith) in
-    let minor : number_in f.order 2 (drop 6 (xs ++ ys)) ≡ number_in f.order 2 (drop 6 xs) =
-    number_within f.order 2 6 xs ys (omega arith) in
-    let link : number_in f.order 4 (drop 20 (xs ++ ys)) ≡ number_in f.order 4 (drop 20 xs) =
-    number_within f.order 4 20 xs ys (omega arith) in
-    simp (major, minor, link)
+    grind (arith, number_within f.order 4 20 xs ys (omega arith))
 
 settled_front : (o : Option Format) (xs ys : List ℕ) → 24 ≤ length xs → settled o (xs ++ ys) ≡ settled o xs
 settled_front None xs ys long = refl
 settled_front (Some f) xs ys long = version_front f xs ys long
 
 format_front : (xs ys : List ℕ) → 24 ≤ length xs → format_of (xs ++ ys) ≡ format_of xs
-format_front xs ys long =
-    let big : number_in Big 4 (xs ++ ys) ≡ number_in Big 4 xs = number_front Big 4 xs ys (omega arith) in
-    let little : number_in Little 4 (xs ++ ys) ≡ number_in Little 4 xs = number_front Little 4 xs ys (omega arith) in
-    simp (big, little)
+format_front xs ys long = grind (arith, ints, nat_tests, common_steps, number_front)
 
 -- the fault or the format of a file's header, whatever follows it
 pub header_front : (xs ys : List ℕ) → (length xs < 24 → ys ≡ []) → header_of (xs ++ ys) ≡ header_of xs
@@ -71,10 +63,9 @@ ok_err f e h = cc
 version_faults : (major minor link : Bool) (f : Format) (e : CaptureFault) →
     (if major then (if minor then (if link then Ok f else Err Link) else Err Version) else Err Version) ≡ Err e →
     IsHeaderFault e
-version_faults false minor link f e h = let same : Version ≡ e = cc in subst IsHeaderFault same tt
-version_faults true false link f e h = let same : Version ≡ e = cc in subst IsHeaderFault same tt
 version_faults true true false f e h = let same : Link ≡ e = cc in subst IsHeaderFault same tt
 version_faults true true true f e h = absurd (ok_err f e h)
+version_faults _ _ link f e h = let same : Version ≡ e = cc in subst IsHeaderFault same tt
 
 version_fault : (f : Format) (bytes : List ℕ) (e : CaptureFault) → version_and_link f bytes ≡ Err e → IsHeaderFault e
 version_fault f bytes e h = grind (arith, version_faults)
@@ -83,10 +74,6 @@ settled_fault : (o : Option Format) (bytes : List ℕ) (e : CaptureFault) → se
 settled_fault None bytes e h = let same : Magic ≡ e = cc in subst IsHeaderFault same tt
 settled_fault (Some f) bytes e h = version_fault f bytes e h
 
-header_short : (bytes : List ℕ) → length bytes < 24 → header_of bytes ≡ Err TornHeader
-unfolding header_of
-header_short bytes short = rw (lt-ltb (length bytes) 24 short) refl
-
 -- a header's fault is one of four
 pub header_fault : (bytes : List ℕ) (e : CaptureFault) → header_of bytes ≡ Err e → IsHeaderFault e
 header_fault bytes e h = grind (arith, ⊎_elim, header_short, settled_fault, header_long, cases_lt)
@@ -94,9 +81,7 @@ header_fault bytes e h = grind (arith, ⊎_elim, header_short, settled_fault, he
 -- what is shown of bytes whatever follows them holds of the bytes themselves
 pub head_shown : (f : Format) (n p : ℕ) (bytes : List ℕ) (head : RecordHead) → ShowsHead f n p bytes head →
     (head_fault f p bytes ≡ None) × (head ≡ head_at f n p bytes)
-head_shown f n p bytes head shows =
-    let whole : bytes ++ [] ≡ bytes = append-nil bytes in
-    (ap (head_fault f p) (sym whole) ∙ (shows []).0, (shows []).1 ∙ ap (head_at f n p) whole)
+head_shown f n p bytes head shows = grind (arith, ints, nat_tests, append-nil bytes)
 
 pub fault_shown : (f : Format) (n p : ℕ) (bytes : List ℕ) (e : CaptureFault) → ShowsFault f n p bytes e →
     fault_at f n p bytes ≡ Some e

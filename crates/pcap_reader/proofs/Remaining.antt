@@ -62,3 +62,7 @@ coming_from_read f n p bytes head lent rest some stands head_is lent_is rest_is 
 pub capture_of_begun : (bytes : List ℕ) (f : Format) → header_of bytes ≡ Ok f →
     capture_of bytes ≡ Ok (coming_from f 0 24 (drop 24 bytes))
 capture_of_begun bytes f h = rw (capture_of, h) refl
+
+-- and one whose header has a fault
+pub capture_of_refused : (bytes : List ℕ) (e : CaptureFault) → header_of bytes ≡ Err e → capture_of bytes ≡ Err e
+capture_of_refused bytes e h = rw (capture_of, h) refl

@@ -1,20 +1,17 @@
 -- Bytes that are too few to show the next answer.
+use Rattle.std.proofs.lemmas.Bool.Decides.{nat_tests}
+use Rattle.std.proofs.lemmas.Int.{ints}
 use Rattle.pcap_reader.proofs.Common.{◌≡◌, ◌+◌, ◌<◌, ◌≤◌, ℕ, List, [], ◌∷◌, length, Option, Some, None, Err, IfSome, refl, sym, ap, subst, ◌∙◌, arith, inl, inr, length-append, option_map, Keeps, prepend_known, cases_lt, per_second, Format, RecordHead, CaptureFault, TornRecord, TooLong, BadFraction, TooMany, Read, most_captured, most_records, IsRecordFault, ShowsHead, Coming, coming_from, fault_at, head_at, head_fault, captured_in, sub_in, IsUndecided, IsReadInTime, shown_by}
 use Rattle.pcap_reader.proofs.Prefix.{record_whole, record_torn}
 use Rattle.pcap_reader.proofs.RecordBytes.{head_fault-none, head_fault-long, head_fault-fraction, not_some}
 use Rattle.pcap_reader.proofs.RecordFault.{fault_at_short, fault_at_head, fault_at_torn, fault_at_none}
 use Rattle.pcap_reader.proofs.Remaining.{coming_from-nil, coming_from_fault, coming_from_record}
 
--- a header's fault is its length or its fraction
-head_not_many : (f : Format) (p : ℕ) (x : List ℕ) → head_fault f p x ≡ Some TooMany → ⊥
-head_not_many f p x h = grind (arith, cases_lt, head_fault-long, not_some, head_fault-none, head_fault-fraction)
-
 not_many_after : (f : Format) (n p : ℕ) (x : List ℕ) (o : Option CaptureFault) → head_fault f p x ≡ o →
     n < most_records →
     16 ≤ length x → fault_at f n p x ≡ Some TooMany → ⊥
 not_many_after f n p x (Some e) is few long h =
-    let same : Some e ≡ Some TooMany = sym (fault_at_head f n p x e few long is) ∙ h in
-    head_not_many f p x (is ∙ same)
+    grind (arith, ints, nat_tests, sym (fault_at_head f n p x e few long is) ∙ h)
 not_many_after f n p x None is few long h = grind (arith, cases_lt, fault_at_torn, not_some, fault_at_none)
 
 -- they are too many only after the last record that may be
@@ -85,6 +82,5 @@ module _ (f : Format) (n p : ℕ) where
 -- any other answer says nothing of it
 pub in_time_fault : (o : Option Coming) (e : CaptureFault) (held : ℕ) → IsRecordFault e →
     IfSome o (λ c. IsReadInTime (Err e) c held)
-in_time_fault None e held h = tt
 in_time_fault (Some c) Read held h = absurd h
-in_time_fault (Some c) e held h = tt
+in_time_fault _ e held h = tt

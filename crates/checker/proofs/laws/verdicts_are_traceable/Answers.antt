@@ -7,8 +7,8 @@ returns c claim samples certificate lawful are =
     let piece = c.hulls_hold_the_error.ensures.piece in
     record {
       exact = refl;
-      yes = traceable piece claim samples certificate lawful are c.capture_fits_each_piece.ensures;
+      yes = traceable piece claim samples certificate lawful are;
       by_pieces = traceable_by_pieces piece claim samples certificate lawful are;
-      contradiction = contradiction piece claim samples certificate lawful are c.capture_fits_each_piece.ensures;
+      contradiction = contradiction piece claim samples certificate lawful are;
       held = refused_by_hull piece claim samples certificate lawful are;
     }

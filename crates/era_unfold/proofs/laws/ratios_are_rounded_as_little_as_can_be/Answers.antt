@@ -1,4 +1,4 @@
-use Rattle.era_unfold.proofs.Rounding.{IsFloor-floor_of, IsCeiling-ceiling_of, IsSignedFloor-IsFloor, IsSignedCeiling-IsCeiling}
+use Rattle.era_unfold.proofs.Rounding.{IsFloor-floor_of, IsCeiling-ceiling_of}
 use Rattle.era_unfold.proofs.laws.ratios_are_rounded_as_little_as_can_be.Goals as goal
 
 pub returns-clause-down : goal.returns-clause-down
@@ -6,9 +6,3 @@ returns-clause-down c = IsFloor-floor_of
 
 pub returns-clause-up : goal.returns-clause-up
 returns-clause-up c = IsCeiling-ceiling_of
-
-pub returns-clause-signed_down : goal.returns-clause-signed_down
-returns-clause-signed_down c = IsSignedFloor-IsFloor
-
-pub returns-clause-signed_up : goal.returns-clause-signed_up
-returns-clause-signed_up c = IsSignedCeiling-IsCeiling
