@@ -1,5 +1,6 @@
 -- The marks of an exchange, as the code computes them.
-use Rattle.error_marks.proofs.Common.{◌≡◌, ◌^◌, ◌≤◌, ℤ, pos, ◌+ℤ◌, ◌-ℤ◌, ◌≤ℤ◌, unsigned_abs, to_z, of_z, arith, ◌↔◌, IsTrue, ◌∙◌, refl, true, false, w128, le_z, ints, clamps, stamp_is, kept_sum, low_mark, high_mark, IsPossible, IsWithinRange, Mark, w128_keeps, w128_keeps_difference}
+use Rattle.std.proofs.lemmas.Bool.Decides.{nat_tests}
+use Rattle.error_marks.proofs.Common.{◌≡◌, ◌^◌, ◌≤◌, ℤ, pos, ◌+ℤ◌, ◌-ℤ◌, ◌≤ℤ◌, unsigned_abs, to_z, of_z, arith, ◌↔◌, IsTrue, refl, true, false, w128, le_z, ints, clamps, stamp_is, kept_sum, low_mark, high_mark, IsPossible, IsWithinRange, Mark, w128_keeps, w128_keeps_difference}
 use Rattle.std.specs.Int.{int_max, int_min}
 use Rattle.pairing.specs.Exchange.{IsInRange}
 use Rattle.pairing.specs.declared.exchange.Exchange.{Exchange}
@@ -44,20 +45,10 @@ greater a b m p q is = grind (arith, int_max, stamp_is, clamps)
 
 module _ (x : Exchange) (a : ℤ) (h : IsOfSomeClaim x) (from : pos 0 ≤ℤ a) (to : a ≤ℤ pos (2 ^ 32)) where
   pub low_range : IsWithinRange (low_mark a x)
-  low_range =
-      let lawful = h.lawful in
-      record {
-        place = omega (arith, ints, lawful.t1_low);
-        error = omega (arith, ints, clamps, lawful.t1_low, lawful.t2, lawful.t3, lawful.distance);
-      }
+  low_range = grind (arith, ints, nat_tests, h.lawful)
 
   pub high_range : IsWithinRange (high_mark a x)
-  high_range =
-      let lawful = h.lawful in
-      record {
-        place = omega (arith, ints, lawful.t4_high);
-        error = omega (arith, ints, clamps, lawful.t4_high, lawful.t2, lawful.t3, lawful.distance);
-      }
+  high_range = grind (arith, ints, nat_tests, h.lawful)
 
 pub kept_place : (a : ℤ) → unsigned_abs a ≤ 2 ^ 71 → to_z w128 (of_z w128 a) ≡ a
 kept_place a h = w128_keeps a (omega arith)

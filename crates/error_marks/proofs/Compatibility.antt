@@ -1,5 +1,6 @@
 -- Marks are compatible exactly if both ways through them keep the lines below.
-use Rattle.error_marks.proofs.Common.{◌≡◌, ℕ, zero, suc, ◌+◌, ◌-◌, ◌*◌, ◌<◌, ◌≤◌, ℤ, pos, negsuc, ◌-ℤ◌, ◌*ℤ◌, ◌≤ℤ◌, ◌↔◌, Bool, true, false, IsTrue, List, IsPermutation, get_or, sym, ◌∙◌, arith, All, ints, by_lt_z, All-permutation, IsPermutation-sym, mul-le-mul_left, billion, IsRate, AllCompatible, KeepsBelow, AllKeepBelow, rising_line, AreCompatible, Mark, ≤ℤ_trans, ≤ℤ_antisymm, ≤ℤ-from_equal, ≤ℤ-from_lt}
+use Rattle.std.proofs.lemmas.Bool.Decides.{nat_tests}
+use Rattle.error_marks.proofs.Common.{◌≡◌, ℕ, zero, suc, ◌+◌, ◌-◌, ◌*◌, ◌<◌, ◌≤◌, ℤ, pos, negsuc, ◌-ℤ◌, ◌*ℤ◌, ◌≤ℤ◌, ◌↔◌, Bool, true, false, IsTrue, List, IsPermutation, get_or, sym, ◌∙◌, arith, All, ints, by_lt_z, All-permutation, IsPermutation-sym, mul-le-mul_left, billion, IsRate, AllCompatible, KeepsBelow, AllKeepBelow, rising_line, AreCompatible, Mark, ≤ℤ_antisymm, ≤ℤ-from_equal, ≤ℤ-from_lt}
 use Rattle.std.proofs.lemmas.Bool.{false≢true}
 use Rattle.error_marks.specs.declared.direction.Direction.TheVariants.{Falling, Rising}
 use Rattle.error_marks.proofs.MarkPair.{falls_line, rises_line, rising_lines}
@@ -21,20 +22,9 @@ some_above n (negsuc x) some h = omega (arith, ints)
 pub no_advance : (n : ℕ) (z : ℤ) → z ≡ pos 0 → (pos n *ℤ z) ≡ pos 0
 no_advance n z e = rw e (omega (arith, ints))
 
-some_ahead : (n : ℕ) (z : ℤ) → pos 0 ≤ℤ z → pos 0 ≤ℤ (pos n *ℤ z)
-some_ahead n (pos x) h = omega (arith, ints)
-some_ahead n (negsuc x) h = absurd (omega (arith, ints))
-
 -- a low mark that is no higher is compatible wherever it stands
 pub compatible_in_order : (ppb : ℕ) (low high : Mark) → low.error ≤ℤ high.error → AreCompatible ppb low high
-compatible_in_order ppb low high le = record {
-  falls = λ before. ≤ℤ_trans _ (pos 0) _
-      (none_above (billion - ppb) (low.error -ℤ high.error) (omega (arith, ints)))
-      (some_ahead ppb (high.place -ℤ low.place) (omega (arith, ints)));
-  rises = λ after. ≤ℤ_trans _ (pos 0) _
-      (none_above (billion + ppb) (low.error -ℤ high.error) (omega (arith, ints)))
-      (some_ahead ppb (low.place -ℤ high.place) (omega (arith, ints)));
-}
+compatible_in_order ppb low high le = grind (arith, ints, nat_tests)
 
 -- at one place two marks are compatible exactly if the low one lies no higher
 pub at_one_place : (ppb : ℕ) (low high : Mark) → IsRate ppb → low.place ≡ high.place →

@@ -1,5 +1,5 @@
 -- The low marks in front that are compatible with each high mark.
-use Rattle.error_marks.proofs.Common.{◌≡◌, ℕ, ◌+◌, ◌-◌, ◌<◌, ◌≤◌, List, length, take, drop, get_or, IsPermutation, ap, ◌∙◌, sym, subst, arith, AllWithin, get_or-drop, get_or-take, length-drop, length-take-le, AllWithin-more, All-permutation, IsPermutation-sym, AllCompatible, FitsAll, AreInFront, AreCompatible, Mark}
+use Rattle.error_marks.proofs.Common.{◌≡◌, ℕ, ◌+◌, ◌-◌, ◌<◌, ◌≤◌, List, length, take, drop, get_or, IsPermutation, ap, ◌∙◌, subst, arith, AllWithin, get_or-drop, get_or-take, length-drop, length-take-le, AllWithin-more, All-permutation, IsPermutation-sym, AllCompatible, FitsAll, AreInFront, AreCompatible, Mark}
 use Rattle.error_marks.proofs.Passage.{at_any}
 
 within_both : (X : Type 0) (P : X → Type 0) (xs : List X) (low middle high : ℕ) → AllWithin P xs low middle

@@ -1,5 +1,5 @@
 -- The lines through a mark, as the code computes them.
-use Rattle.error_marks.proofs.Common.{◌≡◌, ℕ, ◌+◌, ◌-◌, ◌*◌, ◌^◌, ◌≤◌, ℤ, pos, ◌+ℤ◌, ◌-ℤ◌, ◌*ℤ◌, unsigned_abs, to_z, of_z, FitsSigned, arith, w128, ints, unsigned_abs-mul, fits_signed_from_abs, mul-le-mul_left, billion, IsRate, w128_keeps}
+use Rattle.error_marks.proofs.Common.{◌≡◌, ℕ, ◌+◌, ◌-◌, ◌^◌, ◌≤◌, ℤ, pos, ◌+ℤ◌, ◌-ℤ◌, ◌*ℤ◌, unsigned_abs, to_z, of_z, FitsSigned, arith, w128, ints, unsigned_abs-mul, fits_signed_from_abs, mul-le-mul_left, billion, IsRate, w128_keeps}
 
 -- what is left of 10^9, and what is more
 parts_left : (r : ℤ) (ppb : ℕ) → IsRate ppb → r ≡ pos ppb →

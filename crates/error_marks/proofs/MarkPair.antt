@@ -1,4 +1,5 @@
 -- When two marks are compatible: by the lines through them.
+use Rattle.std.proofs.lemmas.Bool.Decides.{nat_tests}
 use Rattle.error_marks.proofs.Common.{◌≡◌, ℕ, ◌+◌, ◌-◌, ◌*◌, ◌^◌, ◌≤◌, ℤ, pos, negsuc, ◌+ℤ◌, ◌-ℤ◌, ◌*ℤ◌, ◌≤ℤ◌, ◌<ℤ◌, ◌↔◌, IsTrue, true, false, unsigned_abs, to_z, of_z, arith, ap, w128, le_z, ints, billion, falling_line, rising_line, AreCompatible, IsWithinRange, Mark, w128_keeps}
 use borrow.Author.Differences.{up, down}
 
@@ -30,12 +31,13 @@ not_both a b p q = omega (arith, ints)
 pub falls_line : (ppb : ℕ) (low high : Mark) → low.place ≤ℤ high.place →
     (falling_line ppb low ≤ℤ falling_line ppb high) ↔ AreCompatible ppb low high
 falls_line ppb low high before =
-    let lines = sums (pos (billion - ppb) *ℤ low.error) (pos (billion - ppb) *ℤ high.error) (pos ppb *ℤ high.place)
-    (pos ppb *ℤ low.place) (pos (billion - ppb) *ℤ (low.error -ℤ high.error))
-    (pos ppb *ℤ (high.place -ℤ low.place)) (times-sub (billion - ppb) low.error high.error)
-    (times-sub ppb high.place low.place) in (
-      λ h. record { falls = λ p. lines.1 h; rises = λ after. absurd (not_both low.place high.place before after) },
-      λ h. lines.0 (h.falls before),
+    grind (
+      arith,
+      ints,
+      nat_tests,
+      sums (pos (billion - ppb) *ℤ low.error) (pos (billion - ppb) *ℤ high.error) (pos ppb
+          *ℤ high.place) (pos ppb *ℤ low.place) (pos (billion - ppb) *ℤ (low.error -ℤ high.error)) (pos ppb *ℤ (high.place -ℤ
+          low.place)) (times-sub (billion - ppb) low.error high.error) (times-sub ppb high.place low.place),
     )
 
 -- the lines that rise, without a division
@@ -43,10 +45,12 @@ pub rising_lines : (ppb : ℕ) (low high : Mark) →
     ((pos (billion + ppb) *ℤ (low.error -ℤ high.error)) ≤ℤ (pos ppb *ℤ (low.place -ℤ high.place)))
     ↔ (rising_line ppb low ≤ℤ rising_line ppb high)
 rising_lines ppb low high =
-    differences (pos (billion + ppb) *ℤ low.error) (pos (billion + ppb) *ℤ high.error)
-    (pos ppb *ℤ low.place) (pos ppb *ℤ high.place) (pos (billion + ppb) *ℤ (low.error -ℤ high.error))
-    (pos ppb *ℤ (low.place -ℤ high.place)) (times-sub (billion + ppb) low.error high.error)
-    (times-sub ppb low.place high.place)
+    grind (
+      arith,
+      differences (pos (billion + ppb) *ℤ low.error) (pos (billion + ppb) *ℤ high.error) (pos ppb *ℤ
+          low.place) (pos ppb *ℤ high.place) (pos (billion + ppb) *ℤ (low.error -ℤ high.error)) (pos ppb *ℤ (low.place -ℤ
+          high.place)) (times-sub (billion + ppb) low.error high.error) (times-sub ppb low.place high.place),
+    )
 
 -- behind a high mark
 pub rises_line : (ppb : ℕ) (low high : Mark) → high.place <ℤ low.place →

@@ -5,10 +5,7 @@ use Rattle.error_marks.proofs.Compatibility.{none_above, some_above, compatible_
 
 -- n times an order
 times_le : (n : ℕ) (a b : ℤ) → a ≤ℤ b → (pos n *ℤ a) ≤ℤ (pos n *ℤ b)
-times_le n a b h =
-    let none = none_above n (a -ℤ b) (omega (arith, ints)) in
-    let parts = times-sub n a b in
-    omega (arith, ints)
+times_le n a b h = omega (arith, ints, none_above n (a -ℤ b) (omega (arith, ints)), times-sub n a b)
 
 -- ---- a greater rate
 pub falls_faster : (b p q x y : ℕ) → p ≤ q → q ≤ b → (b - p) * x ≤ p * y → (b - q) * x ≤ q * y
@@ -81,3 +78,5 @@ lower ppb low high error le = weaker ppb low high error high.error (omega (arith
 pub higher : (ppb : ℕ) (low high : Mark) (error : ℤ) → high.error ≤ℤ error → AreCompatible ppb low high →
     AreCompatible ppb low (record high { error = error })
 higher ppb low high error le = weaker ppb low high low.error error (omega (arith, ints))
+
+pub ruleset weaker_marks = (lower, higher)

@@ -8,6 +8,7 @@ ghost use Rattle.error_marks.specs.declared.mark.Mark.{Mark};
 
 /// At one reading of the clock a low mark and a high mark are compatible exactly if the low one is
 /// no higher, however fast the clock drifts.
+#[tactic(auto, using(crate::proofs::Compatibility::at_one_place))]
 pub fn marks_at_one_place_are_compared_as_they_are()
     ensures { (ppb : ℕ) (low high : Mark) → IsRate ppb → low.place ≡ high.place →
         (AreCompatible ppb low high ↔ (low.error ≤ℤ high.error)) }
@@ -15,6 +16,7 @@ pub fn marks_at_one_place_are_compared_as_they_are()
 
 /// The error of a clock that doesn't drift is one number, so a low mark and a high mark are
 /// compatible exactly if the low one is no higher, wherever they stand.
+#[tactic(auto, using(crate::proofs::Rate::without_drift))]
 pub fn without_drift_marks_are_compared_as_they_are()
     ensures { (low high : Mark) → AreCompatible 0 low high ↔ (low.error ≤ℤ high.error) }
 {}
@@ -26,6 +28,7 @@ pub fn greater_rate_keeps_what_is_compatible()
 {}
 
 /// A low mark that is lower asks for less, and so does a high mark that is higher.
+#[tactic(auto, using(crate::proofs::Rate::weaker_marks))]
 pub fn weaker_marks_stay_compatible()
     ensures lower { (ppb : ℕ) (low high : Mark) (error : ℤ) → error ≤ℤ low.error →
         AreCompatible ppb low high → AreCompatible ppb (record low { error = error }) high }

@@ -1,6 +1,6 @@
 -- If a point is admissible, so are an end that is not above it and one that is not below it.
-use Rattle.intersection.proofs.Common.{◌≡◌, ℕ, ◌<◌, ◌≤◌, ℤ, ◌≤ℤ◌, Bool, true, false, cond, int_le, nat_le, ◌⊎◌, inl, inr, ⊎_elim, List, [], ◌∷◌, length, refl, ap, sym, ◌∙◌, subst, arith, filter, fold, ints, clamps, nat_tests, cond-true, cond-false, leb-true, sum_by-cons, int_max, int_min, leaves_out, Interval, count_leaving_out, IsAdmissible, IsHull, end_points, admissible_ends, range_of, hull_of, Unbounded, by_test, le-int_le, int_le-true, ≤ℤ_trans}
-use Rattle.intersection.proofs.Intervals.{int_max_or, int_min_or, test_le, inside_from_test, test_from_inside}
+use Rattle.intersection.proofs.Common.{◌≡◌, ℕ, ◌<◌, ◌≤◌, ℤ, ◌≤ℤ◌, Bool, true, false, cond, int_le, nat_le, ◌⊎◌, inl, inr, ⊎_elim, List, [], ◌∷◌, length, refl, ap, sym, ◌∙◌, subst, arith, filter, fold, ints, nat_tests, cond-true, cond-false, sum_by-cons, int_max, int_min, leaves_out, Interval, count_leaving_out, IsAdmissible, IsHull, end_points, admissible_ends, range_of, hull_of, by_test, ≤ℤ_trans, rules}
+use Rattle.intersection.proofs.Intervals.{test_le, inside_from_test, test_from_inside}
 
 -- a point stands in a list
 abbrev pub StandsIn : List ℤ → ℤ → Type 0
@@ -71,26 +71,10 @@ module _ (pick : ℤ → ℤ → ℤ) (R : ℤ → ℤ → Type 0) (test : ℤ �
       )
 
 least : Picks int_min (λ x y. x ≤ℤ y) int_le
-least = record {
-  either = int_min_or;
-  before_first = λ x y. omega (arith, ints, clamps);
-  before_second = λ x y. omega (arith, ints, clamps);
-  same = λ x. omega (arith, ints);
-  chain = ≤ℤ_trans;
-  passes = le-int_le;
-  passed = int_le-true;
-}
+least = search rules
 
 greatest : Picks int_max (λ x y. y ≤ℤ x) (λ x y. int_le y x)
-greatest = record {
-  either = int_max_or;
-  before_first = λ x y. omega (arith, ints, clamps);
-  before_second = λ x y. omega (arith, ints, clamps);
-  same = λ x. omega (arith, ints);
-  chain = λ x y z h k. omega (arith, ints);
-  passes = λ x y. le-int_le y x;
-  passed = λ x y. int_le-true y x;
-}
+greatest = search rules
 
 -- ---- ends beside a point
 
@@ -169,8 +153,5 @@ lt_from_test m n h = grind (arith, nat_tests)
 
 pub IsHull-hull_of : (list : List Interval) (f : ℕ) → IsHull list f (hull_of list f)
 unfolding hull_of
-IsHull-hull_of list f = by_test (nat_le (length list) f)
-    (λ all. rw (cond-true (nat_le (length list) f) Unbounded (range_of (admissible_ends list f)) all)
-    (leb-true (length list) f all))
-    (λ some. rw (cond-false (nat_le (length list) f) Unbounded (range_of (admissible_ends list f)) some)
-    (range_is_hull list f (lt_from_test (length list) f some) (admissible_ends list f) refl))
+IsHull-hull_of list f =
+    grind (arith, ints, nat_tests, by_test, cond-true, range_of, cond-false, range_is_hull, lt_from_test)

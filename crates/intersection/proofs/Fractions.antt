@@ -1,7 +1,6 @@
 -- Products by a positive number, floors and ceilings, and whole points beside fractions.
-use Rattle.intersection.proofs.Common.{◌≡◌, ℕ, ◌/◌, ◌<◌, ◌≤◌, ℤ, pos, negsuc, ◌+ℤ◌, ◌*ℤ◌, ◌<ℤ◌, ◌≤ℤ◌, false, List, refl, arith, count_by, ints, by_lt_z, sum_by-le-sum_by, times-add, times_le, count_leaving_out, IsAdmissible, IsHull, HoldsFraction, leaves_fraction_out, IsAdmissibleFraction, HullHoldsFraction, Interval, Hull, Unbounded, Empty, Bounded}
+use Rattle.intersection.proofs.Common.{ℕ, ◌/◌, ◌<◌, ℤ, pos, negsuc, ◌+ℤ◌, ◌*ℤ◌, ◌<ℤ◌, ◌≤ℤ◌, List, refl, arith, ints, by_lt_z, sum_by-le-sum_by, times-add, times_le, IsAdmissible, IsHull, HoldsFraction, IsAdmissibleFraction, HullHoldsFraction, Interval, Hull, Unbounded, Empty, Bounded, nat_tests}
 use Rattle.era_unfold.specs.Ratio.{IsSignedFloor, IsSignedCeiling}
-use Rattle.intersection.proofs.Intervals.{test_le, test_from_inside}
 
 -- a whole number of which n times lies below n times q + 1 is no more than q
 no_more : (q whole : ℤ) (n : ℕ) → (whole *ℤ pos n) <ℤ ((q *ℤ pos n) +ℤ pos n) → whole ≤ℤ q
@@ -49,20 +48,11 @@ pub ceiling_inside : (interval : Interval) (e ceiling : ℤ) (n : ℕ) → 0 < n
 ceiling_inside interval e ceiling n positive inside is =
     (le_from_times interval.lo ceiling n positive (omega (arith, ints)), is.1 interval.hi inside.1)
 
-fraction_from_test : (interval : Interval) (e : ℤ) (n : ℕ) → leaves_fraction_out interval e n ≡ false
-    → HoldsFraction interval e n
-fraction_from_test interval e n h = (grind (arith, ints), grind (arith, ints))
-
 -- a point that lies in each interval in which the fraction lies is left out by no more intervals
 neighbor_admissible : (list : List Interval) (f : ℕ) (e point : ℤ) (n : ℕ) → IsAdmissibleFraction list f e n
     → ((interval : Interval) → HoldsFraction interval e n → (interval.lo ≤ℤ point) × (point ≤ℤ interval.hi))
     → IsAdmissible list f point
-neighbor_admissible list f e point n few inside =
-    let fewer : count_leaving_out list point ≤ count_by (λ interval. leaves_fraction_out interval e n) list =
-    sum_by-le-sum_by _ _ list
-    (λ interval. test_le _ _
-    (λ passed. test_from_inside interval point (inside interval (fraction_from_test interval e n passed)))) in
-    omega arith
+neighbor_admissible list f e point n few inside = grind (arith, ints, nat_tests, sum_by-le-sum_by)
 
 pub floor_admissible : (list : List Interval) (f : ℕ) (e floor : ℤ) (n : ℕ) → 0 < n → IsAdmissibleFraction list f e n
     → IsSignedFloor floor e n → IsAdmissible list f floor
@@ -90,3 +80,7 @@ hull_is_fine list f (Bounded lo hi) e n positive few is =
     let at_floor = floor.1.0 in
     let at_ceiling = ceiling.1.0 in
     (omega (arith, ints), omega (arith, ints))
+
+pub ruleset whole_neighbors = (has_floor, has_ceiling)
+
+pub ruleset fine_enough = (floor_inside, ceiling_inside, hull_is_fine)

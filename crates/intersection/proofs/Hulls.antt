@@ -80,11 +80,12 @@ every_point list f Empty h point few = h.1 point few
 every_point list f (Bounded lo hi) h point few = (h.1.1 point few, h.2.1 point few)
 
 pub described : (list : List Interval) (f : ℕ) (hull : Hull) → IsHull list f hull → DescribesHull list f hull
-described list f hull h = record {
-  hull = h;
-  unbounded = unbounded_exactly list f hull h;
-  empty = empty_exactly list f hull h;
-  ends = bounded_ends list f hull h;
-  every_admissible_point = every_point list f hull h;
-  value = one_answer list f hull (hull_of list f) h (IsHull-hull_of list f);
-}
+described list f hull h =
+    grind (
+      arith,
+      unbounded_exactly list f hull h,
+      empty_exactly list f hull h,
+      bounded_ends list f hull h,
+      every_point list f hull h,
+      one_answer list f hull (hull_of list f) h (IsHull-hull_of list f),
+    )

@@ -37,11 +37,14 @@ balance walk (interval ∷ list) p =
 balance_moved : (walk : Side) (list : List Interval) (ends : List End) (p : ℤ) → IsPermutation (ends_of list) ends
     → left_by walk p ends + length list ≡ entered_by walk p ends + count_leaving_out list p
 balance_moved walk list ends p moved =
-    let still = balance walk list p in
-    let left = sum_by-IsPermutation (λ e. cond (not (enters walk e) && is_met walk p e) 1 0) (ends_of list) ends
-    moved in
-    let entered = sum_by-IsPermutation (λ e. cond (enters walk e && is_met walk p e) 1 0) (ends_of list) ends moved in
-    omega arith
+    omega (
+      arith,
+      balance walk list p,
+      sum_by-IsPermutation (λ e. cond (not (enters walk e) && is_met walk p e) 1 0)
+          (ends_of list) ends moved,
+      sum_by-IsPermutation (λ e. cond (enters walk e && is_met walk p e) 1 0) (ends_of list)
+          ends moved,
+    )
 
 -- ---- the point where a walk stops
 -- where a walk along the ends of the list stops, for a number of wrong intervals below the length

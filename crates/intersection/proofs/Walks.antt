@@ -2,7 +2,7 @@
 --
 -- Of the ends before a point p in the walk, those that enter an interval are counted by `entered_by`, and those that
 -- leave one by `left_by`: p lies in as many intervals as the one is above the other.
-use Rattle.intersection.proofs.Common.{◌≡◌, ℕ, suc, ◌+◌, ◌-◌, ◌<◌, ◌≤◌, ℤ, ◌<ℤ◌, int_lt, int_le, nat_le, Bool, true, false, cond, not, ◌&&◌, List, [], ◌∷◌, length, count_by, reverse, Option, Some, IfSome, refl, sym, ap, ◌∙◌, subst, arith, ⊤, AllPairs, AllByRecursion, ints, sum_by-cons, and_left, and_right, and_from, not_from_true, not_from_false, cond-true, cond-false, nat_tests, MayPrecede, is_low, enters, first_reached, End, Side, Low, High, by_test}
+use Rattle.intersection.proofs.Common.{◌≡◌, ℕ, suc, ◌+◌, ◌<◌, ◌≤◌, ℤ, ◌<ℤ◌, int_lt, int_le, nat_le, Bool, true, false, cond, not, ◌&&◌, List, [], ◌∷◌, length, count_by, reverse, Option, Some, IfSome, refl, sym, ap, ◌∙◌, subst, arith, ⊤, AllPairs, AllByRecursion, ints, sum_by-cons, and_left, and_right, and_from, not_from_true, not_from_false, cond-true, cond-false, nat_tests, MayPrecede, is_low, enters, first_reached, End, Side, Low, High, by_test}
 use Rattle.std.proofs.lemmas.List.{get_or-reverse, length-reverse}
 use Rattle.std.proofs.lemmas.List.Elements.{recursion_from_All}
 
@@ -56,11 +56,6 @@ low_leaves false h = cc
 met_itself : (walk : Side) (x : End) → enters walk x ≡ true → is_met walk x.at x ≡ true
 met_itself Low x h = rw h (grind (arith, ints))
 met_itself High x h = rw (high_enters (is_low x.side) h) (grind (arith, ints))
-
--- an end that enters, with another after it, is met before the other's point
-met_before : (walk : Side) (x y : End) → Follows walk x y → enters walk x ≡ true → is_met walk y.at x ≡ true
-met_before Low x y h k = let le = h.0 in rw k (grind (arith, ints))
-met_before High x y h k = let le = h.0 in rw (high_enters (is_low x.side) k) (grind (arith, ints))
 
 -- an end that leaves, after another, isn't met before the other's point
 unmet_leaving : (walk : Side) (x y : End) → Follows walk x y → enters walk y ≡ false → is_met walk x.at y ≡ false
@@ -219,10 +214,7 @@ module _ (walk : Side) (needed : ℕ) where
         → nat_le (left + needed) (entered + 1) ≡ true
         → Enough entered left e.at (e ∷ es) × MeetsEarlier e.at (e ∷ es)
     stop_here entered left after entering reached =
-        let more = entered_more walk e.at e es entering (met_itself walk e entering) in
-        let none = none_left_after after in
-        let enough : left + needed ≤ entered + 1 = grind (arith, nat_tests) in
-        (omega arith, λ z follows enters_z. met_before walk z e follows.0 enters_z)
+        grind (arith, entered_more walk e.at e es entering (met_itself walk e entering), none_left_after after)
 
     stop_step : (entered left : ℕ) (q : ℤ) (entering reached : Bool) → enters walk e ≡ entering
         → nat_le (left + needed) (entered + 1) ≡ reached → AllByRecursion (Follows walk e) es

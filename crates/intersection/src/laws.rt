@@ -58,6 +58,7 @@ pub fn hull_shrinks_as_fewer_are_wrong()
 {}
 
 /// Every fraction has a floor and a ceiling.
+#[tactic(auto, using(crate::proofs::Fractions::whole_neighbors))]
 pub fn fractions_have_whole_neighbors()
     ensures floor { (e : ℤ) (n : ℕ) → 0 < n → (floor : ℤ) × IsSignedFloor floor e n }
     ensures ceiling { (e : ℤ) (n : ℕ) → 0 < n → (ceiling : ℤ) × IsSignedCeiling ceiling e n }
@@ -66,6 +67,7 @@ pub fn fractions_have_whole_neighbors()
 /// Whole points are fine enough: if a fraction lies in an interval with whole ends, so do its floor
 /// and its ceiling. For a fraction that at most `f` intervals leave out both are admissible, and so
 /// the fraction lies in the hull.
+#[tactic(auto, using(crate::proofs::Fractions::fine_enough))]
 pub fn whole_points_are_fine_enough()
     ensures floor { (interval : Interval) (e floor : ℤ) (n : ℕ) → 0 < n
         → HoldsFraction interval e n → IsSignedFloor floor e n → (interval.lo ≤ℤ floor)

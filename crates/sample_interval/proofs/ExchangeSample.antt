@@ -1,4 +1,5 @@
 -- The samples of exchanges.
+use Rattle.std.proofs.lemmas.Bool.Decides.{nat_tests}
 use Rattle.sample_interval.proofs.Common.{◌≡◌, ℕ, ◌^◌, ℤ, pos, ◌≤ℤ◌, List, map, refl, arith, All, ints, IsLawful, Exchange, IsOfSomeClaim, sample_of, IsLawfulSample, Sample}
 use Rattle.std.proofs.lemmas.List.Elements.{All-map}
 
@@ -13,16 +14,7 @@ same_sample a b c d e f = rw (a, b, c, d, e, f) refl
 -- the sample of an exchange that keeps its limits keeps its own
 pub lawful : (x : Exchange) (reading : ℤ) → IsOfSomeClaim x → pos 0 ≤ℤ reading → reading ≤ℤ pos (2 ^ 32) →
     IsLawfulSample (sample_of x reading)
-lawful x reading h from to = record {
-  low = omega (arith, ints);
-  low_from = omega (arith, ints);
-  low_to = omega (arith, ints);
-  low_window_in_order = omega (arith, ints);
-  high = omega (arith, ints);
-  high_from = omega (arith, ints);
-  high_to = omega (arith, ints);
-  high_window_in_order = omega (arith, ints);
-}
+lawful x reading h from to = grind (arith, ints, nat_tests)
 
 -- and so do those of all
 pub lawful_samples : (servers : ℕ) (xs : List Exchange) (reading : ℤ) → All (IsLawful servers) xs →

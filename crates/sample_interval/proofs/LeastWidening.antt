@@ -1,14 +1,12 @@
 -- The widening as a least number, and the drift by the clock's own readings.
-use Rattle.sample_interval.proofs.Common.{◌≡◌, ℕ, zero, suc, ◌+◌, ◌-◌, ◌*◌, ◌^◌, ◌<◌, ◌≤◌, ℤ, pos, ◌-ℤ◌, ◌≤ℤ◌, unsigned_abs, ◌⊎◌, inl, inr, ⊎_elim, ◌↔◌, refl, sym, arith, subst, ints, IsCeiling, IsRate, IsWidening, widening, billion, Moment, error_change, DriftsWithin, DriftsWithinByReading}
-use Rattle.std.proofs.lemmas.Grind.{div_ceil_times}
-use Rattle.std.proofs.Math.Nat.{lt_of_mul-lt-mul_right, mul-le-mul_left, mul-le-mul_right}
+use Rattle.std.proofs.lemmas.Bool.Decides.{nat_tests}
+use Rattle.sample_interval.proofs.Common.{◌≡◌, ℕ, zero, suc, ◌+◌, ◌-◌, ◌*◌, ◌^◌, ◌<◌, ◌≤◌, ℤ, pos, ◌-ℤ◌, ◌≤ℤ◌, unsigned_abs, ◌⊎◌, inl, inr, ⊎_elim, ◌↔◌, refl, arith, subst, ints, IsRate, IsWidening, widening, billion, Moment, error_change, DriftsWithin, DriftsWithinByReading, rules}
+use Rattle.std.proofs.Math.Nat.{mul-le-mul_left, mul-le-mul_right}
 use Rattle.std.specs.Int.{div_ceil}
 
 -- with g + ppb for 10^9: the change of the error by the change of the readings
 by_reading : (g ppb e t r : ℕ) → t ≤ e + r → (g + ppb) * e ≤ ppb * t → g * e ≤ ppb * r
-by_reading g ppb e t r near h =
-    let more : ppb * t ≤ ppb * (e + r) = mul-le-mul_left ppb near in
-    omega arith
+by_reading g ppb e t r near h = omega (arith, mul-le-mul_left ppb near)
 
 pub drift_by_reading : (ppb : ℕ) (a b : Moment) → ppb ≤ billion → DriftsWithin ppb a b → DriftsWithinByReading ppb a b
 drift_by_reading ppb a b le h =
@@ -19,30 +17,13 @@ drift_by_reading ppb a b le h =
     by_reading g ppb e t (unsigned_abs (b.reading -ℤ a.reading)) (omega (arith, ints))
     (subst (λ (x : ℕ). x * e ≤ ppb * t) whole h)
 
--- what the quotient that is rounded up is
-IsCeiling-div_ceil : (n d : ℕ) → 0 < d → IsCeiling n d (div_ceil n d)
-IsCeiling-div_ceil n d h =
-    let bounds = div_ceil_times n d h in
-    record {
-      not_below = bounds.0;
-      least = λ m le.
-          let past : div_ceil n d * d < (m + 1) * d = omega (arith, bounds.1) in
-          let below : div_ceil n d < m + 1 = lt_of_mul-lt-mul_right d past in
-          omega arith;
-    }
-
 -- what the code divides
 pub IsWidening-div_ceil : (rate distance q ppb d : ℕ) → ppb < billion → rate ≡ ppb → distance ≡ d →
     q ≡ div_ceil (rate * distance) (billion - rate) → IsWidening ppb d q
-IsWidening-div_ceil rate distance q ppb d h a b e =
-    let at : q ≡ div_ceil (ppb * d) (billion - ppb) = rw (← a, ← b) e in
-    subst (IsWidening ppb d) (sym at) (IsCeiling-div_ceil (ppb * d) (billion - ppb) (omega arith))
+IsWidening-div_ceil rate distance q ppb d h a b e = grind (arith, ints, nat_tests)
 
 pub IsWidening-one_number : (ppb distance v w : ℕ) → IsWidening ppb distance v → IsWidening ppb distance w → v ≡ w
-IsWidening-one_number ppb distance v w h k =
-    let a : v ≤ w = h.least w k.not_below in
-    let b : w ≤ v = k.least v h.not_below in
-    omega arith
+IsWidening-one_number ppb distance v w h k = search rules
 
 -- at rates up to a half
 pub IsWidening-le_distance : (ppb distance w : ℕ) → IsRate ppb → IsWidening ppb distance w → w ≤ distance
@@ -76,10 +57,7 @@ HaveWidenings = (ppb distance : ℕ) → ppb < billion → IsWidening ppb distan
 
 module _ (is : HaveWidenings) where
   pub widening-mono_distance : (ppb near far : ℕ) → ppb < billion → near ≤ far → widening ppb near ≤ widening ppb far
-  widening-mono_distance ppb near far h le =
-      let w = is ppb far h in
-      let more : ppb * near ≤ ppb * far = mul-le-mul_left ppb le in
-      (is ppb near h).least (widening ppb far) (omega (arith, w.not_below))
+  widening-mono_distance ppb near far h le = grind (arith, ints, nat_tests, is ppb far h, mul-le-mul_left ppb le)
 
   pub widening-mono_rate : (slow fast distance : ℕ) → fast < billion → slow ≤ fast →
       widening slow distance ≤ widening fast distance
@@ -100,3 +78,5 @@ module _ (is : HaveWidenings) where
             (λ (e : ppb ≡ 0). let least = w.least 0 (rw e (omega arith)) in omega arith)
             (λ (e : distance ≡ 0). let least = w.least 0 (rw e (omega arith)) in omega arith),
       )
+
+pub ruleset widening_mono = (widening-mono_distance, widening-zero)

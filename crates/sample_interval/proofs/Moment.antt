@@ -1,5 +1,5 @@
 -- The error at the two client moments.
-use Rattle.sample_interval.proofs.Common.{◌≡◌, ℕ, ℤ, pos, ◌+ℤ◌, ◌-ℤ◌, ◌*ℤ◌, ◌≤ℤ◌, unsigned_abs, refl, ap, ◌∙◌, arith, ints, times-add, Exchange, Moment, IsOffAtLeast, IsOffAtMost, IsWithinDistance, least_error, greatest_error, request_start, reply_end}
+use Rattle.sample_interval.proofs.Common.{◌≡◌, ℕ, ℤ, pos, ◌+ℤ◌, ◌-ℤ◌, ◌*ℤ◌, ◌≤ℤ◌, unsigned_abs, refl, arith, ints, times-add, Exchange, Moment, IsOffAtLeast, IsOffAtMost, IsWithinDistance, least_error, greatest_error, request_start, reply_end}
 
 no_less : (low start stamp distance reading time received : ℤ) → start ≡ low +ℤ distance +ℤ stamp →
     time ≤ℤ received → pos (unsigned_abs (received -ℤ stamp)) ≤ℤ distance →
@@ -16,18 +16,24 @@ start_scaled : (x : Exchange) (allowance : ℤ) (n : ℕ) → (request_start x a
     (least_error x allowance *ℤ pos n) +ℤ (x.distance *ℤ pos n) +ℤ (x.t2 *ℤ pos n)
 start_scaled x allowance n =
     let least = least_error x allowance in
-    let inner = times-add (least +ℤ x.distance) least x.distance n refl in
-    let outer = times-add (request_start x allowance) (least +ℤ x.distance) x.t2 n (omega (arith, ints)) in
-    outer ∙ ap (λ (z : ℤ). z +ℤ (x.t2 *ℤ pos n)) inner
+    omega (
+      arith,
+      ints,
+      times-add (least +ℤ x.distance) least x.distance n refl,
+      times-add (request_start x allowance) (least +ℤ x.distance) x.t2 n (omega (arith, ints)),
+    )
 
 -- the greatest error is the window's end less the timestamp, and the distance, n times over too
 end_scaled : (x : Exchange) (allowance : ℤ) (n : ℕ) → (greatest_error x allowance *ℤ pos n) ≡
     (reply_end x allowance *ℤ pos n) -ℤ (x.t3 *ℤ pos n) +ℤ (x.distance *ℤ pos n)
 end_scaled x allowance n =
     let rest = reply_end x allowance -ℤ x.t3 in
-    let inner = times-add (reply_end x allowance) rest x.t3 n (omega (arith, ints)) in
-    let outer = times-add (greatest_error x allowance) rest x.distance n refl in
-    omega (arith, ints)
+    omega (
+      arith,
+      ints,
+      times-add (reply_end x allowance) rest x.t3 n (omega (arith, ints)),
+      times-add (greatest_error x allowance) rest x.distance n refl,
+    )
 
 pub at_request : (x : Exchange) (allowance : ℤ) (n : ℕ) (request : Moment) (received : ℤ) →
     request.time ≤ℤ received → IsWithinDistance n x.t2 x.distance received →

@@ -1,11 +1,11 @@
 -- Numbers that 128 bits keep as they are.
-use Rattle.sample_interval.proofs.Common.{◌≡◌, ◌^◌, ◌<◌, ◌≤◌, ℤ, ◌+ℤ◌, ◌-ℤ◌, arith, unsigned_abs, to_z, of_z, FitsSigned, ap, ◌∙◌, w128, ints, to_z-of_z, fits_signed_from_abs, IsInRange, w128_keeps}
+use Rattle.std.proofs.lemmas.Bool.Decides.{nat_tests}
+use Rattle.sample_interval.proofs.Common.{◌≡◌, ◌^◌, ◌<◌, ◌≤◌, ◌≤ℤ◌, ℤ, pos, ◌+ℤ◌, ◌-ℤ◌, arith, unsigned_abs, to_z, of_z, FitsSigned, ap, ◌∙◌, w128, ints, to_z-of_z, fits_signed_from_abs, IsInRange, w128_keeps}
 
 -- a sum and a difference too
 pub kept_sum : (a b : ℤ) → unsigned_abs a ≤ 2 ^ 100 → unsigned_abs b ≤ 2 ^ 100 →
     to_z w128 (of_z w128 (to_z w128 (of_z w128 a) +ℤ to_z w128 (of_z w128 b))) ≡ a +ℤ b
-kept_sum a b p q =
-    rw (w128_keeps a (omega arith), w128_keeps b (omega arith)) (w128_keeps (a +ℤ b) (omega (arith, ints)))
+kept_sum a b p q = grind (arith, ints, nat_tests, w128_keeps)
 
 -- a bound that the number is passed with, too
 pub kept_tick : (a : ℤ) → unsigned_abs a ≤ 2 ^ 71 → unsigned_abs (to_z w128 (of_z w128 a)) ≤ 2 ^ 71
@@ -20,6 +20,15 @@ tick_of a h = omega (arith, ints)
 
 pub kept_stamp : (a : ℤ) → IsInRange a → unsigned_abs (to_z w128 (of_z w128 a)) ≤ 2 ^ 71
 kept_stamp a h = kept_tick a (tick_of a h)
+
+-- a number from zero to a second is kept as it is
+pub kept_positive : (a : ℤ) → FitsSigned w128 a → pos 0 ≤ℤ a → pos 0 ≤ℤ to_z w128 (of_z w128 a)
+kept_positive a fits h = rw (to_z-of_z w128 a fits) h
+
+pub kept_second : (a : ℤ) → FitsSigned w128 a → a ≤ℤ pos (2 ^ 32) → to_z w128 (of_z w128 a) ≤ℤ pos (2 ^ 32)
+kept_second a fits h = rw (to_z-of_z w128 a fits) h
+
+pub ruleset kept = (kept_tick, kept_doubled, kept_stamp, kept_positive, kept_second)
 
 pub stamp_is : (a : ℤ) → IsInRange a → to_z w128 (of_z w128 a) ≡ a
 stamp_is a h = let le : unsigned_abs a ≤ 2 ^ 71 = tick_of a h in w128_keeps a (omega arith)
@@ -44,9 +53,7 @@ module _ (a b d : ℤ) (tick : unsigned_abs a ≤ 2 ^ 71) (stamp : IsInRange b) 
   more_small = let le = tick_of d distance in let less = rest_small in omega (arith, ints)
 
   pub rest_fits : FitsSigned w128 (to_z w128 (of_z w128 a) -ℤ to_z w128 (of_z w128 b))
-  rest_fits =
-      rw (w128_keeps a (omega arith), stamp_is b stamp)
-      (fits_signed_from_abs w128 (a -ℤ b) (let le = rest_small in omega arith))
+  rest_fits = grind (arith, ints, nat_tests, w128_keeps, stamp_is, rest_small)
 
   pub less_fits : FitsSigned w128
       (to_z w128 (of_z w128 (to_z w128 (of_z w128 a) -ℤ to_z w128 (of_z w128 b))) -ℤ to_z w128 (of_z w128 d))
@@ -65,3 +72,5 @@ module _ (a b d : ℤ) (tick : unsigned_abs a ≤ 2 ^ 71) (stamp : IsInRange b) 
       (to_z w128 (of_z w128 (to_z w128 (of_z w128 a) -ℤ to_z w128 (of_z w128 b))) +ℤ to_z w128 (of_z w128 d)))
       ≡ a -ℤ b +ℤ d
   more_is = rw (rest_is, stamp_is d distance) (w128_keeps (a -ℤ b +ℤ d) more_small)
+
+pub ruleset distances_fit = (less_fits, more_fits)

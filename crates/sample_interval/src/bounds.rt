@@ -13,6 +13,7 @@ use pairing::Exchange;
 /// (RFC 5905, section 8).
 ///
 /// `reading` is how far a record time may be from the clock's reading: from 0 to 2^32 ticks.
+#[tactic(auto, using(crate::proofs::NoOverflow::distances_fit))]
 pub fn sample(x: &Exchange, reading: i128) -> Sample
     requires exchange { IsOfSomeClaim x.now }
     requires from_zero { pos 0 ≤ℤ reading }

@@ -82,6 +82,7 @@ pub fn widening_is_one_number()
 }
 
 /// The widening grows with the distance and with the rate, and is zero exactly if one of them is.
+#[tactic(auto, using(crate::proofs::LeastWidening::widening_mono))]
 pub fn widening_grows()
     ensures distance { (ppb near far : ℕ) → ppb < billion → near ≤ far →
         widening ppb near ≤ widening ppb far }

@@ -11,6 +11,7 @@ use pairing::Exchange;
 /// section 8: `((T2 - T1) + (T3 - T4)) / 2`), rounded outwards.
 ///
 /// `reading` is how far a record time may be from the clock's reading: from 0 to 2^32 ticks.
+#[tactic(auto, using(crate::proofs::NoOverflow::kept))]
 pub fn offset(x: &Exchange, reading: i128) -> (i128, i128)
     requires exchange { IsOfSomeClaim x.now }
     requires from_zero { pos 0 ≤ℤ reading }
@@ -28,6 +29,7 @@ pub fn offset(x: &Exchange, reading: i128) -> (i128, i128)
 /// The round-trip delay, as an interval of ticks (RFC 5905, section 8: `(T4 - T1) - (T3 - T2)`).
 ///
 /// `reading` is how far a record time may be from the clock's reading: from 0 to 2^32 ticks.
+#[tactic(auto, using(crate::proofs::NoOverflow::kept))]
 pub fn delay(x: &Exchange, reading: i128) -> (i128, i128)
     requires exchange { IsOfSomeClaim x.now }
     requires from_zero { pos 0 ≤ℤ reading }

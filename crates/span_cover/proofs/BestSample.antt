@@ -18,9 +18,6 @@ Chosen merit server n samples (Some b) = Found merit server n samples b
 other_from_test : (a b : ℕ) → nat_eq a b ≡ false → a ≢ b
 other_from_test a b h = grind (arith, nat_tests)
 
-same_some : (s t : Sample) → ◌≡◌ {A = Option Sample} (Some s) (Some t) → s ≡ t
-same_some s t h = cc
-
 module _ (merit : Sample → ℤ) (server n : ℕ) (s : Sample) (samples : List Sample) where
   -- what was found stays, if the sample before it isn't of the server or has less merit
   still_best : (b : ℕ × ℤ) (found : Found merit server (n + 1) samples b) →
@@ -38,19 +35,14 @@ module _ (merit : Sample → ℤ) (server n : ℕ) (s : Sample) (samples : List 
     value = found.value;
   }
     where
-      at_front : (t : Sample) → ◌≡◌ {A = Option Sample} (Some s) (Some t) → t.server ≡ server →
-          merit t <ℤ merit found.best.sample
-      at_front t is =
-          subst (λ (u : Sample). u.server ≡ server → merit u <ℤ merit found.best.sample) (same_some s t is) behind
-
       greatest : (i : ℕ) (t : Sample) → slice_get (s ∷ samples) i ≡ Some t → t.server ≡ server →
           merit t ≤ℤ merit found.best.sample
-      greatest zero t is of = let less = at_front t is of in omega (arith, ints)
+      greatest zero t is of = grind (arith, ints, behind)
       greatest (suc i) t is of = found.best.greatest i t is of
 
       first : (i : ℕ) (t : Sample) → slice_get (s ∷ samples) i ≡ Some t → t.server ≡ server → i < suc found.place →
           merit t <ℤ merit found.best.sample
-      first zero t is of less = at_front t is of
+      first zero t is of less = grind (arith, ints, behind)
       first (suc i) t is of less = found.best.first i t is of (omega arith)
 
   -- the sample is the best, if none that follows has more merit
@@ -71,8 +63,7 @@ module _ (merit : Sample → ℤ) (server n : ℕ) (s : Sample) (samples : List 
   }
     where
       greatest : (i : ℕ) (t : Sample) → slice_get (s ∷ samples) i ≡ Some t → t.server ≡ server → merit t ≤ℤ merit s
-      greatest zero t is of =
-          subst (λ (u : Sample). merit u ≤ℤ merit s) (same_some s t is) (omega (arith, ints))
+      greatest zero t is of = grind (arith, ints)
       greatest (suc i) t is of = most i t is of
 
   -- one sample more, of another server
@@ -81,7 +72,7 @@ module _ (merit : Sample → ℤ) (server n : ℕ) (s : Sample) (samples : List 
   other_server other None none = no_sample
     where
       no_sample : HasNoSample (s ∷ samples) server
-      no_sample zero t is = subst (λ (u : Sample). u.server ≢ server) (same_some s t is) other
+      no_sample zero t is = grind (arith, other)
       no_sample (suc i) t is = none i t is
   other_server other (Some b) found = still_best b found (λ same. absurd (other same))
 
@@ -129,20 +120,13 @@ best_from-cons merit server n s samples same = rw (eq-eqb s.server server same) 
 module _ (merit : Sample → ℤ) (server number : ℕ) (samples : List Sample) (default : Sample) where
   before : 0 < number → number ≤ length samples →
       drop (number - 1) samples ≡ get_or samples (number - 1) default ∷ drop number samples
-  before some within =
-      let next : suc (number - 1) ≡ number = omega arith in
-      rw (drop-cons samples (number - 1) default (omega arith), next) refl
+  before some within = grind (arith, ints, nat_tests, number, drop-cons, default)
 
   best_from-same : 0 < number → number ≤ length samples → (get_or samples (number - 1) default).server ≡ server →
       best_from merit server (number - 1) (drop (number - 1) samples) ≡
       better (number - 1) (merit (get_or samples (number - 1) default))
       (best_from merit server number (drop number samples))
-  best_from-same some within same =
-      let s = get_or samples (number - 1) default in
-      let next : number - 1 + 1 ≡ number = omega arith in
-      ap (best_from merit server (number - 1)) (before some within)
-      ∙ best_from-cons merit server (number - 1) s (drop number samples) same
-      ∙ ap (λ (k : ℕ). better (number - 1) (merit s) (best_from merit server k (drop number samples))) next
+  best_from-same some within same = grind (arith, ints, nat_tests, number, default, before, best_from-cons)
 
   pub best_from-step : 0 < number → number ≤ length samples → (get_or samples (number - 1) default).server ≡ server →
       (weight : ℤ) (best result : Option (ℕ × ℤ)) → weight ≡ merit (get_or samples (number - 1) default) →
@@ -154,13 +138,7 @@ module _ (merit : Sample → ℤ) (server number : ℕ) (samples : List Sample) 
       (get_or samples (number - 1) default).server ≢ server → (best : Option (ℕ × ℤ)) →
       best ≡ best_from merit server number (drop number samples) →
       best ≡ best_from merit server (number - 1) (drop (number - 1) samples)
-  best_from-skipped some within other best b =
-      let s = get_or samples (number - 1) default in
-      let next : number - 1 + 1 ≡ number = omega arith in
-      b ∙ sym (
-      ap (best_from merit server (number - 1)) (before some within)
-      ∙ rw (test_from_other s.server server other) refl
-      ∙ ap (λ (k : ℕ). best_from merit server k (drop number samples)) next)
+  best_from-skipped some within other best b = grind (arith, ints, nat_tests, number, default, before, test_from_other)
 
 -- from the last number on there is none
 pub best_from-end : (merit : Sample → ℤ) (server : ℕ) (samples : List Sample) →
@@ -179,10 +157,7 @@ module _ (merit : Sample → ℤ) (samples : List Sample) (server : ℕ) where
       (cases_lt j k)
 
   pub IsFirstBest-one : (j k : ℕ) → IsFirstBest merit samples server j → IsFirstBest merit samples server k → j ≡ k
-  IsFirstBest-one j k of_j of_k =
-      let up = not_before j k of_j of_k in
-      let down = not_before k j of_k of_j in
-      omega arith
+  IsFirstBest-one j k of_j of_k = omega (arith, not_before j k of_j of_k, not_before k j of_k of_j)
 
 -- ---- the first best of a list
 module _ (merit : Sample → ℤ) (samples : List Sample) (server : ℕ) where
@@ -222,25 +197,9 @@ pub best_of-is : (samples : List Sample) (server : ℕ) (p q : ℤ) (ppb : ℕ) 
 unfolding best_of
 best_of-is samples server p q ppb low high a b = rw (a, b) refl
 
--- what holds for ends that were passed on holds for the ends
-passed_on : (f : ℤ → ℤ → Option ℕ) (p q : ℤ) (o : Option ℕ) → IsPiece p q →
-    o ≡ f (to_z w128 (of_z w128 p)) (to_z w128 (of_z w128 q)) → f p q ≡ o
-passed_on f p q o piece e =
-    let first = w128_keeps p (omega (arith, ints)) in
-    let last = w128_keeps q (omega (arith, ints)) in
-    sym (e ∙ rw (first, last) refl)
-
-module _ (samples : List Sample) (server : ℕ) (p q : ℤ) (ppb : ℕ) (piece : IsPiece p q) where
-  pub low_known : (o : Option ℕ) →
-      o ≡ first_best_of (λ s. moved_low s (to_z w128 (of_z w128 p)) (to_z w128 (of_z w128 q)) ppb) samples server →
-      first_best_of (λ s. moved_low s p q ppb) samples server ≡ o
-  low_known o e = passed_on (λ p q. first_best_of (λ s. moved_low s p q ppb) samples server) p q o piece e
-
-  pub high_known : (o : Option ℕ) →
-      o ≡ first_best_of
-      (λ s. neg_ℤ (moved_high s (to_z w128 (of_z w128 p)) (to_z w128 (of_z w128 q)) ppb)) samples server →
-      first_best_of (λ s. neg_ℤ (moved_high s p q ppb)) samples server ≡ o
-  high_known o e = passed_on (λ p q. first_best_of (λ s. neg_ℤ (moved_high s p q ppb)) samples server) p q o piece e
+-- a piece's ends are passed on as they are
+pub ends_kept : (p q : ℤ) → IsPiece p q → (to_z w128 (of_z w128 p) ≡ p) × (to_z w128 (of_z w128 q) ≡ q)
+ends_kept p q piece = (w128_keeps p (omega (arith, ints)), w128_keeps q (omega (arith, ints)))
 
 -- ---- both ends
 module _ (samples : List Sample) (server : ℕ) (p q : ℤ) (ppb : ℕ) where
@@ -252,10 +211,7 @@ module _ (samples : List Sample) (server : ℕ) (p q : ℤ) (ppb : ℕ) where
       (first_best_of-is (λ s. neg_ℤ (moved_high s p q ppb)) samples server high b)
 
   pub best_of-none : HasNoSample samples server → best_of samples server p q ppb ≡ None
-  best_of-none none =
-      best_of-is samples server p q ppb None None
-      (first_best_of-none (λ s. moved_low s p q ppb) samples server none)
-      (first_best_of-none (λ s. neg_ℤ (moved_high s p q ppb)) samples server none)
+  best_of-none none = grind (arith, ints, nat_tests, best_of-is, q, first_best_of-none)
 
   -- the numbers that the function gives
   abbrev pub AreBest : ℕ × ℕ → Type 0

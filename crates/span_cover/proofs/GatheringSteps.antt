@@ -1,5 +1,6 @@
 -- The interval of a server's best samples, while samples are taken one by one.
-use Rattle.span_cover.proofs.Common.{◌≡◌, ◌≢◌, ℕ, zero, suc, ◌<◌, ℤ, ◌≤ℤ◌, ◌⊎◌, inl, inr, neg_ℤ, List, [], ◌∷◌, ◌++◌, length, true, false, cond, int_lt, Option, None, Some, MatchOption, refl, sym, ◌∙◌, ap, subst, arith, replicate, set, get_or, int_max, int_min, option_and_then, cases_eq, ints, clamps, Interval, Sample, HasNoSample, IsFirstBest, best_of, Gathering, Gathered, best_interval, interval_between, moved_low, moved_high, piece_interval_of, int_lt-true, int_lt-false}
+use Rattle.std.proofs.Common.{rules}
+use Rattle.span_cover.proofs.Common.{◌≡◌, ◌≢◌, ℕ, zero, suc, ◌<◌, ℤ, ◌≤ℤ◌, ◌⊎◌, inl, inr, neg_ℤ, List, [], ◌∷◌, ◌++◌, length, true, false, cond, int_lt, Option, None, Some, MatchOption, refl, sym, ◌∙◌, ap, subst, arith, replicate, set, get_or, int_max, int_min, option_and_then, cases_eq, ints, clamps, Interval, Sample, HasNoSample, best_of, Gathering, Gathered, best_interval, interval_between, moved_low, moved_high, piece_interval_of, int_lt-true, int_lt-false, nat_tests}
 use Rattle.std.specs.List.{slice_get}
 use Rattle.std.proofs.lemmas.Option.{same_Some, get_or_from_slice_get}
 use Rattle.span_cover.proofs.BestSample.{AreBest, best_numbers}
@@ -59,11 +60,14 @@ module _ (merit : Sample → ℤ) (server : ℕ) where
 
   pub most-one : (samples : List Sample) (a b : ℤ) → IsMost samples a → IsMost samples b → a ≡ b
   most-one samples a b first second =
-      let up = first.greatest second.number second.sample second.stands second.of_server in
-      let down = second.greatest first.number first.sample first.stands first.of_server in
-      let is_first = first.value in
-      let is_second = second.value in
-      omega (arith, ints)
+      omega (
+        arith,
+        ints,
+        first.greatest second.number second.sample second.stands second.of_server,
+        second.greatest first.number first.sample first.stands first.of_server,
+        first.value,
+        second.value,
+      )
 
   module _ (samples : List Sample) (s : Sample) where
     -- if no sample of the server has more than `most`, and one more hasn't either, then none of them all has
@@ -71,23 +75,13 @@ module _ (merit : Sample → ℤ) (server : ℕ) where
         ((i : ℕ) (t : Sample) → slice_get samples i ≡ Some t → t.server ≡ server → merit t ≤ℤ most) →
         (s.server ≡ server → merit s ≤ℤ most) →
         (i : ℕ) (t : Sample) → slice_get (samples ++ s ∷ []) i ≡ Some t → t.server ≡ server → merit t ≤ℤ most
-    none_above most before last i t is of =
-        elim (one_more samples s t i is) [
-          | inl stands ↦ before i t stands of
-          | inr same ↦ subst (λ (u : Sample). u.server ≡ server → merit u ≤ℤ most) same last of
-        ]
+    none_above most before last i t is of = grind (arith, ints, nat_tests, one_more, s)
 
     -- the most stays, if the one sample more has no more
     pub most_stays : (most : ℤ) → IsMost samples most → (s.server ≡ server → merit s ≤ℤ most) →
         IsMost (samples ++ s ∷ []) most
-    most_stays most is last = record {
-      number = is.number;
-      sample = is.sample;
-      stands = still_stands samples s is.sample is.number is.stands;
-      of_server = is.of_server;
-      value = is.value;
-      greatest = none_above most is.greatest last;
-    }
+    most_stays most is last =
+        search (rules, still_stands samples s is.sample is.number is.stands, none_above most is.greatest last)
 
     -- it is that of the one sample more, if no sample before has more
     pub most_of_last : s.server ≡ server →
@@ -102,11 +96,6 @@ module _ (merit : Sample → ℤ) (server : ℕ) where
       greatest = none_above (merit s) before (λ of. omega (arith, ints));
     }
 
-    most_of_greater : s.server ≡ server → (most : ℤ) → IsMost samples most → most ≤ℤ merit s →
-        IsMost (samples ++ s ∷ []) (merit s)
-    most_of_greater of most is more =
-        most_of_last of (λ i t stands of_t. let below = is.greatest i t stands of_t in omega (arith, ints))
-
     -- one sample more of the server
     pub most_of_both : s.server ≡ server → (most greater : ℤ) → IsMost samples most →
         greater ≡ int_max most (merit s) → IsMost (samples ++ s ∷ []) greater
@@ -117,8 +106,9 @@ module _ (merit : Sample → ℤ) (server : ℕ) where
               let no_more = int_lt-true (merit s) most less in
               subst (IsMost (samples ++ s ∷ [])) (sym e) (most_stays most is (λ of. omega (arith, ints)))
           | false ↦ λ more e.
+              let no_less = int_lt-false (merit s) most more in
               subst (IsMost (samples ++ s ∷ [])) (sym e)
-              (most_of_greater of most is (int_lt-false (merit s) most more))
+              (most_of_last of (λ i t at of_t. omega (arith, ints, is.greatest i t at of_t)))
         ] refl e
 
 -- ---- both ends
@@ -127,9 +117,7 @@ abbrev interval : ℤ → ℤ → Interval
 interval lo hi = record { lo = lo; hi = hi }
 
 same_interval : (a b : Interval) → a.lo ≡ b.lo → neg_ℤ a.hi ≡ neg_ℤ b.hi → a ≡ b
-same_interval a b lo hi =
-    let same_hi : a.hi ≡ b.hi = omega (arith, ints) in
-    ap (λ (z : ℤ). interval z a.hi) lo ∙ ap (interval b.lo) same_hi
+same_interval a b lo hi = grind (arith, ints, nat_tests)
 
 negated_min : (least high moved : ℤ) → least ≡ int_min high moved → neg_ℤ least ≡ int_max (neg_ℤ high) (neg_ℤ moved)
 negated_min least high moved e = omega (arith, ints, clamps)
@@ -155,17 +143,6 @@ module _ (server : ℕ) (p q : ℤ) (ppb : ℕ) where
       (most-one (λ s. moved_low s p q ppb) server samples a.lo b.lo first.low second.low)
       (most-one (λ s. neg_ℤ (moved_high s p q ppb)) server samples (neg_ℤ a.hi) (neg_ℤ b.hi) first.high second.high))
 
-  most_of_best : (merit : Sample → ℤ) (samples : List Sample) (k : ℕ) → (is : IsFirstBest merit samples server k) →
-      IsMost merit server samples (merit is.sample)
-  most_of_best merit samples k is = record {
-    number = k;
-    sample = is.sample;
-    stands = is.stands;
-    of_server = is.of_server;
-    value = refl;
-    greatest = is.greatest;
-  }
-
   -- the interval of the best samples is the entry
   best_entry : (samples : List Sample) → IsEntry samples (best_interval samples server p q ppb)
   best_entry samples =
@@ -174,15 +151,8 @@ module _ (server : ℕ) (p q : ℤ) (ppb : ℕ) where
       IsEntry samples (option_and_then
       (λ best. interval_between (slice_get samples best.0) (slice_get samples best.1) p q ppb) o)) [
         | None ↦ λ none. none
-        | Some best ↦ λ are. between best are
+        | Some best ↦ λ are. rw (are.0.stands, are.1.stands) (record { low = search rules; high = search rules })
       ] (best_numbers samples server p q ppb)
-    where
-      between : (best : ℕ × ℕ) → AreBest samples server p q ppb best →
-          IsEntry samples (interval_between (slice_get samples best.0) (slice_get samples best.1) p q ppb)
-      between best are = rw (are.0.stands, are.1.stands) (record {
-        low = most_of_best (λ s. moved_low s p q ppb) samples best.0 are.0;
-        high = most_of_best (λ s. neg_ℤ (moved_high s p q ppb)) samples best.1 are.1;
-      })
 
   pub entry-is : (samples : List Sample) (entry : Option Interval) → IsEntry samples entry →
       entry ≡ best_interval samples server p q ppb

@@ -1,5 +1,5 @@
 -- The intervals of groups, one group after another.
-use Rattle.span_cover.proofs.Common.{◌≡◌, ℕ, ◌+◌, [], ◌∷◌, ◌++◌, Option, Some, None, sym, ap, ◌∙◌, add-one, filter_map, cons_option, append-nil, Interval, numbers_below}
+use Rattle.span_cover.proofs.Common.{◌≡◌, ℕ, ◌+◌, [], ◌∷◌, ◌++◌, Option, Some, None, sym, add-one, filter_map, append-nil, Interval, numbers_below, arith, ints, nat_tests}
 use Rattle.std.proofs.lemmas.List.Elements.{filter_map-append}
 
 module _ (h : ℕ → Option Interval) (g : ℕ) where
@@ -8,10 +8,7 @@ module _ (h : ℕ → Option Interval) (g : ℕ) where
 
   pub with_interval : (interval : Interval) → h g ≡ Some interval
       → filter_map h (numbers_below g) ++ interval ∷ [] ≡ filter_map h (numbers_below (g + 1))
-  with_interval interval is =
-      ap (λ (o : Option Interval). filter_map h (numbers_below g) ++ cons_option o []) (sym is) ∙ sym one_more
+  with_interval interval is = grind (arith, ints, nat_tests, one_more)
 
   pub without_interval : h g ≡ None → filter_map h (numbers_below g) ≡ filter_map h (numbers_below (g + 1))
-  without_interval is =
-      sym (append-nil (filter_map h (numbers_below g)))
-      ∙ ap (λ (o : Option Interval). filter_map h (numbers_below g) ++ cons_option o []) (sym is) ∙ sym one_more
+  without_interval is = grind (arith, append-nil (filter_map h (numbers_below g)), sym one_more)

@@ -1,5 +1,6 @@
 -- The greatest distance between a window and a piece, and what it moves.
-use Rattle.span_cover.proofs.Common.{◌≡◌, ℕ, ◌+◌, ◌-◌, ◌*◌, ◌^◌, ◌<◌, ◌≤◌, ℤ, pos, ◌+ℤ◌, ◌-ℤ◌, ◌*ℤ◌, ◌≤ℤ◌, unsigned_abs, refl, ◌∙◌, arith, to_z, of_z, FitsSigned, negsuc, w128, ints, clamps, to_z-of_z, IsRate, IsWidening, widening, billion, Sample, IsPiece, farthest, change, moved_low, moved_high, w128_keeps}
+use Rattle.std.proofs.Common.{rules}
+use Rattle.span_cover.proofs.Common.{◌≡◌, ℕ, ◌+◌, ◌-◌, ◌*◌, ◌^◌, ◌<◌, ◌≤◌, ℤ, pos, ◌+ℤ◌, ◌-ℤ◌, ◌*ℤ◌, ◌≤ℤ◌, unsigned_abs, refl, arith, to_z, of_z, FitsSigned, negsuc, w128, ints, clamps, IsRate, IsWidening, widening, billion, Sample, IsPiece, farthest, change, moved_low, moved_high, nat_tests}
 use Rattle.std.proofs.Math.Nat.{le_of_mul-le-mul_right, mul-le-mul_left, mul-le-mul_right}
 use Rattle.intersection.specs.Fineness.{times_le, times-add}
 use Rattle.sample_interval.specs.Moment.{Moment, error_of, error_change, DriftsWithinByReading, IsInWindow}
@@ -15,12 +16,7 @@ pub farthest-kept : (from to p q r : ℤ) → unsigned_abs from ≤ 2 ^ 72 → u
     r ≡ farthest (to_z w128 (of_z w128 from)) (to_z w128 (of_z w128 to)) (to_z w128 (of_z w128 p))
     (to_z w128 (of_z w128 q)) →
     to_z w128 (of_z w128 r) ≡ farthest from to p q
-farthest-kept from to p q r a b piece fits e =
-    let f = w128_keeps from (omega arith) in
-    let t = w128_keeps to (omega arith) in
-    let first = w128_keeps p (omega (arith, ints)) in
-    let last = w128_keeps q (omega (arith, ints)) in
-    to_z-of_z w128 r fits ∙ e ∙ rw (f, t, first, last) refl
+farthest-kept from to p q r a b piece fits e = search rules
 
 -- no reading of the piece is further from the moment
 pub within_farthest : (from to p q moment reading : ℤ) → from ≤ℤ moment → moment ≤ℤ to → p ≤ℤ reading → reading ≤ℤ q →
@@ -42,8 +38,7 @@ module _ (grows : Grows) where
   change-narrower : (from to p q inner outer : ℤ) (ppb : ℕ) → ppb < billion → from ≤ℤ to → p ≤ℤ inner → inner ≤ℤ outer →
       outer ≤ℤ q → change from to inner outer ppb ≤ℤ change from to p q ppb
   change-narrower from to p q inner outer ppb h a b c d =
-      let less = grows ppb _ _ h (farthest-narrower from to p q inner outer a b c d) in
-      omega (arith, ints)
+      omega (arith, ints, grows ppb _ _ h (farthest-narrower from to p q inner outer a b c d))
 
   pub moved_low-narrower : (ppb : ℕ) (sample : Sample) (p q inner outer : ℤ) → ppb < billion →
       sample.low_from ≤ℤ sample.low_to → p ≤ℤ inner → inner ≤ℤ outer → outer ≤ℤ q →
@@ -75,17 +70,6 @@ abs_times : (z : ℤ) (n : ℕ) → (z *ℤ pos n) ≤ℤ pos (unsigned_abs z * 
 abs_times (pos x) n = omega (arith, ints)
 abs_times (negsuc x) n = omega (arith, ints)
 
--- a reading is no further from a moment after a start than from the start, and by what the moment is after it
-beyond_start : (start moment reading far : ℤ) (most : ℕ) → far ≤ℤ pos most → start ≤ℤ moment
-    → (reading -ℤ start) ≤ℤ far → (start -ℤ reading) ≤ℤ far
-    → unsigned_abs (reading -ℤ moment) ≤ unsigned_abs (moment -ℤ start) + most
-beyond_start start moment reading far most a b c d = omega (arith, ints)
-
-short_of_end : (end moment reading far : ℤ) (most : ℕ) → far ≤ℤ pos most → moment ≤ℤ end
-    → (reading -ℤ end) ≤ℤ far → (end -ℤ reading) ≤ℤ far
-    → unsigned_abs (reading -ℤ moment) ≤ unsigned_abs (end -ℤ moment) + most
-short_of_end end moment reading far most a b c d = omega (arith, ints)
-
 -- an end of a window is no further from a reading of a piece than n times the greatest distance
 module _ (n : ℕ) (from to p q reading : ℤ) (forward : from ≤ℤ to) (inside : IsInWindow n p q reading) where
   abbrev far : ℤ
@@ -94,25 +78,22 @@ module _ (n : ℕ) (from to p q reading : ℤ) (forward : from ≤ℤ to) (insid
   apart : (end : ℤ) → from ≤ℤ end → end ≤ℤ to
       → ((reading -ℤ (end *ℤ pos n)) ≤ℤ (far *ℤ pos n)) × (((end *ℤ pos n) -ℤ reading) ≤ℤ (far *ℤ pos n))
   apart end after before =
-      let onward = times-add q (q -ℤ end) end n (omega (arith, ints)) in
-      let back = times-add end (end -ℤ p) p n (omega (arith, ints)) in
-      let onward_far = times_le (q -ℤ end) far n (omega (arith, ints, clamps)) in
-      let back_far = times_le (end -ℤ p) far n (omega (arith, ints, clamps)) in
-      (omega (arith, ints, inside.1), omega (arith, ints, inside.0))
+      omega (
+        arith,
+        ints,
+        times-add q (q -ℤ end) end n (omega (arith, ints)),
+        times_le (q -ℤ end) far n (omega (arith, ints, clamps)),
+        times-add end (end -ℤ p) p n (omega (arith, ints)),
+        times_le (end -ℤ p) far n (omega (arith, ints, clamps)),
+      )
 
   from_start : (moment : ℤ) → (from *ℤ pos n) ≤ℤ moment
       → unsigned_abs (reading -ℤ moment) ≤ unsigned_abs (moment -ℤ (from *ℤ pos n)) + unsigned_abs far * n
-  from_start moment after =
-      let ends = apart from (omega (arith, ints)) forward in
-      beyond_start (from *ℤ pos n) moment reading (far *ℤ pos n) (unsigned_abs far * n) (abs_times far n) after ends.0
-      ends.1
+  from_start moment after = grind (arith, ints, nat_tests, apart from (omega (arith, ints)) forward)
 
   to_end : (moment : ℤ) → moment ≤ℤ (to *ℤ pos n)
       → unsigned_abs (reading -ℤ moment) ≤ unsigned_abs ((to *ℤ pos n) -ℤ moment) + unsigned_abs far * n
-  to_end moment before =
-      let ends = apart to forward (omega (arith, ints)) in
-      short_of_end (to *ℤ pos n) moment reading (far *ℤ pos n) (unsigned_abs far * n) (abs_times far n) before ends.0
-      ends.1
+  to_end moment before = grind (arith, ints, nat_tests, apart to forward (omega (arith, ints)))
 
 no_less : (moved low start reading before after : ℤ) (wide : ℕ) → low ≡ moved +ℤ pos wide → start ≤ℤ reading
     → (low +ℤ (reading -ℤ start)) ≤ℤ before
@@ -165,3 +146,5 @@ module _ (widens : HaveWidenings) (n ppb : ℕ) (p q : ℤ) (observed : Moment) 
       (to_end n sample.high_from sample.high_to p q observed.reading forward inside reply.reading before) drift)
 
 pub ruleset error_in_interval = (error_no_less, error_no_more)
+
+pub ruleset narrower = (moved_low-narrower, moved_high-narrower)

@@ -26,6 +26,7 @@ pub fn error_lies_in_the_interval_of_the_piece()
 }
 
 /// A piece inside another has a narrower interval from the same samples.
+#[tactic(auto, using(crate::proofs::PieceDistance::narrower))]
 pub fn piece_inside_another_is_narrower()
     ensures low { (ppb : ℕ) (sample : Sample) (p q inner outer : ℤ) →
         ppb < billion → sample.low_from ≤ℤ sample.low_to →

@@ -1,5 +1,5 @@
 -- The limits of blocks, and the first block that reaches a height.
-use Rattle.sweep.proofs.Common.{◌≡◌, ℕ, ◌+◌, ◌*◌, ◌/◌, ◌<◌, ◌≤◌, max, List, length, Some, refl, set, get_or, arith, subst, sym, ◌∙◌, ap, ◌⊎◌, inl, inr, ⊎_elim, slice_get, cases_lt, cases_eq, length-set, length-set, get_or-set_same, get_or-set_other, slice_get-get_or, get_or_from_slice_get, div-div-eq-div-mul, IsReached, IsFirstBlock, IsLimitOf, AreLimitsOf, AreUpto, Arrival}
+use Rattle.sweep.proofs.Common.{◌≡◌, ℕ, ◌+◌, ◌*◌, ◌/◌, ◌<◌, ◌≤◌, max, List, length, Some, set, get_or, arith, subst, sym, ◌∙◌, ap, ◌⊎◌, inl, inr, ⊎_elim, slice_get, cases_lt, cases_eq, length-set, length-set, get_or-set_same, get_or-set_other, slice_get-get_or, get_or_from_slice_get, div-div-eq-div-mul, IsReached, IsFirstBlock, IsLimitOf, AreLimitsOf, AreUpto, Arrival}
 use Rattle.sweep.proofs.List.{below_next}
 
 -- ---- one arrival more
@@ -30,41 +30,24 @@ module _ (queue : List Arrival) (n width : ℕ) (limits : List ℕ) (are : AreLi
       (subst (λ (k : ℕ). a.height < get_or (set limits block limit) k 0) (sym in_block)
       (omega (arith, is, get_or-set_same limits block limit 0 within)))
 
-  one_later : (b height : ℕ) → IsLimitOf queue n width b height → IsLimitOf queue (n + 1) width b height
-  one_later b height old = record {
-    turn = old.turn;
-    arrival = old.arrival;
-    before = omega arith;
-    stands = old.stands;
-    in_block = old.in_block;
-    is = old.is;
-  }
-
   Of : ℕ → ℕ → Type 0
-  Of b x = (x ≡ 0) ⊎ IsLimitOf queue (n + 1) width b x
+  Of b x = (x ≡ 0) ⊎ IsLimitOf queue (n + 1) (λ index. index / width ≡ b) x
 
   kept : (b : ℕ) → Of b (get_or limits b 0)
   unfolding Of
-  kept b = ⊎_elim (λ none. inl none) (λ one. inr (one_later b (get_or limits b 0) one)) (are.of_one b)
+  kept b = ⊎_elim (λ none. inl none) (λ one. inr (grind arith)) (are.of_one b)
 
   raised : Of block limit
   unfolding Of
   raised = ⊎_elim
-      (λ less. inr (record {
-        turn = n;
-        arrival = a;
-        before = omega (arith, is);
-        stands = here;
-        in_block = in_block;
-        is = omega (arith, is);
-      }))
+      (λ less. inr (grind (arith, is)))
       (λ le.
       let same : get_or limits block 0 ≡ limit = omega (arith, is) in
       rw (← same) (kept block))
       (cases_lt (get_or limits block 0) (a.height + 1))
 
   of_one : (b : ℕ) → (get_or (set limits block limit) b 0 ≡ 0)
-      ⊎ IsLimitOf queue (n + 1) width b (get_or (set limits block limit) b 0)
+      ⊎ IsLimitOf queue (n + 1) (λ index. index / width ≡ b) (get_or (set limits block limit) b 0)
   unfolding Of
   of_one b = ⊎_elim
       (λ same. rw (← same, get_or-set_same limits block limit 0 within) raised)
@@ -84,42 +67,18 @@ module _ (queue : List Arrival) (n width : ℕ) (limits : List ℕ) (are : AreLi
 
 module _ (queue : List Arrival) (place n height : ℕ) (upto : AreUpto queue place n) where
   pub has_come : (index : ℕ) (reached : IsReached queue place height index) → reached.turn < n
-  has_come index reached = ⊎_elim
-      (λ less. less)
-      (λ le. absurd (omega (arith, upto.beyond reached.turn reached.arrival le reached.stands)))
-      (cases_lt reached.turn n)
+  has_come index reached = grind (arith, upto.beyond reached.turn reached.arrival)
 
-  pub reached_by : (turn : ℕ) (a : Arrival) → turn < n → slice_get queue turn ≡ Some a → height ≤ a.height →
-      IsReached queue place height a.index
-  reached_by turn a before stands no_lower = record {
-    turn = turn;
-    arrival = a;
-    stands = stands;
-    of_index = refl;
-    no_later = upto.upto turn a before stands;
-    no_lower = no_lower;
-  }
+  -- what is below a limit is reached by the one whose limit it is
+  pub reached_below : (holds : ℕ → Type 0) (limit : ℕ) → (limit ≡ 0) ⊎ IsLimitOf queue n holds limit → height < limit →
+      (index : ℕ) × IsReached queue place height index × holds index
+  reached_below holds limit of_one below = grind arith
 
 module _ (queue : List Arrival) (place height width n : ℕ) (limits : List ℕ) (upto : AreUpto queue place n)
     (are : AreLimitsOf queue n width limits) where
   -- a height that is reached is below the limit of its block
   pub below_limit : (index : ℕ) → IsReached queue place height index → height < get_or limits (index / width) 0
-  below_limit index reached =
-      let above = are.above reached.turn reached.arrival (has_come queue place n height upto index reached)
-      reached.stands in
-      subst (λ (i : ℕ). height < get_or limits (i / width) 0) reached.of_index (omega arith)
-
-  -- and what is below a limit is reached in the block
-  pub reached_below : (block : ℕ) → height < get_or limits block 0 →
-      (index : ℕ) × IsReached queue place height index × (index / width ≡ block)
-  reached_below block below = ⊎_elim
-      (λ none. absurd (omega arith))
-      (λ one. (
-        one.arrival.index,
-        reached_by queue place n height upto one.turn one.arrival one.before one.stands (omega arith),
-        one.in_block,
-      ))
-      (are.of_one block)
+  below_limit index reached = grind arith
 
   -- ---- the first of 128 blocks
 
@@ -130,17 +89,12 @@ module _ (queue : List Arrival) (place height width n : ℕ) (limits : List ℕ)
         let inside : is.index / width / 128 ≡ wide = div-div-eq-div-mul is.index width 128 ∙ is.in_block in
         let under = below_limit is.index is.reached in
         let at = found (is.index / width) (omega arith) (omega arith) under in
-        let here = reached_below block at.1 in
+        let here = reached_below queue place n height upto _ _ (are.of_one block) at.1 in
         record {
           index = here.0;
           reached = here.1;
           in_block = here.2;
           first = λ other reached.
-              let split = div-div-eq-div-mul other width 128 in
               let least = is.first other reached in
-              let from : 128 * wide ≤ other / width = omega arith in
-              ⊎_elim
-              (λ less. (found (other / width) from less (below_limit other reached)).0)
-              (λ le. omega arith)
-              (cases_lt (other / width) (128 * wide + 128));
+              grind (arith, div-div-eq-div-mul other width 128, found (other / width), below_limit other reached);
         }

@@ -1,19 +1,18 @@
 -- What the proofs of this crate name from elsewhere.
-pub use Rattle.std.proofs.Common.{Bool, FitsSigned, Global, IsSome, List, MatchOption, None, Option, Some, Vec}
-pub use Rattle.std.proofs.Common.{[], add-one, ap, arith, cond, false, get_or, inl, inr, le_trans, length}
-pub use Rattle.std.proofs.Common.{length-set, map, max, nat_eq, neg_ℤ, of_z, pos, refl, reverse, rules, set}
-pub use Rattle.std.proofs.Common.{subst, suc, sym, take, to_z, true, true≢false, unsigned_abs, zero, ℕ, ℤ}
-pub use Rattle.std.proofs.Common.{⊎_elim, ◌*◌, ◌++◌, ◌+ℤ◌, ◌+◌, ◌-ℤ◌, ◌-◌, ◌/◌, ◌<ℤ◌, ◌<◌, ◌^◌, ◌∙◌, ◌∷◌, ◌≡◌}
-pub use Rattle.std.proofs.Common.{◌≢◌, ◌≤ℤ◌, ◌≤◌, ◌⊎◌}
+pub use Rattle.std.proofs.Common.{Bool, FitsSigned, IsSome, List, MatchOption, None, Option, Some, [], add-one, ap}
+pub use Rattle.std.proofs.Common.{arith, cond, false, get_or, inl, inr, length, length-set, map, max, neg_ℤ, of_z, pos}
+pub use Rattle.std.proofs.Common.{refl, reverse, rules, set, subst, suc, sym, take, to_z, true, true≢false}
+pub use Rattle.std.proofs.Common.{unsigned_abs, zero, ℕ, ℤ, ⊎_elim, ◌*◌, ◌++◌, ◌+ℤ◌, ◌+◌, ◌-ℤ◌, ◌-◌, ◌/◌, ◌<ℤ◌, ◌<◌}
+pub use Rattle.std.proofs.Common.{◌^◌, ◌∙◌, ◌∷◌, ◌≡◌, ◌≢◌, ◌≤ℤ◌, ◌≤◌, ◌⊎◌}
 pub use Rattle.std.proofs.Math.Nat.{div-div-eq-div-mul, div-mul-le_self, div-one, le_of_mul-le-mul_left, mul-add-div}
 pub use Rattle.std.proofs.Math.Nat.{mul-le-mul_right}
-pub use Rattle.std.proofs.lemmas.Bool.{cases_eq, cases_lt, eq-eqb, or_right}
+pub use Rattle.std.proofs.lemmas.Bool.{cases_eq, cases_lt, eq-eqb}
 pub use Rattle.std.proofs.lemmas.Bool.Decides.{nat_tests}
 pub use Rattle.std.proofs.lemmas.Grind.{common_steps}
 pub use Rattle.std.proofs.lemmas.Int.{clamps, ints, to_z-of_z}
-pub use Rattle.std.proofs.lemmas.List.{append-nil, get_or-map, get_or-reverse, get_or-set_other}
-pub use Rattle.std.proofs.lemmas.List.{get_or-set_same, length-append, length-map, length-reverse}
-pub use Rattle.std.proofs.lemmas.List.{map-append, map_more, take_all, take_more}
+pub use Rattle.std.proofs.lemmas.List.{append-nil, get_or-map, get_or-reverse, get_or-set_other, get_or-set_same}
+pub use Rattle.std.proofs.lemmas.List.{length-append, length-map, length-reverse, map-append, map_more, take_all}
+pub use Rattle.std.proofs.lemmas.List.{take_more}
 pub use Rattle.std.proofs.lemmas.List.Elements.{All-map, All-push, All-weaker, filter-append, filter_map-append}
 pub use Rattle.std.proofs.lemmas.List.Sorted.{All-permutation, Contains-permutation, IsNonDecreasingBy-from_sort_by_key}
 pub use Rattle.std.proofs.lemmas.List.Sorted.{IsPermutation-reverse, IsPermutation-sym}
@@ -40,12 +39,11 @@ pub use Rattle.sweep.specs.Passage.{IsWantedBelow, Reaches}
 pub use Rattle.sweep.specs.Pieces.{AreBestOfPieces, ArePairsOf, ArePieces, IsPieceAt}
 pub use Rattle.sweep.specs.PrefixMaximum.{AreMaximaOf, IsBracket, IsEarlyLevel, IsHeightUpto, IsMaximumOf, IsTopped}
 pub use Rattle.sweep.specs.PrefixMaximum.{MaximaRise}
-pub use Rattle.sweep.specs.Queue.{AreArrivalsOf, AreWithin, IsArrivalAt, IsArrivalOf, IsQueueOf, index_at}
-pub use Rattle.sweep.specs.Table.{AreMaximaBothWays, AreTablesOf, IsLevelOver, IsTableOf, best_part, best_parts}
-pub use Rattle.sweep.specs.Table.{has_sample, said_by}
+pub use Rattle.sweep.specs.Queue.{AreArrivalsOf, IsArrivalAt, IsArrivalOf, IsQueueOf, index_at}
+pub use Rattle.sweep.specs.Table.{AreTablesOf, IsLevelOver, IsTableOf, best_part, best_parts, has_sample}
 pub use Rattle.sweep.specs.Top.{AreEarlyTops, AreLateTops, AreOver, AreTopNumbers, AreTopsOver, IsAtLeast, IsEarly}
-pub use Rattle.sweep.specs.Top.{IsEarlyAtLeast, IsTop}
-pub use Rattle.sweep.specs.Top.{IsTopNumber, IsTopOf, distance, height, height_for, higher_of, is_above}
+pub use Rattle.sweep.specs.Top.{IsEarlyAtLeast, IsTop, IsTopNumber, IsTopOf, distance, height, height_for, higher_of}
+pub use Rattle.sweep.specs.Top.{is_above}
 pub use Rattle.sweep.specs.UnsignedStretch.{AreStretchesOf, IsLawfulStretch, IsStretchOf, MiddlesRise, mirrored_stretch}
 pub use Rattle.sweep.specs.declared.block.Blocks.{Blocks}
 pub use Rattle.sweep.specs.declared.extreme.Extreme.{Extreme}

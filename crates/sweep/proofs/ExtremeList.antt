@@ -1,5 +1,5 @@
 -- The extremes of a server's samples.
-use Rattle.sweep.proofs.Common.{◌≡◌, ℕ, ◌+◌, ◌<◌, ◌≤◌, ◌^◌, ℤ, List, [], ◌∷◌, ◌++◌, length, map, take, Some, arith, subst, get_or, ⊎_elim, sym, ◌∙◌, ap, neg_ℤ, unsigned_abs, ◌≢◌, ◌≤ℤ◌, slice_get, All, cases_lt, ints, length-append, length-map, get_or-map, map_more, slice_get-get_or, slice_get_within, get_or_from_slice_get, Sample, HasNoSample, IsEndAt, IsExtremeOf, IsOfServer, IsLawfulExtreme, AreExtremesOf, Extreme, Side, Low, High}
+use Rattle.sweep.proofs.Common.{◌≡◌, ℕ, ◌+◌, ◌<◌, ◌≤◌, ◌^◌, ℤ, List, [], ◌∷◌, ◌++◌, length, map, take, Some, arith, get_or, sym, ◌∙◌, ap, neg_ℤ, unsigned_abs, ◌≢◌, ◌≤ℤ◌, slice_get, All, ints, length-append, length-map, get_or-map, map_more, slice_get-get_or, slice_get-below, slice_get_within, get_or_from_slice_get, Sample, HasNoSample, IsEndAt, IsExtremeOf, IsOfServer, IsLawfulExtreme, AreExtremesOf, Extreme, Side, Low, High}
 use Rattle.sample_interval.specs.Sample.{IsLawfulSample}
 use Rattle.sweep.proofs.List.{below_next, each_pushed, slice_get-front, slice_get-last}
 
@@ -28,13 +28,6 @@ module _ (samples : List Sample) (servers : List ℕ) (are : servers ≡ map (λ
       rw are (get_or-map (λ sample. sample.server) samples number sample d within
       ∙ ap (λ s. s.server) (get_or_from_slice_get samples number sample sample is))
 
--- what holds of all samples holds of the one of a number
-pub lawful_at : (samples : List Sample) → All IsLawfulSample samples → (number : ℕ) (sample : Sample) →
-    slice_get samples number ≡ Some sample → IsLawfulSample sample
-lawful_at samples lawful number sample is =
-    subst IsLawfulSample (get_or_from_slice_get samples number sample sample is)
-    (lawful number sample (slice_get_within samples number sample is))
-
 -- the server of one more sample
 pub servers_more : (samples : List Sample) (n : ℕ) (sample : Sample) → slice_get samples n ≡ Some sample →
     (servers pushed : List ℕ) → servers ≡ map (λ s. s.server) (take n samples) → pushed ≡ servers ++
@@ -47,7 +40,6 @@ servers_more samples n sample is servers pushed so_far more =
 -- the extremes of the samples below number n
 pub record ExtremesSoFar (side : Side) (samples : List Sample) (server n : ℕ) (extremes : List Extreme) : Type 0 where
   pub few : length extremes ≤ n
-  pub within : n ≤ length samples
   pub each : (index : ℕ) (extreme : Extreme) → slice_get extremes index ≡ Some extreme →
       IsOfServer side samples server extreme × (extreme.number < n)
   pub all : (number : ℕ) (sample : Sample) → number < n → slice_get samples number ≡ Some sample →
@@ -58,9 +50,9 @@ pub record ExtremesSoFar (side : Side) (samples : List Sample) (server n : ℕ) 
 
 module _ (side : Side) (samples : List Sample) (server n : ℕ) (extremes : List Extreme)
     (so_far : ExtremesSoFar side samples server n extremes) where
-  pub ExtremesSoFar-all : length samples ≤ n → AreExtremesOf side samples server extremes
+  pub ExtremesSoFar-all : length samples ≡ n → AreExtremesOf side samples server extremes
   ExtremesSoFar-all enough = record {
-    few = omega (arith, so_far.few, so_far.within);
+    few = omega (arith, so_far.few);
     each = λ index extreme is. (so_far.each index extreme is).0;
     all = λ number sample is of.
         let within = slice_get_within samples number sample is in
@@ -73,7 +65,6 @@ module _ (side : Side) (samples : List Sample) (server n : ℕ) (extremes : List
       ExtremesSoFar side samples server (n + 1) extremes
   ExtremesSoFar-other sample here other = record {
     few = omega arith;
-    within = let inside = slice_get_within samples n sample here in omega arith;
     each = λ index extreme is.
         let known = so_far.each index extreme is in
         (known.0, omega arith);
@@ -89,46 +80,25 @@ module _ (side : Side) (samples : List Sample) (server n : ℕ) (extremes : List
       ExtremesSoFar side samples server (n + 1) (extremes ++ extreme ∷ [])
   ExtremesSoFar-more sample extreme here of_server s number is = record {
     few = omega (arith, so_far.few, length-append extremes (extreme ∷ []));
-    within = let inside = slice_get_within samples n sample here in omega arith;
-    each = each;
-    all = all;
-    rising = rising;
+    each = each_pushed (λ index b. IsOfServer side samples server b × (b.number < n + 1)) extremes extreme
+        (λ index b old. let known = so_far.each index b old in (known.0, omega arith))
+        (grind (arith, lawful_extreme side sample extreme s is), omega (arith, number));
+    all = below_next (λ k t. t.server ≡ server → (index : ℕ) × (b : Extreme)
+        × (slice_get (extremes ++ extreme ∷ []) index ≡ Some b) × (b.number ≡ k)) samples n sample here
+        (λ k t below at of.
+        let old = so_far.all k t below at of in
+        let within = slice_get_within extremes old.0 old.1 old.2 in
+        (old.0, old.1, slice_get-front extremes extreme old.0 within ∙ old.2, old.3))
+        (λ of. (length extremes, extreme, slice_get-last extremes extreme, number));
+    rising = λ i j a b less at_i at_j.
+        let front : i < length extremes → slice_get extremes i ≡ Some a =
+        λ below. sym (slice_get-front extremes extreme i below) ∙ at_i in
+        each_pushed (λ j b. i < j → a.number < b.number) extremes extreme
+        (λ j b is less.
+        let within = slice_get_within extremes j b is in
+        so_far.rising i j a b less (front (omega arith)) is)
+        (λ less. omega (arith, number, (so_far.each i a (front less)).1)) j b at_j less;
   }
-    where
-      own : IsOfServer side samples server extreme
-      own = record {
-        sample = sample;
-        stands = ap (slice_get samples) number ∙ here;
-        of_server = of_server;
-        is = is;
-        lawful = lawful_extreme side sample extreme s is;
-      }
-
-      each : (index : ℕ) (b : Extreme) → slice_get (extremes ++ extreme ∷ []) index ≡ Some b →
-          IsOfServer side samples server b × (b.number < n + 1)
-      each = each_pushed (λ index b. IsOfServer side samples server b × (b.number < n + 1)) extremes extreme
-          (λ index b old. let known = so_far.each index b old in (known.0, omega arith)) (own, omega (arith, number))
-
-      all : (k : ℕ) (t : Sample) → k < n + 1 → slice_get samples k ≡ Some t → t.server ≡ server →
-          (index : ℕ) × (b : Extreme) × (slice_get (extremes ++ extreme ∷ []) index ≡ Some b) × (b.number ≡ k)
-      all = below_next (λ k t. t.server ≡ server → (index : ℕ) × (b : Extreme)
-          × (slice_get (extremes ++ extreme ∷ []) index ≡ Some b) × (b.number ≡ k)) samples n sample here
-          (λ k t below at of.
-          let old = so_far.all k t below at of in
-          let within = slice_get_within extremes old.0 old.1 old.2 in
-          (old.0, old.1, slice_get-front extremes extreme old.0 within ∙ old.2, old.3))
-          (λ of. (length extremes, extreme, slice_get-last extremes extreme, number))
-
-      rising : (i j : ℕ) (a b : Extreme) → i < j → slice_get (extremes ++ extreme ∷ []) i ≡ Some a →
-          slice_get (extremes ++ extreme ∷ []) j ≡ Some b → a.number < b.number
-      rising i j a b less at_i at_j =
-          let front : i < length extremes → slice_get extremes i ≡ Some a =
-          λ below. sym (slice_get-front extremes extreme i below) ∙ at_i in
-          each_pushed (λ j b. i < j → a.number < b.number) extremes extreme
-          (λ j b is less.
-          let within = slice_get_within extremes j b is in
-          so_far.rising i j a b less (front (omega arith)) is)
-          (λ less. omega (arith, number, (so_far.each i a (front less)).1)) j b at_j less
 
 -- ---- of all of them
 module _ (side : Side) (samples : List Sample) (server : ℕ) (extremes : List Extreme)
@@ -138,15 +108,6 @@ module _ (side : Side) (samples : List Sample) (server : ℕ) (extremes : List E
 
   pub some_sample : 0 < length extremes → ¬ HasNoSample samples server
   some_sample some none =
-      let d : Extreme = record { number = 0; end = 0; from = 0; to = 0 } in
-      let own = are.each 0 (get_or extremes 0 d) (slice_get-get_or extremes 0 d some) in
-      none (get_or extremes 0 d).number own.sample own.stands own.of_server
-
-  pub some_extreme : ¬ HasNoSample samples server → 0 < length extremes
-  some_extreme some = ⊎_elim
-      (λ positive. positive)
-      (λ none. absurd (some (λ i s is of.
-      let there = are.all i s is of in
-      let inside = slice_get_within extremes there.0 there.1 there.2 in
-      absurd (omega arith))))
-      (cases_lt 0 (length extremes))
+      let first = slice_get-below extremes 0 some in
+      let own = are.each 0 first.0 first.1 in
+      none first.0.number own.sample own.stands own.of_server

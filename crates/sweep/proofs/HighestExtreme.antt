@@ -1,25 +1,9 @@
 -- The number of the highest extreme, for each stretch so far.
-use Rattle.sweep.proofs.Common.{◌≡◌, ℕ, ◌+◌, ◌-◌, ◌<◌, List, [], ◌∷◌, ◌++◌, length, Option, None, Some, refl, arith, subst, sym, map, get_or, slice_get, All, ◌∙◌, same_Some, slice_get-get_or, slice_get_read, IsRate, IsWidening, widening, billion, IsLawfulExtreme, mirrored_extreme, IsLawfulStretch, mirrored_stretch, IsTopOf, IsAtLeast, IsEarlyAtLeast, AreEarlyTops, AreLateTops, AreOver, higher_of, IsTopNumber, Extreme, UnsignedStretch, Top, All-slice_get}
+use Rattle.sweep.proofs.Common.{◌≡◌, ℕ, ◌+◌, ◌-◌, ◌<◌, List, [], ◌∷◌, ◌++◌, length, Option, None, Some, refl, arith, subst, sym, map, get_or, slice_get, All, ◌∙◌, length-map, length-reverse, same_Some, slice_get-get_or, slice_get_read, IsRate, IsWidening, widening, billion, IsLawfulExtreme, mirrored_extreme, IsLawfulStretch, mirrored_stretch, IsTopOf, IsAtLeast, IsEarlyAtLeast, AreEarlyTops, AreLateTops, AreOver, higher_of, IsTopNumber, Extreme, UnsignedStretch, Top, All-slice_get}
 use Rattle.sweep.proofs.List.{AreOver-more}
+use Rattle.sweep.proofs.Mirror.{mirrored_at}
 use Rattle.sweep.proofs.Reach.{reaches_either, either_reaches, some_reaches}
 use Rattle.sweep.proofs.TopOrder.{Either, same_top, top-higher_of}
-
-module _ (widens : (ppb distance : ℕ) → ppb < billion → IsWidening ppb distance (widening ppb distance)) (ppb : ℕ)
-    (slow : IsRate ppb) (extremes : List Extreme) (lawful : All IsLawfulExtreme extremes) (stretch : UnsignedStretch)
-    (lawful_stretch : IsLawfulStretch stretch) where
-  -- the higher of the early top and the late one is the top
-  pub top_here : (one other : Option Top) → IsTopOf (IsEarlyAtLeast ppb extremes stretch) one →
-      IsTopOf (IsEarlyAtLeast ppb (map mirrored_extreme extremes) (mirrored_stretch stretch)) other →
-      IsTopOf (IsAtLeast ppb extremes stretch) (higher_of one other)
-  top_here one other early late =
-      same_top
-      (Either (IsEarlyAtLeast ppb extremes stretch)
-      (IsEarlyAtLeast ppb (map mirrored_extreme extremes) (mirrored_stretch stretch)))
-      (IsAtLeast ppb extremes stretch) (higher_of one other)
-      (either_reaches widens ppb slow extremes stretch lawful lawful_stretch)
-      (reaches_either widens ppb slow extremes stretch lawful lawful_stretch)
-      (top-higher_of (IsEarlyAtLeast ppb extremes stretch)
-      (IsEarlyAtLeast ppb (map mirrored_extreme extremes) (mirrored_stretch stretch)) one other early late)
 
 -- ---- what the code reads and chooses at number k
 module _ (widens : (ppb distance : ℕ) → ppb < billion → IsWidening ppb distance (widening ppb distance)) (ppb : ℕ)
@@ -37,23 +21,33 @@ module _ (widens : (ppb distance : ℕ) → ppb < billion → IsWidening ppb dis
   unfolding some_stretch
   here = slice_get-get_or stretches k (record { begin = 0; end = 0 }) within
 
+  lawful_one : IsLawfulStretch some_stretch
+  lawful_one = All-slice_get IsLawfulStretch stretches k some_stretch lawful_stretches here
+
+  -- the higher of the early top and the late one is the top
   pub top_at : IsTopOf (IsAtLeast ppb extremes some_stretch) (higher_of one other)
   top_at =
-      top_here widens ppb slow extremes lawful some_stretch
-      (All-slice_get IsLawfulStretch stretches k some_stretch lawful_stretches here)
-      one other
+      same_top
+      (Either (IsEarlyAtLeast ppb extremes some_stretch)
+      (IsEarlyAtLeast ppb (map mirrored_extreme extremes) (mirrored_stretch some_stretch)))
+      (IsAtLeast ppb extremes some_stretch) (higher_of one other)
+      (either_reaches widens ppb slow extremes some_stretch lawful lawful_one)
+      (reaches_either widens ppb slow extremes some_stretch lawful lawful_one)
+      (top-higher_of (IsEarlyAtLeast ppb extremes some_stretch)
+      (IsEarlyAtLeast ppb (map mirrored_extreme extremes) (mirrored_stretch some_stretch)) one other
       (are_early.each k some_stretch one here
       (slice_get_read early (length stretches) k one (sym are_early.as_many) within one_at))
-      (are_late.each k some_stretch other here
-      (slice_get_read late (length stretches) (length stretches - 1 - k) other (sym are_late.as_many) (omega arith)
-      other_at))
+      (are_late.each (length stretches - 1 - k) (mirrored_stretch some_stretch) other
+      (mirrored_at stretches k some_stretch here)
+      (slice_get_read late (length stretches) (length stretches - 1 - k) other
+      (sym (are_late.as_many ∙ length-reverse (map mirrored_stretch stretches) ∙ length-map stretches mirrored_stretch))
+      (omega arith) other_at)))
 
   module _ (found : Option ℕ) (found_is : (top : Top) (extreme : Extreme) → higher_of one other ≡ Some top →
       slice_get extremes top.index ≡ Some extreme → found ≡ Some extreme.number) (some : 0 < length extremes) where
     of_top : (top : Option Top) → higher_of one other ≡ top → IsTopOf (IsAtLeast ppb extremes some_stretch) top →
         (number : ℕ) × (found ≡ Some number) × IsTopNumber ppb extremes some_stretch number
     of_top None is none =
-        let lawful_one = All-slice_get IsLawfulStretch stretches k some_stretch lawful_stretches here in
         let reached = some_reaches widens ppb slow extremes some_stretch lawful lawful_one some in
         absurd (none reached.0 0 reached.1)
     of_top (Some top) is is_top =

@@ -1,5 +1,5 @@
 -- The highest level over a stretch, and the interval that it gives.
-use Rattle.sweep.proofs.Common.{◌≡◌, ℕ, ◌+◌, ◌-◌, ◌/◌, ◌<◌, ◌≤◌, ◌^◌, max, ℤ, pos, ◌+ℤ◌, ◌-ℤ◌, ◌≤ℤ◌, neg_ℤ, List, length, map, Option, Some, None, MatchOption, refl, sym, ◌∙◌, ap, subst, arith, inl, inr, ⊎_elim, slice_get, All, option_map, cases_lt, ints, le-div, div-mul-le_self, Side, Low, High, IsRate, IsWidening, widening, billion, Sample, HasNoSample, IsFirstBest, IsBestLow, IsBestHigh, best_of, merit, moved_low, moved_high, Part, IsLawfulExtreme, AreExtremesOf, mirrored_extreme, IsEarlyLevel, IsStretchOf, IsLawfulStretch, mirrored_stretch, IsLevelOver, best_part, said_by, IsAtLeast, distance, Extreme, UnsignedStretch}
+use Rattle.sweep.proofs.Common.{◌≡◌, ℕ, ◌+◌, ◌-◌, ◌/◌, ◌<◌, ◌≤◌, ◌^◌, max, ℤ, pos, ◌+ℤ◌, ◌-ℤ◌, ◌≤ℤ◌, neg_ℤ, List, length, map, Option, Some, None, MatchOption, refl, sym, subst, arith, inl, inr, ⊎_elim, slice_get, All, cases_lt, ints, le-div, div-mul-le_self, Side, Low, High, IsRate, IsWidening, widening, billion, Sample, HasNoSample, IsFirstBest, IsBestLow, IsBestHigh, best_of, merit, moved_low, moved_high, Part, IsLawfulExtreme, AreExtremesOf, mirrored_extreme, IsEarlyLevel, IsStretchOf, IsLawfulStretch, mirrored_stretch, IsLevelOver, best_part, IsAtLeast, distance, Extreme, UnsignedStretch}
 use Rattle.intersection.specs.declared.kinds.Interval.{Interval}
 use Rattle.span_cover.specs.Gathering.{best_interval, interval_between}
 use Rattle.span_cover.proofs.BestSample.{best_numbers}
@@ -7,24 +7,8 @@ use Rattle.sweep.proofs.ExtremeList.{some_sample}
 use Rattle.sweep.proofs.Merit.{merit_is, known}
 use Rattle.sweep.proofs.Reach.{reaches_either, either_reaches, some_reaches}
 
--- ---- the higher of two quotients
-
 quotient_grows : (a b m : ℕ) → 0 < m → a ≤ b → a / m ≤ b / m
 quotient_grows a b m some le = let back = div-mul-le_self a m in le-div (a / m) b m some (omega arith)
-
-second : (x y z : ℕ) → z ≡ y → x ≤ y → z ≡ max x y
-second x y z same le = omega arith
-
-first : (x y z : ℕ) → z ≡ x → y ≤ x → z ≡ max x y
-first x y z same le = omega arith
-
-pub higher_quotient : (a b m : ℕ) → 0 < m → max a b / m ≡ max (a / m) (b / m)
-higher_quotient a b m some = ⊎_elim
-    (λ below. let is : max a b ≡ b = omega arith in
-    second (a / m) (b / m) (max a b / m) (ap (λ (n : ℕ). n / m) is) (quotient_grows a b m some (omega arith)))
-    (λ le. let is : max a b ≡ a = omega arith in
-    first (a / m) (b / m) (max a b / m) (ap (λ (n : ℕ). n / m) is) (quotient_grows b a m some le))
-    (cases_lt a b)
 
 -- ---- the higher of the levels of both ways
 
@@ -38,34 +22,39 @@ module _ (widens : (ppb distance : ℕ) → ppb < billion → IsWidening ppb dis
   least : Reached 0
   least = some_reaches widens ppb slow extremes stretch all s some
 
-  module _ (early late : ℕ) (forth : IsEarlyLevel ppb extremes stretch early)
-      (back : IsEarlyLevel ppb (map mirrored_extreme extremes) (mirrored_stretch stretch) late) where
-    early_reached : Reached early
-    early_reached = ⊎_elim
-        (λ none. subst Reached (sym none) least)
-        (λ one. (one.0, either_reaches widens ppb slow extremes stretch all s one.0 early (inl one.1)))
-        forth.reached
+  -- how far the highest stands above what it falls, in either direction
+  module _ (early late : ℕ) (forth : IsEarlyLevel ppb extremes stretch (early / (billion - ppb)))
+      (back : IsEarlyLevel ppb (map mirrored_extreme extremes) (mirrored_stretch stretch) (late / (billion - ppb)))
+    where
+      early_reached : Reached (early / (billion - ppb))
+      early_reached = ⊎_elim
+          (λ none. subst Reached (sym none) least)
+          (λ one. (one.0, either_reaches widens ppb slow extremes stretch all s one.0 _ (inl one.1)))
+          forth.reached
 
-    late_reached : Reached late
-    late_reached = ⊎_elim
-        (λ none. subst Reached (sym none) least)
-        (λ one. (one.0, either_reaches widens ppb slow extremes stretch all s one.0 late (inr one.1)))
-        back.reached
+      late_reached : Reached (late / (billion - ppb))
+      late_reached = ⊎_elim
+          (λ none. subst Reached (sym none) least)
+          (λ one. (one.0, either_reaches widens ppb slow extremes stretch all s one.0 _ (inr one.1)))
+          back.reached
 
-    pub IsLevelOver-higher : (level : ℕ) → level ≡ max early late → IsLevelOver ppb extremes stretch level
-    IsLevelOver-higher level is =
-        let here : Reached level = ⊎_elim
-        (λ below. let same : late ≡ level = omega arith in subst Reached same late_reached)
-        (λ le. let same : early ≡ level = omega arith in subst Reached same early_reached)
-        (cases_lt early late) in
-        record {
-          index = here.0;
-          reached = here.1;
-          highest = λ other lower reaches. ⊎_elim
-              (λ in_early. let most = forth.highest other lower in_early in omega arith)
-              (λ in_late. let most = back.highest other lower in_late in omega arith)
-              (reaches_either widens ppb slow extremes stretch all s other lower reaches);
-        }
+      pub IsLevelOver-higher : (level : ℕ) → level ≡ max early late / (billion - ppb) →
+          IsLevelOver ppb extremes stretch level
+      IsLevelOver-higher level is =
+          let forth_up = quotient_grows early (max early late) (billion - ppb) (omega arith) (omega arith) in
+          let back_up = quotient_grows late (max early late) (billion - ppb) (omega arith) (omega arith) in
+          let here : Reached level = ⊎_elim
+          (λ below. let same : max early late ≡ late = omega arith in rw (is, same) late_reached)
+          (λ le. let same : max early late ≡ early = omega arith in rw (is, same) early_reached)
+          (cases_lt early late) in
+          record {
+            index = here.0;
+            reached = here.1;
+            highest = λ other lower reaches. ⊎_elim
+                (λ in_early. let most = forth.highest other lower in_early in omega arith)
+                (λ in_late. let most = back.highest other lower in_late in omega arith)
+                (reaches_either widens ppb slow extremes stretch all s other lower reaches);
+          }
 
 -- ---- the level is the merit of the best sample, counted from the origin
 
@@ -73,9 +62,7 @@ module _ (widens : (ppb distance : ℕ) → ppb < billion → IsWidening ppb dis
 level_of_best : (x y : ℤ) (end wide best_end best_wide level : ℕ) → x +ℤ pos (2 ^ 75) ≡ pos end -ℤ pos wide →
     y +ℤ pos (2 ^ 75) ≡ pos best_end -ℤ pos best_wide → level + wide ≤ end → x ≤ℤ y →
     (best_wide ≤ best_end → best_end - best_wide ≤ level) → y +ℤ pos (2 ^ 75) ≡ pos level
-level_of_best x y end wide best_end best_wide level a b reached no_more most =
-    let under : best_wide ≤ best_end = omega (arith, ints) in
-    omega (arith, ints, most under)
+level_of_best x y end wide best_end best_wide level a b reached no_more most = grind arith
 
 module _ (side : Side) (samples : List Sample) (server : ℕ) (extremes : List Extreme)
     (are : AreExtremesOf side samples server extremes) where
@@ -123,10 +110,7 @@ module _ (samples : List Sample) (server : ℕ) (p q : ℤ) (ppb : ℕ) (stretch
           let high_same : moved_high b.sample p q ppb ≡ interval.hi =
           from_zero_high (moved_high b.sample p q ppb) high interval.hi
           (level_counted High samples server highs high_ends p q ppb stretch at s high high_is best.1 b) hi in
-          let make : ℤ → ℤ → Interval = λ x y. record { lo = x; hi = y } in
-          rw (a.stands, b.stands)
-          (ap (λ (x : ℤ). Some (make x (moved_high b.sample p q ppb))) low_same
-          ∙ ap (λ (y : ℤ). Some (make interval.lo y)) high_same)
+          rw (a.stands, b.stands, low_same, high_same) refl
 
       chosen : (best : Option (ℕ × ℕ)) → best_of samples server p q ppb ≡ best →
           MatchOption best (HasNoSample samples server)
@@ -141,5 +125,4 @@ module _ (samples : List Sample) (server : ℕ) (p q : ℤ) (ppb : ℕ) (stretch
 -- the part that the levels give
 pub part_is : (samples : List Sample) (p q : ℤ) (ppb server : ℕ) (part : Part) → part.server ≡ server →
     best_interval samples server p q ppb ≡ Some part.interval → best_part samples p q ppb server ≡ Some part
-part_is samples p q ppb server part same is =
-    ap (option_map (said_by server)) is ∙ ap (λ (n : ℕ). Some (said_by n part.interval)) (sym same)
+part_is samples p q ppb server part same is = grind arith

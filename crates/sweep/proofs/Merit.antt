@@ -1,18 +1,10 @@
 -- The highest extreme is that of the best sample.
-use Rattle.sweep.proofs.Common.{◌≡◌, ℕ, ◌+◌, ◌-◌, ◌<◌, ◌≤◌, ◌^◌, ℤ, pos, ◌+ℤ◌, ◌-ℤ◌, ◌≤ℤ◌, ◌<ℤ◌, neg_ℤ, unsigned_abs, List, Some, sym, ◌∙◌, ap, arith, ⊎_elim, slice_get, cases_lt, ints, clamps, same_Some, widening, Sample, IsFirstBest, merit, farthest, moved_low, moved_high, IsFromOrigin, IsExtremeOf, IsLawfulExtreme, IsOfServer, AreExtremesOf, IsStretchOf, IsLawfulStretch, IsTopNumber, distance, Extreme, Side, Low, High, UnsignedStretch}
+use Rattle.sweep.proofs.Common.{◌≡◌, ℕ, ◌+◌, ◌-◌, ◌<◌, ◌≤◌, ◌^◌, ℤ, pos, ◌+ℤ◌, ◌-ℤ◌, ◌≤ℤ◌, ◌<ℤ◌, unsigned_abs, List, Some, sym, ◌∙◌, ap, arith, slice_get, ints, clamps, same_Some, widening, Sample, IsFirstBest, merit, farthest, moved_low, moved_high, IsFromOrigin, IsExtremeOf, IsLawfulExtreme, IsOfServer, AreExtremesOf, IsStretchOf, IsLawfulStretch, IsTopNumber, distance, Extreme, Side, Low, High, UnsignedStretch}
 
 distance_is : (start stop p q : ℤ) (extreme : Extreme) (stretch : UnsignedStretch) → IsFromOrigin start extreme.from →
     IsFromOrigin stop extreme.to → IsStretchOf p q stretch → extreme.from ≤ extreme.to → stretch.begin ≤ stretch.end →
     unsigned_abs (farthest start stop p q) ≡ distance extreme stretch
 distance_is start stop p q extreme stretch a b is up on = omega (arith, ints, clamps, is.begin, is.end)
-
-counted_down : (value : ℤ) (end wide apart : ℕ) → IsFromOrigin value end → wide ≡ apart →
-    (value -ℤ pos wide) +ℤ pos (2 ^ 75) ≡ pos end -ℤ pos apart
-counted_down value end wide apart is same = omega (arith, ints)
-
-counted_up : (value : ℤ) (end wide apart : ℕ) → IsFromOrigin (neg_ℤ value) end → wide ≡ apart →
-    neg_ℤ (value +ℤ pos wide) +ℤ pos (2 ^ 75) ≡ pos end -ℤ pos apart
-counted_up value end wide apart is same = omega (arith, ints)
 
 -- a sample's merit, counted from the origin, is its extreme's end moved down
 pub merit_is : (side : Side) (p q : ℤ) (ppb : ℕ) (sample : Sample) (extreme : Extreme) (stretch : UnsignedStretch) →
@@ -20,13 +12,21 @@ pub merit_is : (side : Side) (p q : ℤ) (ppb : ℕ) (sample : Sample) (extreme 
     merit side sample p q ppb +ℤ pos (2 ^ 75) ≡ pos extreme.end -ℤ pos (widening ppb (distance extreme stretch))
 unfolding moved_low moved_high
 merit_is Low p q ppb sample extreme stretch is b at s =
-    counted_down sample.low extreme.end _ _ is.end
-    (ap (widening ppb)
-    (distance_is sample.low_from sample.low_to p q extreme stretch is.from is.to at b.in_order s.in_order))
+    omega (
+      arith,
+      ints,
+      is.end,
+      ap (λ (d : ℕ). widening ppb d)
+          (distance_is sample.low_from sample.low_to p q extreme stretch is.from is.to at b.in_order s.in_order),
+    )
 merit_is High p q ppb sample extreme stretch is b at s =
-    counted_up sample.high extreme.end _ _ is.end
-    (ap (widening ppb)
-    (distance_is sample.high_from sample.high_to p q extreme stretch is.from is.to at b.in_order s.in_order))
+    omega (
+      arith,
+      ints,
+      is.end,
+      ap (λ (d : ℕ). widening ppb d)
+          (distance_is sample.high_from sample.high_to p q extreme stretch is.from is.to at b.in_order s.in_order),
+    )
 
 -- ---- in plain numbers: x and y are merits, counted as `end` less `wide`
 no_more : (x y : ℤ) (end wide best_end best_wide level : ℕ) → x +ℤ pos (2 ^ 75) ≡ pos end -ℤ pos wide →
@@ -75,11 +75,7 @@ module _ (side : Side) (samples : List Sample) (server : ℕ) (extremes : List E
     best_counted = merit_is side p q ppb best.sample is.extreme stretch best.is best.lawful at s
 
     best_reached : is.top.level + widening ppb (distance is.extreme stretch) ≤ is.extreme.end
-    best_reached =
-        let reached = is.is_top.reached in
-        let same : reached.extreme ≡ is.extreme =
-        same_Some reached.extreme is.extreme (sym reached.stands ∙ is.stands) in
-        rw same at reached.at_least
+    best_reached = grind arith
 
     pub IsFirstBest-top : IsFirstBest (λ s. merit side s p q ppb) samples server number
     IsFirstBest-top = record {
@@ -105,16 +101,8 @@ module _ (side : Side) (samples : List Sample) (server : ℕ) (extremes : List E
         -- an extreme before the best is of a sample with a lower number
         not_before : (i index : ℕ) (b : Extreme) → slice_get extremes index ≡ Some b → b.number ≡ i → i < number →
             is.top.index ≤ index → ⊥
-        not_before i index b stands number_is before behind = ⊎_elim
-            (λ later.
-            omega (arith, number_is, is.number, are.rising is.top.index index is.extreme b later is.stands stands))
-            (λ le.
-            let here : index ≡ is.top.index = omega arith in
-            let same : b ≡ is.extreme =
-            same_Some b is.extreme (sym stands ∙ ap (slice_get extremes) here ∙ is.stands) in
-            let one : b.number ≡ is.extreme.number = ap (λ (x : Extreme). x.number) same in
-            omega (arith, number_is, is.number))
-            (cases_lt is.top.index index)
+        not_before i index b stands number_is before behind =
+            grind (arith, is.number, is.stands, are.rising is.top.index index is.extreme b)
 
         first : (i : ℕ) (t : Sample) → slice_get samples i ≡ Some t → t.server ≡ server → i < number →
             merit side t p q ppb <ℤ merit side best.sample p q ppb

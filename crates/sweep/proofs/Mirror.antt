@@ -1,5 +1,5 @@
 -- Extremes and stretches with time running backwards.
-use Rattle.sweep.proofs.Common.{◌≡◌, ℕ, ◌+◌, ◌-◌, ◌≤◌, ◌^◌, List, length, Option, map, reverse, arith, ◌∙◌, All, length-map, length-reverse, All-map, All-weaker, All-permutation, IsPermutation-reverse, IsLawfulExtreme, mirrored_extreme, IsLawfulStretch, MiddlesRise, mirrored_stretch, AreEarlyTops, AreLateTops, distance, Extreme, UnsignedStretch, Top, All-slice_get}
+use Rattle.sweep.proofs.Common.{◌≡◌, ℕ, ◌+◌, ◌-◌, ◌≤◌, ◌^◌, List, length, Some, map, reverse, arith, slice_get, All, length-map, All-map, All-weaker, All-permutation, IsPermutation-reverse, IsLawfulExtreme, mirrored_extreme, IsLawfulStretch, MiddlesRise, mirrored_stretch, distance, Extreme, UnsignedStretch, All-slice_get}
 use Rattle.sweep.proofs.List.{map_at, at_map, at_reverse, reverse_at}
 
 pub lawful-mirrored_extreme : (extreme : Extreme) → IsLawfulExtreme extreme → IsLawfulExtreme (mirrored_extreme extreme)
@@ -33,19 +33,13 @@ MiddlesRise-mirrored stretches all rise i j a b le at_a at_b =
     (All-slice_get IsLawfulStretch stretches _ from_b.0 all from_b.1) less in
     rw (from_b.2, from_a.2) turned
 
-pub AreLateTops-mirrored : (ppb : ℕ) (extremes : List Extreme) (stretches : List UnsignedStretch)
-    (tops : List (Option Top)) →
-    AreEarlyTops ppb (map mirrored_extreme extremes) (reverse (map mirrored_stretch stretches)) tops →
-    AreLateTops ppb extremes stretches tops
-AreLateTops-mirrored ppb extremes stretches tops early = record {
-  as_many = early.as_many ∙ length-reverse (map mirrored_stretch stretches) ∙ length-map stretches mirrored_stretch;
-  each = λ k stretch top at there.
-      early.each (length stretches - 1 - k) (mirrored_stretch stretch) top
-      (rw (length-map stretches mirrored_stretch) at
-      (reverse_at (map mirrored_stretch stretches) k (mirrored_stretch stretch)
-      (map_at mirrored_stretch stretches k stretch at)))
-      there;
-}
+-- the mirrored stretch stands as far from the end
+pub mirrored_at : (stretches : List UnsignedStretch) (k : ℕ) (stretch : UnsignedStretch) →
+    slice_get stretches k ≡ Some stretch →
+    slice_get (reverse (map mirrored_stretch stretches)) (length stretches - 1 - k) ≡ Some (mirrored_stretch stretch)
+mirrored_at stretches k stretch at =
+    rw (length-map stretches mirrored_stretch) at
+    (reverse_at (map mirrored_stretch stretches) k _ (map_at mirrored_stretch stretches k stretch at))
 
 -- the distance is the same
 pub distance-mirrored : (extreme : Extreme) (stretch : UnsignedStretch) → IsLawfulExtreme extreme →

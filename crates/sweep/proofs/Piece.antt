@@ -1,5 +1,5 @@
 -- The best samples of each piece.
-use Rattle.sweep.proofs.Common.{ℕ, ℤ, List, arith, get_or, sym, ◌∙◌, slice_get-get_or, slice_get_within, Sample, AreExtremesOf, AreBestOfPieces, ArePairsOf, AreStretchesOf, IsLawfulStretch, AreTopNumbers, Extreme, Low, High, UnsignedStretch, All-slice_get}
+use Rattle.sweep.proofs.Common.{ℕ, ℤ, List, arith, sym, ◌∙◌, slice_get-below, slice_get_within, Sample, AreExtremesOf, AreBestOfPieces, ArePairsOf, AreStretchesOf, IsLawfulStretch, AreTopNumbers, Extreme, Low, High, UnsignedStretch, All-slice_get}
 use Rattle.span_cover.proofs.BestSample.{best_of-best}
 use Rattle.sweep.proofs.Merit.{IsFirstBest-top}
 
@@ -14,19 +14,15 @@ module _ (samples : List Sample) (server : ℕ) (first : ℤ) (ends : List ℤ) 
     as_many = pairs.as_many ∙ low_tops.as_many ∙ are_stretches.as_many;
     best = λ k p q at.
         let within = slice_get_within ends k q at.ends_at in
-        let default : UnsignedStretch = record { begin = 0; end = 0 } in
-        let stretch : UnsignedStretch = get_or stretches k default in
-        let here = slice_get-get_or stretches k default (omega (arith, are_stretches.as_many)) in
-        let is_stretch = are_stretches.each k p q stretch at here in
-        let lawful = All-slice_get IsLawfulStretch stretches k stretch are_stretches.lawful here in
-        let low : ℕ = get_or low_numbers k 0 in
-        let low_at = slice_get-get_or low_numbers k 0 (omega (arith, are_stretches.as_many, low_tops.as_many)) in
-        let high : ℕ = get_or high_numbers k 0 in
-        let high_at = slice_get-get_or high_numbers k 0 (omega (arith, are_stretches.as_many, high_tops.as_many)) in
-        pairs.each k low high low_at high_at
-        ∙ sym (best_of-best samples server p q ppb low high
-        (IsFirstBest-top Low samples server lows are_low p q ppb stretch is_stretch lawful low
-        (low_tops.each k stretch low here low_at))
-        (IsFirstBest-top High samples server highs are_high p q ppb stretch is_stretch lawful high
-        (high_tops.each k stretch high here high_at)));
+        let stretch = slice_get-below stretches k (omega (arith, are_stretches.as_many)) in
+        let is_stretch = are_stretches.each k p q stretch.0 at stretch.1 in
+        let lawful = All-slice_get IsLawfulStretch stretches k stretch.0 are_stretches.lawful stretch.1 in
+        let low = slice_get-below low_numbers k (omega (arith, are_stretches.as_many, low_tops.as_many)) in
+        let high = slice_get-below high_numbers k (omega (arith, are_stretches.as_many, high_tops.as_many)) in
+        pairs.each k low.0 high.0 low.1 high.1
+        ∙ sym (best_of-best samples server p q ppb low.0 high.0
+        (IsFirstBest-top Low samples server lows are_low p q ppb stretch.0 is_stretch lawful low.0
+        (low_tops.each k stretch.0 low.0 stretch.1 low.1))
+        (IsFirstBest-top High samples server highs are_high p q ppb stretch.0 is_stretch lawful high.0
+        (high_tops.each k stretch.0 high.0 stretch.1 high.1)));
   }

@@ -12,9 +12,7 @@ module _ (scale rate distance from to end level wide : ℕ) (apart : distance + 
   moved = rw (← apart) (omega arith)
 
   pub height_from : level + wide ≤ end → level * scale + rate * to ≤ scale * end + rate * from
-  height_from le =
-      let scaled : (level + wide) * scale ≤ end * scale = mul-le-mul_right scale le in
-      omega (arith, ceiling.not_below, moved)
+  height_from le = grind (arith, moved, mul-le-mul_right scale le)
 
   pub from_height : 0 < scale → level * scale + rate * to ≤ scale * end + rate * from → level + wide ≤ end
   from_height positive le =
@@ -68,23 +66,14 @@ module _ (widens : (ppb distance : ℕ) → ppb < billion → IsWidening ppb dis
               (lawful-mirrored_stretch stretch s) level (omega (arith, b.ends, b.in_order, s.ends, s.in_order))
               (subst (λ (d : ℕ). level + widening ppb d ≤ extreme.end) (sym same) enough);
         }))
-        (λ early. inl (record {
-          extreme = extreme;
-          stands = is.stands;
-          early = early;
-          at_least = early_height extreme stretch b s level early enough;
-        }))
+        (λ early. inl (grind (arith, early_height extreme stretch b s level early enough)))
         (cases_lt (stretch.begin + stretch.end) (extreme.from + extreme.to))
 
     early_is : (index level : ℕ) → IsEarlyAtLeast ppb extremes stretch index level →
         IsAtLeast ppb extremes stretch index level
-    early_is index level is = record {
-      extreme = is.extreme;
-      stands = is.stands;
-      at_least = early_reaches is.extreme stretch
-          (All-slice_get IsLawfulExtreme extremes index is.extreme all is.stands) s level is.early
-          is.at_least;
-    }
+    early_is index level is =
+        let b = All-slice_get IsLawfulExtreme extremes index is.extreme all is.stands in
+        grind (arith, early_reaches is.extreme stretch b s level is.early is.at_least)
 
     late_is : (index level : ℕ) →
         IsEarlyAtLeast ppb (map mirrored_extreme extremes) (mirrored_stretch stretch) index level →
@@ -93,11 +82,9 @@ module _ (widens : (ppb distance : ℕ) → ppb < billion → IsWidening ppb dis
         let back = at_map mirrored_extreme extremes index is.extreme is.stands in
         let extreme : Extreme = back.0 in
         let b = All-slice_get IsLawfulExtreme extremes index extreme all back.1 in
-        let early = rw back.2 at is.early in
-        let high = rw back.2 at is.at_least in
         let reaches = early_reaches (mirrored_extreme extreme) (mirrored_stretch stretch)
-        (lawful-mirrored_extreme extreme b)
-        (lawful-mirrored_stretch stretch s) level early high in
+        (lawful-mirrored_extreme extreme b) (lawful-mirrored_stretch stretch s) level (rw back.2 at is.early)
+        (rw back.2 at is.at_least) in
         record {
           extreme = extreme;
           stands = back.1;

@@ -1,14 +1,12 @@
 -- The stretches of pieces.
-use Rattle.sweep.proofs.Common.{◌≡◌, ℕ, ◌+◌, ◌<◌, ◌≤◌, ◌^◌, ℤ, pos, ◌+ℤ◌, ◌≤ℤ◌, List, [], ◌∷◌, ◌++◌, length, Some, arith, subst, get_or, sym, ◌∙◌, ap, add-one, to_z, of_z, FitsSigned, w128, slice_get, All, ints, to_z-of_z, length-append, All-push, slice_get-get_or, same_Some, IsPiece, IsPieceAt, ArePieces, IsStretchOf, IsLawfulStretch, MiddlesRise, UnsignedStretch, All-slice_get}
+use Rattle.sweep.proofs.Common.{◌≡◌, ℕ, ◌+◌, ◌<◌, ◌≤◌, ◌^◌, ℤ, pos, ◌+ℤ◌, ◌≤ℤ◌, List, [], ◌∷◌, ◌++◌, length, Some, arith, get_or, sym, ◌∙◌, add-one, to_z, of_z, FitsSigned, w128, slice_get, All, ints, to_z-of_z, length-append, All-push, slice_get-get_or, same_Some, IsPiece, IsPieceAt, ArePieces, IsStretchOf, IsLawfulStretch, MiddlesRise, UnsignedStretch, All-slice_get}
 use Rattle.sweep.proofs.List.{each_pushed, rises_pushed}
 
 pub piece_at : (first kept_first : ℤ) (ends : List ℤ) (index : ℕ) (begin end : ℤ) → kept_first ≡ first →
     slice_get (kept_first ∷ ends) index ≡ Some begin → index < length ends → end ≡ get_or ends index (pos 0) →
     IsPieceAt first ends index begin end
-piece_at first kept_first ends index begin end same begins within is = record {
-  begins = subst (λ (f : ℤ). slice_get (f ∷ ends) index ≡ Some begin) same begins;
-  ends_at = slice_get-get_or ends index (pos 0) within ∙ ap Some (sym is);
-}
+piece_at first kept_first ends index begin end same begins within is =
+    grind (arith, slice_get-get_or ends index (pos 0) within)
 
 -- the piece whose begin and end the code holds
 pub piece_here : (first : ℤ) (ends : List ℤ) (n : ℕ) (begin : ℤ) → ArePieces first ends → FitsSigned w128 first →
@@ -43,34 +41,19 @@ module _ (first : ℤ) (ends : List ℤ) (n : ℕ) (begin : ℤ) (stretches : Li
   StretchesSoFar-more end stretch at piece is = record {
     begins = rw (add-one n) at.ends_at;
     as_many = omega (arith, length-append stretches (stretch ∷ []), so_far.as_many);
-    each = each;
+    each = λ k p q s there stands. each_pushed (λ k s. IsPieceAt first ends k p q → IsStretchOf p q s) stretches stretch
+        (λ k s old there. so_far.each k p q s there old)
+        (λ there.
+        let begins = rw so_far.as_many at there.begins in
+        let ends_at = rw so_far.as_many at there.ends_at in
+        rw (← same_Some begin p (sym at.begins ∙ begins), ← same_Some end q (sym at.ends_at ∙ ends_at)) is)
+        k s stands there;
     lawful = All-push IsLawfulStretch stretches stretch so_far.lawful (lawful_stretch begin end stretch piece is);
-    behind = behind;
-    rise = rise;
+    behind = each_pushed (λ k s. pos s.end ≤ℤ (end +ℤ pos (2 ^ 75))) stretches stretch
+        (λ k s old. omega (arith, ints, so_far.behind k s old, piece.in_order)) (omega (arith, ints, is.end));
+    rise = rises_pushed (λ a b. a.begin + a.end ≤ b.begin + b.end) stretches stretch so_far.rise
+        (λ k s at_s.
+        let own = All-slice_get IsLawfulStretch stretches k s so_far.lawful at_s in
+        omega (arith, ints, so_far.behind k s at_s, own.in_order, piece.in_order, is))
+        (omega arith);
   }
-    where
-      each : (k : ℕ) (p q : ℤ) (s : UnsignedStretch) → IsPieceAt first ends k p q →
-          slice_get (stretches ++ stretch ∷ []) k ≡ Some s → IsStretchOf p q s
-      each k p q s there stands = each_pushed (λ k s. IsPieceAt first ends k p q → IsStretchOf p q s) stretches stretch
-          (λ k s old there. so_far.each k p q s there old)
-          (λ there.
-          let begins = rw so_far.as_many at there.begins in
-          let ends_at = rw so_far.as_many at there.ends_at in
-          rw (← same_Some begin p (sym at.begins ∙ begins), ← same_Some end q (sym at.ends_at ∙ ends_at)) is)
-          k s stands there
-
-      behind : (k : ℕ) (s : UnsignedStretch) → slice_get (stretches ++ stretch ∷ []) k ≡ Some s →
-          pos s.end ≤ℤ (end +ℤ pos (2 ^ 75))
-      behind = each_pushed (λ k s. pos s.end ≤ℤ (end +ℤ pos (2 ^ 75))) stretches stretch
-          (λ k s old. omega (arith, ints, so_far.behind k s old, piece.in_order)) (omega (arith, ints, is.end))
-
-      lawful_new : IsLawfulStretch stretch
-      lawful_new = lawful_stretch begin end stretch piece is
-
-      rise : MiddlesRise (stretches ++ stretch ∷ [])
-      rise =
-          rises_pushed (λ a b. a.begin + a.end ≤ b.begin + b.end) stretches stretch so_far.rise
-          (λ k s at_s.
-          let own = All-slice_get IsLawfulStretch stretches k s so_far.lawful at_s in
-          omega (arith, ints, so_far.behind k s at_s, own.in_order, lawful_new.in_order, is.begin))
-          (omega arith)

@@ -1,5 +1,5 @@
 -- The tables of servers, and what they give one after another.
-use Rattle.sweep.proofs.Common.{◌≡◌, ℕ, ◌+◌, ◌<◌, Bool, true, false, ℤ, List, [], ◌∷◌, ◌++◌, length, map, take, get_or, Option, Some, None, refl, sym, ◌∙◌, ap, arith, cond, true≢false, slice_get, filter, filter_map, cons_option, range_with_len, append-nil, take_more, map-append, filter-append, filter_map-append, get_or_from_slice_get, slice_get-get_or, slice_get_within, Sample, HasNoSample, Part, AreTablesOf, IsTableOf, best_part, best_parts, has_sample, Extreme, BestTable, eq-eqb, range_with_len_more}
+use Rattle.sweep.proofs.Common.{◌≡◌, ℕ, ◌+◌, ◌<◌, Bool, true, false, ℤ, List, [], ◌∷◌, ◌++◌, length, map, take, get_or, Option, Some, None, refl, sym, ◌∙◌, ap, arith, cond, true≢false, slice_get, filter, filter_map, cons_option, range_with_len, append-nil, take_more, map-append, filter-append, filter_map-append, get_or_from_slice_get, slice_get-get_or, slice_get-below, slice_get_within, Sample, HasNoSample, Part, AreTablesOf, IsTableOf, best_part, best_parts, has_sample, BestTable, eq-eqb, range_with_len_more}
 use Rattle.std.proofs.Common.{◌==◌}
 use Rattle.std.proofs.lemmas.Bool.{ne_eqb}
 use Rattle.std.proofs.lemmas.List.Folds.{list_any_at, list_any_none}
@@ -23,9 +23,8 @@ one_has samples server i s is of =
 module _ (samples : List Sample) (ppb : ℕ) (table : BestTable) (is : IsTableOf samples ppb table) where
   pub table_has : has_sample samples table.server ≡ true
   table_has =
-      let none : Extreme = record { number = 0; end = 0; from = 0; to = 0 } in
-      let lows = is.lows in
-      let own = lows.are.each 0 (get_or lows.extremes 0 none) (slice_get-get_or lows.extremes 0 none lows.some) in
+      let first = slice_get-below is.lows.extremes 0 is.lows.some in
+      let own = is.lows.are.each 0 first.0 first.1 in
       one_has samples table.server _ own.sample own.stands own.of_server
 
 -- ---- the servers that have one, in their order

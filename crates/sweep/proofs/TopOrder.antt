@@ -1,5 +1,5 @@
 -- The higher of two tops.
-use Rattle.sweep.proofs.Common.{◌≡◌, ℕ, ◌<◌, ◌≤◌, true, false, Option, None, Some, refl, arith, subst, ◌⊎◌, inl, inr, ⊎_elim, cond, nat_tests, IsTop, IsTopOf, is_above, higher_of, Top}
+use Rattle.sweep.proofs.Common.{◌≡◌, ℕ, ◌<◌, ◌≤◌, true, false, Option, None, Some, refl, arith, ◌⊎◌, inl, inr, ⊎_elim, cond, nat_tests, IsTop, IsTopOf, is_above, higher_of, Top}
 
 -- indexes that reach the same levels have the same top
 pub same_top : (first second : ℕ → ℕ → Type 0) (top : Option Top) →
@@ -27,22 +27,11 @@ Either first second index level = first index level ⊎ second index level
 wins : (first second : ℕ → ℕ → Type 0) (one other : Top) → IsTop first one → IsTop second other →
     (other.level < one.level) ⊎ ((one.level ≡ other.level) × (one.index ≤ other.index)) →
     IsTop (Either first second) one
-wins first second one other a b over = record {
-  reached = inl a.reached;
-  highest = λ index level. ⊎_elim (a.highest index level)
-      (λ reaches. let under = b.highest index level reaches in grind arith);
-  first = λ index. ⊎_elim (a.first index)
-      (λ reaches.
-      let under = b.highest index one.level reaches in
-      let same : one.level ≡ other.level = grind arith in
-      let before = b.first index (subst (second index) same reaches) in
-      grind arith);
-}
+wins first second one other a b over = grind arith
 
 module _ (first second : ℕ → ℕ → Type 0) where
   turned : (top : Option Top) → IsTopOf (Either second first) top → IsTopOf (Either first second) top
-  turned top = same_top (Either second first) (Either first second) top (λ index level. ⊎_elim inr inl)
-      (λ index level. ⊎_elim inr inl)
+  turned top = grind arith
 
   -- the higher of two tops is the top of both
   pub top-higher_of : (one other : Option Top) → IsTopOf first one → IsTopOf second other →

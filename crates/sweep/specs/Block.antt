@@ -24,13 +24,14 @@ pub record IsFirstBlock (queue : List Arrival) (place height width block : ℕ) 
   pub in_block : index / width ≡ block
   pub first : (other : ℕ) → IsReached queue place height other → block ≤ other / width
 
--- one of the first arrivals is in the block, and its height is one less than the limit
-pub record IsLimitOf (queue : List Arrival) (next width block limit : ℕ) : Type 0 where
+-- this holds of the index of one of the first arrivals, whose height is one less than the limit
+pub record IsLimitOf (queue : List Arrival) (next : ℕ) (holds : ℕ → Type 0) (limit : ℕ)
+    : Type 0 where
   pub turn : ℕ
   pub arrival : Arrival
   pub before : turn < next
   pub stands : slice_get queue turn ≡ Some arrival
-  pub in_block : arrival.index / width ≡ block
+  pub of_index : holds arrival.index
   pub is : limit ≡ arrival.height + 1
 
 -- the limits of the blocks, of the first arrivals
@@ -41,7 +42,7 @@ pub record AreLimitsOf (queue : List Arrival) (next width : ℕ) (limits : List 
   pub above : (turn : ℕ) (arrival : Arrival) → turn < next → slice_get queue turn ≡ Some arrival →
       arrival.height < slice_index_or limits (arrival.index / width) 0
   pub of_one : (block : ℕ) → (slice_index_or limits block 0 ≡ 0)
-      ⊎ IsLimitOf queue next width block (slice_index_or limits block 0)
+      ⊎ IsLimitOf queue next (λ index. index / width ≡ block) (slice_index_or limits block 0)
 
 -- the first arrivals are those that come up to the place
 pub record AreUpto (queue : List Arrival) (place next : ℕ) : Type 0 where

@@ -7,7 +7,7 @@
 --
 -- A level is a whole number. If an index reaches a level, it reaches each lower one. An extreme
 -- reaches a level over a stretch if its end, moved down for the stretch, is at least the level.
-use Rattle.std.specs.Prelude.{◌≡◌, ℕ, ◌+◌, ◌-◌, ◌*◌, ◌≤◌, max, List, Option, Some, None, slice_get, Bool, nat_lt, ◌==◌, ◌&&◌, ◌||◌, if◌then◌else◌, length, map}
+use Rattle.std.specs.Prelude.{◌≡◌, ℕ, ◌+◌, ◌-◌, ◌*◌, ◌≤◌, max, List, Option, Some, None, slice_get, Bool, nat_lt, ◌==◌, ◌&&◌, ◌||◌, if◌then◌else◌, length, map, reverse}
 use Rattle.sweep.specs.Extreme.{mirrored_extreme}
 use Rattle.sweep.specs.UnsignedStretch.{mirrored_stretch}
 use Rattle.sample_interval.specs.Widening.{widening, billion}
@@ -87,13 +87,9 @@ abbrev pub AreEarlyTops : ℕ → List Extreme → List UnsignedStretch → List
 AreEarlyTops ppb extremes = AreTopsOver (IsEarlyAtLeast ppb extremes)
 
 -- the same for those that are early with time running backwards: the last stretch comes first
-pub record AreLateTops (ppb : ℕ) (extremes : List Extreme) (stretches : List UnsignedStretch)
-    (tops : List (Option Top)) : Type 0 where
-  pub as_many : length tops ≡ length stretches
-  pub each : (k : ℕ) (stretch : UnsignedStretch) (top : Option Top) →
-      slice_get stretches k ≡ Some stretch →
-      slice_get tops (length stretches - 1 - k) ≡ Some top →
-      IsTopOf (IsEarlyAtLeast ppb (map mirrored_extreme extremes) (mirrored_stretch stretch)) top
+abbrev pub AreLateTops : ℕ → List Extreme → List UnsignedStretch → List (Option Top) → Type 0
+AreLateTops ppb extremes stretches =
+    AreEarlyTops ppb (map mirrored_extreme extremes) (reverse (map mirrored_stretch stretches))
 
 -- the number belongs to the extreme that is highest over the stretch, the first of those
 pub record IsTopNumber (ppb : ℕ) (extremes : List Extreme) (stretch : UnsignedStretch) (chosen : ℕ)

@@ -62,6 +62,10 @@ pub fn extremes_of<S: SampleSource>(
         AreExtremesOf Side.Low (S.samples samples) server extremes.0.items) }
     ensures highs { IfOk result (λ extremes.
         AreExtremesOf Side.High (S.samples samples) server extremes.1.items) }
+    ensures lawful { IfOk result (λ extremes.
+        All IsLawfulExtreme extremes.0.items × All IsLawfulExtreme extremes.1.items) }
+    ensures as_many { IfOk result (λ extremes.
+        length extremes.0.items ≡ length extremes.1.items) }
 {
     let count = count_of(servers, server);
     let mut lows = Vec::with_capacity(alloc, count)?;

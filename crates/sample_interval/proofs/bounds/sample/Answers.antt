@@ -1,5 +1,5 @@
 use Rattle.sample_interval.proofs.Common.{◌+ℤ◌, ◌-ℤ◌, ◌∙◌, ap, sym, subst, to_z-of_z, w128, IsLawfulSample, request_start, request_end, reply_start, reply_end}
-use Rattle.sample_interval.proofs.NoOverflow.{end_is, rest_fits, less_fits, more_fits, less_is, more_is}
+use Rattle.sample_interval.proofs.NoOverflow.{end_is, rest_fits, less_is, more_is}
 use Rattle.sample_interval.proofs.ExchangeSample.{same_sample, lawful}
 use Rattle.sample_interval.proofs.bounds.sample.Goals as goal
 
@@ -8,19 +8,9 @@ overflow_sub-result c =
     rest_fits c.request_window-request.result.start c.args.x.now.t2 c.args.x.now.distance
     c.request_window-request.ensures.start_in_range c.requires.exchange.lawful.t2 c.requires.exchange.lawful.distance
 
-pub overflow_sub-result-2 : goal.overflow_sub-result-2
-overflow_sub-result-2 c =
-    less_fits c.request_window-request.result.start c.args.x.now.t2 c.args.x.now.distance
-    c.request_window-request.ensures.start_in_range c.requires.exchange.lawful.t2 c.requires.exchange.lawful.distance
-
 pub overflow_sub-result-3 : goal.overflow_sub-result-3
 overflow_sub-result-3 c =
     rest_fits c.reply_window-reply.result.end c.args.x.now.t3 c.args.x.now.distance
-    c.reply_window-reply.ensures.end_in_range c.requires.exchange.lawful.t3 c.requires.exchange.lawful.distance
-
-pub overflow_add-result : goal.overflow_add-result
-overflow_add-result c =
-    more_fits c.reply_window-reply.result.end c.args.x.now.t3 c.args.x.now.distance
     c.reply_window-reply.ensures.end_in_range c.requires.exchange.lawful.t3 c.requires.exchange.lawful.distance
 
 pub returns-clause-exact : goal.returns-clause-exact

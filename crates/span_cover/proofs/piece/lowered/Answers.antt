@@ -1,4 +1,4 @@
-use Rattle.span_cover.proofs.Common.{arith, ℤ, pos, ◌-ℤ◌, ◌≡◌, ◌∙◌, ap, unsigned_abs, to_z, of_z, w128, ints, widening, moved_low}
+use Rattle.span_cover.proofs.Common.{arith, ℤ, ap, unsigned_abs, ints, widening, moved_low}
 use Rattle.span_cover.proofs.PieceDistance.{farthest-kept}
 use Rattle.span_cover.proofs.piece.lowered.Goals as goal
 
@@ -10,8 +10,4 @@ returns-clause-value c =
     farthest-kept s.low_from s.low_to c.args.p c.args.q c.greatest_distance-distance.result
     c.requires.sample.low_from c.requires.sample.low_to c.requires.piece
     (record { sfits = c.greatest_distance-distance.type_inv }) c.greatest_distance-distance.ensures.value in
-    let moved : to_z w128 (of_z w128 (to_z w128 (of_z w128 s.low) -ℤ to_z w128 (of_z w128 c.widen.result))) ≡
-    s.low -ℤ c.widen.result = omega (arith, ints) in
-    moved
-    ∙ ap (λ (z : ℤ). s.low -ℤ z)
-    (c.widen.ensures.exact ∙ ap (λ (z : ℤ). pos (widening c.args.drift_ppb (unsigned_abs z))) far)
+    omega (arith, ints, c.widen.ensures.exact, ap (λ (z : ℤ). widening c.args.drift_ppb (unsigned_abs z)) far)

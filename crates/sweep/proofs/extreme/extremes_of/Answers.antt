@@ -1,6 +1,7 @@
-use Rattle.sweep.proofs.Common.{◌<◌, pos, length, arith, sym, ◌∙◌, slice_get-get_or, Sample, Low, High}
-use Rattle.sweep.proofs.ExtremeList.{as_many_servers, lawful_at, server_at}
-use Rattle.sweep.proofs.ExtremeList.{ExtremesSoFar-more, ExtremesSoFar-other, ExtremesSoFar-all}
+use Rattle.sweep.proofs.Common.{◌<◌, ◌≢◌, get_or, pos, length, arith, sym, ◌∙◌, slice_get-get_or, common_steps, Sample, Low, High, All-slice_get}
+use Rattle.sample_interval.specs.Sample.{IsLawfulSample}
+use Rattle.sweep.proofs.ExtremeList.{as_many_servers, server_at}
+use Rattle.sweep.proofs.ExtremeList.{ExtremesSoFar-more, ExtremesSoFar-other, ExtremesSoFar-all, lawful_extremes}
 use Rattle.sweep.proofs.extreme.extremes_of.Goals as goal
 use Rattle.sweep.proofs.extreme.extremes_of.Goals.{then-of-server+in_ok-push+in_ok-push-2, else-of-server}
 
@@ -17,12 +18,12 @@ none = record {
 
 pub extreme_of-requires : goal.extreme_of-requires
 extreme_of-requires g c =
-    lawful_at (g.S.SampleSource.samples c.args.samples) c.requires.samples c.loop-number.number _
+    All-slice_get IsLawfulSample (g.S.SampleSource.samples c.args.samples) c.loop-number.number _ c.requires.samples
     c.sample_at-sample.ensures
 
 pub extreme_of-requires-then-of-server : goal.extreme_of-requires-then-of-server
 extreme_of-requires-then-of-server g c =
-    lawful_at (g.S.SampleSource.samples c.args.samples) c.requires.samples c.loop-number.number _
+    All-slice_get IsLawfulSample (g.S.SampleSource.samples c.args.samples) c.loop-number.number _ c.requires.samples
     c.sample_at-sample.ensures
 
 pub sample_at-sample-requires : goal.sample_at-sample-requires
@@ -43,7 +44,7 @@ loop-number-preserved g c =
       | then-of-server+in_ok-push+in_ok-push-2 w ↦
           let here = w.sample_at-sample.ensures in
           let own = sym (server_at samples servers c.requires.servers number _ _ here) ∙ w.if-of-server.true in
-          let lawful = lawful_at samples c.requires.samples number _ here in
+          let lawful = All-slice_get IsLawfulSample samples number _ c.requires.samples here in
           record {
             lows = rw (w.lows-is, w.in_ok-push.ensures.items)
                 (ExtremesSoFar-more Low samples c.args.server number c.loop-number.lows.items lows _ w.extreme_of.result
@@ -52,30 +53,34 @@ loop-number-preserved g c =
                 (ExtremesSoFar-more High samples c.args.server number c.loop-number.highs.items highs _
                 w.extreme_of-then-of-server.result here own lawful w.extreme_of-then-of-server.ensures.number
                 w.extreme_of-then-of-server.ensures.is);
+            as_many = grind (arith, common_steps);
           }
       | else-of-server w ↦
           let here = slice_get-get_or samples number none within in
           let of = server_at samples servers c.requires.servers number _ _ here in
+          let other : (get_or samples number none).server ≢ c.args.server =
+          λ same. w.if-of-server.false (of ∙ same) in
           record {
             lows = rw w.lows-is
-                (ExtremesSoFar-other Low samples c.args.server number c.loop-number.lows.items lows _ here
-                (λ same. w.if-of-server.false (of ∙ same)));
+                (ExtremesSoFar-other Low samples c.args.server number c.loop-number.lows.items lows _ here other);
             highs = rw w.highs-is
-                (ExtremesSoFar-other High samples c.args.server number c.loop-number.highs.items highs _ here
-                (λ same. w.if-of-server.false (of ∙ same)));
+                (ExtremesSoFar-other High samples c.args.server number c.loop-number.highs.items highs _ here other);
+            as_many = grind (arith, common_steps);
           }
     ]
 
 pub returns-clause-lows : goal.returns-clause-lows
 returns-clause-lows g c =
     let as_many = as_many_servers (g.S.SampleSource.samples c.args.samples) c.args.servers.now c.requires.servers in
-    ExtremesSoFar-all Low (g.S.SampleSource.samples c.args.samples) c.args.server c.loop-number.number
-    c.loop-number.lows.items
-    c.loop-number.invariant.lows (omega arith)
+    ExtremesSoFar-all Low _ _ _ _ c.loop-number.invariant.lows (omega arith)
 
 pub returns-clause-highs : goal.returns-clause-highs
 returns-clause-highs g c =
     let as_many = as_many_servers (g.S.SampleSource.samples c.args.samples) c.args.servers.now c.requires.servers in
-    ExtremesSoFar-all High (g.S.SampleSource.samples c.args.samples) c.args.server c.loop-number.number
-    c.loop-number.highs.items
-    c.loop-number.invariant.highs (omega arith)
+    ExtremesSoFar-all High _ _ _ _ c.loop-number.invariant.highs (omega arith)
+
+pub returns-clause-lawful : goal.returns-clause-lawful
+returns-clause-lawful g c = (
+  lawful_extremes Low _ _ _ (returns-clause-lows g c),
+  lawful_extremes High _ _ _ (returns-clause-highs g c),
+)

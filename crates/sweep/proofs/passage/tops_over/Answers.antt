@@ -1,16 +1,9 @@
-use Rattle.sweep.proofs.Common.{rules, ◌≡◌, Some, get_or, arith, slice_get, slice_get-get_or, Option, IsTopOf, Reaches, Top, UnsignedStretch}
+use Rattle.sweep.proofs.Common.{◌≡◌, Some, get_or, arith, slice_get, slice_get-get_or, Option, IsTopOf, Reaches, Top, UnsignedStretch}
 use Rattle.sweep.proofs.List.{AreOver-more}
 use Rattle.sweep.proofs.passage.tops_over.Goals as goal
 
 pub loop-k-init : goal.loop-k-init
-loop-k-init c = record {
-  so_far = search rules;
-  within = omega arith;
-  leads = search rules;
-  upto = search rules;
-  taken = omega (arith, c.in_ok-blocks.ensures.taken);
-  are = c.in_ok-blocks.ensures.are c.args.queue.now c.requires.within;
-}
+loop-k-init c = grind arith
 
 pub lead_upto-next-requires-clause-upto : goal.lead_upto-next-requires-clause-upto
 lead_upto-next-requires-clause-upto c i a less at =

@@ -1,5 +1,5 @@
-use Rattle.sweep.proofs.Common.{rules, length, ◌<◌, subst, sym, to_z-of_z, w128, MiddlesRise, Low, High}
-use Rattle.sweep.proofs.ExtremeList.{lawful_extremes, some_sample, some_extreme}
+use Rattle.sweep.proofs.Common.{arith, rules, to_z-of_z, w128, Low}
+use Rattle.sweep.proofs.ExtremeList.{some_sample}
 use Rattle.sweep.proofs.Piece.{AreBestOfPieces-tops}
 use Rattle.sweep.proofs.pieces.best_of_pieces.Goals as goal
 
@@ -7,41 +7,15 @@ pub stretches_of-requires : goal.stretches_of-requires
 stretches_of-requires g c =
     rw (to_z-of_z w128 c.args.first c.ranges.first) c.requires.pieces
 
-pub top_numbers-requires-clause-extremes : goal.top_numbers-requires-clause-extremes
-top_numbers-requires-clause-extremes g c =
-    rw c.as_slice.ensures.value
-    (lawful_extremes Low (g.S.SampleSource.samples c.args.samples) c.args.server _ c.in_ok-lows.ensures.lows)
-
 pub top_numbers-requires-clause-in_order : goal.top_numbers-requires-clause-in_order
-top_numbers-requires-clause-in_order g c =
-    subst MiddlesRise (sym c.as_slice-2.ensures.value) c.in_ok-stretches.ensures.rise
-
-pub top_numbers-requires-2-clause-extremes : goal.top_numbers-requires-2-clause-extremes
-top_numbers-requires-2-clause-extremes g c =
-    rw c.as_slice-3.ensures.value
-    (lawful_extremes High (g.S.SampleSource.samples c.args.samples) c.args.server _ c.in_ok-lows.ensures.highs)
-
-pub top_numbers-requires-2-clause-some : goal.top_numbers-requires-2-clause-some
-top_numbers-requires-2-clause-some g c =
-    let some : 0 < length c.in_ok-lows.lows.items = search rules in
-    rw c.as_slice-3.ensures.value
-    (some_extreme High (g.S.SampleSource.samples c.args.samples) c.args.server c.in_ok-lows.highs.items
-    c.in_ok-lows.ensures.highs
-    (some_sample Low (g.S.SampleSource.samples c.args.samples) c.args.server c.in_ok-lows.lows.items
-    c.in_ok-lows.ensures.lows some))
+top_numbers-requires-clause-in_order g c = grind arith
 
 pub top_numbers-requires-2-clause-in_order : goal.top_numbers-requires-2-clause-in_order
-top_numbers-requires-2-clause-in_order g c =
-    subst MiddlesRise (sym c.as_slice-4.ensures.value) c.in_ok-stretches.ensures.rise
+top_numbers-requires-2-clause-in_order g c = grind arith
 
 pub returns-clause-none : goal.returns-clause-none
-returns-clause-none g c = (
-  λ none. absurd cc,
-  λ none. absurd
-      (let some : 0 < length c.in_ok-lows.lows.items = search rules in
-      some_sample Low (g.S.SampleSource.samples c.args.samples) c.args.server c.in_ok-lows.lows.items
-      c.in_ok-lows.ensures.lows some none),
-)
+returns-clause-none g c =
+    (λ none. absurd cc, λ none. absurd (some_sample Low _ _ _ c.in_ok-lows.ensures.lows (search rules) none))
 
 pub returns-clause-best : goal.returns-clause-best
 returns-clause-best g c =

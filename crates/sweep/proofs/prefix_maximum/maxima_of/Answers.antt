@@ -1,11 +1,10 @@
 use Rattle.sweep.proofs.Common.{◌≡◌, ◌<◌, ◌-◌, refl, List, Some, length, arith, subst, sym, ap, ◌∙◌, true≢false, slice_get, slice_get-get_or, seen, PrefixMaximum}
-use Rattle.sweep.proofs.MaximumList.{MaximaSoFar-none, MaximaSoFar-kept, MaximaSoFar-more, AreMaximaOf-all}
+use Rattle.sweep.proofs.MaximumList.{MaximaSoFar-kept, MaximaSoFar-more, AreMaximaOf-all}
 use Rattle.sweep.proofs.prefix_maximum.maxima_of.Goals as goal
 use Rattle.sweep.proofs.prefix_maximum.maxima_of.Goals.{then-is_higher+in_ok-push, else-is_higher}
 
 pub loop-turn-init : goal.loop-turn-init
-loop-turn-init c =
-    rw c.new-maxima.ensures.items (MaximaSoFar-none _ _ c.in_ok-queue.queue.items)
+loop-turn-init c = grind arith
 
 pub loop-turn-preserved : goal.loop-turn-preserved
 loop-turn-preserved c =

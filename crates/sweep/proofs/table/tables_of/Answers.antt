@@ -1,4 +1,4 @@
-use Rattle.sweep.proofs.Common.{ℕ, ◌≡◌, [], ◌∷◌, ◌++◌, ap, ◌∙◌, sym, subst, true, arith, rules, common_steps, All-push, IsTableOf, AreTablesOf, has_sample}
+use Rattle.sweep.proofs.Common.{◌≡◌, [], ◌∷◌, ◌++◌, ap, ◌∙◌, sym, true, arith, rules, common_steps, All-push, IsTableOf, has_sample}
 use Rattle.sweep.proofs.TableList.{none_has, table_has, servers_without, servers_more}
 use Rattle.sweep.proofs.table.tables_of.Goals as goal
 use Rattle.sweep.proofs.table.tables_of.Goals.{in-Some+in_ok-push, in_default}
@@ -36,8 +36,4 @@ loop-server-preserved g c =
     ]
 
 pub returns-clause-are : goal.returns-clause-are
-returns-clause-are g c =
-    let samples = g.S.SampleSource.samples c.args.samples in
-    let all : c.loop-server.server ≡ c.args.count = omega arith in
-    subst (λ (n : ℕ). AreTablesOf samples n c.args.drift_ppb c.loop-server.tables.items) all
-    (record { each = c.loop-server.invariant.each; servers = c.loop-server.invariant.servers })
+returns-clause-are g c = grind arith
