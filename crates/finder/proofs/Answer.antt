@@ -1,24 +1,23 @@
 -- What is found, and what that says.
-use Rattle.finder.proofs.Common.{◌≡◌, ℕ, ◌<◌, ◌≤◌, nat_lt, true, not, length, Option, Some, None, Ok, Err, inl, inr, refl, sym, ap, ◌∙◌, arith, rules, ◌↔◌, IsErrAnd, cond-true, cond-false, length-map-range_with_len, CertificateData, max_pieces, ClaimData, IsLawful, Hull, Sample, verdict_of, Yes, is_inside, Finds, IsFirstFailing, pieces_from, piece_at, hull_at, passes, first_failing, found_without, found_of, IsPieceCount, count_of, AreSamplesOf, FindFault, TooManyPieces, Memory, not-true, not-false}
+use Rattle.finder.proofs.Common.{◌≡◌, ℕ, ◌<◌, ◌≤◌, true, not, length, Option, Some, None, Ok, Err, inl, inr, refl, sym, ap, ◌∙◌, arith, rules, ◌↔◌, IsErrAnd, lt-ltb, le-ltb, length-map-range_with_len, CertificateData, max_pieces, ClaimData, IsLawful, Hull, Sample, verdict_of, Yes, is_inside, Finds, IsFirstFailing, pieces_from, piece_at, hull_at, passes, first_failing, found_without, found_of, IsPieceCount, count_of, AreSamplesOf, FindFault, TooManyPieces, Memory, not-true, not-false}
 use Rattle.std.specs.Prelude.{◌⊎◌, List, Result}
 use Rattle.certificate.specs.Certificate.{data_of as certificate_data}
 use Rattle.finder.specs.Found.{data_of}
 use Rattle.finder.specs.declared.found.Found.{Found}
 use Rattle.finder.specs.declared.found.Found.TheVariants.{Certificate, Nothing}
 use Rattle.finder.proofs.List.{find_is_first, find_is_none}
-use Rattle.finder.proofs.SpanPieces.{is_few, is_many}
 use Rattle.finder.proofs.Refusal.{contradicted, held, none_accepted}
 use Rattle.finder.proofs.Verdict.{all_accepted}
 
 module _ (samples : List Sample) (claim : ClaimData) (step : ℕ) where
   found_of_many : max_pieces < count_of claim step → found_of samples claim step ≡ Err TooManyPieces
   unfolding found_of
-  found_of_many many = cond-true (nat_lt max_pieces (count_of claim step)) _ _ (is_many _ many)
+  found_of_many many = rw (lt-ltb _ _ many) refl
 
   pub found_of_few : count_of claim step ≤ max_pieces
       → found_of samples claim step ≡ Ok (found_without samples claim step (first_failing samples claim step))
   unfolding found_of
-  found_of_few h = cond-false (nat_lt max_pieces (count_of claim step)) _ _ (is_few _ h)
+  found_of_few few = rw (le-ltb _ _ few) refl
 
   -- ---- a fault
 

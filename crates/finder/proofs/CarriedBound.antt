@@ -1,12 +1,12 @@
 -- The least bound that a certificate carries.
-use Rattle.finder.proofs.Common.{◌≡◌, ◌⊎◌, inl, inr, ⊎_elim, ℕ, ◌+◌, ◌*◌, ◌<◌, ◌≤◌, ◌^◌, ℤ, pos, ◌≤ℤ◌, ◌<ℤ◌, false, cond, is_some, ◌||◌, int_lt, List, [], ◌∷◌, ◌++◌, length, Option, Some, None, Result, Ok, Err, refl, sym, ap, ◌∙◌, arith, rules, ints, clamps, MatchOption, ticks_down, CertificateData, PieceData, max_pieces, ClaimData, IsLawful, max_bound, max_bound_ns, Sample, Part, Stretch, parts_after, parts_fault, piece_fault, verdict_after, verdict_from, verdict_of, Verdict, Yes, Why, Cut, FindsLeastBound, IsCarried, IsFirst, IsNeverEmpty, IsTick, StopsAt, with_bound, AreLongest, IsOfLongest, NoneOfFewIsAccepted, end_after, hull_over, next_tick, pieces_over, stretch_over, AreEnds, AreTablesFor, IsReach, AreSamplesOf}
+use Rattle.finder.proofs.Common.{◌≡◌, ◌⊎◌, inl, inr, ⊎_elim, ℕ, ◌+◌, ◌*◌, ◌<◌, ◌≤◌, ◌^◌, ℤ, pos, ◌≤ℤ◌, ◌<ℤ◌, false, is_some, ◌||◌, List, [], ◌∷◌, ◌++◌, length, length-append, Option, Some, None, Ok, refl, sym, ap, ◌∙◌, arith, rules, ints, nat_tests, clamps, MatchOption, ticks_down, CertificateData, PieceData, max_pieces, ClaimData, IsLawful, max_bound, max_bound_ns, Sample, piece_fault, verdict_after, verdict_from, verdict_of, Verdict, Yes, Why, FindsLeastBound, IsCarried, IsFirst, IsNeverEmpty, IsTick, StopsAt, with_bound, AreLongest, IsOfLongest, NoneOfFewIsAccepted, end_after, hull_over, next_tick, pieces_over, stretch_over, AreEnds, AreTablesFor, IsReach, AreSamplesOf}
 use Rattle.era_unfold.proofs.NanosecondTicks.{IsFloor-ticks_down, ticks_down-mono}
 use Rattle.checker.proofs.Comparison.{wider_bound}
 use Rattle.sweep.specs.declared.table.BestTable.{BestTable}
 use Rattle.finder.specs.declared.carried.LeastCarried.{LeastCarried}
 use Rattle.finder.specs.declared.reach.Reach.{Reach}
 use Rattle.finder.proofs.FewestAnswer.{finds_nothing, finds_too_long}
-use Rattle.finder.proofs.FewestPieces.{as_many_pieces, first_in_span, one_more_end, yes_from}
+use Rattle.finder.proofs.FewestPieces.{as_many_pieces, first_in_span, reached, yes_from}
 use Rattle.finder.proofs.OneWay.{one_of_three}
 use Rattle.finder.proofs.OtherBounds.{same_hull}
 
@@ -35,15 +35,8 @@ module _ (samples : List Sample) (claim : ClaimData) (n : ℕ) where
   abbrev other : ClaimData
   other = record claim { bound_ns = n }
 
-  same_parts : (said : Result (List Part) Why) → parts_fault other said ≡ parts_fault claim said
-  same_parts (Err why) = refl
-  same_parts (Ok parts) = refl
-
   same_fault : (p : ℤ) (piece : PieceData) → piece_fault samples other p piece ≡ piece_fault samples claim p piece
-  same_fault p piece =
-      let stretch : Stretch = stretch_over p (pos piece.upto) in
-      ap (λ (f : Option Why). cond (int_lt (pos piece.upto) p || int_lt claim.last (pos piece.upto)) (Some Cut) f)
-      (same_parts (parts_after samples stretch claim.drift_ppb [] piece.entries))
+  same_fault p piece = grind (arith, ints, nat_tests, stretch_over p (pos piece.upto))
 
   same_verdict : (k : ℕ) (p : ℤ) (pieces : List PieceData)
       → verdict_from samples other k p pieces ≡ verdict_from samples claim k p pieces
@@ -56,14 +49,15 @@ module _ (samples : List Sample) (claim : ClaimData) (n : ℕ) where
 
 -- ---- of tables and of the pieces that they give
 
-pub tables_for_other : (samples : List Sample) (claim : ClaimData) (m : ℕ) (tables : List BestTable)
+tables_for_other : (samples : List Sample) (claim : ClaimData) (m : ℕ) (tables : List BestTable)
     → AreTablesFor samples claim tables → AreTablesFor samples (with_bound claim m) tables
 tables_for_other samples claim m tables tabled = search (rules, samples_of_other)
 
-pub reached_by : (samples : List Sample) (a b : ClaimData) (tables : List BestTable) (reach : Reach) → a ≡ b
-    → (AreTablesFor samples a tables → IsReach samples a reach) → AreTablesFor samples b tables
-    → IsReach samples b reach
-reached_by samples a b tables reach same reaches tabled = (rw same at reaches) tabled
+pub reached_by : (samples : List Sample) (claim : ClaimData) (m : ℕ) (other : ClaimData) (tables : List BestTable)
+    (reach : Reach) → other ≡ with_bound claim m → (AreTablesFor samples other tables → IsReach samples other reach)
+    → AreTablesFor samples claim tables → IsReach samples (with_bound claim m) reach
+reached_by samples claim m other tables reach same reaches tabled =
+    (rw same at reaches) (tables_for_other samples claim m tables tabled)
 
 pub carried_by_ends : (samples : List Sample) (claim : ClaimData) (ends : List ℤ) → AreEnds samples claim ends
     → IsCarried samples claim
@@ -93,26 +87,16 @@ module _ (samples : List Sample) (claim : ClaimData) (lawful : IsLawful claim)
 
   -- ---- where the longest pieces have come to, a piece of one tick begins
 
-  record Reaches (p q : ℤ) : Type 0 where
-    pub later : p ≤ℤ q
-    pub begins : (q ≡ p) ⊎ (q <ℤ claim.last)
-
-  reached : (m : ℕ) (p : ℤ) (earlier : List ℤ) → p ≤ℤ claim.last
-      → AreLongest samples (with_bound claim m) p earlier → Reaches p (end_after p earlier)
-  reached m p [] within longest = record { later = omega (arith, ints); begins = inl refl }
-  reached m p (q ∷ earlier) within longest =
-      let rest = reached m q earlier (omega (arith, ints)) longest.2 in
-      let later = rest.later in
-      record {
-        later = omega (arith, ints, clamps);
-        begins = ⊎_elim (λ same. inr (omega (arith, ints))) (λ less. inr less) rest.begins;
-      }
-
   tick_after : (m : ℕ) (earlier : List ℤ) (tick : ℤ) → AreLongest samples (with_bound claim m) claim.first earlier
       → tick ≡ end_after claim.first earlier → IsTick claim tick
   tick_after m earlier tick longest is =
-      let reach = reached m claim.first earlier lawful.span_forward longest in
-      record { from_first = rw is reach.later; begins = rw is reach.begins }
+      grind (
+        arith,
+        ints,
+        nat_tests,
+        reached samples (with_bound claim m) claim.first earlier lawful.span_forward
+            longest,
+      )
 
   pub stop_is_tick : (m : ℕ) (tick : ℤ) → StopsAt samples (with_bound claim m) tick → IsTick claim tick
   stop_is_tick m tick (inl (end, hull, stuck)) = tick_after m stuck.earlier tick stuck.longest stuck.begins
@@ -154,10 +138,12 @@ module _ (samples : List Sample) (claim : ClaimData) (lawful : IsLawful claim)
       let bounded = with_bound claim m in
       let lawful' = lawful_with claim m small lawful in
       let are' = samples_of_other samples claim m are in
-      let count = ap length is.pieces
-      ∙ as_many_pieces samples bounded lawful' are' claim.first (is.earlier ++ claim.last ∷ [])
-      ∙ one_more_end samples bounded lawful' are' is.earlier claim.last in
-      omega (arith, count)
+      omega (
+        arith,
+        ap length is.pieces,
+        length-append is.earlier (claim.last ∷ []),
+        as_many_pieces samples bounded lawful' are' claim.first (is.earlier ++ claim.last ∷ []),
+      )
 
   -- ---- the answers
 

@@ -1,29 +1,27 @@
 -- What the proofs of this crate name from elsewhere.
 pub use Rattle.std.proofs.Common.{Bool, Err, Fits, Global, List, None, Ok, Option, Result, Some, Vec, [], add-one}
-pub use Rattle.std.proofs.Common.{add-zero, ap, append_assoc, ap₂, arith, cond, falls, false, get_or, inl, inr, int_le}
-pub use Rattle.std.proofs.Common.{int_lt, is_some, le_antisymm, le_trans, length, length-append, map, max, min, nat_le}
-pub use Rattle.std.proofs.Common.{nat_lt, neg_ℤ, negsuc, not, of_z, pos, refl, replicate, rules, set, subst, suc, sym}
-pub use Rattle.std.proofs.Common.{take, to_z, true, true≢false, unsigned_abs, vec_len, w32, w64, w8, zero, ℕ, ℤ, ⊎_elim}
-pub use Rattle.std.proofs.Common.{◌%◌, ◌&&◌, ◌*ℤ◌, ◌*◌, ◌++◌, ◌+ℤ◌, ◌+◌, ◌-ℤ◌, ◌-◌, ◌/◌, ◌<ℤ◌, ◌<◌, ◌^◌, ◌||◌, ◌∙◌, ◌∷◌}
-pub use Rattle.std.proofs.Common.{◌≡◌, ◌≢◌, ◌≤ℤ◌, ◌≤◌, ◌⊎◌}
-pub use Rattle.std.proofs.Math.Bool.{or-false, or_comm}
+pub use Rattle.std.proofs.Common.{add-zero, ap, append_assoc, ap₂, arith, cond, false, get_or, inl, inr, int_le, int_lt}
+pub use Rattle.std.proofs.Common.{is_some, le_antisymm, le_trans, length, length-append, map, max, min, nat_le, nat_lt}
+pub use Rattle.std.proofs.Common.{neg_ℤ, negsuc, not, of_z, pos, refl, replicate, rules, set, subst, suc, sym, take}
+pub use Rattle.std.proofs.Common.{to_z, true, true≢false, unsigned_abs, vec_len, w32, w64, w8, zero, ℕ, ℤ, ⊎_elim, ◌%◌}
+pub use Rattle.std.proofs.Common.{◌&&◌, ◌*ℤ◌, ◌*◌, ◌++◌, ◌+ℤ◌, ◌+◌, ◌-ℤ◌, ◌-◌, ◌/◌, ◌<ℤ◌, ◌<◌, ◌^◌, ◌||◌, ◌∙◌, ◌∷◌, ◌≡◌}
+pub use Rattle.std.proofs.Common.{◌≢◌, ◌≤ℤ◌, ◌≤◌, ◌⊎◌}
+pub use Rattle.std.proofs.Math.Bool.{or-false}
 pub use Rattle.std.proofs.Math.Dec.{T}
-pub use Rattle.std.proofs.Math.Nat.{le-div_iff_mul-le, mod-lt, mul-le-mul_right, mul-pos}
+pub use Rattle.std.proofs.Math.Nat.{le-div_iff_mul-le, mul-le-mul_right, mul-pos}
 pub use Rattle.std.proofs.lemmas.Bool.{and_from, and_parts, cases_lt, cond-false, cond-true, lt-ltb, or_cases, or_from}
-pub use Rattle.std.proofs.lemmas.Bool.{eq-eqb, le-leb, le-ltb, leb-true, ne_eqb, not-false, not-true, or_left, or_right}
-pub use Rattle.std.proofs.lemmas.Bool.{or_parts}
+pub use Rattle.std.proofs.lemmas.Bool.{eq-eqb, le-leb, le-ltb, leb-true, ne_eqb, not-false, not-true, or_parts}
 pub use Rattle.std.proofs.lemmas.Bool.Decides.{nat_tests}
 pub use Rattle.std.proofs.lemmas.Grind.{common_steps, div_ceil_times}
 pub use Rattle.std.proofs.lemmas.Int.{clamps, fits_signed_from_abs, ints, to_z-of_z}
-pub use Rattle.std.proofs.lemmas.List.{append-nil, get_or-map, get_or-replicate, get_or-set_other, get_or-set_same}
-pub use Rattle.std.proofs.lemmas.List.{length-map, length-set, map-append, take_all, take_more}
-pub use Rattle.std.proofs.lemmas.List.Elements.{All-append, All-cons, All-filter, All-head, All-nil}
-pub use Rattle.std.proofs.lemmas.List.Elements.{All-push, All-tail, filter-append, filter_map-append}
+pub use Rattle.std.proofs.lemmas.List.{append-nil, get_or-map, get_or-replicate, length-map, length-set, map-append}
+pub use Rattle.std.proofs.lemmas.List.{take_all, take_more}
+pub use Rattle.std.proofs.lemmas.List.Elements.{All-append, All-cons, All-filter, All-head, All-nil, All-push, All-tail}
+pub use Rattle.std.proofs.lemmas.List.Elements.{filter-append, filter_map-append}
 pub use Rattle.std.proofs.lemmas.List.Folds.{Any-from_list_any, list_any-append, list_any-from_Any}
 pub use Rattle.std.proofs.lemmas.List.FromFn.{get_or-map-range_with_len, length-map-range_with_len}
 pub use Rattle.std.proofs.lemmas.List.FromFn.{map-range_with_len_more}
-pub use Rattle.std.proofs.lemmas.List.Sums.{sum_by-append}
-pub use Rattle.std.proofs.lemmas.Nat.{div-add-mod', div-mul-add}
+pub use Rattle.std.proofs.lemmas.Nat.{div-mul-add}
 pub use Rattle.std.proofs.lemmas.Option.{get_or_from_slice_get, slice_get-get_or, slice_get_read, slice_get_within}
 pub use Rattle.std.specs.Int.{div_ceil, int_max, int_min}
 pub use Rattle.std.specs.Int.Signed.{non_neg, yes_non_neg}
@@ -34,7 +32,6 @@ pub use Rattle.std.specs.Prelude.{filter, option_map, slice_get, slice_index, �
 pub use Rattle.certificate.specs.Certificate.{CertificateData, PieceData, max_pieces, piece_data}
 pub use Rattle.certificate.specs.Refutation.{RefutationData}
 pub use Rattle.certificate.specs.declared.certificate.Certificate.{Certificate}
-pub use Rattle.checker.proofs.Comparison.{EveryHull}
 pub use Rattle.checker.proofs.Counting.{found_below}
 pub use Rattle.checker.proofs.Narrow.{no_fewer_groups, still_left_out}
 pub use Rattle.checker.proofs.NoOverflow.{bound_kept, first_kept, last_kept, reading_kept}
@@ -45,14 +42,14 @@ pub use Rattle.checker.specs.Groups.{false_group_count, holds_false}
 pub use Rattle.checker.specs.Refutation.{Admits, IsRefuted, is_liar}
 pub use Rattle.checker.specs.RefutationTest.{admits, are_different}
 pub use Rattle.checker.specs.Samples.{AreSamplesOf}
-pub use Rattle.checker.specs.Stretch.{begin_of, last_end, stretches_from, stretches_of}
-pub use Rattle.checker.specs.Traceability.{HoldsError, IsContradicted, IsInHull, IsObservedIn, IsVerdictOn, samples_of}
-pub use Rattle.checker.specs.Verdict.{PassBelow, hull_fault, part_from, parts_after, parts_fault, piece_fault}
-pub use Rattle.checker.specs.Verdict.{unless_refused, verdict_after, verdict_from, verdict_of}
+pub use Rattle.checker.specs.Stretch.{begin_of, last_end, stretches_from}
+pub use Rattle.checker.specs.Traceability.{HoldsError, IsContradicted, IsInHull, IsObservedIn, samples_of}
+pub use Rattle.checker.specs.Verdict.{hull_fault, part_from, parts_after, parts_fault, piece_fault, unless_refused}
+pub use Rattle.checker.specs.Verdict.{verdict_after, verdict_from, verdict_of}
 pub use Rattle.checker.specs.declared.verdict.Verdict.{Verdict}
 pub use Rattle.checker.specs.declared.verdict.Verdict.TheVariants.{No, Yes}
 pub use Rattle.checker.specs.declared.verdict.Why.{Why}
-pub use Rattle.checker.specs.declared.verdict.Why.TheVariants.{Contradiction, Cut, Exceeds, Uncovered}
+pub use Rattle.checker.specs.declared.verdict.Why.TheVariants.{Cut, Exceeds, Uncovered}
 pub use Rattle.claim_file.specs.Claim.{ClaimData, IsLawful, data_of, max_bound, max_bound_ns, max_drift_ppb}
 pub use Rattle.claim_file.specs.Group.{servers_of}
 pub use Rattle.feasibility.specs.Cover.{HasSmallCover, IsCover, SomeCourse, group_of, size_of}
@@ -67,16 +64,14 @@ pub use Rattle.intersection.specs.declared.kinds.Hull.TheVariants.{Bounded, Empt
 pub use Rattle.intersection.specs.declared.kinds.Interval.{Interval}
 pub use Rattle.error_marks.specs.Mark.{AreCompatible, high_mark, low_mark}
 pub use Rattle.error_marks.specs.declared.mark.Mark.{Mark}
-pub use Rattle.pairing.specs.Exchange.{IsInRange}
 pub use Rattle.pairing.specs.declared.exchange.Exchange.{Exchange}
-pub use Rattle.sample_interval.specs.Sample.{IsLawfulSample, sample_of}
+pub use Rattle.sample_interval.specs.Sample.{IsLawfulSample}
 pub use Rattle.sample_interval.specs.Widening.{billion}
 pub use Rattle.sample_interval.specs.declared.kinds.Sample.{Sample}
-pub use Rattle.span_cover.specs.Gathering.{Gathered, Gathering}
-pub use Rattle.span_cover.specs.Group.{group_intervals, is_inside, numbers_below}
-pub use Rattle.span_cover.specs.Group.{piece_hull}
+pub use Rattle.span_cover.specs.Gathering.{Gathered}
+pub use Rattle.span_cover.specs.Group.{group_intervals, is_inside, numbers_below, piece_hull}
 pub use Rattle.span_cover.specs.Part.{part_of}
-pub use Rattle.span_cover.specs.Piece.{IsPiece, moved_high, moved_low, piece_interval_of}
+pub use Rattle.span_cover.specs.Piece.{IsPiece}
 pub use Rattle.span_cover.specs.Step.{piece_end_of}
 pub use Rattle.span_cover.specs.declared.part.Part.{Part}
 pub use Rattle.span_cover.specs.declared.stretch.Stretch.{Stretch}
@@ -122,7 +117,7 @@ pub use Rattle.finder.specs.declared.least.LeastBound.{LeastBound}
 pub use Rattle.finder.specs.declared.least.LeastBound.TheVariants.{Holds, NoneHolds}
 pub use Rattle.finder.specs.declared.side.Side.{Side}
 pub use Rattle.finder.specs.declared.side.Side.TheVariants.{Above, Below}
-pub use Rattle.lemma_base.proofs.Bool.{by_test, or_rest}
+pub use Rattle.lemma_base.proofs.Bool.{by_test}
 pub use Rattle.lemma_base.proofs.Int.{int_lt-false, w128_keeps, w128_keeps_difference, ≤ℤ-from_equal, ≤ℤ_antisymm}
 pub use Rattle.lemma_base.proofs.List.{All-cons_option, All-map_back, All-slice_get, range_with_len_more}
-pub use Rattle.lemma_base.proofs.Nat.{lt_next_cases, not_lt_zero}
+pub use Rattle.lemma_base.proofs.Nat.{not_lt_zero}

@@ -156,9 +156,13 @@ module _ (claim : ClaimData) (lawful : IsLawful claim) (xs : List Exchange)
   listed : (stretch : Stretch) (part : Part) → IsOfSamples samples stretch claim.drift_ppb part
       → part.server < length claim.groups
   listed stretch part given =
-      let low = All-slice_get (λ (s : Sample). s.server < length claim.servers) samples given.low_number given.low
-      are.listed given.low_is in
-      omega (arith, (ap (λ (p : Part). p.server) given.is), low)
+      grind (
+        arith,
+        ints,
+        nat_tests,
+        All-slice_get (λ (s : Sample). s.server < length claim.servers) samples
+            given.low_number given.low are.listed given.low_is,
+      )
 
   pub error_in_hull : (stretch : Stretch) → IsObservedIn course stretch.begin stretch.end
       → IsInHull course (hull_without samples claim cover stretch)

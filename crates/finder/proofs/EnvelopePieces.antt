@@ -1,20 +1,22 @@
 -- The pieces of an envelope, one after another.
-use Rattle.finder.proofs.Common.{◌≡◌, ℕ, zero, suc, ◌+◌, ◌<◌, ◌≤◌, nat_lt, List, [], ◌∷◌, ◌++◌, length, map, Ok, Err, inl, inr, refl, sym, ap, ◌∙◌, arith, add-one, All, ◌↔◌, IsErrAnd, range_with_len, cond-true, cond-false, All-nil, All-cons, map-range_with_len_more, max_pieces, ClaimData, IsLawful, Hull, Sample, FindsEnvelope, EnvelopeData, PieceHullData, IsLawfulEnvelope, IsLawfulPiece, IsLeast, piece_hull_at, piece_hulls, least_of, with_piece, envelope_of, envelope_to, hull_at, count_of, stretch_at, FindFault, TooManyPieces, Memory, LeastBound}
+use Rattle.finder.proofs.Common.{◌≡◌, ℕ, ◌+◌, ◌<◌, ◌≤◌, List, [], ◌∷◌, ◌++◌, length, Ok, Err, inl, inr, refl, sym, ap, ◌∙◌, arith, add-one, All, ◌↔◌, IsErrAnd, range_with_len, get_or, lt-ltb, le-ltb, map-range_with_len_more, max_pieces, ClaimData, IsLawful, Hull, Sample, FindsEnvelope, EnvelopeData, PieceHullData, IsLawfulEnvelope, IsLawfulPiece, IsLeast, piece_hull_at, piece_hulls, least_of, with_piece, envelope_of, envelope_to, hull_at, count_of, stretch_at, FindFault, TooManyPieces, Memory, LeastBound}
 use Rattle.std.specs.Prelude.{Result, ◌⊎◌}
+use Rattle.std.proofs.lemmas.List.Elements.{All-map}
 use Rattle.finder.specs.Envelope.{data_of}
 use Rattle.finder.specs.declared.envelope.Envelope.{Envelope}
 use Rattle.finder.proofs.EntryList.{entries_there}
-use Rattle.finder.proofs.SpanPieces.{is_few, is_many, piece_of_claim}
+use Rattle.finder.proofs.Bound.{least_is_least}
+use Rattle.finder.proofs.SpanPieces.{IsPieceCount-piece_count_of, piece_of_claim}
 
 module _ (samples : List Sample) (claim : ClaimData) (step : ℕ) where
   pub envelope_of_many : max_pieces < count_of claim step → envelope_of samples claim step ≡ Err TooManyPieces
   unfolding envelope_of
-  envelope_of_many many = cond-true (nat_lt max_pieces (count_of claim step)) _ _ (is_many _ many)
+  envelope_of_many many = rw (lt-ltb _ _ many) refl
 
   pub envelope_of_few : count_of claim step ≤ max_pieces
       → envelope_of samples claim step ≡ Ok (envelope_to samples claim step (count_of claim step))
   unfolding envelope_of
-  envelope_of_few h = cond-false (nat_lt max_pieces (count_of claim step)) _ _ (is_few _ h)
+  envelope_of_few few = rw (le-ltb _ _ few) refl
 
   -- one more piece
   pub piece_hulls_more : (k : ℕ) (old : List PieceHullData) (piece : PieceHullData)
@@ -42,15 +44,10 @@ module _ (samples : List Sample) (claim : ClaimData) (step : ℕ) where
       named = entries_there samples claim (stretch_at claim step k);
     }
 
-    lawful_from : (k n : ℕ)
-        → All (IsLawfulPiece (length samples)) (map (piece_hull_at samples claim step) (range_with_len k n))
-    lawful_from k zero = All-nil (IsLawfulPiece (length samples))
-    lawful_from k (suc n) =
-        All-cons (IsLawfulPiece (length samples)) (piece_hull_at samples claim step k) _ (lawful_piece k)
-        (lawful_from (k + 1) n)
-
     pub lawful_pieces : (n : ℕ) → All (IsLawfulPiece (length samples)) (piece_hulls samples claim step n)
-    lawful_pieces n = lawful_from 0 n
+    lawful_pieces n =
+        All-map (IsLawfulPiece (length samples)) (piece_hull_at samples claim step) (range_with_len 0 n)
+        (λ k d below. lawful_piece (get_or (range_with_len 0 n) k d))
 
   -- ---- the answer
 
@@ -79,4 +76,5 @@ module _ (samples : List Sample) (claim : ClaimData) (step : ℕ) where
     lawful = lawful;
   }
 
-pub ruleset envelope_faults = (envelope_many, envelope_without_memory)
+pub ruleset envelope_answers =
+    (envelope_many, envelope_without_memory, envelope_few, least_is_least, IsPieceCount-piece_count_of)

@@ -1,9 +1,8 @@
 -- What is found, and what that says.
-use Rattle.finder.proofs.Common.{◌≡◌, ℕ, ◌+◌, ℤ, pos, ◌≤ℤ◌, to_z, of_z, List, [], ◌∷◌, ◌++◌, length, Ok, Err, sym, ap, ◌∙◌, subst, arith, rules, w128, Certificate, ClaimData, IsLawful, Hull, Sample, HoldsError, IsInHull, verdict_from, NoneOfFewIsAccepted, IsStuck, IsTooLong, hull_over, pieces_over, stretch_over, FindsFewest, AreEnds, AreSamplesOf, TooManyPieces}
+use Rattle.finder.proofs.Common.{◌≡◌, ◌+◌, ℤ, ints, List, [], ◌∷◌, ◌++◌, length, length-append, Ok, Err, sym, ap, ◌∙◌, subst, arith, rules, Certificate, ClaimData, IsLawful, Hull, Sample, HoldsError, IsInHull, verdict_from, NoneOfFewIsAccepted, IsStuck, IsTooLong, hull_over, pieces_over, stretch_over, FindsFewest, AreEnds, AreSamplesOf, TooManyPieces}
 use Rattle.certificate.specs.Certificate.{data_of as certificate_data}
 use Rattle.finder.specs.declared.fewest.Fewest.TheVariants as found
-use Rattle.finder.proofs.FewestPieces.{InSpan, as_many_pieces, end_after_in_span, end_after_later, first_in_span, more_of_accepted, next_within, none_accepted_over, one_more_end, yes_from}
-use Rattle.finder.proofs.LongestPiece.{in_64_bits, tick_kept}
+use Rattle.finder.proofs.FewestPieces.{as_many_pieces, first_in_span, more_of_accepted, none_accepted_over, stuck_at, yes_from}
 use Rattle.finder.proofs.Verdict.{best_held}
 
 module _ (samples : List Sample) (claim : ClaimData) (lawful : IsLawful claim)
@@ -17,7 +16,7 @@ module _ (samples : List Sample) (claim : ClaimData) (lawful : IsLawful claim)
       let span = first_in_span samples claim lawful are in
       let count : length (certificate_data certificate).pieces ≡ length is.earlier + 1 =
       ap length e ∙ as_many_pieces samples claim lawful are claim.first all
-      ∙ one_more_end samples claim lawful are is.earlier claim.last in
+      ∙ length-append is.earlier (claim.last ∷ []) in
       let few = is.few in
       record {
         exact = record { earlier = is.earlier; longest = is.longest; last = is.last; few = few; pieces = e };
@@ -38,10 +37,7 @@ module _ (samples : List Sample) (claim : ClaimData) (lawful : IsLawful claim)
   pub finds_nothing : (begin end : ℤ) (hull : Hull) → IsStuck samples claim begin end hull
       → FindsFewest samples claim (Ok (found.Nothing begin end hull))
   finds_nothing begin end hull is =
-      let span = first_in_span samples claim lawful are in
-      let inside : InSpan claim begin =
-      rw is.begins (end_after_in_span samples claim lawful are claim.first is.earlier span is.longest) in
-      let later = end_after_later samples claim lawful are claim.first is.earlier span is.longest in
+      let at = stuck_at samples claim begin end hull lawful.span_forward is in
       let stretch = stretch_over begin end in
       let holds : HoldsError claim samples stretch hull =
       subst (HoldsError claim samples stretch) (sym is.its_hull) (best_held claim samples stretch lawful are) in
@@ -52,29 +48,14 @@ module _ (samples : List Sample) (claim : ClaimData) (lawful : IsLawful claim)
         accepted = tt;
         fewest = tt;
         few = tt;
-        none_accepted = none_accepted_over samples claim lawful are begin hull inside (rw is.begins later)
+        none_accepted = none_accepted_over samples claim lawful are begin hull
+            (omega (arith, ints, at.later, at.to_last)) at.later
             (is.its_hull ∙ ap (hull_over samples claim begin) is.ends) is.fails;
         contradiction = λ empty xs course made fits observed.
             subst (IsInHull course) empty (holds xs course made fits observed);
         held = holds;
         too_many = λ e. absurd cc;
       }
-
-  -- as the code makes it of 64 bits
-  pub finds_nothing_kept : (begin end : ℕ) (b e : ℤ) (hull : Hull) → b ≡ pos begin → e ≡ pos end
-      → IsStuck samples claim (pos begin) (pos end) hull
-      → FindsFewest samples claim (Ok (found.Nothing (to_z w128 (of_z w128 b)) (to_z w128 (of_z w128 e)) hull))
-  finds_nothing_kept begin end b e hull begins ends is =
-      let span = first_in_span samples claim lawful are in
-      let inside : InSpan claim (pos begin) =
-      rw is.begins (end_after_in_span samples claim lawful are claim.first is.earlier span is.longest) in
-      let within : pos end ≤ℤ claim.last =
-      rw is.ends (next_within samples claim lawful are (pos begin)) in
-      rw (
-        tick_kept begin b (in_64_bits begin claim.last inside.to_last lawful.span_ends) begins,
-        tick_kept end e (in_64_bits end claim.last within lawful.span_ends) ends,
-      )
-      (finds_nothing (pos begin) (pos end) hull is)
 
   pub finds_too_long : IsTooLong samples claim → FindsFewest samples claim (Err TooManyPieces)
   finds_too_long is =

@@ -1,18 +1,17 @@
 -- What the longest pieces say of certificates: theirs is accepted, and no accepted one has fewer pieces.
-use Rattle.finder.proofs.Common.{◌≡◌, ◌≢◌, ℕ, suc, ◌+◌, ◌<◌, ℤ, pos, ◌≤ℤ◌, int_lt, nat_lt, unsigned_abs, Bool, true, false, true≢false, cond, ◌&&◌, ◌||◌, ⊎_elim, List, [], ◌∷◌, ◌++◌, length, Option, Some, None, refl, sym, ap, ◌∙◌, subst, arith, slice_get, IsSomeAnd, int_eq, cond-true, nat_tests, ints, clamps, PieceData, CertificateData, ClaimData, IsLawful, Hull, Empty, Sample, is_inside, IsPiece, last_end, stretches_from, parts_after, parts_fault, piece_fault, verdict_after, verdict_from, verdict_of, Yes, No, Why, Cut, Uncovered, best_entries, AreLongest, IsLongest, IsNoWider, end_after, hull_over, next_tick, piece_over, pieces_over, shows, stretch_over, HoldsWhole, AreSamplesOf, int_lt-false}
+use Rattle.finder.proofs.Common.{◌≡◌, ◌≢◌, ℕ, suc, ◌+◌, ◌<◌, ℤ, pos, ◌≤ℤ◌, int_lt, Bool, true, false, true≢false, cond, ◌||◌, inl, inr, ⊎_elim, ◌⊎◌, ◌<ℤ◌, List, [], ◌∷◌, ◌++◌, length, Option, Some, None, refl, sym, ap, ◌∙◌, subst, arith, slice_get, IsSomeAnd, nat_tests, ints, clamps, PieceData, CertificateData, ClaimData, IsLawful, Hull, Empty, Sample, is_inside, IsPiece, last_end, stretches_from, piece_fault, verdict_from, verdict_of, Yes, Why, Cut, best_entries, AreLongest, IsLongest, IsNoWider, IsStuck, end_after, hull_over, next_tick, piece_over, pieces_over, shows, stretch_over, HoldsWhole, AreSamplesOf, int_lt-false}
 use Rattle.checker.proofs.PieceVerdict.{each_passes}
 use Rattle.checker.proofs.VerdictPieces.{yes_end}
 use Rattle.finder.proofs.Narrow.{no_wider_within, shows_as_much}
 use Rattle.finder.proofs.Nearest.{int_cases}
 use Rattle.finder.proofs.Refusal.{Pass, pass_each, shows_piece, some_and}
-use Rattle.finder.proofs.Verdict.{entries_fault, from_zero_kept, inside_passes, not_less}
+use Rattle.finder.proofs.Verdict.{covered, entries_fault, inside_passes, one_passed}
 
 not_inside : (bound : ℤ) (hull : Hull) → hull ≡ Empty → is_inside bound hull ≡ true → ⊥
 not_inside bound hull empty inside = true≢false (sym inside ∙ ap (is_inside bound) empty)
 
 empty_stays : (outer inner : Hull) → IsNoWider outer inner → outer ≡ Empty → inner ≡ Empty
-empty_stays outer inner is empty =
-    let at : IsNoWider Empty inner = subst (λ (h : Hull). IsNoWider h inner) empty is in at
+empty_stays outer inner is empty = grind (arith, ints, nat_tests, subst (λ (h : Hull). IsNoWider h inner) empty is)
 
 -- a piece that passes doesn't end after the span
 not_cut : (cut late : Bool) (rest : Option Why) → cond (cut || late) (Some Cut) rest ≡ None → late ≡ false
@@ -24,6 +23,29 @@ not_cut false false rest e = refl
 pub record InSpan (claim : ClaimData) (p : ℤ) : Type 0 where
   pub from_zero : pos 0 ≤ℤ p
   pub to_last : p ≤ℤ claim.last
+
+-- where the longest pieces from a reading have come to: it, or a tick before the span's end
+pub record Reaches (claim : ClaimData) (p q : ℤ) : Type 0 where
+  pub later : p ≤ℤ q
+  pub to_last : q ≤ℤ claim.last
+  pub begins : (q ≡ p) ⊎ (q <ℤ claim.last)
+
+pub reached : (samples : List Sample) (claim : ClaimData) (p : ℤ) (earlier : List ℤ) → p ≤ℤ claim.last
+    → AreLongest samples claim p earlier → Reaches claim p (end_after p earlier)
+reached samples claim p [] within longest = record { later = omega (arith, ints); to_last = within; begins = inl refl }
+reached samples claim p (q ∷ earlier) within longest =
+    let rest = reached samples claim q earlier longest.0.in_span longest.2 in
+    record {
+      later = omega (arith, ints, clamps, rest.later);
+      to_last = rest.to_last;
+      begins = inr (⊎_elim (λ same. omega (arith, ints)) (λ less. less) rest.begins);
+    }
+
+-- the tick at which they get stuck
+pub stuck_at : (samples : List Sample) (claim : ClaimData) (begin end : ℤ) (hull : Hull) → claim.first ≤ℤ claim.last
+    → IsStuck samples claim begin end hull → Reaches claim claim.first begin
+stuck_at samples claim begin end hull forward stuck =
+    rw stuck.begins (reached samples claim claim.first stuck.earlier forward stuck.longest)
 
 module _ (samples : List Sample) (claim : ClaimData) (lawful : IsLawful claim)
     (are : AreSamplesOf claim samples) where
@@ -54,46 +76,22 @@ module _ (samples : List Sample) (claim : ClaimData) (lawful : IsLawful claim)
       no_wider_within samples claim (stretch_over p r) (stretch_over p q) lawful.drift_in_range are
       (piece_to p q is forward (omega (arith, ints))) (omega (arith, ints), more)
 
-  fault_over : (p q end : ℤ) → InSpan claim p → p ≤ℤ q → q ≤ℤ claim.last → end ≡ q
-      → cond (int_lt end p || int_lt claim.last end) (Some Cut)
-      (parts_fault claim (parts_after samples (stretch_over p end) claim.drift_ppb []
-      (best_entries samples claim (stretch_over p q))))
-      ≡ parts_fault claim (parts_after samples (stretch_over p q) claim.drift_ppb []
-      (best_entries samples claim (stretch_over p q)))
-  fault_over p q end is forward within same =
-      rw (same, not_less q p forward, not_less claim.last q within) refl
-
-  -- the piece passes the checker's tests
-  no_fault : (p q : ℤ) → InSpan claim p → IsLongest samples claim p q
-      → piece_fault samples claim p (piece_over samples claim p q) ≡ None
-  no_fault p q is long =
-      let forward = longest_forward p q is long in
-      let end = end_in_span p q is long in
-      fault_over p q (pos (unsigned_abs q)) is forward long.in_span (from_zero_kept q end.from_zero)
-      ∙ entries_fault samples claim (stretch_over p q)
-      ∙ inside_passes claim.bound (hull_over samples claim p q) long.shown
-
   -- ---- their certificate is accepted
 
-  covered : (k : ℕ) (z : ℤ) → z ≡ claim.last → (nat_lt 0 (k + 1) && int_eq z claim.last) ≡ true
-  covered k z e = grind (arith, nat_tests, ints)
+  longest_passed : (k : ℕ) (p q : ℤ) (rest : List PieceData) → InSpan claim p → IsLongest samples claim p q
+      → verdict_from samples claim k p (piece_over samples claim p q ∷ rest) ≡ verdict_from samples claim (k + 1) q rest
+  longest_passed k p q rest is long =
+      one_passed samples claim k p q rest (piece_to p q is (longest_forward p q is long) long.in_span) long.in_span
+      long.shown
 
   pub yes_from : (k : ℕ) (p : ℤ) (earlier : List ℤ) → InSpan claim p → AreLongest samples claim p earlier
       → IsLongest samples claim (end_after p earlier) claim.last
       → verdict_from samples claim k p (pieces_over samples claim p (earlier ++ claim.last ∷ [])) ≡ Yes
   yes_from k p [] is longest last =
-      let kept = from_zero_kept claim.last (end_in_span p claim.last is last).from_zero in
-      ap (λ (f : Option Why). verdict_after f k
-      (verdict_from samples claim (k + 1) (pos (unsigned_abs claim.last)) [])) (no_fault p claim.last is last)
-      ∙ cond-true (nat_lt 0 (k + 1) && int_eq (pos (unsigned_abs claim.last)) claim.last) Yes (No (k + 1) Uncovered)
-      (covered k (pos (unsigned_abs claim.last)) kept)
+      longest_passed k p claim.last [] is last ∙ covered samples claim (k + 1) claim.last (omega arith) refl
   yes_from k p (q ∷ earlier) is longest last =
-      let rest = pieces_over samples claim q (earlier ++ claim.last ∷ []) in
-      let end = end_in_span p q is longest.0 in
-      ap (λ (f : Option Why). verdict_after f k
-      (verdict_from samples claim (k + 1) (pos (unsigned_abs q)) rest)) (no_fault p q is longest.0)
-      ∙ ap (λ (z : ℤ). verdict_from samples claim (k + 1) z rest) (from_zero_kept q end.from_zero)
-      ∙ yes_from (k + 1) q earlier end longest.2 last
+      longest_passed k p q (pieces_over samples claim q (earlier ++ claim.last ∷ [])) is longest.0
+      ∙ yes_from (k + 1) q earlier (end_in_span p q is longest.0) longest.2 last
 
   -- ---- an accepted certificate has no fewer
 
@@ -141,8 +139,7 @@ module _ (samples : List Sample) (claim : ClaimData) (lawful : IsLawful claim)
 
   covers : (other : CertificateData) → verdict_of samples claim other ≡ Yes
       → (0 < length other.pieces) × (last_end claim.first other.pieces ≡ claim.last)
-  covers other accepted =
-      let ends = yes_end samples claim 0 claim.first other.pieces accepted in (omega (arith, ends.0), ends.1)
+  covers other accepted = grind (arith, ints, nat_tests, yes_end samples claim 0 claim.first other.pieces accepted)
 
   pub more_of_accepted : (earlier : List ℤ) → AreLongest samples claim claim.first earlier
       → (other : CertificateData) → verdict_of samples claim other ≡ Yes → length earlier < length other.pieces
@@ -154,10 +151,6 @@ module _ (samples : List Sample) (claim : ClaimData) (lawful : IsLawful claim)
   pub as_many_pieces : (p : ℤ) (ends : List ℤ) → length (pieces_over samples claim p ends) ≡ length ends
   as_many_pieces p [] = refl
   as_many_pieces p (q ∷ ends) = let rest = as_many_pieces q ends in omega (arith, rest)
-
-  pub one_more_end : (earlier : List ℤ) (q : ℤ) → length (earlier ++ q ∷ []) ≡ length earlier + 1
-  one_more_end [] q = omega arith
-  one_more_end (e ∷ earlier) q = let rest = one_more_end earlier q in omega (arith, rest)
 
   -- ---- a tick that doesn't show it
 
@@ -192,21 +185,6 @@ module _ (samples : List Sample) (claim : ClaimData) (lawful : IsLawful claim)
       (λ inside. true≢false (sym inside ∙ ap (is_inside claim.bound) (sym its_hull) ∙ fails))
       (shows_as_much samples claim outer.0 inner shown.entries lawful.drift_in_range are
       (piece_to p (next_tick samples claim p) is (next_later p is) (next_within p)) outer.2 shown.passes)
-
-  -- ---- where the longest pieces have come to
-
-  pub end_after_in_span : (p : ℤ) (earlier : List ℤ) → InSpan claim p → AreLongest samples claim p earlier
-      → InSpan claim (end_after p earlier)
-  end_after_in_span p [] is longest = is
-  end_after_in_span p (q ∷ earlier) is longest =
-      end_after_in_span q earlier (end_in_span p q is longest.0) longest.2
-
-  pub end_after_later : (p : ℤ) (earlier : List ℤ) → InSpan claim p → AreLongest samples claim p earlier
-      → p ≤ℤ end_after p earlier
-  end_after_later p [] is longest = omega (arith, ints)
-  end_after_later p (q ∷ earlier) is longest =
-      let forward = longest_forward p q is longest.0 in
-      omega (arith, ints, end_after_later q earlier (end_in_span p q is longest.0) longest.2)
 
   -- ---- halving
 

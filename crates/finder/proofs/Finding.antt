@@ -1,5 +1,5 @@
 -- What is found, piece by piece.
-use Rattle.finder.proofs.Common.{◌≡◌, ℕ, ◌+◌, ◌<◌, ℤ, true, false, not, List, [], ◌∷◌, ◌++◌, Some, None, sym, ap, ◌∙◌, unsigned_abs, arith, map-range_with_len_more, PieceData, ClaimData, Hull, Sample, piece_end_of, piece_hull, Stretch, is_inside, best_entries, best_hull, parts_named, certificate, nothing, piece_at, pieces_from, hull_at, passes, first_failing, found_without, count_of, stretch_at}
+use Rattle.finder.proofs.Common.{◌≡◌, ℕ, ◌+◌, ◌<◌, ℤ, true, false, not, List, [], ◌∷◌, ◌++◌, sym, ap, ◌∙◌, unsigned_abs, arith, map-range_with_len_more, PieceData, ClaimData, Hull, Sample, piece_end_of, piece_hull, Stretch, is_inside, best_entries, best_hull, parts_named, certificate, nothing, piece_at, pieces_from, hull_at, passes, first_failing, found_without, count_of, stretch_at, ints, nat_tests}
 use Rattle.finder.proofs.List.{find_none, find_first}
 use Rattle.std.proofs.Common.{below_more}
 
@@ -15,21 +15,26 @@ module _ (samples : List Sample) (claim : ClaimData) (step : ℕ) where
       → is_inside claim.bound hull ≡ false → ((j : ℕ) → j < k → passes samples claim step j ≡ true)
       → nothing k hull ≡ found_without samples claim step (first_failing samples claim step)
   found_failing k hull within is outside others =
-      let first : first_failing samples claim step ≡ Some k =
-      find_first (λ j. not (passes samples claim step j)) 0 (count_of claim step) k (omega arith)
-      (omega (arith, within))
-      (λ j from to. ap not (others j to)) (ap not (ap (is_inside claim.bound) (sym is) ∙ outside)) in
-      ap (nothing k) is ∙ ap (found_without samples claim step) (sym first)
+      grind (
+        arith,
+        ints,
+        nat_tests,
+        find_first (λ j. not (passes samples claim step j)) 0 (count_of claim step) k
+            (omega arith) (omega (arith, within)) (λ j from to. ap not (others j to))
+            (ap not (ap (is_inside claim.bound) (sym is) ∙ outside)),
+      )
 
   pub found_all : (pieces : List PieceData) → pieces ≡ pieces_from samples claim step 0 (count_of claim step)
       → ((k : ℕ) → k < count_of claim step → passes samples claim step k ≡ true)
       → certificate (record { pieces = pieces }) ≡ found_without samples claim step (first_failing samples claim step)
   found_all pieces is all =
-      let none : first_failing samples claim step ≡ None =
-      find_none (λ j. not (passes samples claim step j)) 0 (count_of claim step)
-      (λ k from to. ap not (all k (omega (arith, to)))) in
-      ap (λ (ps : List PieceData). certificate (record { pieces = ps })) is
-      ∙ ap (found_without samples claim step) (sym none)
+      grind (
+        arith,
+        ints,
+        nat_tests,
+        find_none (λ j. not (passes samples claim step j)) 0 (count_of claim step)
+            (λ k from to. ap not (all k (omega (arith, to)))),
+      )
 
   -- one more piece
   pub pieces_more : (k : ℕ) (old : List PieceData) (entries : List (ℕ × ℕ)) (end : ℤ)

@@ -8,10 +8,6 @@ use Rattle.finder.specs.declared.neediest.TickNeed.{TickNeed}
 use Rattle.finder.proofs.HullWithout.{needs_no_more, no_wider_without}
 use Rattle.finder.proofs.Nearest.{int_cases}
 
--- what a stretch needs is known
-pub some_enough : (need : Option ℕ) (all most : ℕ) → Some all ≡ need → all ≤ most → IsSomeAnd need (λ n. n ≤ most)
-some_enough need all most is few = subst (λ (o : Option ℕ). IsSomeAnd o (λ n. n ≤ most)) is few
-
 -- ---- the gaps
 
 module _ (claim : ClaimData) (gap : Gap) (tick : TickNeed) (a b : Gap) (halves : AreHalves gap tick a b) where
@@ -142,10 +138,10 @@ module _ (samples : List Sample) (claim : ClaimData) (cover : ℕ → Bool) wher
 
   -- a tick within a gap needs no more than all of it
   pub needs_within : IsLawful claim → AreSamplesOf claim samples → (gap : Gap) → IsGap claim gap
-      → (most : ℕ)
-      → NeedsAtMost most (hull_without samples claim cover (stretch_over (pos gap.first.begin) (pos gap.last.begin)))
-      → (p : ℤ) → IsWithin gap p → NeedsAtMost most (tick_without samples claim cover p)
-  needs_within lawful are gap is most need p within =
+      → (most all : ℕ)
+      → Some all ≡ need_of (hull_without samples claim cover (stretch_over (pos gap.first.begin) (pos gap.last.begin)))
+      → all ≤ most → (p : ℤ) → IsWithin gap p → NeedsAtMost most (tick_without samples claim cover p)
+  needs_within lawful are gap is most all need few p within =
       needs_no_more most _ _
       (no_wider_without samples claim cover (stretch_over (pos gap.first.begin) (pos gap.last.begin))
       (stretch_over p (next_tick samples claim p)) lawful.drift_in_range are
@@ -155,4 +151,4 @@ module _ (samples : List Sample) (claim : ClaimData) (cover : ℕ → Bool) wher
         in_range = omega (arith, ints, clamps);
       })
       (omega (arith, ints), omega (arith, ints, clamps)))
-      need
+      (subst (λ (o : Option ℕ). IsSomeAnd o (λ n. n ≤ most)) need few)

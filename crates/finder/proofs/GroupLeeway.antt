@@ -1,7 +1,8 @@
 -- The leeways of groups, from one exchange to the next.
-use Rattle.std.proofs.Common.{below_more, get_or-set_other, get_or-set_same}
+use Rattle.std.proofs.Common.{below_more}
 use Rattle.std.proofs.lemmas.List.{get_or-replicate}
 use Rattle.finder.proofs.Common.{◌≡◌, ℕ, ◌+◌, ◌-◌, ◌*◌, ◌/◌, ◌<◌, ◌≤◌, ℤ, pos, negsuc, neg_ℤ, ◌+ℤ◌, ◌-ℤ◌, ◌*ℤ◌, ◌≤ℤ◌, ◌<ℤ◌, unsigned_abs, Bool, true, false, ◌||◌, inl, inr, ⊎_elim, List, [], ◌∷◌, Some, replicate, length, set, refl, sym, ap, ap₂, ◌∙◌, subst, arith, to_z, of_z, ◌^◌, w128, ◌↔◌, ◌==◌, slice_get, int_min, list_any, All-cons, All-nil, ints, nat_tests, le-div_iff_mul-le, ClaimData, group_of, low_mark, AreCompatible, Mark, Exchange, billion, Side, Below, Lets, DoLet, AreLeeways, IsNarrowed, IsTightest, IsUnlimited, leeway_in, mark_at, no_limit, turned, by_test, not_lt_zero, or_parts, w128_keeps, or-false}
+use Rattle.finder.proofs.List.{holds_with_set}
 
 -- ---- the greatest error under one mark
 
@@ -21,51 +22,38 @@ module _ (parts rate d : ℕ) (some : 0 < parts) where
       omega (arith, ints, small)
   allowed_from (negsuc x) h = omega (arith, ints)
 
-module _ (ppb : ℕ) (slow : ppb ≤ 500000000) (reading : ℤ) (mark : Mark) (error : ℤ) where
-  module _ (d : ℕ) (forth : reading ≤ℤ mark.place) (is : mark.place -ℤ reading ≡ pos d) where
-    pub under_later : (error ≤ℤ (mark.error +ℤ pos (ppb * d / (billion - ppb))))
-        ↔ AreCompatible ppb (mark_at reading error) mark
-    under_later = (
-      λ le. record {
-        falls = λ _.
-            rw is (allowed_to (billion - ppb) ppb d (omega arith) (error -ℤ mark.error) (omega (arith, ints, le)));
-        rises = λ back. absurd (omega (arith, ints, forth, back));
-      },
-      λ agree.
-          let h = allowed_from (billion - ppb) ppb d (omega arith) (error -ℤ mark.error)
-          (rw is at (agree.falls forth)) in
-          omega (arith, ints, h),
-    )
-
-  module _ (d : ℕ) (back : mark.place <ℤ reading) (is : reading -ℤ mark.place ≡ pos d) where
-    pub under_earlier : (error ≤ℤ (mark.error +ℤ pos (ppb * d / (billion + ppb))))
-        ↔ AreCompatible ppb (mark_at reading error) mark
-    under_earlier = (
-      λ le. record {
-        falls = λ forth. absurd (omega (arith, ints, forth, back));
-        rises = λ _.
-            rw is (allowed_to (billion + ppb) ppb d (omega arith) (error -ℤ mark.error) (omega (arith, ints, le)));
-      },
-      λ agree.
-          let h = allowed_from (billion + ppb) ppb d (omega arith) (error -ℤ mark.error)
-          (rw is at (agree.rises back)) in
-          omega (arith, ints, h),
-    )
-
 module _ (ppb : ℕ) (slow : ppb ≤ 500000000) (reading : ℤ) (mark : Mark) (error most : ℤ) (change parts d : ℕ)
     (sum : most ≡ mark.error +ℤ pos change) (exact : change ≡ ppb * d / parts)
     (far : d ≡ unsigned_abs (mark.place -ℤ reading)) where
+  at_most : 0 < parts → (error ≤ℤ most) ↔ ((pos parts *ℤ (error -ℤ mark.error)) ≤ℤ (pos ppb *ℤ pos d))
+  at_most some = rw (sum, exact) (
+    λ le. allowed_to parts ppb d some (error -ℤ mark.error) (omega (arith, ints, le)),
+    λ h. let le = allowed_from parts ppb d some (error -ℤ mark.error) h in omega (arith, ints, le),
+  )
+
   pub most_later : parts ≡ billion - ppb → reading ≤ℤ mark.place
       → (error ≤ℤ most) ↔ AreCompatible ppb (mark_at reading error) mark
   most_later is forth =
-      rw (sum, exact, is)
-      (under_later ppb slow reading mark error d forth (omega (arith, ints, far, forth)))
+      let under = rw is at (at_most (omega arith)) in
+      let away : mark.place -ℤ reading ≡ pos d = omega (arith, ints, far, forth) in (
+        λ le. record {
+          falls = λ _. rw away (under.0 le);
+          rises = λ back. absurd (omega (arith, ints, forth, back));
+        },
+        λ agree. under.1 (rw away at (agree.falls forth)),
+      )
 
   pub most_earlier : parts ≡ billion + ppb → mark.place <ℤ reading
       → (error ≤ℤ most) ↔ AreCompatible ppb (mark_at reading error) mark
   most_earlier is back =
-      rw (sum, exact, is)
-      (under_earlier ppb slow reading mark error d back (omega (arith, ints, far, back)))
+      let under = rw is at (at_most (omega arith)) in
+      let away : reading -ℤ mark.place ≡ pos d = omega (arith, ints, far, back) in (
+        λ le. record {
+          falls = λ forth. absurd (omega (arith, ints, forth, back));
+          rises = λ _. rw away (under.0 le);
+        },
+        λ agree. under.1 (rw away at (agree.rises back)),
+      )
 
 -- ---- the clock that shows the negatives
 
@@ -124,17 +112,9 @@ replicated_kept group below = rw (get_or-replicate 32 group no_limit no_limit be
 
 pub still_kept : (leeways : List ℤ) (at : ℕ) (now : ℤ) → at < length leeways → to_z w128 (of_z w128 now) ≡ now
     → AreKept leeways → AreKept (set leeways at now)
-still_kept leeways at now within kept' before group below = by_test (group == at)
-    (λ test.
-    let same : group ≡ at = grind (arith, nat_tests) in
-    let is : leeway_in (set leeways at now) group ≡ now =
-    subst (λ (g : ℕ). leeway_in (set leeways at now) g ≡ now) (sym same)
-    (get_or-set_same leeways at now no_limit within) in
-    ap (λ (z : ℤ). to_z w128 (of_z w128 z)) is ∙ kept' ∙ sym is)
-    (λ test.
-    let other : group ≡ at → ⊥ = grind (arith, nat_tests) in
-    let is = get_or-set_other leeways at group now no_limit other in
-    ap (λ (z : ℤ). to_z w128 (of_z w128 z)) is ∙ before group below ∙ sym is)
+still_kept leeways at now within kept' before =
+    holds_with_set (λ group z. to_z w128 (of_z w128 z) ≡ z) leeways at 32 now no_limit within kept'
+    (λ group below other. before group below)
 
 -- ---- one exchange more
 
@@ -175,12 +155,11 @@ module _ (claim : ClaimData) (xs : List Exchange) (side : Side) (reading : ℤ) 
 
     pub one_more_leeway : AreLeeways claim xs (n + 1) side reading (set leeways (group_of claim x) now)
     one_more_leeway = record {
-      exact = λ group below ticks few. by_test (group == group_of claim x)
-          (λ test.
-          let same : group ≡ group_of claim x = grind (arith, nat_tests) in
-          let is = get_or-set_same leeways (group_of claim x) now no_limit (omega (arith, all, in_range)) in
-          let earlier = before.exact (group_of claim x) in_range ticks few in
-          rw (same, is) (
+      exact = holds_with_set (λ group leeway. (ticks : ℤ) → ticks <ℤ no_limit
+          → (ticks ≤ℤ leeway) ↔ DoLet claim xs (n + 1) side reading group ticks)
+          leeways (group_of claim x) 32 now no_limit (omega (arith, all, in_range))
+          (λ ticks few.
+          let earlier = before.exact (group_of claim x) in_range ticks few in (
             λ le.
                 let both = min_le (leeway_in leeways (group_of claim x)) most now least ticks le in
                 one_more (group_of claim x) ticks (earlier.0 both.0) (λ _. (leaves ticks).0 both.1),
@@ -188,10 +167,8 @@ module _ (claim : ClaimData) (xs : List Exchange) (side : Side) (reading : ℤ) 
                 (earlier.1 (one_fewer (group_of claim x) ticks lets))
                 ((leaves ticks).1 (lets n x (omega arith) at refl)),
           ))
-          (λ test.
-          let other : group ≡ group_of claim x → ⊥ = grind (arith, nat_tests) in
-          let earlier = before.exact group below ticks few in
-          rw (get_or-set_other leeways (group_of claim x) group now no_limit other) (
+          (λ group below other ticks few.
+          let earlier = before.exact group below ticks few in (
             λ le. one_more group ticks (earlier.0 le) (λ of_group. absurd (other (sym of_group))),
             λ lets. earlier.1 (one_fewer group ticks lets),
           ));

@@ -1,9 +1,8 @@
 -- Where nothing beyond the bound is let be, no course is beyond it.
-use Rattle.std.proofs.Common.{below_more, ◌==◌}
-use Rattle.std.proofs.lemmas.List.{get_or_default}
+use Rattle.std.proofs.Common.{◌==◌}
 use Rattle.std.proofs.lemmas.List.Folds.{Any-from_list_any}
 use Rattle.std.specs.Prelude.{nat_lt}
-use Rattle.finder.proofs.Common.{◌≡◌, ℕ, suc, ◌+◌, ◌-◌, ◌<◌, ◌≤◌, ℤ, pos, neg_ℤ, ◌+ℤ◌, ◌-ℤ◌, ◌*ℤ◌, ◌≤ℤ◌, ◌<ℤ◌, Bool, true, false, not, ◌&&◌, ◌||◌, inl, inr, ◌⊎◌, ⊎_elim, Option, None, Some, List, [], ◌∷◌, length, get_or, refl, sym, ap, ◌∙◌, subst, arith, ◌↔◌, All, Any, IfNone, count_by, slice_index, AllPairs, int_min, list_any, clamps, ints, and_parts, lt-ltb, or_cases, nat_tests, All-cons, All-head, All-nil, All-tail, slice_get_within, RefutationData, ClaimData, IsLawful, max_bound, Exchange, low_mark, high_mark, Course, holds_false, are_different, IsCover, size_of, AreApart, HoldsOne, HoldsOneOr64, holds, numbers_below, AreHeld, AreLeeways, DoLet, HasFalse, HoldsFor, IsBounded, IsCandidate, IsHeld, IsHeldAtAll, IsMade, IsNarrowed, IsOff, IsRounded, greatest_of, leeway_in, mark_at, no_limit, turned, IsErrorOf64Bits, Side, Above, Below, by_test, not-true, ≤ℤ-from_equal, or_from, and_from, or-false}
+use Rattle.finder.proofs.Common.{◌≡◌, ℕ, suc, ◌+◌, ◌-◌, ◌<◌, ◌≤◌, ℤ, pos, neg_ℤ, ◌+ℤ◌, ◌-ℤ◌, ◌*ℤ◌, ◌≤ℤ◌, ◌<ℤ◌, Bool, true, false, not, ◌&&◌, ◌||◌, inl, inr, ◌⊎◌, ⊎_elim, Option, None, Some, List, [], ◌∷◌, length, get_or, refl, sym, ap, ◌∙◌, subst, arith, ◌↔◌, All, Any, IfNone, count_by, slice_index, AllPairs, int_min, list_any, clamps, ints, and_parts, lt-ltb, or_cases, nat_tests, All-cons, All-head, All-nil, All-tail, slice_get_within, RefutationData, ClaimData, IsLawful, max_bound, Exchange, low_mark, high_mark, Course, holds_false, are_different, IsCover, size_of, AreApart, HoldsOne, HoldsOneOr64, holds, numbers_below, AreHeld, AreLeeways, DoLet, HasFalse, HoldsFor, IsBounded, IsCandidate, IsHeldAtAll, IsMade, IsNarrowed, IsOff, IsRounded, greatest_of, leeway_in, mark_at, no_limit, turned, IsErrorOf64Bits, Side, Above, Below, by_test, not-true, ≤ℤ-from_equal, or_from, and_from, or-false}
 use Rattle.finder.proofs.Group.{any_at}
 use Rattle.pairing.specs.Exchange.{IsLawful as IsLawfulExchange}
 use Rattle.checker.specs.Course.{Fits}
@@ -19,7 +18,6 @@ use Rattle.feasibility.proofs.CoverWithin.{passing_below}
 use Rattle.feasibility.proofs.Covers.{listed_in_groups, server_is_true}
 use Rattle.feasibility.proofs.KeptMarks.{kept_are_compatible}
 use Rattle.feasibility.proofs.Scaling.{times-sub}
-use Rattle.finder.specs.declared.drift_refutation.Place.{Place}
 use Rattle.finder.proofs.Claim.{few_groups}
 use Rattle.finder.proofs.GroupLeeway.{added_last, turned_test}
 
@@ -81,35 +79,28 @@ module _ (claim : ClaimData) (lawful : IsLawful claim) (xs : List Exchange)
 
   pub few_false : passing false_in ≤ claim.false_max
   few_false =
-      let below = passing_below false_in (length claim.groups) (few_groups claim lawful) in
-      let within = passing_within false_in (λ k. false_in k && nat_lt k (length claim.groups))
-      (λ k is. and_from (false_in k) (nat_lt k (length claim.groups)) is
-      (lt-ltb k (length claim.groups) (in_range k is))) in
-      omega arith
+      omega (
+        arith,
+        passing_below false_in (length claim.groups) (few_groups claim lawful),
+        passing_within false_in
+            (λ k. false_in k && nat_lt k (length claim.groups))
+            (λ k is. and_from (false_in k) _ is (lt-ltb k (length claim.groups) (in_range k is))),
+      )
 
 -- ---- 64 bits
 
-bits_of : (side : Side) (most : ℤ) → pos 0 ≤ℤ most → IsErrorOf64Bits (turned side (int_min most (greatest_of side)))
-bits_of Above most low = record { not_below = omega (arith, ints, clamps); not_above = omega (arith, ints, clamps) }
-bits_of Below most low = record { not_below = omega (arith, ints, clamps); not_above = omega (arith, ints, clamps) }
+-- an error of 64 bits isn't beyond the greatest, which a bound isn't either
+bits_of : (side : Side) (ticks : ℤ) → pos 0 ≤ℤ ticks → ticks ≤ℤ greatest_of side → IsErrorOf64Bits (turned side ticks)
+bits_of Above ticks low high = record { not_below = omega (arith, ints); not_above = omega (arith, ints) }
+bits_of Below ticks low high = record { not_below = omega (arith, ints); not_above = omega (arith, ints) }
 
-bits_few : (side : Side) (ticks : ℤ) → IsErrorOf64Bits (turned side ticks) → ticks <ℤ no_limit
-bits_few Above ticks bits = omega (arith, ints)
-bits_few Below ticks bits = omega (arith, ints)
+at_greatest : (side : Side) (ticks : ℤ) → IsErrorOf64Bits (turned side ticks) → ticks ≤ℤ greatest_of side
+at_greatest Above ticks bits = omega (arith, ints)
+at_greatest Below ticks bits = omega (arith, ints)
 
-few_of : (side : Side) (most : ℤ) → int_min most (greatest_of side) <ℤ no_limit
-few_of Above most = omega (arith, ints, clamps)
-few_of Below most = omega (arith, ints, clamps)
-
-most_of : (side : Side) (most ticks : ℤ) → IsErrorOf64Bits (turned side ticks) → ticks ≤ℤ most
-    → ticks ≤ℤ int_min most (greatest_of side)
-most_of Above most ticks bits le = omega (arith, ints, clamps, le)
-most_of Below most ticks bits le = omega (arith, ints, clamps, le)
-
-beyond_of : (side : Side) (bound most : ℤ) → bound <ℤ most → bound ≤ℤ pos max_bound
-    → bound <ℤ int_min most (greatest_of side)
-beyond_of Above bound most beyond few = omega (arith, ints, clamps, beyond, few)
-beyond_of Below bound most beyond few = omega (arith, ints, clamps, beyond, few)
+greatest_between : (side : Side) → (pos max_bound <ℤ greatest_of side) × (greatest_of side <ℤ no_limit)
+greatest_between Above = (omega (arith, ints), omega (arith, ints))
+greatest_between Below = (omega (arith, ints), omega (arith, ints))
 
 -- ---- counts
 
@@ -207,23 +198,27 @@ module _ (claim : ClaimData) (lawful : IsLawful claim) (xs : List Exchange)
 
     candidate : IsCandidate claim xs side reading found made
     unfolding ticks
-    candidate = record {
+    candidate = let between = greatest_between side in record {
       there = is.there;
       liars = is.liars;
       ticks = ticks;
       error = is.error;
-      in_64_bits = subst IsErrorOf64Bits (sym is.error) (bits_of side is.most (omega (arith, ints)));
-      beyond_bound = beyond_of side claim.bound is.most is.beyond lawful.bound_in_range;
+      in_64_bits = subst IsErrorOf64Bits (sym is.error)
+          (bits_of side ticks (omega (arith, ints, clamps, is.beyond, between.0)) (omega (arith, ints, clamps)));
+      beyond_bound = omega (arith, ints, clamps, is.beyond, lawful.bound_in_range, between.0);
       let_be = λ group below outside.
-          (are.exact group below ticks (few_of side is.most)).0
+          (are.exact group below ticks (omega (arith, ints, clamps, between.1))).0
           (omega (arith, ints, clamps, is.limit.least group below outside));
-      greatest = λ more in_bits lets. most_of side is.most more in_bits (⊎_elim
-          (λ unlimited. omega (arith, ints, bits_few side more in_bits))
+      greatest = λ more in_bits lets.
+          let to_greatest = at_greatest side more in_bits in
+          let to_most : more ≤ℤ is.most = ⊎_elim
+          (λ unlimited. omega (arith, ints, to_greatest, between.1))
           (λ tight.
-          let few = bits_few side more in_bits in
-          let le = (are.exact tight.0 tight.1.below more few).1 (lets tight.0 tight.1.below tight.1.outside) in
+          let le = (are.exact tight.0 tight.1.below more (omega (arith, ints, to_greatest, between.1))).1
+          (lets tight.0 tight.1.below tight.1.outside) in
           omega (arith, ints, le))
-          is.limit.met);
+          is.limit.met in
+          omega (arith, ints, clamps, to_greatest, to_most);
     }
 
     pub rounded : ¬ (IsRefutedWithDrift claim xs made) → IsRounded claim xs cover reading side
@@ -247,28 +242,6 @@ both_sides None P above below = go
     go Above = above
     go Below = below
 both_sides (Some a) P above below = tt
-
--- what is so of the first n elements, one after another
-module _ {X : Type 0} (IsTried : X → Type 0) (xs : List X) where
-  abbrev pub AreTriedTo : ℕ → Type 0
-  AreTriedTo n = (k : ℕ) (d : X) → k < n → IsTried (get_or xs k d)
-
-  pub one_more_tried : (n : ℕ) (other : X) → n < length xs → IsTried (get_or xs n other) → AreTriedTo n
-      → AreTriedTo (n + 1)
-  one_more_tried n other within tried before k d =
-      below_more (λ k. IsTried (get_or xs k d)) n (λ k. before k d)
-      (subst IsTried (get_or_default xs n other d within) tried) k
-
-  pub all_tried : (n : ℕ) → length xs ≤ n → AreTriedTo n → All IsTried xs
-  all_tried n past tried k d below = tried k d (omega (arith, past, below))
-
--- a place is tried to both sides
-abbrev pub IsHeldPlace : ClaimData → List Exchange → Place → Type 0
-IsHeldPlace claim xs place = (side : Side) → IsHeld claim xs (holds place.cover) place.reading side
-
--- and so is a reading with a cover
-abbrev pub IsHeldReading : ClaimData → List Exchange → Groups → ℕ → Type 0
-IsHeldReading claim xs cover reading = (side : Side) → IsHeld claim xs (holds cover) reading side
 
 -- ---- the covers that are tried
 

@@ -49,13 +49,10 @@ module _ (p : ℕ → Bool) where
 
   named : (n server : ℕ) → is_liar (filter p (numbers_below n)) server
       ≡ (p server && list_any (λ k. k == server) (numbers_below n))
-  named n server =
-      any-filter_same (λ k. k == server) p (p server)
-      (λ k e. let same : k ≡ server = grind (arith, nat_tests) in ap p same) (numbers_below n)
+  named n server = grind (arith, ints, nat_tests, any-filter_same)
 
   pub named_pass : (n server : ℕ) → is_liar (filter p (numbers_below n)) server ≡ true → p server ≡ true
-  named_pass n server e = by_test (p server) (λ is. is)
-      (λ is. absurd (true≢false (sym e ∙ named n server ∙ rw is refl)))
+  named_pass n server e = grind (arith, ints, nat_tests, by_test, named)
 
   pub pass_named : (n server : ℕ) → server < n → p server ≡ true
       → is_liar (filter p (numbers_below n)) server ≡ true
@@ -66,9 +63,7 @@ module _ (p : ℕ → Bool) where
 
   -- below a number, just those that pass are named
   named_below : (n server : ℕ) → server < n → is_liar (filter p (numbers_below n)) server ≡ p server
-  named_below n server below = by_test (p server)
-      (λ e. pass_named n server below e ∙ sym e)
-      (λ e. named n server ∙ rw e refl)
+  named_below n server below = grind (arith, ints, nat_tests, by_test, pass_named, named)
 
   -- so as many groups hold a server that is named as one that passes
   pub as_many_named : (groups : List ℕ)
@@ -83,11 +78,7 @@ module _ (allowance error : ℤ) where
   pub refused_at : (xs : List Exchange) (k : ℕ) (d : Exchange) → k < length xs
       → admits allowance error (get_or xs k d) ≡ false
       → refuses allowance xs error (get_or xs k d).server ≡ true
-  refused_at xs k d within fails =
-      let x = get_or xs k d in
-      let same : (x.server == x.server) ≡ true = grind (arith, nat_tests) in
-      list_any_at (λ y. (y.server == x.server) && not (admits allowance error y)) xs k d within
-      (and_from (x.server == x.server) (not (admits allowance error x)) same (rw fails refl))
+  refused_at xs k d within fails = grind (arith, ints, nat_tests, list_any_at, and_from)
 
 -- ---- a refutation by just the servers that refuse its error
 

@@ -1,5 +1,6 @@
 -- Lists that loops make.
-use Rattle.finder.proofs.Common.{◌≡◌, ℕ, zero, suc, ◌+◌, ◌<◌, ◌≤◌, Bool, true, false, List, [], ◌∷◌, ◌++◌, length, take, get_or, Option, Some, None, ⊎_elim, refl, sym, ap, ◌∙◌, subst, arith, All, filter_map, cons_option, find, range_with_len, cases_lt, append-nil, take_more, All-nil, filter_map-append, by_test, range_with_len_more, All-cons_option}
+use Rattle.std.proofs.Common.{get_or-set_other, get_or-set_same}
+use Rattle.finder.proofs.Common.{◌≡◌, ℕ, zero, suc, ◌+◌, ◌<◌, ◌≤◌, Bool, true, false, List, [], ◌∷◌, ◌++◌, length, take, get_or, Option, Some, None, ⊎_elim, refl, sym, ap, ◌∙◌, subst, arith, All, Any, set, nat_tests, ◌==◌, filter_map, cons_option, find, range_with_len, cases_lt, append-nil, take_more, All-nil, filter_map-append, by_test, range_with_len_more, All-cons_option, slice_get, slice_get_within, get_or_from_slice_get}
 
 -- one more element of which h gives something
 pub filter_map_more : {X Y : Type 0} (h : X → Option Y) (xs : List X) (i : ℕ) (d : X) (y : Y) (old new : List Y)
@@ -7,6 +8,24 @@ pub filter_map_more : {X Y : Type 0} (h : X → Option Y) (xs : List X) (i : ℕ
     → new ≡ filter_map h (take (i + 1) xs)
 filter_map_more h xs i d y old new so_far within gives pushed =
     grind (arith, take_more xs i d within, filter_map-append h (take i xs) (get_or xs i d ∷ []))
+
+-- the elements up to one and with it
+pub take_one_more : {X : Type 0} (xs : List X) (i : ℕ) (x : X) → slice_get xs i ≡ Some x
+    → take (i + 1) xs ≡ take i xs ++ x ∷ []
+take_one_more xs i x at = rw (take_more xs i x (slice_get_within xs i x at), get_or_from_slice_get xs i x x at) refl
+
+-- with one element set, what holds of it and of each other holds of all
+pub holds_with_set : {X : Type 0} (P : ℕ → X → Type 0) (xs : List X) (at n : ℕ) (now d : X) → at < length xs
+    → P at now → ((k : ℕ) → k < n → (k ≡ at → ⊥) → P k (get_or xs k d)) → (k : ℕ) → k < n
+    → P k (get_or (set xs at now) k d)
+holds_with_set P xs at n now d within here others k below = by_test (k == at)
+    (λ test.
+    let same : k ≡ at = grind (arith, nat_tests) in
+    subst (λ (j : ℕ). P j (get_or (set xs at now) j d)) (sym same)
+    (subst (P at) (sym (get_or-set_same xs at now d within)) here))
+    (λ test.
+    let other : k ≡ at → ⊥ = grind (arith, nat_tests) in
+    subst (P k) (sym (get_or-set_other xs at k now d other)) (others k below other))
 
 -- ---- numbers from one on
 
@@ -18,6 +37,22 @@ module _ {Y : Type 0} (h : ℕ → Option Y) (n : ℕ) where
   pub without : (old : List Y) → old ≡ filter_map h (range_with_len 0 n) → h n ≡ None
       → old ≡ filter_map h (range_with_len 0 (n + 1))
   without old so_far gives = grind (arith, one_more, append-nil)
+
+-- something that h gives of numbers from s on has what it gives of one of them
+pub any_given : {Y : Type 0} (h : ℕ → Option Y) (P : Y → Type 0) (k : ℕ) (y : Y) → h k ≡ Some y → P y → (s n : ℕ)
+    → s ≤ k → k < s + n → Any P (filter_map h (range_with_len s n))
+any_given h P k y is holds s zero from to = absurd (omega arith)
+any_given {Y} h P k y is holds s (suc n) from to = ⊎_elim
+    (λ less. later (h s) _ (any_given h P k y is holds (s + 1) n (omega arith) (omega arith)))
+    (λ le.
+    let same : k ≡ s = omega arith in
+    subst (λ (o : Option Y). Any P (cons_option o (filter_map h (range_with_len (s + 1) n)))) (sym is ∙ ap h same)
+    (0, y, omega arith, refl, holds))
+    (cases_lt s k)
+  where
+    later : (o : Option Y) (ys : List Y) → Any P ys → Any P (cons_option o ys)
+    later None ys any = any
+    later (Some z) ys any = (suc any.0, any.1, omega arith, any.3, any.4)
 
 -- ---- the first that passes a test
 

@@ -1,13 +1,10 @@
 -- Where the longest piece ends, by halving; and the longest pieces, one after another.
-use Rattle.finder.proofs.Common.{◌≡◌, ℕ, zero, suc, ◌+◌, ◌-◌, ◌<◌, ◌≤◌, ◌^◌, ℤ, pos, ◌+ℤ◌, ◌≤ℤ◌, ◌<ℤ◌, unsigned_abs, true, false, true≢false, List, [], ◌∷◌, ◌++◌, length, take, vec_len, length-append, Vec, Global, get_or, refl, sym, ap, ◌∙◌, subst, arith, to_z, of_z, Fits, w64, int_min, ints, clamps, w128, T, take_more, non_neg, yes_non_neg, PieceData, max_pieces, ClaimData, IsLawful, Sample, IsPiece, ArePieces, IsPieceAt, best_entries, AreLongest, IsLongest, end_after, next_tick, piece_over, pieces_over, shows, stretch_over, AreSamplesOf, by_test, w128_keeps, first_kept, last_kept}
-use Rattle.finder.proofs.FewestPieces.{InSpan, end_in_span, longest_forward, piece_to, shown_before}
+use Rattle.finder.proofs.Common.{◌≡◌, ℕ, zero, suc, ◌+◌, ◌-◌, ◌<◌, ◌≤◌, ◌^◌, ℤ, pos, ◌+ℤ◌, ◌≤ℤ◌, ◌<ℤ◌, unsigned_abs, true, false, true≢false, List, [], ◌∷◌, ◌++◌, length, take, vec_len, length-append, Vec, Global, get_or, refl, sym, ap, ◌∙◌, subst, arith, to_z, of_z, Fits, w64, int_min, ints, clamps, w128, T, take_more, non_neg, yes_non_neg, PieceData, max_pieces, ClaimData, IsLawful, Sample, IsPiece, ArePieces, IsPieceAt, best_entries, AreEnds, AreLongest, IsLongest, end_after, next_tick, piece_over, pieces_over, shows, stretch_over, AreSamplesOf, by_test, w128_keeps, first_kept, last_kept}
+use Rattle.finder.proofs.FewestPieces.{InSpan, end_in_span, first_in_span, longest_forward, piece_to, shown_before}
 use Rattle.finder.proofs.SpanPieces.{one_piece}
 use Rattle.finder.proofs.Verdict.{from_zero_kept}
 
 -- ---- ticks as 128 bits hold them
-
-pub tick_kept : (n : ℕ) (z : ℤ) → n < 2 ^ 64 → z ≡ pos n → to_z w128 (of_z w128 z) ≡ pos n
-tick_kept n z below is = ap (λ (x : ℤ). to_z w128 (of_z w128 x)) is ∙ w128_keeps (pos n) (omega (arith, ints))
 
 pub last_is : (claim : ClaimData) → IsLawful claim
     → pos (unsigned_abs (to_z w128 (of_z w128 claim.last))) ≡ claim.last
@@ -117,14 +114,11 @@ module _ (samples : List Sample) (claim : ClaimData) where
 pub end_kept : (p q : ℤ) → IsPiece p q → to_z w128 (of_z w128 q) ≡ q
 end_kept p q is = w128_keeps q (omega (arith, ints))
 
-pub fits_64 : (p q : ℤ) → IsPiece p q → T (non_neg q) × Fits w64 (unsigned_abs q)
-fits_64 p q is =
-    let from : pos 0 ≤ℤ q = omega (arith, ints) in
-    (yes_non_neg from, record { fits = omega (arith, ints) })
-
 pub end_fits : (p q : ℤ) → IsPiece p q
     → T (non_neg (to_z w128 (of_z w128 q))) × Fits w64 (unsigned_abs (to_z w128 (of_z w128 q)))
-end_fits p q is = rw (end_kept p q is) (fits_64 p q is)
+end_fits p q is =
+    let from : pos 0 ≤ℤ q = omega (arith, ints) in
+    rw (end_kept p q is) (yes_non_neg from, record { fits = omega (arith, ints) })
 
 pub first_is : (claim : ClaimData) → IsLawful claim
     → pos (unsigned_abs (to_z w128 (of_z w128 claim.first))) ≡ claim.first
@@ -145,7 +139,7 @@ module _ (samples : List Sample) (claim : ClaimData) (lawful : IsLawful claim)
       piece_to samples claim lawful are p q is (longest_forward samples claim lawful are p q is long)
       long.in_span
 
-  pub are_pieces : (p : ℤ) (earlier : List ℤ) → InSpan claim p → AreLongest samples claim p earlier
+  are_pieces : (p : ℤ) (earlier : List ℤ) → InSpan claim p → AreLongest samples claim p earlier
       → IsLongest samples claim (end_after p earlier) claim.last → ArePieces p (earlier ++ claim.last ∷ [])
   are_pieces p [] is longest last zero a b at =
       one_piece p claim.last a b (piece_of_longest p claim.last is last) at.begins at.ends_at
@@ -156,6 +150,10 @@ module _ (samples : List Sample) (claim : ClaimData) (lawful : IsLawful claim)
       are_pieces q earlier (end_in_span samples claim lawful are p q is longest.0) longest.2 last k a b
       (record { begins = at.begins; ends_at = at.ends_at })
 
+  pub pieces_to : (ends : List ℤ) → AreEnds samples claim ends → ArePieces claim.first ends
+  pieces_to ends is =
+      rw is.are (are_pieces claim.first is.earlier (first_in_span samples claim lawful are) is.longest is.last)
+
 -- ---- how many pieces there are, by the length of their list
 
 -- the ends so far
@@ -163,25 +161,16 @@ abbrev Ends : Type 0
 Ends = Vec ℤ Global
 
 module _ (ends : Ends) (count : ℕ) (is : count ≡ vec_len ends) where
-  length_is : vec_len ends ≡ length ends.items
-  length_is = ends.ok.0
-
-  pub room_left : count < max_pieces → length ends.items < max_pieces
-  room_left below = let same = length_is in omega arith
-
   pub one_longer : (items : List ℤ) (z : ℤ) → count < max_pieces → items ≡ ends.items ++ z ∷ []
       → length items ≤ max_pieces
   one_longer items z below pushed =
-      let same = length_is in
-      let more : length items ≡ length (ends.items ++ z ∷ []) = ap length pushed in
-      omega (arith, length-append ends.items (z ∷ []))
+      omega (arith, ends.ok.0, ap length pushed, length-append ends.items (z ∷ []))
 
   pub all_taken : max_pieces ≤ count → length ends.items ≤ max_pieces → length ends.items ≡ max_pieces
-  all_taken past few = let same = length_is in omega arith
+  all_taken past few = omega (arith, ends.ok.0)
 
 -- a tick of the span that isn't the last comes before it
 pub before_last : (q last : ℕ) (end : ℤ) → pos q ≤ℤ end → pos last ≡ end → (q ≡ last → ⊥) → pos q <ℤ end
 before_last q last end within is other = omega (arith, ints)
 
-pub in_64_bits : (q : ℕ) (end : ℤ) → pos q ≤ℤ end → end <ℤ pos (2 ^ 64) → q < 2 ^ 64
-in_64_bits q end within range = omega (arith, ints)
+pub ruleset halving = (halved_first, halved_up, halved_end, next_not_before, last_is)

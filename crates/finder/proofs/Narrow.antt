@@ -1,56 +1,22 @@
 -- What the best entries of a piece show, if others show something of a stretch that has the whole of it.
-use Rattle.finder.proofs.Common.{◌≡◌, ℕ, zero, suc, ◌+◌, ◌<◌, ◌≤◌, true, ◌⊎◌, inl, inr, ⊎_elim, get_or, List, [], ◌∷◌, length, Option, Some, None, Result, Ok, Err, refl, sym, subst, arith, Any, slice_get, cons_option, range_with_len, cases_lt, ints, ClaimData, max_drift_ppb, Empty, IsLawfulSample, Sample, is_inside, part_of, IsPiece, Part, Stretch, IsNarrower, AreNarrower, IsOfSamples, parts_after, parts_fault, Why, best_over, best_entries, best_hull, part_named, parts_named, HoldsWhole, AreSamplesOf, IsNoWider, All-slice_get}
-use Rattle.std.specs.Prelude.{filter_map}
+use Rattle.finder.proofs.Common.{◌≡◌, ◌∙◌, ℕ, ◌+◌, ◌<◌, ◌≤◌, true, ◌⊎◌, inl, inr, ⊎_elim, get_or, List, [], ◌∷◌, length, Option, Some, None, Result, Ok, Err, refl, sym, subst, arith, Any, slice_get, ints, ClaimData, max_drift_ppb, Empty, IsLawfulSample, Sample, is_inside, part_of, IsPiece, Part, Stretch, IsNarrower, AreNarrower, IsOfSamples, parts_after, parts_fault, Why, best_over, best_entries, best_hull, part_named, parts_named, HoldsWhole, AreSamplesOf, IsNoWider, All-slice_get}
 use Rattle.intersection.proofs.EndPoints.{IsHull-hull_of}
 use Rattle.span_cover.proofs.PieceDistance.{moved_high-narrower, moved_low-narrower}
 use Rattle.checker.proofs.Narrow.{empty_or_inside, of_samples}
 use Rattle.finder.proofs.Best.{best_of_is, best_of_none}
 use Rattle.finder.proofs.Known.{grows}
+use Rattle.finder.proofs.List.{any_given}
+use Rattle.finder.proofs.Part.{part_said, parts_said}
+use Rattle.sweep.specs.Table.{best_part}
 use Rattle.finder.proofs.GroupHull.{narrower_is_no_wider}
 use Rattle.finder.proofs.Verdict.{entries_accepted, passes_inside}
-
-any_here : (P : Part → Type 0) (part : Part) (parts : List Part) → P part → Any P (part ∷ parts)
-any_here P part parts holds = (0, part, omega arith, refl, holds)
-
-any_later : (P : Part → Type 0) (first : Option Part) (parts : List Part) → Any P parts
-    → Any P (cons_option first parts)
-any_later P None parts any = any
-any_later P (Some first) parts any = (suc any.0, any.1, omega arith, any.3, any.4)
 
 module _ (samples : List Sample) (claim : ClaimData) (outer inner : Stretch)
     (rate : claim.drift_ppb ≤ max_drift_ppb) (are : AreSamplesOf claim samples)
     (piece : IsPiece inner.begin inner.end) (whole : HoldsWhole outer inner)
   where
-    abbrev over : ℕ → ℕ → List (ℕ × ℕ)
-    over s n = filter_map (best_over samples claim inner) (range_with_len s n)
-
     abbrev best_parts : List Part
     best_parts = parts_named samples claim inner (best_entries samples claim inner)
-
-    module _ (P : Part → Type 0) (server : ℕ) (entry : ℕ × ℕ) (part : Part) (holds : P part)
-        (best : best_over samples claim inner server ≡ Some entry)
-        (named : part_named samples claim inner entry ≡ Some part) where
-      skip : (o : Option (ℕ × ℕ)) (entries : List (ℕ × ℕ)) → Any P (parts_named samples claim inner entries)
-          → Any P (parts_named samples claim inner (cons_option o entries))
-      skip None entries any = any
-      skip (Some first) entries any =
-          any_later P (part_named samples claim inner first) (parts_named samples claim inner entries) any
-
-      -- what holds of a server's part holds of one that the best samples give
-      in_best : (s n : ℕ) → s ≤ server → server < s + n → Any P (parts_named samples claim inner (over s n))
-      in_best s zero from to = absurd (omega arith)
-      in_best s (suc n) from to = ⊎_elim
-          (λ less. skip (best_over samples claim inner s) (over (s + 1) n)
-          (in_best (s + 1) n (omega arith) (omega arith)))
-          (λ le.
-          let same : s ≡ server = omega arith in
-          let here : best_over samples claim inner s ≡ Some entry =
-          subst (λ (m : ℕ). best_over samples claim inner m ≡ Some entry) (sym same) best in
-          subst (λ (o : Option (ℕ × ℕ)). Any P (parts_named samples claim inner (cons_option o (over (s + 1) n))))
-          (sym here)
-          (subst (λ (o : Option Part). Any P (cons_option o (parts_named samples claim inner (over (s + 1) n))))
-          (sym named) (any_here P part (parts_named samples claim inner (over (s + 1) n)) holds)))
-          (cases_lt s server)
 
     names_both : (entry : ℕ × ℕ) (low high : Sample) → slice_get samples entry.0 ≡ Some low
         → slice_get samples entry.1 ≡ Some high
@@ -83,10 +49,12 @@ module _ (samples : List Sample) (claim : ClaimData) (outer inner : Stretch)
           low = omega (arith, ints, low_in, most);
           high = omega (arith, ints, high_in, least);
         } in
-        in_best (IsNarrower part) low.server entry other
-        (subst (λ (p : Part). IsNarrower p other) (sym said.is) narrower) is
-        (names_both entry best.0.sample best.1.sample best.0.stands best.1.stands)
-        0 (length claim.servers) (omega arith) (omega (arith, within))
+        subst (Any (IsNarrower part)) (parts_said samples claim inner.begin inner.end)
+        (any_given (best_part samples inner.begin inner.end ppb) (IsNarrower part) low.server other
+        (sym (part_said samples claim inner.begin inner.end low.server entry is)
+        ∙ names_both entry best.0.sample best.1.sample best.0.stands best.1.stands)
+        (subst (λ (p : Part). IsNarrower p other) (sym said.is) narrower)
+        0 (length claim.servers) (omega arith) (omega (arith, within)))
 
     pub better_at : (part : Part) (said : IsOfSamples samples outer claim.drift_ppb part) (o : Option (ℕ × ℕ))
         → best_over samples claim inner said.low.server ≡ o → Any (IsNarrower part) best_parts

@@ -1,6 +1,6 @@
 -- The nearest error that few enough groups refuse.
 use Rattle.std.proofs.Common.{below_more}
-use Rattle.finder.proofs.Common.{◌≡◌, ℕ, zero, suc, ◌+◌, ◌-◌, ◌<◌, ◌≤◌, ◌^◌, ℤ, pos, neg_ℤ, to_z, of_z, w128, w128_keeps, ◌+ℤ◌, ◌-ℤ◌, ◌≤ℤ◌, ◌<ℤ◌, int_lt, unsigned_abs, Bool, true, false, true≢false, List, length, sym, ap, ◌∙◌, ◌⊎◌, inl, inr, arith, ints, leaves_out, ClaimData, Interval, room_at, refused_by, possible_by, IsFirstBeyond, after, Side, Above, Below, least_on, turned, by_test, leb-true, le-leb}
+use Rattle.finder.proofs.Common.{◌≡◌, ℕ, zero, suc, ◌+◌, ◌-◌, ◌<◌, ◌≤◌, ◌^◌, ℤ, pos, neg_ℤ, to_z, of_z, w128, w128_keeps, ◌+ℤ◌, ◌-ℤ◌, ◌≤ℤ◌, ◌<ℤ◌, int_lt, unsigned_abs, Bool, true, false, true≢false, List, length, sym, ap, ◌∙◌, ◌⊎◌, inl, inr, arith, ints, leaves_out, ClaimData, Interval, room_at, refused_by, possible_by, IsFirstBeyond, after, Side, Above, Below, least_on, turned, by_test, leb-true, le-leb, nat_tests}
 use Rattle.finder.proofs.Group.{no_more_groups}
 
 pub int_cases : (a b : ℤ) → (a <ℤ b) ⊎ (b ≤ℤ a)
@@ -74,17 +74,7 @@ module _ (side : Side) (rooms : List Interval) (claim : ClaimData) where
   module _ (limit : ℤ) (n : ℕ) (first : ℤ) (so_far : SoFar limit n first) where
     pub taken : (error : ℤ) → error ≡ start n → claim.bound <ℤ error → error <ℤ first → possible error ≡ true
         → SoFar limit (n + 1) error
-    taken error is above before passes =
-        let within = so_far.within in
-        record {
-          beyond = above;
-          within = omega (arith, ints);
-          passes = λ le. passes;
-          least = below_more
-              (λ server. claim.bound <ℤ start server → possible (start server) ≡ true → error ≤ℤ start server) n
-              (λ server less over there. let le = so_far.least server less over there in omega (arith, ints))
-              (λ over there. rw is (omega (arith, ints)));
-        }
+    taken error is above before passes = grind (arith, ints, nat_tests, so_far.within)
 
     pub passed : (claim.bound <ℤ start n → possible (start n) ≡ true → first ≤ℤ start n) → SoFar limit (n + 1) first
     passed no_nearer = record {

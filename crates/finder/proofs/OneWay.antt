@@ -1,86 +1,40 @@
 -- The longest pieces end in one of three ways, and in no two of them.
-use Rattle.finder.proofs.Common.{◌≡◌, ◌⊎◌, inl, inr, ⊎_elim, ℕ, zero, suc, ◌<◌, ◌≤◌, ℤ, pos, ◌+ℤ◌, ◌-ℤ◌, ◌≤ℤ◌, ◌<ℤ◌, unsigned_abs, Bool, true, false, true≢false, List, [], ◌∷◌, ◌++◌, length, refl, sym, ap, ◌∙◌, subst, arith, ints, clamps, CertificateData, PieceData, max_pieces, ClaimData, Hull, Sample, GetStuck, IsCarried, AreLongest, IsLongest, IsOfLongest, IsStuck, IsTooLong, end_after, hull_over, next_tick, pieces_over, shows, by_test, lt_next_cases, ≤ℤ_antisymm}
+use Rattle.finder.proofs.Common.{◌≡◌, ◌⊎◌, inl, inr, ⊎_elim, ℕ, zero, suc, ◌<◌, ◌≤◌, ℤ, pos, ◌+ℤ◌, ◌-ℤ◌, ◌≤ℤ◌, ◌<ℤ◌, unsigned_abs, Bool, true, false, true≢false, List, [], ◌∷◌, ◌++◌, length, refl, sym, ap, ◌∙◌, subst, arith, ints, clamps, CertificateData, max_pieces, ClaimData, Hull, Sample, GetStuck, IsCarried, AreLongest, IsLongest, IsOfLongest, IsStuck, IsTooLong, end_after, hull_over, next_tick, pieces_over, shows, by_test, ≤ℤ_antisymm, nat_tests, Option, None, Some, find, range_with_len, ◌+◌}
+use Rattle.finder.proofs.List.{find_is_first, find_is_none}
 use Rattle.finder.proofs.Nearest.{int_cases}
 
--- ---- the greatest number that passes a test
-
-record IsGreatest (test : ℕ → Bool) (n : ℕ) : Type 0 where
-  number : ℕ
-  within : number ≤ n
-  passes : test number ≡ true
-  others_fail : (k : ℕ) → number < k → k ≤ n → test k ≡ false
-
-greatest : (test : ℕ → Bool) → test 0 ≡ true → (n : ℕ) → IsGreatest test n
-greatest test first zero = record {
-  number = 0;
-  within = omega arith;
-  passes = first;
-  others_fail = λ k more to. absurd (omega (arith, more, to));
-}
-greatest test first (suc n) = by_test (test (suc n))
-    (λ passes. record {
-      number = suc n;
-      within = omega arith;
-      passes = passes;
-      others_fail = λ k more to. absurd (omega (arith, more, to));
-    })
-    (λ fails.
-    let rest = greatest test first n in
-    record {
-      number = rest.number;
-      within = omega arith;
-      passes = rest.passes;
-      others_fail = λ k more to. ⊎_elim
-          (λ earlier. rest.others_fail k more (omega (arith, earlier)))
-          (λ same. subst (λ (j : ℕ). test j ≡ false) (sym same) fails)
-          (lt_next_cases k (suc n) (omega (arith, to)));
-    })
-
--- ---- readings by their distance from one
-
-at_start : (a : ℤ) → (a +ℤ pos 0) ≡ a
-at_start a = omega (arith, ints)
-
-no_earlier : (a : ℤ) (n : ℕ) → a ≤ℤ (a +ℤ pos n)
-no_earlier a n = omega (arith, ints)
-
-up_to : (a b : ℤ) (n : ℕ) → a ≤ℤ b → n ≤ unsigned_abs (b -ℤ a) → (a +ℤ pos n) ≤ℤ b
-up_to a b n forward h = omega (arith, ints)
-
-at_distance : (a b : ℤ) → a ≤ℤ b → b ≡ (a +ℤ pos (unsigned_abs (b -ℤ a)))
-at_distance a b forward = omega (arith, ints)
-
-farther : (a b : ℤ) (n : ℕ) → (a +ℤ pos n) <ℤ b → n < unsigned_abs (b -ℤ a)
-farther a b n h = omega (arith, ints)
-
-nearer : (a b c : ℤ) → a ≤ℤ b → b ≤ℤ c → unsigned_abs (b -ℤ a) ≤ unsigned_abs (c -ℤ a)
-nearer a b c forward more = omega (arith, ints)
-
 module _ (samples : List Sample) (claim : ClaimData) where
-  next_in_span : (p : ℤ) → next_tick samples claim p ≤ℤ claim.last
-  next_in_span p = omega (arith, ints, clamps)
+  -- whether a piece from p is shown that ends so many ticks before the span
+  abbrev shows_to : ℤ → ℕ → Bool
+  shows_to p k = shows samples claim p (claim.last -ℤ pos k)
 
   -- if the tick from a reading is shown, a longest piece begins there
   longest_from : (p : ℤ) → shows samples claim p (next_tick samples claim p) ≡ true
       → (q : ℤ) × IsLongest samples claim p q
-  longest_from p shown =
-      let next = next_tick samples claim p in
-      let found = greatest (λ k. shows samples claim p (next +ℤ pos k))
-      (ap (shows samples claim p) (at_start next) ∙ shown) (unsigned_abs (claim.last -ℤ next)) in (
-        next +ℤ pos found.number,
-        record {
-          some_tick = no_earlier next found.number;
-          in_span = up_to next claim.last found.number (next_in_span p) found.within;
-          tick_shown = shown;
-          shown = found.passes;
-          no_longer = λ r beyond to.
-              let start = no_earlier next found.number in
-              let forward : next ≤ℤ r = omega (arith, ints, start, beyond) in
-              ap (shows samples claim p) (at_distance next r forward)
-              ∙ found.others_fail (unsigned_abs (r -ℤ next)) (farther next r found.number beyond)
-              (nearer next r claim.last forward to);
-        },
-      )
+  longest_from p shown = first _ refl
+    where
+      first : (o : Option ℕ)
+          → find (shows_to p) (range_with_len 0 (unsigned_abs (claim.last -ℤ next_tick samples claim p) + 1)) ≡ o
+          → (q : ℤ) × IsLongest samples claim p q
+      first None is =
+          let back = unsigned_abs (claim.last -ℤ next_tick samples claim p) in
+          let there : next_tick samples claim p ≡ claim.last -ℤ pos back = omega (arith, ints, clamps) in
+          absurd (true≢false (sym shown ∙ ap (shows samples claim p) there
+          ∙ find_is_none (shows_to p) 0 _ is back (omega arith) (omega arith)))
+      first (Some k) is =
+          let found = find_is_first (shows_to p) 0 _ k is in (
+            claim.last -ℤ pos k,
+            record {
+              some_tick = omega (arith, ints, clamps, found.to);
+              in_span = omega (arith, ints);
+              tick_shown = shown;
+              shown = found.passes;
+              no_longer = λ r beyond to.
+                  let back = unsigned_abs (claim.last -ℤ r) in
+                  let there : r ≡ claim.last -ℤ pos back = omega (arith, ints) in
+                  ap (shows samples claim p) there ∙ found.others_fail back (omega arith) (omega (arith, ints));
+            },
+          )
 
   -- ---- one of the three
 
@@ -214,28 +168,33 @@ module _ (samples : List Sample) (claim : ClaimData) where
 
   pub never_carried_and_stuck : IsCarried samples claim → ¬ (GetStuck samples claim)
   never_carried_and_stuck (certificate, is) (begin, end, hull, stuck) =
-      let same = halt_once claim.first is.earlier stuck.earlier is.longest (carried_halts is) stuck.longest
-      (stuck_halts stuck) in
-      true≢false (sym is.last.tick_shown ∙ subst (Fails claim.first) (sym same) (fails_at stuck))
+      grind (
+        arith,
+        ints,
+        nat_tests,
+        halt_once claim.first is.earlier stuck.earlier is.longest (carried_halts is)
+            stuck.longest (stuck_halts stuck),
+      )
 
   pub never_carried_and_too_long : IsCarried samples claim → ¬ (IsTooLong samples claim)
   never_carried_and_too_long (certificate, is) long =
-      let fewer = no_more claim.first is.earlier long.earlier is.longest (carried_halts is) long.longest in
-      omega (arith, is.few, long.as_many)
+      omega (arith, no_more claim.first is.earlier long.earlier is.longest (carried_halts is) long.longest)
 
   pub never_stuck_and_too_long : GetStuck samples claim → ¬ (IsTooLong samples claim)
   never_stuck_and_too_long (begin, end, hull, stuck) long =
-      let fewer = no_more claim.first stuck.earlier long.earlier stuck.longest (stuck_halts stuck) long.longest in
-      omega (arith, stuck.few, long.as_many)
+      omega (arith, no_more claim.first stuck.earlier long.earlier stuck.longest (stuck_halts stuck) long.longest)
 
   -- ---- and each in only one way
 
   pub one_certificate : (a b : CertificateData) → IsOfLongest samples claim a → IsOfLongest samples claim b → a ≡ b
   one_certificate a b x y =
-      let ends = halt_once claim.first x.earlier y.earlier x.longest (carried_halts x) y.longest (carried_halts y) in
-      ap (λ (pieces : List PieceData). record { pieces = pieces })
-      (x.pieces ∙ ap (λ (es : List ℤ). pieces_over samples claim claim.first (es ++ claim.last ∷ [])) ends
-      ∙ sym y.pieces)
+      grind (
+        arith,
+        ints,
+        nat_tests,
+        halt_once claim.first x.earlier y.earlier x.longest (carried_halts x) y.longest
+            (carried_halts y),
+      )
 
   pub one_tick : (p q p' q' : ℤ) (h h' : Hull) → IsStuck samples claim p q h → IsStuck samples claim p' q' h'
       → p ≡ p'

@@ -1,6 +1,6 @@
 -- What the tables of servers say of a piece is what its best entries say.
-use Rattle.finder.proofs.Common.{◌≡◌, ℕ, ◌<◌, ℤ, List, [], ◌∷◌, length, Option, Some, None, refl, sym, ap, ◌∙◌, All, filter_map, cons_option, ClaimData, servers_of, Sample, Stretch, piece_hull, piece_interval_of, Part, best_over, best_entries, best_hull, part_named, parts_named, stretch_over, AreSamplesOf}
-use Rattle.sweep.specs.Table.{best_part, best_parts, said_by}
+use Rattle.finder.proofs.Common.{◌≡◌, ℕ, ◌<◌, ℤ, List, [], ◌∷◌, length, Option, Some, None, refl, sym, ap, ◌∙◌, All, filter_map, cons_option, ClaimData, servers_of, Sample, Stretch, piece_hull, Part, best_over, best_entries, best_hull, part_named, parts_named, stretch_over, AreSamplesOf, arith, ints, nat_tests}
+use Rattle.sweep.specs.Table.{best_part, best_parts}
 use Rattle.finder.proofs.Best.{best_of_is}
 use Rattle.finder.proofs.EntryList.{listed_parts}
 
@@ -19,18 +19,14 @@ through {X} {Y} {Z} h g k none some (x ∷ xs) = step (through h g k none some x
 
 module _ (samples : List Sample) (claim : ClaimData) (p q : ℤ) where
   -- the entry of a server says what its table says
-  said : (server : ℕ) (entry : ℕ × ℕ) → best_over samples claim (stretch_over p q) server ≡ Some entry
+  pub part_said : (server : ℕ) (entry : ℕ × ℕ) → best_over samples claim (stretch_over p q) server ≡ Some entry
       → part_named samples claim (stretch_over p q) entry ≡ best_part samples p q claim.drift_ppb server
-  said server entry e =
-      let best = best_of_is samples server p q claim.drift_ppb entry e in
-      rw (e, best.0.stands, best.1.stands)
-      (ap (λ (n : ℕ). Some (said_by n (piece_interval_of best.0.sample best.1.sample p q claim.drift_ppb)))
-      best.0.of_server)
+  part_said server entry e = grind (arith, ints, nat_tests, best_of_is samples server p q claim.drift_ppb entry e)
 
   pub parts_said : best_parts samples (length claim.servers) p q claim.drift_ppb
       ≡ parts_named samples claim (stretch_over p q) (best_entries samples claim (stretch_over p q))
   parts_said = sym (through (best_over samples claim (stretch_over p q)) (part_named samples claim (stretch_over p q))
-      (best_part samples p q claim.drift_ppb) (λ server e. rw e refl) said (servers_of (length claim.servers)))
+      (best_part samples p q claim.drift_ppb) (λ server e. rw e refl) part_said (servers_of (length claim.servers)))
 
   -- their servers are listed
   pub listed_said : AreSamplesOf claim samples

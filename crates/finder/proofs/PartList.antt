@@ -1,16 +1,9 @@
 -- What servers say at one reading of the clock, one server after another.
 use Rattle.std.specs.Prelude.{filter_map}
-use Rattle.finder.proofs.Common.{◌≡◌, ◌∙◌, ℕ, ℤ, ◌+◌, ◌<◌, ◌≤◌, ◌++◌, List, [], ◌∷◌, length, take, Option, Some, None, ap, arith, length-append, slice_get, All, take_more, All-push, get_or_from_slice_get, slice_get_within, Sample, Gathered, Gathering, Part, numbers_below, piece_hull, ClaimData, best_entries, best_hull, parts_named, stretch_over, best_part, best_parts}
+use Rattle.finder.proofs.Common.{◌≡◌, ◌∙◌, ℕ, ℤ, ◌+◌, ◌<◌, ◌≤◌, ◌++◌, List, [], ◌∷◌, length, Option, Some, None, ap, arith, length-append, All, All-push, Sample, Part, numbers_below, piece_hull, ClaimData, best_entries, best_hull, parts_named, stretch_over, best_part, best_parts}
 use Rattle.checker.proofs.PieceFit.{all_numbers}
 use Rattle.finder.proofs.List.{one_more, without}
 use Rattle.finder.proofs.Part.{parts_said}
-
--- one sample more was taken
-pub gathered_more : (samples : List Sample) (i : ℕ) (s : Sample) (tick : ℤ) (ppb : ℕ) (best : Gathering)
-    → slice_get samples i ≡ Some s → Gathered (take i samples ++ s ∷ []) tick tick ppb best
-    → Gathered (take (i + 1) samples) tick tick ppb best
-gathered_more samples i s tick ppb best is gathered =
-    rw (take_more samples i s (slice_get_within samples i s is), get_or_from_slice_get samples i s s is) gathered
 
 -- the parts of the servers whose number is below `server`, of a claim with this many servers
 pub record StandsFor (says : ℕ → Option Part) (servers server : ℕ) (parts : List Part) : Type 0 where

@@ -1,5 +1,5 @@
 -- What it says that a refutation is found, or none.
-use Rattle.finder.proofs.Common.{◌≡◌, ℕ, ◌≤◌, ◌^◌, ℤ, pos, neg_ℤ, ◌≤ℤ◌, ◌<ℤ◌, unsigned_abs, Bool, false, true≢false, List, length, Option, Some, None, refl, sym, ap, ◌∙◌, subst, ⊎_elim, arith, filter, option_map, All, ints, RefutationData, ClaimData, IsLawful, Exchange, Interval, numbers_below, AreRooms, refused_by, refuses, IsErrorOf64Bits, IsFirstBeyond, IsNearest, IsNearestRefutation, NoneIsRefuted, greatest_error, is_possible, least_error_below, nearest, refutation_at, nearest_error}
+use Rattle.finder.proofs.Common.{◌≡◌, ℕ, ◌≤◌, ◌^◌, ℤ, neg_ℤ, ◌≤ℤ◌, ◌<ℤ◌, unsigned_abs, Bool, false, true≢false, List, length, Option, Some, None, refl, sym, ap, ◌∙◌, subst, ⊎_elim, arith, filter, option_map, All, ints, RefutationData, ClaimData, IsLawful, Exchange, Interval, IsRefuted, numbers_below, AreRooms, refused_by, refuses, IsErrorOf64Bits, IsFirstBeyond, IsNearest, IsNearestRefutation, NoneIsRefuted, greatest_error, is_possible, least_error_below, nearest, refutation_at, nearest_error}
 use Rattle.std.specs.Option.{option_or}
 use Rattle.pairing.specs.Exchange.{IsLawful as IsLawfulExchange}
 use Rattle.finder.proofs.Liar.{possible_of, refuted_at, same_passing_test}
@@ -23,18 +23,6 @@ module _ (claim : ClaimData) (lawful : IsLawful claim) (xs : List Exchange)
   abbrev down : Option ℤ
   down = nearest below claim.bound least_error_below
 
-  some_above : claim.bound ≤ℤ greatest_error
-  some_above = omega (arith, ints)
-
-  some_below : claim.bound ≤ℤ least_error_below
-  some_below = omega (arith, ints)
-
-  beyond_above : (error : ℤ) → claim.bound <ℤ error → claim.bound <ℤ pos (unsigned_abs error)
-  beyond_above error h = omega (arith, ints)
-
-  beyond_below : (number : ℤ) → claim.bound <ℤ number → claim.bound <ℤ pos (unsigned_abs (neg_ℤ number))
-  beyond_below number h = omega (arith, ints)
-
   -- no error above the bound, or none below it on the other side, is that of a refutation
   abbrev NoneAbove : Type 0
   NoneAbove = (other : ℤ) → claim.bound <ℤ other → other ≤ℤ greatest_error → is_possible claim xs other ≡ false
@@ -43,61 +31,55 @@ module _ (claim : ClaimData) (lawful : IsLawful claim) (xs : List Exchange)
   NoneBelow = (other : ℤ) → claim.bound <ℤ other → other ≤ℤ least_error_below
       → is_possible claim xs (neg_ℤ other) ≡ false
 
+  not_refuted : (other : RefutationData) → IsRefuted claim xs other → is_possible claim xs other.error ≡ false → ⊥
+  not_refuted other refuted fails = true≢false (sym (possible_of claim lawful xs each other refuted) ∙ fails)
+
+  negative_fails : (error : ℤ) → below (neg_ℤ error) ≡ false → above error ≡ false
+  negative_fails error fails = sym (ap above (negated error)) ∙ fails
+
+  not_above : NoneAbove → (other : RefutationData) → IsErrorOf64Bits other.error → IsRefuted claim xs other
+      → other.error ≤ℤ claim.bound
+  not_above none other of_64_bits refuted = ⊎_elim
+      (λ over. absurd (not_refuted other refuted (none other.error over of_64_bits.not_above)))
+      (λ not_over. not_over)
+      (int_cases claim.bound other.error)
+
   found_above : (error : ℤ) → IsFirstBeyond above claim.bound greatest_error error
       → IsNearestRefutation claim xs (refutation_at claim xs error)
-  found_above error is =
-      let beyond = is.beyond in
-      record {
-        accepted = refuted_at claim lawful xs each error (beyond_above error beyond) is.passes;
-        least_above = λ over other refuted other_over. ⊎_elim
-            (λ less. absurd (true≢false (sym (possible_of claim lawful xs each other refuted)
-            ∙ is.others_fail other.error other_over less)))
-            (λ le. le)
-            (int_cases other.error error);
-        none_above = λ under. absurd (omega (arith, ints));
-        greatest_below = λ under. absurd (omega (arith, ints));
-        liars = refl;
-        reading = refl;
-      }
+  found_above error is = record {
+    accepted = refuted_at claim lawful xs each error (omega (arith, ints, is.beyond)) is.passes;
+    least_above = λ over other refuted other_over. ⊎_elim
+        (λ less. absurd (not_refuted other refuted (is.others_fail other.error other_over less)))
+        (λ le. le)
+        (int_cases other.error error);
+    none_above = λ under. absurd (omega (arith, ints, is.beyond, under));
+    greatest_below = λ under. absurd (omega (arith, ints, is.beyond, under));
+    liars = refl;
+    reading = refl;
+  }
 
   found_below : NoneAbove → (number : ℤ) → IsFirstBeyond below claim.bound least_error_below number
       → IsNearestRefutation claim xs (refutation_at claim xs (neg_ℤ number))
-  found_below none number is =
-      let beyond = is.beyond in
-      record {
-        accepted = refuted_at claim lawful xs each (neg_ℤ number) (beyond_below number beyond) is.passes;
-        least_above = λ over. absurd (omega (arith, ints));
-        none_above = λ under other of_64_bits refuted. ⊎_elim
-            (λ over. absurd (true≢false (sym (possible_of claim lawful xs each other refuted)
-            ∙ none other.error over of_64_bits.not_above)))
-            (λ not_over. not_over)
-            (int_cases claim.bound other.error);
-        liars = refl;
-        reading = refl;
-        greatest_below = λ under other of_64_bits refuted.
-            let possible = possible_of claim lawful xs each other refuted in
-            let top = of_64_bits.not_above in
-            ⊎_elim
-            (λ over. absurd (true≢false (sym possible ∙ none other.error over top)))
-            (λ not_over. ⊎_elim
-            (λ less. absurd (true≢false (sym possible
-            ∙ sym (ap (is_possible claim xs) (negated other.error))
-            ∙ is.others_fail (neg_ℤ other.error) (omega (arith, ints)) less)))
-            (λ le. omega (arith, ints))
-            (int_cases (neg_ℤ other.error) number))
-            (int_cases claim.bound other.error);
-      }
+  found_below none number is = record {
+    accepted = refuted_at claim lawful xs each (neg_ℤ number) (omega (arith, ints, is.beyond)) is.passes;
+    least_above = λ over. absurd (omega (arith, ints, is.beyond, over));
+    none_above = λ under other of_64_bits refuted. not_above none other of_64_bits refuted;
+    liars = refl;
+    reading = refl;
+    greatest_below = λ under other of_64_bits refuted.
+        let not_over = not_above none other of_64_bits refuted in
+        ⊎_elim
+        (λ less. absurd (not_refuted other refuted (negative_fails other.error
+        (is.others_fail (neg_ℤ other.error) (omega (arith, ints)) less))))
+        (λ le. omega (arith, ints))
+        (int_cases (neg_ℤ other.error) number);
+  }
 
   none_found : NoneAbove → NoneBelow → NoneIsRefuted claim xs
   none_found no_more no_less other of_64_bits refuted =
-      let possible = possible_of claim lawful xs each other refuted in
-      let top = of_64_bits.not_above in
-      ⊎_elim
-      (λ over. true≢false (sym possible ∙ no_more other.error over top))
-      (λ not_over. true≢false (sym possible
-      ∙ sym (ap (is_possible claim xs) (negated other.error))
-      ∙ no_less (neg_ℤ other.error) (omega (arith, ints)) (omega (arith, ints))))
-      (int_cases claim.bound other.error)
+      let not_over = not_above no_more other of_64_bits refuted in
+      not_refuted other refuted (negative_fails other.error
+      (no_less (neg_ℤ other.error) (omega (arith, ints)) (omega (arith, ints))))
 
   -- what is said by what was sought
   abbrev Says : Option ℤ → Type 0
@@ -112,8 +94,8 @@ module _ (claim : ClaimData) (lawful : IsLawful claim) (xs : List Exchange)
 
   says : Says (nearest_error claim xs)
   unfolding nearest_error
-  says = says_of up down (nearest_is above claim.bound greatest_error some_above)
-      (nearest_is below claim.bound least_error_below some_below)
+  says = says_of up down (nearest_is above claim.bound greatest_error (omega (arith, ints)))
+      (nearest_is below claim.bound least_error_below (omega (arith, ints)))
 
   pub says_some : (error : ℤ) → nearest_error claim xs ≡ Some error
       → IsNearestRefutation claim xs (refutation_at claim xs error)

@@ -1,5 +1,5 @@
 -- What settles a claim.
-use Rattle.finder.proofs.Common.{◌≡◌, ℕ, ◌<◌, ◌≤◌, ℤ, pos, ◌*ℤ◌, ◌≤ℤ◌, true, false, true≢false, List, [], ◌∷◌, Ok, refl, sym, ◌∙◌, subst, to_z, of_z, Fits, w64, unsigned_abs, arith, rules, T, non_neg, w128, ◌↔◌, All, IsTrue, ints, clamps, ClaimData, IsLawful, Exchange, CertificateData, RefutationData, Certificate, Hull, Sample, IsPiece, Course, IsObservedIn, samples_of, verdict_of, Yes, HasSmallCover, IsCover, SomeCourse, AreLongest, IsStuck, end_after, FindsFewest, AreHeld, NoneIsRefuted}
+use Rattle.finder.proofs.Common.{◌≡◌, ℕ, ◌<◌, ◌≤◌, ℤ, pos, ◌*ℤ◌, ◌≤ℤ◌, true, List, [], ◌∷◌, Ok, refl, sym, ◌∙◌, subst, unsigned_abs, arith, rules, ◌↔◌, All, IsTrue, ints, clamps, ClaimData, IsLawful, Exchange, CertificateData, RefutationData, Certificate, Hull, Sample, Course, IsObservedIn, samples_of, verdict_of, Yes, HasSmallCover, IsCover, SomeCourse, FindsFewest, AreHeld, NoneIsRefuted, nat_tests}
 use Rattle.std.specs.Prelude.{Bool, length, option_map}
 use Rattle.pairing.specs.Exchange.{IsLawful as IsLawfulExchange}
 use Rattle.certificate.specs.Certificate.{data_of as certificate_data}
@@ -7,70 +7,29 @@ use Rattle.intersection.specs.Fineness.{times_le}
 use Rattle.feasibility.specs.Contradiction.{AreAllConflicts, HoldsAnEnd, ShownConflict}
 use Rattle.feasibility.specs.DriftSettlement.{SettlesWithDrift}
 use Rattle.feasibility.specs.ServedGroups.{IsNoEvidence, count_with_exchange}
-use Rattle.std.proofs.Common.{get_or, IfSome, IsSomeAnd, IsTrue, MatchOption, Option, Some, None, ⊎_elim}
+use Rattle.std.proofs.Common.{get_or, IfSome, IsSomeAnd, MatchOption, Option, Some, None, ⊎_elim}
 use Rattle.checker.specs.Course.{Fits as FitsExchanges}
 use Rattle.checker.specs.Traceability.{IsWithin}
 use Rattle.feasibility.specs.LeastCovers.{AreLeastCovers}
 use Rattle.feasibility.specs.declared.groups.Groups.{Groups}
 use Rattle.finder.specs.declared.neediest.Neediest.{Neediest}
-use Rattle.finder.proofs.Common.{Bool, ◌+◌, pos, holds, holds_false, IsBoundless, IsNeediest, NoneNeedsMore, need_of, tick_without}
+use Rattle.finder.proofs.Common.{◌+◌, take, take_all, holds, holds_false, IsBoundless, IsNeediest, NoneNeedsMore, need_of, tick_without}
 use Rattle.checker.proofs.Exchange.{are_samples}
 use Rattle.finder.proofs.CoverHull.{within_most}
+use Rattle.finder.proofs.FewestPieces.{stuck_at}
 use Rattle.finder.proofs.GapSearch.{more_enough}
-use Rattle.finder.proofs.HeldError.{AreTriedTo, all_tried, held_one, one_more_tried}
+use Rattle.finder.proofs.HeldError.{held_one}
+use Rattle.std.proofs.lemmas.List.Elements.{All-more, All-weaker}
 use Rattle.finder.specs.Settlement.{IsContestedBy, IsFitted, IsFittedByNone, IsHeard, IsLeftOpen, IsSettledAs, IsShownBy, IsUnheard, NoneIsBeyond}
 use Rattle.finder.specs.Settlement.{Settles, settled_data}
 use Rattle.finder.specs.declared.fewest.Fewest.TheVariants as found
 use Rattle.finder.specs.declared.settlement.Settled.{Settled}
-use Rattle.finder.proofs.LongestPiece.{end_kept, fits_64}
 
 -- ---- limits
 
 -- an exchange of a claim with so many servers is one of a claim with as many as may be
 pub of_most_servers : (servers : ℕ) (x : Exchange) → servers ≤ 32 → IsLawfulExchange servers x → IsLawfulExchange 32 x
 of_most_servers servers x few h = let listed : x.server < 32 = omega arith in search rules
-
-module _ (claim : ClaimData) (lawful : IsLawful claim) (samples : List Sample) where
-  -- a stretch of the span is a piece
-  pub piece_within : (begin end : ℤ) → claim.first ≤ℤ begin → begin ≤ℤ end → end ≤ℤ claim.last → IsPiece begin end
-  piece_within begin end from forward to = omega (arith, ints)
-
-  in_span_after : (p : ℤ) (earlier : List ℤ) → claim.first ≤ℤ p → p ≤ℤ claim.last → AreLongest samples claim p earlier
-      → (claim.first ≤ℤ end_after p earlier) × (end_after p earlier ≤ℤ claim.last)
-  in_span_after p [] from to longest = (from, to)
-  in_span_after p (q ∷ earlier) from to longest =
-      in_span_after q earlier (omega (arith, ints, clamps)) longest.0.in_span longest.2
-
-  -- and the tick where the longest pieces stop, whose ends 128 bits hold
-  pub record IsTickWithin (begin end : ℤ) : Type 0 where
-    pub forward : begin ≤ℤ end
-    pub begin_kept : to_z w128 (of_z w128 begin) ≡ begin
-    pub end_kept : to_z w128 (of_z w128 end) ≡ end
-    pub begin_fits : T (non_neg begin) × Fits w64 (unsigned_abs begin)
-    pub end_fits : T (non_neg end) × Fits w64 (unsigned_abs end)
-
-  pub stuck_within : (begin end : ℤ) (hull : Hull) → IsStuck samples claim begin end hull → IsTickWithin begin end
-  stuck_within begin end hull stuck =
-      let forward = lawful.span_forward in
-      let (from, to) = in_span_after claim.first stuck.earlier (omega (arith, ints)) forward stuck.longest in
-      let piece = piece_within begin end (omega (arith, ints)) (omega (arith, ints, clamps))
-      (omega (arith, ints, clamps)) in
-      let first = piece_within begin begin (omega (arith, ints)) (omega (arith, ints)) (omega (arith, ints, clamps)) in
-      record {
-        forward = omega (arith, ints, clamps);
-        begin_kept = end_kept begin begin first;
-        end_kept = end_kept begin end piece;
-        begin_fits = fits_64 begin begin first;
-        end_fits = fits_64 begin end piece;
-      }
-
--- ---- whether a course fits, by a test for covers
-
-pub fits_if : {A B : Type 0} (has : Bool) → has ≡ true → (IsTrue has ↔ A) → (B ↔ A) → B
-fits_if has is (has_cover, back) (to, from) = from (has_cover is)
-
-pub fits_not : {A B : Type 0} (has : Bool) → has ≡ false → (IsTrue has ↔ A) → (B ↔ A) → ¬ B
-fits_not has isnt (has_cover, back) (to, from) = λ course. true≢false (sym (back (to course)) ∙ isnt)
 
 -- ---- the answers
 
@@ -98,16 +57,16 @@ module _ (claim : ClaimData) (xs : List Exchange) where
       → ¬ (verdict_of (samples_of xs claim) claim certificate ≡ Yes))
       → (groups : ℕ) → groups ≡ count_with_exchange claim xs → groups ≤ claim.false_max → IsUnheard claim xs groups
   unheard each lawful few_are_none none_is_accepted groups is few =
-      let nothing_said : IsNoEvidence claim xs groups =
-      subst (IsNoEvidence claim xs) (sym is) (few_are_none lawful each (omega (arith, is, few))) in
-      record {
-        nothing_said = nothing_said;
-        none_accepted = λ other. none_is_accepted groups other lawful each nothing_said;
-      }
-
-  -- more do
-  pub heard : (groups : ℕ) → groups ≡ count_with_exchange claim xs → claim.false_max < groups → IsHeard claim xs
-  heard groups is more = subst (λ n. claim.false_max < n) is more
+      grind (
+        arith,
+        ints,
+        nat_tests,
+        subst (IsNoEvidence claim xs) (sym is) (few_are_none lawful each (omega (
+          arith,
+          is,
+          few,
+        ))),
+      )
 
   -- a certificate that shows the claim
   pub shown_by : (certificate : Certificate) → IsFitted claim xs
@@ -124,23 +83,23 @@ module _ (claim : ClaimData) (xs : List Exchange) where
   pub observed : (begin end : ℤ) (course : Course) → begin ≤ℤ end
       → course.observation.reading ≡ (begin *ℤ pos course.fineness) → IsObservedIn course begin end
   observed begin end course forward is =
-      let n = course.fineness in
-      let further : (begin *ℤ pos n) ≤ℤ (end *ℤ pos n) = times_le begin end n forward in
-      rw is (omega (arith, ints), further)
+      omega (arith, ints, course.fineness, times_le begin end (course.fineness) forward)
 
   -- as some course fits, the samples don't contradict each other there, and so no certificate is accepted
-  pub left_open : (begin end : ℤ) (hull : Hull) (covers : ℕ) (most : Option ℤ) → begin ≤ℤ end → IsHeard claim xs
-      → IsFitted claim xs
+  pub left_open : (begin end : ℤ) (hull : Hull) (covers : ℕ) (most : Option ℤ) → claim.first ≤ℤ claim.last
+      → IsHeard claim xs → IsFitted claim xs
       → FindsFewest (samples_of xs claim) claim (Ok (found.Nothing begin end hull))
       → NoneIsRefuted claim xs → AreHeld claim xs (unsigned_abs begin ∷ unsigned_abs end ∷ []) covers
       → IfSome most (NoneIsBeyond claim xs) → IsLeftOpen claim xs begin end hull covers most
-  left_open begin end hull covers most forward is_heard courses finds none_refuted bounded within = record {
+  left_open begin end hull covers most in_order is_heard courses finds none_refuted bounded within = record {
     heard = is_heard;
     courses = courses;
     stuck = finds.stuck;
     none_accepted = finds.none_accepted (λ empty.
         let at = courses begin in
-        finds.contradiction empty xs at.0 refl at.1.fits (observed begin end at.0 forward at.2));
+        let begins = stuck_at (samples_of xs claim) claim begin end hull in_order finds.stuck in
+        finds.contradiction empty xs at.0 refl at.1.fits
+        (observed begin end at.0 (omega (arith, ints, clamps, begins.to_last, finds.stuck.ends)) at.2));
     none_refuted = none_refuted;
     held = finds.held;
     bounded = bounded;
@@ -153,7 +112,7 @@ module _ (samples : List Sample) (claim : ClaimData) (covers : List Groups) wher
   -- no tick needs more than so much with any of the first n covers left out, if that's known
   abbrev pub NeedNoMore : ℕ → Option ℕ → Type 0
   NeedNoMore n most =
-      IfSome most (λ all. AreTriedTo (λ cover. NoneNeedsMore samples claim (holds cover) all) covers n)
+      IfSome most (λ all. All (λ cover. NoneNeedsMore samples claim (holds cover) all) (take n covers))
 
   grown : (cover : ℕ → Bool) (all more : ℕ) → all ≤ more → NoneNeedsMore samples claim cover all
       → NoneNeedsMore samples claim cover more
@@ -171,9 +130,9 @@ module _ (samples : List Sample) (claim : ClaimData) (covers : List Groups) wher
   one_more_needs n other None (Some all) found within before with' is = absurd with'.0
   one_more_needs n other (Some b) (Some all) None within before with' is = absurd with'.1
   one_more_needs n other (Some b) (Some all) (Some last) within before with' is =
-      one_more_tried (λ cover. NoneNeedsMore samples claim (holds cover) all) covers n other within
+      All-more (λ cover. NoneNeedsMore samples claim (holds cover) all) covers n other within
+      (All-weaker _ _ (λ cover none. grown (holds cover) b all with'.0 none) (take n covers) before)
       (grown (holds (get_or covers n other)) last.tick.ticks all with'.1.1 (is.most with'.1.0))
-      (λ k d below. grown (holds (get_or covers k d)) b all with'.0 (before k d below))
 
 module _ (claim : ClaimData) (xs : List Exchange) (covers : List Groups) (least : AreLeastCovers claim xs covers)
     (cover_of : (course : Course) → FitsExchanges claim xs course
@@ -192,7 +151,7 @@ module _ (claim : ClaimData) (xs : List Exchange) (covers : List Groups) (least 
         ⊎_elim
         (λ one.
         let held = held_one (λ cover. NoneNeedsMore (samples_of xs claim) claim (holds cover) all) covers false_in
-        (all_tried (λ cover. NoneNeedsMore (samples_of xs claim) claim (holds cover) all) covers n past tried) one in
+        (rw (take_all n covers past) at tried) one in
         subst (IsWithin course) same (within_most claim lawful xs each
         (are_samples xs claim lawful each) (holds held.0) course fits held.2 all held.1 observed))
         (λ many. absurd (omega (arith, many)))

@@ -1,5 +1,5 @@
 -- The pieces of a span.
-use Rattle.finder.proofs.Common.{◌≡◌, ℕ, zero, suc, ◌+◌, ◌-◌, ◌*◌, ◌/◌, ◌%◌, ◌<◌, ◌≤◌, min, max, ◌^◌, ℤ, pos, ◌+ℤ◌, ◌-ℤ◌, ◌≤ℤ◌, ◌<ℤ◌, nat_lt, true, false, unsigned_abs, List, [], ◌∷◌, ◌++◌, Some, subst, sym, ap, ◌∙◌, ⊎_elim, arith, to_z, of_z, Fits, w32, w64, w128, mul-le-mul_right, cases_lt, nat_tests, div_ceil_times, ints, clamps, map-range_with_len_more, div-mul-add, div_ceil, non_neg, yes_non_neg, T, max_pieces, ClaimData, IsLawful, IsCeiling, ceiling_of, ticks_per_second, IsPiece, piece_end_of, Stretch, IsPieceCount, piece_count_of, piece_begin_of, ends_of, stretch_at, w128_keeps, first_kept, last_kept}
+use Rattle.finder.proofs.Common.{◌≡◌, ℕ, zero, suc, ◌+◌, ◌-◌, ◌*◌, ◌/◌, ◌%◌, ◌<◌, ◌≤◌, min, max, ◌^◌, ℤ, pos, ◌+ℤ◌, ◌-ℤ◌, ◌≤ℤ◌, ◌<ℤ◌, unsigned_abs, List, [], ◌∷◌, ◌++◌, Some, subst, sym, ap, ◌∙◌, ⊎_elim, arith, to_z, of_z, Fits, w32, w64, w128, mul-le-mul_right, cases_lt, div_ceil_times, ints, clamps, map-range_with_len_more, div-mul-add, div_ceil, non_neg, yes_non_neg, T, ClaimData, IsLawful, IsCeiling, ceiling_of, ticks_per_second, IsPiece, piece_end_of, Stretch, IsPieceCount, piece_count_of, piece_begin_of, ends_of, stretch_at, first_kept, last_kept}
 use Rattle.era_unfold.proofs.Rounding.{IsCeiling-ceiling_of}
 use Rattle.finder.proofs.Claim.{length_fits}
 
@@ -58,10 +58,6 @@ reaches first last step n some far =
     let same : n - 1 + 1 ≡ n = omega arith in
     rw same (omega (arith, ints, clamps))
 
-earlier : (first last : ℤ) (step k : ℕ) → (first +ℤ pos ((k + 1) * step * ticks_per_second)) <ℤ last
-    → piece_end_of first last step k <ℤ last
-earlier first last step k near = omega (arith, ints, clamps)
-
 module _ (first last : ℤ) (step c : ℕ) (in_order : first ≤ℤ last)
     (is : IsCeiling (unsigned_abs (last -ℤ first)) (step * ticks_per_second) c) where
   far_enough : last ≤ℤ (first +ℤ pos (max 1 c * step * ticks_per_second))
@@ -80,7 +76,7 @@ module _ (first last : ℤ) (step c : ℕ) (in_order : first ≤ℤ last)
   count_is = record {
     some = omega arith;
     ends_with_span = reaches first last step (max 1 c) (omega arith) far_enough;
-    first_to_end = λ k before. earlier first last step k (not_yet k before);
+    first_to_end = λ k before. omega (arith, ints, clamps, not_yet k before);
   }
 
 pub IsPieceCount-piece_count_of : (first last : ℤ) (step : ℕ) → first ≤ℤ last → 0 < step
@@ -105,9 +101,7 @@ at_most_whole n d (suc q) some below =
 
 pub count_fits : (n d q count : ℕ) → 0 < d → n < 2 ^ 64 → q ≡ div_ceil n d → count ≡ max q 1 → Fits w64 count
 count_fits n d q count some below e f =
-    let bounds = div_ceil_times n d some in
-    let whole = at_most_whole n d (div_ceil n d) (omega arith) bounds.1 in
-    record { fits = omega arith }
+    omega (arith, div_ceil_times n d some, at_most_whole n d (div_ceil n d) (omega arith) (div_ceil_times n d some).1)
 
 -- the count that the code computes
 pub count_from : (first last : ℤ) (step from length q count : ℕ) → 0 < step → from ≡ step
@@ -119,13 +113,6 @@ count_from first last step from length q count some a b e f =
     rw (← a, ← b) (e ∙ div_ceil-ceiling_of length (from * ticks_per_second) (omega arith)) in
     let turned : max q 1 ≡ max 1 q = omega arith in
     f ∙ turned ∙ ap (λ (n : ℕ). max 1 n) whole
-
--- more than a certificate may have, or no more
-pub is_many : (n : ℕ) → max_pieces < n → nat_lt max_pieces n ≡ true
-is_many n h = grind (arith, nat_tests)
-
-pub is_few : (n : ℕ) → n ≤ max_pieces → nat_lt max_pieces n ≡ false
-is_few n h = grind (arith, nat_tests)
 
 -- ---- a list of the ends
 
@@ -147,11 +134,13 @@ module _ (claim : ClaimData) (lawful : IsLawful claim) (step k : ℕ) where
   pub end_kept : (end : ℤ) → end ≡ piece_end_of claim.first claim.last step k
       → to_z w128 (of_z w128 end) ≡ piece_end_of claim.first claim.last step k
   end_kept end is =
-      let forward = lawful.span_forward in
-      let from_first = end_from_first claim.first claim.last forward step k in
-      let to_last = end_to_last claim.first claim.last forward step k in
-      ap (λ (z : ℤ). to_z w128 (of_z w128 z)) is
-      ∙ w128_keeps (piece_end_of claim.first claim.last step k) (omega (arith, ints))
+      omega (
+        arith,
+        ints,
+        lawful.span_forward,
+        end_from_first claim.first claim.last (lawful.span_forward) step k,
+        end_to_last claim.first claim.last (lawful.span_forward) step k,
+      )
 
   -- also as the code computes it
   pub end_computed : (end : ℤ)
@@ -169,11 +158,6 @@ module _ (claim : ClaimData) (lawful : IsLawful claim) (step k : ℕ) where
       let to : end <ℤ pos (2 ^ 64) = rw is in_range in
       (yes_non_neg from, record { fits = omega (arith, ints) })
 
--- where piece k begins, if it isn't the first
-pub begin_later : (first last : ℤ) (step k j : ℕ) → k ≡ suc j
-    → piece_begin_of first last step k ≡ piece_end_of first last step j
-begin_later first last step k j is = ap (piece_begin_of first last step) is
-
 -- the readings that the code computes
 pub stretch_is : (claim : ClaimData) (step k : ℕ) (begin end : ℤ) → begin ≡ piece_begin_of claim.first claim.last step k
     → end ≡ piece_end_of claim.first claim.last step k
@@ -183,3 +167,5 @@ stretch_is claim step k begin end a b =
     ap (λ (x : ℤ). make x end) a ∙ ap (λ (y : ℤ). make (piece_begin_of claim.first claim.last step k) y) b
 
 pub ruleset counting = (length_fits, ticks_fit, some_ticks)
+
+pub ruleset piece_counts = (IsPieceCount-piece_count_of)

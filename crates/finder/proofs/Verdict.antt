@@ -1,10 +1,10 @@
 -- What the checker says about pieces with the best samples.
-use Rattle.finder.proofs.Common.{◌≡◌, ℕ, zero, suc, ◌+◌, ◌-◌, ◌<◌, ◌≤◌, ℤ, pos, ◌≤ℤ◌, int_lt, nat_lt, unsigned_abs, Bool, true, false, cond, not, ◌&&◌, ◌||◌, List, [], ◌∷◌, ◌++◌, length, Option, Some, None, Result, Ok, refl, sym, ap, ◌∙◌, subst, arith, append_assoc, add-one, add-zero, slice_get, ◌==◌, list_any, filter_map, cons_option, range_with_len, int_eq, cond-true, cond-false, nat_tests, ints, append-nil, list_any-append, PieceData, ClaimData, IsLawful, Hull, Unbounded, Empty, Bounded, Sample, piece_end_of, part_of, part_from, parts_after, unless_refused, hull_fault, parts_fault, piece_fault, verdict_after, verdict_from, Part, Stretch, Verdict, Yes, No, Why, Cut, Exceeds, Uncovered, is_inside, best_over, best_entries, best_hull, part_between, parts_named, piece_at, pieces_from, hull_at, passes, IsPieceCount, piece_begin_of, stretch_at, AreSamplesOf, HoldsError}
+use Rattle.finder.proofs.Common.{◌≡◌, ℕ, zero, suc, ◌+◌, ◌-◌, ◌<◌, ◌≤◌, ℤ, pos, ◌≤ℤ◌, int_lt, nat_lt, unsigned_abs, Bool, true, false, cond, not, ◌&&◌, ◌||◌, List, [], ◌∷◌, ◌++◌, length, Option, Some, None, Result, Ok, refl, sym, ap, ◌∙◌, subst, arith, append_assoc, add-one, add-zero, slice_get, ◌==◌, list_any, filter_map, cons_option, range_with_len, int_eq, cond-true, cond-false, nat_tests, ints, append-nil, list_any-append, PieceData, ClaimData, IsLawful, Hull, Unbounded, Empty, Bounded, Sample, part_of, part_from, parts_after, unless_refused, hull_fault, parts_fault, verdict_after, verdict_from, Part, Stretch, Yes, No, Why, Cut, Exceeds, Uncovered, is_inside, IsPiece, hull_over, piece_over, shows, stretch_over, best_over, best_entries, best_hull, part_between, parts_named, pieces_from, passes, IsPieceCount, piece_begin_of, AreSamplesOf, HoldsError}
 use Rattle.finder.proofs.Best.{best_of_is}
 use Rattle.finder.proofs.Known.{hull_laws}
 use Rattle.checker.proofs.Hull.{capture_holds}
 use Rattle.checker.proofs.Narrow.{of_samples}
-use Rattle.finder.proofs.SpanPieces.{begin_before_end, end_to_last, piece_of_claim}
+use Rattle.finder.proofs.SpanPieces.{end_to_last, piece_of_claim}
 
 -- ---- the entries are accepted
 
@@ -127,74 +127,63 @@ not_less a b le = grind (arith, ints)
 pub from_zero_kept : (z : ℤ) → pos 0 ≤ℤ z → pos (unsigned_abs z) ≡ z
 from_zero_kept z le = omega (arith, ints)
 
+module _ (samples : List Sample) (claim : ClaimData) where
+  -- the checker tests the hull of a piece
+  fault_to : (p q end : ℤ) → p ≤ℤ q → q ≤ℤ claim.last → end ≡ q
+      → cond (int_lt end p || int_lt claim.last end) (Some Cut)
+      (parts_fault claim (parts_after samples (stretch_over p end) claim.drift_ppb []
+      (best_entries samples claim (stretch_over p q))))
+      ≡ hull_fault claim.bound (hull_over samples claim p q)
+  fault_to p q end forward within is =
+      rw (is, not_less q p forward, not_less claim.last q within) (entries_fault samples claim (stretch_over p q))
+
+  -- a piece that passes is passed over
+  pub one_passed : (k : ℕ) (p q : ℤ) (rest : List PieceData) → IsPiece p q → q ≤ℤ claim.last
+      → shows samples claim p q ≡ true
+      → verdict_from samples claim k p (piece_over samples claim p q ∷ rest) ≡ verdict_from samples claim (k + 1) q rest
+  one_passed k p q rest piece within shown =
+      let kept = from_zero_kept q (omega (arith, ints)) in
+      ap (λ (f : Option Why). verdict_after f k (verdict_from samples claim (k + 1) (pos (unsigned_abs q)) rest))
+      (fault_to p q (pos (unsigned_abs q)) piece.in_order within kept
+      ∙ inside_passes claim.bound (hull_over samples claim p q) shown)
+      ∙ ap (λ (z : ℤ). verdict_from samples claim (k + 1) z rest) kept
+
+  -- after the last of some pieces, which ends with the span, they are accepted
+  pub covered : (k : ℕ) (z : ℤ) → 0 < k → z ≡ claim.last → verdict_from samples claim k z [] ≡ Yes
+  covered k z some e =
+      cond-true (nat_lt 0 k && int_eq z claim.last) Yes (No k Uncovered) (grind (arith, nat_tests, ints))
+
 module _ (samples : List Sample) (claim : ClaimData) (lawful : IsLawful claim) (step : ℕ) where
-  end_number : (k : ℕ) → pos (unsigned_abs (piece_end_of claim.first claim.last step k))
-      ≡ piece_end_of claim.first claim.last step k
-  end_number k =
-      let piece = piece_of_claim claim lawful step k in
-      from_zero_kept (piece_end_of claim.first claim.last step k) (omega (arith, ints))
-
-  fault_at : (k : ℕ) (end : ℤ) → end ≡ piece_end_of claim.first claim.last step k
-      → (let stretch : Stretch = record { begin = piece_begin_of claim.first claim.last step k; end = end } in
-      cond (int_lt end (piece_begin_of claim.first claim.last step k) || int_lt claim.last end) (Some Cut)
-      (parts_fault claim
-      (parts_after samples stretch claim.drift_ppb [] (best_entries samples claim (stretch_at claim step k)))))
-      ≡ hull_fault claim.bound (hull_at samples claim step k)
-  fault_at k end is =
-      let begin = piece_begin_of claim.first claim.last step k in
-      let forward = begin_before_end claim.first claim.last lawful.span_forward step k in
-      let within = end_to_last claim.first claim.last lawful.span_forward step k in
-      rw (is, not_less _ begin forward, not_less claim.last _ within)
-      (entries_fault samples claim (stretch_at claim step k))
-
-  -- the checker tests the hull of the piece
-  fault_is : (k : ℕ) → piece_fault samples claim (piece_begin_of claim.first claim.last step k)
-      (piece_at samples claim step k)
-      ≡ hull_fault claim.bound (hull_at samples claim step k)
-  fault_is k = fault_at k _ (end_number k)
-
-  next_begin : (k : ℕ) → piece_begin_of claim.first claim.last step (k + 1) ≡ piece_end_of claim.first claim.last step k
-  next_begin k = ap (piece_begin_of claim.first claim.last step) (add-one k)
-
-  abbrev verdict_at : ℕ → List PieceData → Verdict
-  verdict_at k pieces = verdict_from samples claim k (piece_begin_of claim.first claim.last step k) pieces
+  abbrev begin : ℕ → ℤ
+  begin = piece_begin_of claim.first claim.last step
 
   -- pieces that pass are passed over
-  passed_over : (n j : ℕ) → ((k : ℕ) → j ≤ k → k < j + n → passes samples claim step k ≡ true)
-      → verdict_at j (pieces_from samples claim step j n) ≡ verdict_at (j + n) []
-  passed_over zero j pass = ap (λ (k : ℕ). verdict_at k []) (sym (add-zero j))
+  passed_over : (n j : ℕ) → ((k : ℕ) → k < j + n → passes samples claim step k ≡ true)
+      → verdict_from samples claim j (begin j) (pieces_from samples claim step j n)
+      ≡ verdict_from samples claim (j + n) (begin (j + n)) []
+  passed_over zero j pass = ap (λ (k : ℕ). verdict_from samples claim k (begin k) []) (sym (add-zero j))
   passed_over (suc n) j pass =
-      let none : piece_fault samples claim (piece_begin_of claim.first claim.last step j)
-      (piece_at samples claim step j)
-      ≡ None =
-      fault_is j ∙ inside_passes claim.bound (hull_at samples claim step j) (pass j (omega arith) (omega arith)) in
-      let begin = end_number j ∙ sym (next_begin j) in
       let same : j + 1 + n ≡ j + suc n = omega arith in
       let others = pieces_from samples claim step (j + 1) n in
-      ap (λ (f : Option Why). verdict_after f j (verdict_from samples claim (j + 1)
-      (pos (unsigned_abs (piece_end_of claim.first claim.last step j))) others)) none
-      ∙ ap (λ (z : ℤ). verdict_from samples claim (j + 1) z others) begin
-      ∙ passed_over n (j + 1) (λ k from to. pass k (omega arith) (omega arith))
-      ∙ ap (λ (k : ℕ). verdict_at k []) same
+      one_passed samples claim j (begin j) (begin (suc j)) others
+      (piece_of_claim claim lawful step j) (end_to_last claim.first claim.last lawful.span_forward step j)
+      (pass j (omega arith))
+      ∙ ap (λ (k : ℕ). verdict_from samples claim (j + 1) (begin k) others) (sym (add-one j))
+      ∙ passed_over n (j + 1) (λ k to. pass k (omega arith))
+      ∙ ap (λ (k : ℕ). verdict_from samples claim k (begin k) []) same
 
-  begin_last : (n : ℕ) → 0 < n → piece_end_of claim.first claim.last step (n - 1) ≡ claim.last
-      → piece_begin_of claim.first claim.last step n ≡ claim.last
-  begin_last zero some ends = absurd (omega arith)
-  begin_last (suc m) some ends = let same : suc m - 1 ≡ m = omega arith in rw same at ends
-
-  covered : (k : ℕ) (z : ℤ) → 0 < k → z ≡ claim.last → (nat_lt 0 k && int_eq z claim.last) ≡ true
-  covered k z some e = grind (arith, nat_tests, ints)
+  begin_last : (n : ℕ) → IsPieceCount claim.first claim.last step n → begin n ≡ claim.last
+  begin_last zero is = absurd (omega arith)
+  begin_last (suc m) is = let same : suc m - 1 ≡ m = omega arith in rw same at is.ends_with_span
 
   -- if all pieces pass, they are accepted
   pub all_accepted : (n : ℕ) → IsPieceCount claim.first claim.last step n
       → ((k : ℕ) → k < n → passes samples claim step k ≡ true)
       → verdict_from samples claim 0 claim.first (pieces_from samples claim step 0 n) ≡ Yes
   all_accepted n is pass =
-      let zero_n : 0 + n ≡ n = omega arith in
-      let last = begin_last n is.some is.ends_with_span in
-      passed_over n 0 (λ k from to. pass k (omega arith))
-      ∙ ap (λ (k : ℕ). verdict_at k []) zero_n
-      ∙ cond-true (nat_lt 0 n && int_eq (piece_begin_of claim.first claim.last step n) claim.last) Yes (No n Uncovered)
-      (covered n _ is.some last)
+      let all : 0 + n ≡ n = omega arith in
+      passed_over n 0 (λ k to. pass k (omega (arith, to)))
+      ∙ ap (λ (k : ℕ). verdict_from samples claim k (begin k) []) all
+      ∙ covered samples claim n (begin n) is.some (begin_last n is)
 
 pub ruleset accepted_entries = (entries_accepted, entries_fault)

@@ -34,7 +34,7 @@ pub struct Envelope {
 ///
 /// `TooManyPieces` comes exactly if the span has over 100,000 pieces, before any memory is taken,
 /// and `Memory` if none is left.
-#[tactic(auto, using(crate::proofs::EnvelopePieces::envelope_faults))]
+#[tactic(auto, using(crate::proofs::EnvelopePieces::envelope_answers))]
 pub fn find_envelope_over<S: SampleSource>(
     alloc: Global,
     samples: S,
@@ -71,7 +71,10 @@ fn envelope_to<S: SampleSource>(
 {
     let tables = tables(alloc, samples, claim, step_s, count)?;
     let mut pieces = Vec::with_capacity(alloc, count as usize)?;
-    let mut least = LeastBound::of_none();
+    let mut least = LeastBound::Holds {
+        bound_ns: 0,
+        piece: 0,
+    };
     for number in 0..count {
         let piece = piece_hull_at(samples, claim, step_s, tables.as_slice(), number);
         least = least.with_piece(number, piece.hull);

@@ -4,7 +4,6 @@ ghost use Rattle.std.specs.Prelude.{◌≡◌, ◌≤◌, IfOk, length, map};
 ghost use Rattle.finder.specs.Common.{piece_data, data_of as claim_data, most_exchanges, ArePieces, AreSamplesOf};
 ghost use Rattle.finder.specs.Fewest.{pieces_over};
 ghost use Rattle.finder.specs.FewestAnswer.{FindsFewest};
-ghost use Rattle.finder.specs.Reach.{AreTablesFor};
 
 use crate::entry::entries_at;
 use crate::fault::FindFault;
@@ -16,7 +15,6 @@ use claim_file::Claim;
 use intersection::kinds::Hull;
 use sample_interval::SampleSource;
 use std::alloc::{AllocError, Global};
-use sweep::BestTable;
 
 /// A certificate of fewest pieces, or why no certificate is accepted.
 #[derive(Debug, Drop)]
@@ -52,23 +50,7 @@ pub fn find_fewest_over<S: SampleSource>(
     ensures { FindsFewest (S.samples samples) (claim_data claim.now) result }
 {
     let tables = tables_for(alloc, samples, claim)?;
-    let found = fewest_by(alloc, samples, claim, &tables)?;
-    Ok(found)
-}
-
-/// `find_fewest_over` by the tables of the servers.
-pub(crate) fn fewest_by<S: SampleSource>(
-    alloc: Global,
-    samples: S,
-    claim: &Claim,
-    tables: &[BestTable],
-) -> Result<Fewest, FindFault>
-    requires samples { AreSamplesOf (claim_data claim.now) (S.samples samples) }
-    requires few { length (S.samples samples) ≤ most_exchanges }
-    requires tables { AreTablesFor (S.samples samples) (claim_data claim.now) tables.now }
-    ensures { FindsFewest (S.samples samples) (claim_data claim.now) result }
-{
-    match longest_ends(alloc, tables, claim)? {
+    match longest_ends(alloc, &tables, claim)? {
         Reach::End(ends) => {
             let found = certificate_over(alloc, samples, claim, ends.as_slice())?;
             Ok(Fewest::Certificate(found))
@@ -83,7 +65,7 @@ pub(crate) fn fewest_by<S: SampleSource>(
 }
 
 /// The certificate of the pieces that end at `ends`, the first of which begins with the span.
-fn certificate_over<S: SampleSource>(
+pub(crate) fn certificate_over<S: SampleSource>(
     alloc: Global,
     samples: S,
     claim: &Claim,

@@ -1,14 +1,13 @@
-//! The hull of a piece.
+//! What the entries of a piece say.
 
 ghost use Rattle.std.specs.Prelude.{◌≡◌, ◌<◌, length, All};
-ghost use Rattle.finder.specs.Common.{data_of, IsPiece, piece_hull, AreSamplesOf};
+ghost use Rattle.finder.specs.Common.{data_of, IsPiece, AreSamplesOf};
 ghost use Rattle.finder.specs.Entry.{AreNamed, parts_named};
 
 use arrayvec::ArrayVec;
 use claim_file::Claim;
-use intersection::kinds::Hull;
 use sample_interval::SampleSource;
-use span_cover::{Part, Stretch, part_of, piece_hull};
+use span_cover::{Part, Stretch, part_of};
 
 /// What the entries of a piece say, in their order: the interval of each server that has one.
 ///
@@ -33,21 +32,4 @@ pub fn parts<S: SampleSource>(
         parts.push(part_of(&low, &high, stretch, claim.drift_ppb));
     }
     parts
-}
-
-/// The hull over the groups of servers that have an entry.
-pub(crate) fn hull_of<S: SampleSource>(
-    samples: S,
-    claim: &Claim,
-    stretch: Stretch,
-    entries: &ArrayVec<(u32, u32), 32>,
-) -> Hull
-    requires samples { AreSamplesOf (data_of claim.now) (S.samples samples) }
-    requires stretch { IsPiece stretch.begin stretch.end }
-    requires named { AreNamed (length (S.samples samples)) entries.now.items }
-    ensures { result ≡ piece_hull claim.now.groups.items claim.now.false_max
-        (parts_named (S.samples samples) (data_of claim.now) stretch entries.now.items) }
-{
-    let parts = parts(samples, claim, stretch, entries);
-    piece_hull(parts.as_slice(), claim.groups.as_slice(), claim.false_max)
 }

@@ -29,6 +29,7 @@ pub fn samples_of_exchanges_keep_limits()
 {}
 
 /// The last of the pieces is the first that ends with the span.
+#[tactic(auto, using(crate::proofs::SpanPieces::piece_counts))]
 pub fn last_piece_ends_with_the_span()
     ensures { (first last : ℤ) (step : ℕ) → first ≤ℤ last → 0 < step →
         IsPieceCount first last step (piece_count_of first last step) }

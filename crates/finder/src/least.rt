@@ -1,7 +1,6 @@
 //! The least bound of hulls.
 
 ghost use Rattle.std.specs.Prelude.{◌≡◌, ◌*◌, ◌^◌, ◌<◌, ◌≤◌};
-ghost use Rattle.finder.specs.Envelope as spec;
 ghost use Rattle.finder.specs.Envelope.{nanoseconds_of, reach_of, with_piece, IsBelowLimit};
 
 use era_unfold::{NANOSECONDS_PER_SECOND, TICKS_PER_SECOND};
@@ -25,16 +24,6 @@ pub enum LeastBound {
 }
 
 impl LeastBound {
-    /// The least bound of no piece.
-    pub(crate) fn of_none() -> LeastBound
-        ensures { result ≡ LeastBound.Holds 0 0 }
-    {
-        LeastBound::Holds {
-            bound_ns: 0,
-            piece: 0,
-        }
-    }
-
     /// The least bound of these pieces and of one more, which has this number and hull.
     pub(crate) fn with_piece(self, number: u32, hull: Hull) -> LeastBound
         requires { IsBelowLimit self }
@@ -47,26 +36,17 @@ impl LeastBound {
                 LeastBound::NoneHolds { piece: number }
             }
             (LeastBound::Holds { bound_ns, piece }, Hull::Bounded { lo, hi }) => {
-                with_need(bound_ns, piece, number, nanoseconds_of(reach_of(lo, hi)))
+                let needed = nanoseconds_of(reach_of(lo, hi));
+                if bound_ns < needed {
+                    LeastBound::Holds {
+                        bound_ns: needed,
+                        piece: number,
+                    }
+                } else {
+                    LeastBound::Holds { bound_ns, piece }
+                }
             }
         }
-    }
-}
-
-/// The least bound of pieces with that of one more, which needs this many nanoseconds.
-fn with_need(bound_ns: u128, piece: u32, number: u32, needed: u128) -> LeastBound
-    requires bound { bound_ns < 2 ^ 127 }
-    requires needed { needed < 2 ^ 127 }
-    ensures value { result ≡ spec.with_need bound_ns piece number needed }
-    ensures in_range { IsBelowLimit result }
-{
-    if bound_ns < needed {
-        LeastBound::Holds {
-            bound_ns: needed,
-            piece: number,
-        }
-    } else {
-        LeastBound::Holds { bound_ns, piece }
     }
 }
 

@@ -65,8 +65,8 @@ pub(crate) fn leeways_at<X: ToExchange>(
 ) -> [i128; 32]
     requires exchanges { All (IsLawfulExchange (length claim.now.servers.items))
         (map X.shown exchanges.now) }
-    ensures { AreLeeways (claim_data claim.now) (map X.shown exchanges.now) (length exchanges.now)
-        side (pos reading) result }
+    ensures { AreLeeways (claim_data claim.now) (map X.shown exchanges.now)
+        (length (map X.shown exchanges.now)) side (pos reading) result }
 {
     let place = side.turned(i128::from(reading));
     let mut leeways = [NO_LIMIT; 32];

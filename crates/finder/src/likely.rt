@@ -46,13 +46,12 @@ pub(crate) fn likely_length(
 fn group_duration(durations: &[Duration], claim: &Claim, group: u8) -> Option<Duration> {
     let mut common: Option<Duration> = None;
     for duration in durations {
-        if claim
+        let its_group = claim
             .groups
             .as_slice()
             .get(usize::from(duration.server))
-            .copied()
-            == Some(group)
-        {
+            .copied();
+        if its_group == Some(group) {
             common = Some(match common {
                 Some(common) => Duration {
                     server: duration.server,

@@ -130,11 +130,7 @@ impl Pace {
 
     /// How long the last piece was, if so many before it were as long.
     pub(crate) fn steady(self, before: u32) -> Option<u64> {
-        if before <= self.same {
-            Some(self.length)
-        } else {
-            None
-        }
+        (before <= self.same).then_some(self.length)
     }
 }
 
@@ -189,6 +185,7 @@ pub(crate) fn is_as_long(
 /// Where the longest piece from `begin` ends, if the piece from there to `next`, the next tick,
 /// shows that the error is within the bound. What a piece shows each shorter one shows too, so that
 /// the end is found by halving; it is looked for first at `near`, and then in steps from there.
+#[tactic(auto, using(crate::proofs::LongestPiece::halving))]
 fn longest_end(
     tables: &[BestTable],
     places: &mut Places,

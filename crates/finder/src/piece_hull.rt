@@ -7,13 +7,13 @@ ghost use Rattle.finder.specs.Envelope.{piece_data, piece_hull_at};
 ghost use Rattle.finder.specs.Piece.{stretch_at};
 
 use crate::entry::entries_at;
-use crate::hull::hull_of;
+use crate::hull::parts;
 use crate::piece::stretch_at;
 use arrayvec::ArrayVec;
 use claim_file::Claim;
 use intersection::kinds::Hull;
 use sample_interval::SampleSource;
-use span_cover::Stretch;
+use span_cover::{Stretch, piece_hull};
 
 /// A piece of a span, and what the samples say about the clock's error there.
 #[derive(Debug, Drop)]
@@ -46,7 +46,8 @@ pub(crate) fn piece_hull_at<S: SampleSource>(
 {
     let stretch = stretch_at(claim, step_s, number);
     let entries = entries_at(tables, number as usize);
-    let hull = hull_of(samples, claim, stretch, &entries);
+    let parts = parts(samples, claim, stretch, &entries);
+    let hull = piece_hull(parts.as_slice(), claim.groups.as_slice(), claim.false_max);
     PieceHull {
         stretch,
         entries,

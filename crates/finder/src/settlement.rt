@@ -11,14 +11,15 @@ ghost use Rattle.std.specs.Prelude.{◌≡◌, ◌<◌, ◌≤◌, pos, length, 
 ghost use Rattle.finder.specs.Common.{option_map, data_of as claim_data, samples_of, IsConflictTable, count_with_exchange, AreSamplesOf, IsLawful as IsLawfulExchange, most_exchanges};
 ghost use Rattle.feasibility.specs.ConflictsView.{data_of};
 ghost use Rattle.finder.specs.Reach.{AreTablesFor};
-ghost use Rattle.finder.specs.Settlement.{IsSearched, Settles};
+ghost use Rattle.finder.specs.Settlement.{IsFitted, IsHeard, IsSearched, Settles};
 
 use crate::drift_refutation::find_with_cover;
 use crate::fault::FindFault;
-use crate::fewest::{Fewest, fewest_by};
+use crate::fewest::certificate_over;
 use crate::longest::{tables_for, tick_after};
 use crate::nearest_refutation::find_refutation;
 use crate::neediest::{most_with, neediest_tick, splits_for};
+use crate::reach::{Reach, longest_ends};
 use certificate::{Certificate, Refutation};
 use claim_file::Claim;
 use feasibility::laws::{
@@ -169,6 +170,52 @@ fn refutation_of<X: ToExchange>(
     }
 }
 
+/// Settles a claim of which a course fits the exchanges, if more groups have a sample than may be
+/// false. These are the conflicts.
+fn settle_heard<X: ToExchange>(
+    alloc: Global,
+    exchanges: &[X],
+    claim: &Claim,
+    conflicts: &Conflicts,
+) -> Result<Settled, FindFault>
+    requires exchanges { All (IsLawfulExchange (length claim.now.servers.items))
+        (map X.shown exchanges.now) }
+    requires few { length exchanges.now ≤ most_exchanges }
+    requires groups { (data_of conflicts.now).groups ≡ length claim.now.groups.items }
+    requires table { IsConflictTable (claim_data claim.now) (map X.shown exchanges.now)
+        (data_of conflicts.now).is_broken (data_of conflicts.now).is_edge }
+    requires heard { IsHeard (claim_data claim.now) (map X.shown exchanges.now) }
+    requires courses { IsFitted (claim_data claim.now) (map X.shown exchanges.now) }
+    ensures { Settles (claim_data claim.now) (map X.shown exchanges.now) result }
+{
+    let samples = exchange_samples(exchanges, claim);
+    let tables = tables_for(alloc, samples, claim)?;
+    match longest_ends(alloc, &tables, claim)? {
+        Reach::End(ends) => {
+            let certificate = certificate_over(alloc, samples, claim, ends.as_slice())?;
+            Ok(Settled::Shown(certificate))
+        }
+        Reach::Stuck { begin, end, hull } => {
+            match refutation_of(alloc, exchanges, claim, conflicts, &tables, &[begin, end])? {
+                Search::Found(refutation) => Ok(Settled::Refuted(refutation)),
+                Search::Nothing { covers, most } => Ok(Settled::Open {
+                    begin: i128::from(begin),
+                    end: i128::from(end),
+                    hull,
+                    covers,
+                    most,
+                }),
+            }
+        }
+        Reach::TooLong { .. } => {
+            match refutation_of(alloc, exchanges, claim, conflicts, &tables, &[])? {
+                Search::Found(refutation) => Ok(Settled::Refuted(refutation)),
+                Search::Nothing { .. } => Err(FindFault::TooManyPieces),
+            }
+        }
+    }
+}
+
 /// Settles a claim: by a certificate if there is one, or else by a refutation with drift if one is
 /// found. If no course of events fits the exchanges, or no more groups have a sample than may be
 /// false, neither is looked for.
@@ -200,29 +247,5 @@ pub fn settle<X: ToExchange>(
     if groups <= claim.false_max {
         return Ok(Settled::NoEvidence { groups });
     }
-    let samples = exchange_samples(exchanges, claim);
-    let tables = tables_for(alloc, samples, claim)?;
-    match fewest_by(alloc, samples, claim, &tables) {
-        Ok(Fewest::Certificate(certificate)) => Ok(Settled::Shown(certificate)),
-        Ok(Fewest::Nothing { begin, end, hull }) => {
-            let ends = [begin as u64, end as u64];
-            match refutation_of(alloc, exchanges, claim, &conflicts, &tables, &ends)? {
-                Search::Found(refutation) => Ok(Settled::Refuted(refutation)),
-                Search::Nothing { covers, most } => Ok(Settled::Open {
-                    begin,
-                    end,
-                    hull,
-                    covers,
-                    most,
-                }),
-            }
-        }
-        Err(FindFault::TooManyPieces) => {
-            match refutation_of(alloc, exchanges, claim, &conflicts, &tables, &[])? {
-                Search::Found(refutation) => Ok(Settled::Refuted(refutation)),
-                Search::Nothing { .. } => Err(FindFault::TooManyPieces),
-            }
-        }
-        Err(fault) => Err(fault),
-    }
+    settle_heard(alloc, exchanges, claim, &conflicts)
 }

@@ -1,4 +1,4 @@
-use Rattle.finder.proofs.Common.{ℕ, pos, true≢false, inl, inr, map, sym, subst, ◌∙◌, length-map, data_of as claim_data, holds, AreLeeways}
+use Rattle.finder.proofs.Common.{true≢false, inl, inr, map, sym, ◌∙◌, data_of as claim_data, holds}
 use Rattle.certificate.specs.Refutation.{data_of as refutation_data}
 use Rattle.finder.proofs.HeldError.{held_if_bounded, if_none, rounded}
 use Rattle.finder.proofs.drift_refutation.find_on.Goals as goal
@@ -7,11 +7,8 @@ pub returns-in_err-refutation-clause-held : goal.returns-in_err-refutation-claus
 returns-in_err-refutation-clause-held g c =
     let claim = claim_data c.args.claim.now in
     let xs = map g.X.ToExchange.shown c.args.exchanges.now in
-    let leeways = c.leeways_at-leeways.result in
-    let are = subst (λ (n : ℕ). AreLeeways claim xs n c.args.side (pos c.args.place.reading) leeways)
-    (sym (length-map c.args.exchanges.now g.X.ToExchange.shown)) c.leeways_at-leeways.ensures in
     if_none c.from_residual.result _ (inl (held_if_bounded claim c.args.claim.now.lawful xs c.requires.exchanges
-    c.args.side c.args.place.reading (holds c.args.place.cover) leeways (holds c.false_groups-false_groups.result) are
+    c.args.side c.args.place.reading (holds c.args.place.cover) _ _ c.leeways_at-leeways.ensures
     c.false_groups-false_groups.ensures c.in_err-refutation.ensures))
 
 pub returns-else-check_refutation_by_conflicts-clause-held :
@@ -19,11 +16,8 @@ pub returns-else-check_refutation_by_conflicts-clause-held :
 returns-else-check_refutation_by_conflicts-clause-held g c =
     let claim = claim_data c.args.claim.now in
     let xs = map g.X.ToExchange.shown c.args.exchanges.now in
-    let leeways = c.leeways_at-leeways.result in
-    let are = subst (λ (n : ℕ). AreLeeways claim xs n c.args.side (pos c.args.place.reading) leeways)
-    (sym (length-map c.args.exchanges.now g.X.ToExchange.shown)) c.leeways_at-leeways.ensures in
     inr (rounded claim c.args.claim.now.lawful xs c.requires.exchanges c.args.side c.args.place.reading
-    (holds c.args.place.cover) leeways (holds c.false_groups-false_groups.result) are
+    (holds c.args.place.cover) _ _ c.leeways_at-leeways.ensures
     c.false_groups-false_groups.ensures (refutation_data c.in_ok-refutation.refutation) c.in_ok-refutation.ensures
     (λ refuted. true≢false (sym (c.check_refutation_by_conflicts.ensures.exact.1 refuted)
     ∙ c.if-check_refutation_by_conflicts.false)))

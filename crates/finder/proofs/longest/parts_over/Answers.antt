@@ -1,5 +1,4 @@
-use Rattle.finder.proofs.Common.{length, data_of, ◌∙◌}
-use Rattle.finder.proofs.LongestPiece.{tick_kept}
+use Rattle.finder.proofs.Common.{length, data_of, ◌∙◌, to_z-of_z, w128}
 use Rattle.finder.proofs.Part.{listed_said, parts_said}
 use Rattle.finder.proofs.longest.parts_over.Goals as goal
 
@@ -10,8 +9,8 @@ returns c =
     record {
       exact = λ samples tabled. c.parts_near.ensures samples servers tabled.are
           ∙ rw (
-            tick_kept c.args.begin c.from-begin.result c.ranges.begin.fits c.from-begin.ensures,
-            tick_kept c.args.end c.from-end.result c.ranges.end.fits c.from-end.ensures,
+            to_z-of_z w128 c.from-begin.result (record { sfits = c.from-begin.type_inv }) ∙ c.from-begin.ensures,
+            to_z-of_z w128 c.from-end.result (record { sfits = c.from-end.type_inv }) ∙ c.from-end.ensures,
           ) (parts_said samples claim _ _);
       listed = rw (
         c.args.claim.now.lawful.group_for_each,

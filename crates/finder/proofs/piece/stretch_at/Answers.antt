@@ -1,5 +1,5 @@
-use Rattle.finder.proofs.Common.{◌≡◌, ◌-◌, ◌∙◌, sym, ap, arith, to_z, w128, data_of, piece_begin_of, first_kept}
-use Rattle.finder.proofs.SpanPieces.{begin_later, end_computed, stretch_is}
+use Rattle.finder.proofs.Common.{◌≡◌, suc, ◌-◌, ◌∙◌, sym, ap, arith, to_z, w128, data_of, piece_begin_of, first_kept}
+use Rattle.finder.proofs.SpanPieces.{end_computed, stretch_is}
 use Rattle.finder.proofs.piece.stretch_at.Goals as goal
 use Rattle.finder.proofs.piece.stretch_at.Goals.{then-number-eq0, else-number-eq0}
 
@@ -16,7 +16,7 @@ returns c =
       | else-number-eq0 w ↦
           w.begin-is
           ∙ end_computed claim lawful step (number - 1) w.piece_end-begin.result w.piece_end-begin.ensures
-          ∙ sym (begin_later claim.first claim.last step number (number - 1) (omega arith))
+          ∙ ap begin_of (let later : suc (number - 1) ≡ number = omega arith in later)
     ] in
     stretch_is claim step number _ _ begin
     (end_computed claim lawful step number c.piece_end-end.result c.piece_end-end.ensures)

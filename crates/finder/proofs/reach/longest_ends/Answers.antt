@@ -1,5 +1,6 @@
 use Rattle.claim_file.specs.Claim.{data_of}
-use Rattle.finder.proofs.LongestPiece.{all_taken, before_last, in_64_bits, last_is, one_longer, reach_begins, reach_more, tick_kept}
+use Rattle.finder.proofs.LongestPiece.{all_taken, before_last, last_is, one_longer, reach_begins, reach_more}
+use Rattle.finder.proofs.Common.{◌∙◌, to_z-of_z, w128}
 use Rattle.finder.proofs.reach.longest_ends.Goals as goal
 
 pub loop-pace-preserved : goal.loop-pace-preserved
@@ -8,8 +9,7 @@ loop-pace-preserved c =
     let some = c.requires.tables in
     let long = c.in-Ok.ensures some.0 some.1 in
     let within = long.in_span in
-    let kept = tick_kept c.in-Ok.end c.from.result (in_64_bits c.in-Ok.end
-    c.args.claim.now.last within c.args.claim.now.lawful.span_ends) c.from.ensures in
+    let kept = to_z-of_z w128 c.from.result (record { sfits = c.from.type_inv }) ∙ c.from.ensures in
     record {
       longest = λ samples tabled. reach_more samples claim c.loop-pace.ends.items c.push.new.self.items
           c.loop-pace.begin c.in-Ok.end _ (c.loop-pace.invariant.longest samples tabled)

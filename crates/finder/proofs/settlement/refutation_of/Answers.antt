@@ -1,9 +1,10 @@
-use Rattle.finder.proofs.Common.{true, length, map, refl, sym, ap, subst, All, data_of as claim_data, Course, IsCover, IsHeldAtAll, holds_false, samples_of}
+use Rattle.finder.proofs.Common.{true, length, map, take_all, refl, sym, ap, subst, All, data_of as claim_data, Course, IsCover, IsHeldAtAll, holds_false, samples_of}
 use Rattle.checker.specs.Course.{Fits}
 use Rattle.feasibility.specs.LeastCovers.{AreLeastCovers}
 use Rattle.certificate.specs.Refutation.{data_of as refutation_data}
 use Rattle.feasibility.specs.ConflictsView.{data_of}
-use Rattle.finder.proofs.HeldError.{all_tried, are_held, least_covers, one_more_tried}
+use Rattle.finder.proofs.HeldError.{are_held, least_covers}
+use Rattle.std.proofs.lemmas.List.Elements.{All-more}
 use Rattle.finder.proofs.SettlementAnswer.{none_beyond, one_more_needs}
 use Rattle.finder.proofs.settlement.refutation_of.Goals as goal
 
@@ -18,9 +19,9 @@ loop-cover-preserved g c =
     let claim = claim_data c.args.claim.now in
     let xs = map g.X.ToExchange.shown c.args.exchanges.now in
     record {
-      held = one_more_tried (IsHeldAtAll claim xs c.args.readings.now) c.as_slice-covers.result.now
-          c.loop-cover.cover-index _ c.loop-cover-test.true c.in_default-find_with_cover-2.ensures.held
-          c.loop-cover.invariant.held;
+      held = All-more (IsHeldAtAll claim xs c.args.readings.now) c.as_slice-covers.result.now
+          c.loop-cover.cover-index _ c.loop-cover-test.true c.loop-cover.invariant.held
+          c.in_default-find_with_cover-2.ensures.held;
       needs = one_more_needs (samples_of xs claim) claim c.as_slice-covers.result.now c.loop-cover.cover-index _
           c.loop-cover.most c.most_with-most.result c.in_ok-neediest.neediest c.loop-cover-test.true
           c.loop-cover.invariant.needs c.most_with-most.ensures
@@ -51,11 +52,11 @@ returns-in-None g c =
     c.covers-least.ensures.all_or_64 in
     let cover_of : (course : Course) → Fits claim xs course
     → IsCover claim xs (holds_false claim.groups course.is_false) =
-    (λ course fits. c.false_groups_are_a_cover.ensures claim xs course c.args.claim.now.lawful c.requires.exchanges fits) in (
+    (λ course. c.false_groups_are_a_cover.ensures claim xs course c.args.claim.now.lawful c.requires.exchanges) in (
       c.in-None.ensures.none refl,
       are_held claim xs c.args.readings.now c.covers-least.result.items least cover_of _ (ap length same)
-          (subst (All held) same (all_tried held c.as_slice-covers.result.now c.loop-cover.cover-index
-          c.loop-cover-test.false c.loop-cover.invariant.held)),
+          (subst (All held) same (rw (take_all c.loop-cover.cover-index c.as_slice-covers.result.now
+          c.loop-cover-test.false) at c.loop-cover.invariant.held)),
       none_beyond claim xs c.as_slice-covers.result.now (subst (AreLeastCovers claim xs) (sym same) least) cover_of
           c.args.claim.now.lawful c.requires.exchanges
           c.loop-cover.cover-index c.loop-cover.most c.if_all.result c.loop-cover-test.false

@@ -1,5 +1,5 @@
 use Rattle.finder.proofs.Common.{◌<◌, length, arith, IsLawfulSample, All-slice_get}
-use Rattle.finder.proofs.PartList.{gathered_more}
+use Rattle.finder.proofs.List.{take_one_more}
 use Rattle.finder.proofs.tick_parts.best_at.Goals as goal
 
 pub take-requires-clause-sample : goal.take-requires-clause-sample
@@ -17,5 +17,5 @@ take-requires-clause-server g c =
 
 pub loop-number-preserved : goal.loop-number-preserved
 loop-number-preserved g c =
-    gathered_more (g.S.SampleSource.samples c.args.samples) c.loop-number.number c.sample_at.result _ _ _
-    c.sample_at.ensures (c.take.ensures _ _ _ _ c.loop-number.invariant)
+    rw (take_one_more (g.S.SampleSource.samples c.args.samples) c.loop-number.number _ c.sample_at.ensures)
+    (c.take.ensures _ _ _ _ c.loop-number.invariant)
