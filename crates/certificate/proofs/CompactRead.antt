@@ -16,7 +16,6 @@ module _ (certificate : CertificateData) (few : length certificate.pieces ≤ ma
   pub certificate_of-compact : (bytes rest : List ℕ) →
       bytes ≡ codes "{\"pieces\":[" ++ join_with_byte comma (map piece_text certificate.pieces) ++ rest →
       IsEnding rest → certificate_of bytes ≡ Ok certificate
-  certificate_of-compact bytes rest is (inl plain) =
-      ap certificate_of (is ∙ rw plain refl) ∙ certificate_of-text
+  certificate_of-compact bytes rest is (inl plain) = ap certificate_of (is ∙ rw plain refl) ∙ certificate_of-text
   certificate_of-compact bytes rest is (inr line) =
       ap certificate_of (is ∙ rw line (simp append_assoc)) ∙ certificate_of-line

@@ -1,5 +1,6 @@
 -- A number in decimal, a digit more at a time.
-use Rattle.certificate.proofs.Common.{◌≡◌, ℕ, ◌+◌, ◌*◌, ◌^◌, ◌<◌, List, [], ◌∷◌, ◌++◌, arith, sym, ap, ap₂, ◌∙◌, append_assoc, decimal_digit, decimal_step}
+use Rattle.std.proofs.lemmas.Int.{ints}
+use Rattle.certificate.proofs.Common.{◌≡◌, ℕ, ◌+◌, ◌*◌, ◌^◌, ◌<◌, List, [], ◌∷◌, ◌++◌, arith, sym, ap, ap₂, ◌∙◌, append_assoc, decimal_digit, decimal_step, nat_tests}
 use Rattle.std.proofs.lemmas.Nat.{div-mul-add}
 use Rattle.std.proofs.Math.Nat.{mul-add-mod_self_right, mod-eq_of_lt}
 use Rattle.std.specs.Fmt.{decimal}
@@ -7,15 +8,11 @@ use Rattle.std.specs.Fmt.{decimal}
 -- the first digit is read
 pub first_digit : (text more : List ℕ) (n digit : ℕ) → n ≡ digit → digit < 10 → text ≡ (48 + digit) ∷ more →
     text ≡ decimal n ++ more
-first_digit text more n digit same small read =
-    read ∙ ap (λ l. l ++ more) (sym (decimal_digit digit small) ∙ ap decimal (sym same))
+first_digit text more n digit same small read = grind (arith, ints, nat_tests, decimal_digit)
 
 digit_more : (n digit : ℕ) → 0 < n → digit < 10 → n * 10 + digit < 2 ^ 64 →
     decimal (n * 10 + digit) ≡ decimal n ++ (48 + digit) ∷ []
-digit_more n digit some small fits =
-    decimal_step (n * 10 + digit) (omega arith) fits
-    ∙ ap₂ (λ a b. decimal a ++ (48 + b) ∷ []) (div-mul-add n 10 digit small)
-    (mul-add-mod_self_right n 10 digit ∙ mod-eq_of_lt small)
+digit_more n digit some small fits = grind (arith, ints, nat_tests, decimal_step, div-mul-add)
 
 -- the digits before this one, and what follows them
 pub record IsRead (text rest : List ℕ) (n : ℕ) : Type 0 where

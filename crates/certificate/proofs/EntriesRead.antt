@@ -1,5 +1,6 @@
 -- The entries of a piece, read one after another.
-use Rattle.certificate.proofs.Common.{◌≡◌, ℕ, suc, ◌+◌, ◌≤◌, List, [], ◌∷◌, ◌++◌, Bool, false, nat_le, Option, Some, None, option_map, option_and_then, Result, Ok, Err, if◌then◌else◌, refl, ap, ap₂, ◌∙◌, arith, append-nil, append_assoc, le-leb, lt-leb, Data, Items, no_items, item, items_len, parse_map, after_end_array, Token, mapped_same, array_ends, element_read, goes_on, next_value, next_items, rest_after, given, asked, CertificateFault, Shape, TooManyEntries, max_entries, entry_of, entries_of}
+use Rattle.std.proofs.lemmas.Int.{ints}
+use Rattle.certificate.proofs.Common.{◌≡◌, ℕ, suc, ◌+◌, ◌≤◌, List, [], ◌∷◌, ◌++◌, Bool, false, nat_le, Option, Some, None, option_map, option_and_then, Result, Ok, Err, if◌then◌else◌, refl, ap, ap₂, ◌∙◌, arith, append-nil, append_assoc, le-leb, lt-leb, Data, Items, no_items, item, items_len, parse_map, after_end_array, Token, mapped_same, array_ends, element_read, goes_on, next_value, next_items, rest_after, given, asked, CertificateFault, Shape, TooManyEntries, max_entries, entry_of, entries_of, nat_tests}
 
 -- the entries that were read, unless an element was none
 abbrev pub so_far : Bool → List (ℕ × ℕ) → Option (List (ℕ × ℕ))
@@ -25,23 +26,18 @@ one_more found entry more = grind (arith, append_assoc)
 entries_next : (number count : ℕ) (found : Option (List (ℕ × ℕ))) (value : Data) (rest : Items) →
     entries_after number count found (item value rest)
     ≡ entries_after number (count + 1) (and_one found (entry_of value)) rest
-entries_next number count found value rest =
-    let same : count + suc (items_len rest) ≡ count + 1 + items_len rest = omega arith in
-    ap₂ (λ n more. asked (TooManyEntries number) (nat_le n max_entries) (given (Shape number) more Ok)) same
-    (one_more found (entry_of value) (entries_of rest))
+entries_next number count found value rest = grind (arith, ints, nat_tests, asked, given, one_more)
 
 nothing_more : (found : Option (List (ℕ × ℕ))) → and_more found (Some []) ≡ found
 nothing_more found = grind (arith, append-nil)
 
 entries_last : (number count : ℕ) (found : Option (List (ℕ × ℕ))) → count ≤ max_entries →
     entries_after number count found no_items ≡ given (Shape number) found Ok
-entries_last number count found few =
-    rw (nothing_more found, le-leb (count + 0) max_entries (omega arith)) refl
+entries_last number count found few = grind (arith, ints, nat_tests, nothing_more)
 
 entries_too_many : (number count : ℕ) (found : Option (List (ℕ × ℕ))) (value : Data) (rest : Items) →
     count ≡ max_entries → entries_after number count found (item value rest) ≡ Err (TooManyEntries number)
-entries_too_many number count found value rest full =
-    rw (lt-leb (count + suc (items_len rest)) max_entries (omega arith)) refl
+entries_too_many number count found value rest full = grind (arith, ints, nat_tests)
 
 -- what was pushed, in the program's words
 pub pushed_one : (are_pairs : Bool) (before after : List (ℕ × ℕ)) (entry : ℕ × ℕ) → after ≡ before ++ entry ∷ [] →
@@ -75,6 +71,4 @@ module _ (number count : ℕ) (found : Option (List (ℕ × ℕ))) (depth : ℕ)
 pub none_there : (number count : ℕ) (found : Option (List (ℕ × ℕ))) (depth : ℕ) (ts r : List Token) →
     after_end_array ts ≡ Some r → count ≤ max_entries →
     parse_map (entries_after number count found) (next_items depth ts) ≡ Some (given (Shape number) found Ok, r)
-none_there number count found depth ts r over few =
-    array_ends (entries_after number count found) depth ts r over
-    ∙ ap (λ e. Some (e, r)) (entries_last number count found few)
+none_there number count found depth ts r over few = grind (arith, ints, nat_tests, array_ends, entries_last)

@@ -1,30 +1,12 @@
 -- What is read of a certificate keeps its limits.
+use Rattle.std.proofs.lemmas.Int.{ints}
 use Rattle.certificate.proofs.Common.{◌≡◌, ℕ, suc, ◌+◌, ◌<◌, ◌≤◌, ◌^◌, List, [], ◌∷◌, length, nat_lt, nat_le, Option, Some, None, Ok, if◌then◌else◌, option_map, option_and_then, refl, ap, subst, arith, leb-true, nat_tests, All, codes, Data, Items, no_items, item, items_len, as_array, members_among, items_at, parsed, unsigned_at, unsigned_of, CertificateData, PieceData, NamesSamples, IsReadable, max_pieces, sample_of, pair_of, entry_of, entries_of, piece_of, pieces_from, top_of, certificate_of}
 use Rattle.std.proofs.lemmas.List.Elements.{All-cons, All-nil}
 use Rattle.std.proofs.lemmas.Option.{option_and_then_some}
 use Rattle.json_text.proofs.Steps.{after_by, asked_by, given_by}
 
-sample_of-small : (value : Data) (n : ℕ) → sample_of value ≡ Some n → n < 2 ^ 32
-sample_of-small value n is = small (unsigned_of value) is
-  where
-    small : (o : Option ℕ) → option_and_then (λ m. if nat_lt m (2 ^ 32) then Some m else None) o ≡ Some n → n < 2 ^ 32
-    small o is = grind (arith, nat_tests)
-
-pair_of-names : (items : Items) (entry : ℕ × ℕ) → pair_of items ≡ Some entry → NamesSamples entry
-pair_of-names no_items entry is = cc
-pair_of-names (item low no_items) entry is = cc
-pair_of-names (item low (item high (item more rest))) entry is = cc
-pair_of-names (item low (item high no_items)) entry is =
-    let (first, second) = both (sample_of low) (sample_of high) is in
-    record { low = sample_of-small low entry.0 first; high = sample_of-small high entry.1 second }
-  where
-    both : (a b : Option ℕ) → option_and_then (λ m. option_map (λ n. (m, n)) b) a ≡ Some entry →
-        (a ≡ Some entry.0) × (b ≡ Some entry.1)
-    both a b e = grind arith
-
 entry_of-names : (value : Data) (entry : ℕ × ℕ) → entry_of value ≡ Some entry → NamesSamples entry
-entry_of-names value entry is =
-    option_and_then_some pair_of (as_array value) entry is (λ items found e. pair_of-names items entry e)
+entry_of-names value entry is = grind (arith, ints, nat_tests, option_and_then_some)
 
 entries_of-names : (items : Items) (entries : List (ℕ × ℕ)) → entries_of items ≡ Some entries →
     (length entries ≡ items_len items) × All NamesSamples entries

@@ -35,8 +35,7 @@ lex_token begin_object rest h ended = refl
 lex_token end_object rest h ended = refl
 lex_token begin_array rest h ended = refl
 lex_token end_array rest h ended = refl
-lex_token (key s) rest h ended =
-    ap (lex between) (append_assoc (quoted s) (58 ∷ []) rest) ∙ lex_quoted s (58 ∷ rest)
+lex_token (key s) rest h ended = ap (lex between) (append_assoc (quoted s) (58 ∷ []) rest) ∙ lex_quoted s (58 ∷ rest)
 lex_token (string s) rest h ended = lex_quoted s rest
 lex_token (number s) rest h ended = lex-number s rest h (ended refl)
 lex_token (boolean true) rest h ended =

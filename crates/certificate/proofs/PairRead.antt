@@ -22,8 +22,7 @@ module _ (depth : ℕ) (ts t ts' : List Token) (low : Option ℕ) (going : GoesO
       more ∙ array_ends (λ rest. pair_of (item v rest)) depth ts' r over
 
   module _ (t' : List Token) (going' : GoesOn ts' t') where
-    pub high_refused : parse_map sample_of (next_value depth t') ≡ None →
-        parse_map pair_of (next_items depth ts) ≡ None
+    pub high_refused : parse_map sample_of (next_value depth t') ≡ None → parse_map pair_of (next_items depth ts) ≡ None
     high_refused is =
         let (v, same, more) = first_read in
         more ∙ element_refused (λ rest. pair_of (item v rest)) depth ts' sample_of going'.0 (rw (← going'.1) is)

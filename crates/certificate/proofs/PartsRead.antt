@@ -1,8 +1,15 @@
 -- The members of an object, read one after another: what the last member of each name says.
-use Rattle.certificate.proofs.Common.{◌≡◌, ◌≢◌, ℕ, List, [], ◌∷◌, Bool, true, false, ◌&&◌, Option, Some, None, if◌then◌else◌, option_map, option_and_then, Result, Ok, nat_le, Ordering, Less, Equal, Greater, nat_cmp, is_eq, bytes_eq, refl, sym, ap, ◌∙◌, bytes_eq-Decides, list_any, codes, get_member-put, get_member-put_other, Data, Items, Members, no_members, member, put, object, as_array, get_member, items_len, given, asked, after, has_only, unsigned_of, CertificateFault, Shape, TooManyEntries, max_entries, entries_of, piece_of, PieceParts, entries_in, parts_of, piece_from}
+use Rattle.std.proofs.lemmas.Int.{ints}
+use Rattle.certificate.proofs.Common.{◌<◌, length, Token, read_key, next_value, read_key-shorter, value-shorter, ◌≡◌, ◌≢◌, ℕ, List, [], ◌∷◌, Bool, true, false, ◌&&◌, Option, Some, None, if◌then◌else◌, option_map, option_and_then, Result, Ok, nat_le, Ordering, Less, Equal, Greater, nat_cmp, is_eq, bytes_eq, refl, sym, ap, ◌∙◌, bytes_eq-Decides, list_any, codes, get_member-put, get_member-put_other, Data, Items, Members, no_members, member, put, object, as_array, get_member, items_len, given, asked, after, has_only, unsigned_of, CertificateFault, Shape, TooManyEntries, max_entries, entries_of, piece_of, PieceParts, entries_in, parts_of, piece_from, arith, nat_tests}
 use Rattle.std.proofs.lemmas.Map.Text.{is_eq-slice_cmp}
 use Rattle.std.specs.Cmp.Lexicographic.{slice_cmp}
 use Rattle.std.specs.Ordering.{match_ordering}
+
+-- what is left behind a member is shorter
+pub member-shorter : (depth : ℕ) (ts s r : List Token) (k : List ℕ) → read_key ts ≡ Some (Some k, s) → (v : Data) →
+    next_value depth s ≡ Some (v, r) → length r < length ts
+member-shorter depth ts s r k named v is =
+    omega (arith, read_key-shorter ts (Some k) s named, value-shorter depth s r v is)
 
 -- ---- names
 
@@ -45,33 +52,23 @@ not_same false xs ys is other = refl
 abbrev pub made : Bool → Option ℕ → Option (Result (List (ℕ × ℕ)) CertificateFault) → PieceParts
 made is_known upto entries = record { is_known = is_known; upto = upto; entries = entries }
 
-abbrev piece_names : List (List ℕ)
-piece_names = codes "entries" ∷ codes "upto" ∷ []
-
 module _ (number : ℕ) (value : Data) (found : Members) (parts : PieceParts)
     (known : parts ≡ parts_of number found) where
   pub parts_entries : (read : Option (Result (List (ℕ × ℕ)) CertificateFault)) →
       option_map (entries_in number) (as_array value) ≡ read →
       made parts.is_known parts.upto read ≡ parts_of number (put (codes "entries") value found)
   parts_entries read is =
-      let other = get_member-put_other (codes "upto") (codes "entries") value found (λ same. absurd (cc)) in
-      let here = get_member-put (codes "entries") value found in
-      rw known (rw (has_only-put piece_names _ value found, here, other, is) refl)
+      grind (arith, ints, nat_tests, get_member-put_other, value, found, get_member-put, known, has_only-put)
 
   pub parts_upto : (read : Option ℕ) → unsigned_of value ≡ read →
       made parts.is_known read parts.entries ≡ parts_of number (put (codes "upto") value found)
   parts_upto read is =
-      let other = get_member-put_other (codes "entries") (codes "upto") value found (λ same. absurd (cc)) in
-      rw known (rw (has_only-put piece_names _ value found, get_member-put (codes "upto") value found, other, is) refl)
+      grind (arith, ints, nat_tests, get_member-put_other, value, found, known, has_only-put, get_member-put)
 
   pub parts_other : (name : List ℕ) → (name ≡ codes "entries" → ⊥) → (name ≡ codes "upto" → ⊥) →
       made false parts.upto parts.entries ≡ parts_of number (put name value found)
   parts_other name no_entries no_upto =
-      let upto = get_member-put_other (codes "upto") name value found (λ same. no_upto (sym same)) in
-      let entries = get_member-put_other (codes "entries") name value found (λ same. no_entries (sym same)) in
-      let a = not_same _ (codes "entries") name refl no_entries in
-      let b = not_same _ (codes "upto") name refl no_upto in
-      rw known (rw (has_only-put piece_names name value found, a, b, upto, entries) refl)
+      grind (arith, ints, nat_tests, get_member-put_other, value, found, not_same, known, has_only-put)
 
 after_asked : {A B : Type 0} (few bad : CertificateFault) (fits : Bool) (read : Option A) (more : A → B) →
     after (asked few fits (given bad read Ok)) (λ a. Ok (more a)) ≡ asked few fits (given bad read (λ a. Ok (more a)))
@@ -97,7 +94,4 @@ same_piece number ms true (Some upto) (Some items) =
 -- the piece of an object is that of its parts
 pub piece_from-parts : (number : ℕ) (members : Members) →
     piece_from number (parts_of number members) ≡ piece_of number (object members)
-piece_from-parts number members =
-    same_piece number members (has_only piece_names members)
-    (option_and_then unsigned_of (get_member (codes "upto") members))
-    (option_and_then as_array (get_member (codes "entries") members))
+piece_from-parts number members = grind (arith, ints, nat_tests, same_piece)

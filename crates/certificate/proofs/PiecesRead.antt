@@ -1,5 +1,6 @@
 -- The pieces of a certificate, read one after another.
-use Rattle.certificate.proofs.Common.{◌≡◌, ℕ, suc, ◌+◌, ◌≤◌, List, [], ◌∷◌, ◌++◌, nat_le, Some, None, Result, Ok, Err, refl, ap, ap₂, ◌∙◌, arith, append-nil, append_assoc, le-leb, lt-leb, Data, Items, no_items, item, items_len, parse_map, after_end_array, Token, mapped_same, element_read, goes_on, next_value, next_items, rest_after, asked, after, CertificateFault, TooManyPieces, PieceData, max_pieces, pieces_and, piece_of, pieces_from}
+use Rattle.std.proofs.lemmas.Int.{ints}
+use Rattle.certificate.proofs.Common.{◌≡◌, ℕ, suc, ◌+◌, ◌≤◌, List, [], ◌∷◌, ◌++◌, nat_le, Some, None, Result, Ok, Err, refl, ap, ap₂, ◌∙◌, arith, append-nil, append_assoc, le-leb, lt-leb, Data, Items, no_items, item, items_len, parse_map, after_end_array, Token, mapped_same, element_read, goes_on, next_value, next_items, rest_after, asked, after, CertificateFault, TooManyPieces, PieceData, max_pieces, pieces_and, piece_of, pieces_from, nat_tests}
 
 abbrev Pieces : Type 0
 Pieces = Result (List PieceData) CertificateFault
@@ -30,13 +31,11 @@ nothing_more found = grind (arith, append-nil)
 
 pub pieces_last : (count : ℕ) (found : Result (List PieceData) CertificateFault) → count ≤ max_pieces →
     pieces_after count found no_items ≡ found
-pieces_last count found few =
-    rw (nothing_more found, le-leb (count + 0) max_pieces (omega arith)) refl
+pieces_last count found few = grind (arith, ints, nat_tests, nothing_more)
 
 pieces_too_many : (count : ℕ) (found : Result (List PieceData) CertificateFault) (value : Data) (rest : Items) →
     count ≡ max_pieces → pieces_after count found (item value rest) ≡ Err TooManyPieces
-pieces_too_many count found value rest full =
-    rw (lt-leb (count + suc (items_len rest)) max_pieces (omega arith)) refl
+pieces_too_many count found value rest full = grind (arith, ints, nat_tests)
 
 -- ---- a turn of the reading
 

@@ -1,5 +1,6 @@
 -- What was written is read again.
-use Rattle.certificate.proofs.Common.{◌≡◌, ℕ, suc, ◌+◌, ◌<◌, ◌≤◌, ◌^◌, List, [], ◌∷◌, length, map, Some, Ok, refl, ap, ◌∙◌, arith, lt-ltb, le-leb, All, Data, items_len, items_of, given, Json, parsed, PieceData, CertificateData, NamesSamples, IsReadable, IsHeld, max_pieces, sample_of, entry_of, entries_of, piece_of, pieces_from, certificate_from, certificate_of, number_value, entry_value, piece_value, certificate_value}
+use Rattle.std.proofs.lemmas.Int.{ints}
+use Rattle.certificate.proofs.Common.{◌≡◌, ℕ, suc, ◌+◌, ◌<◌, ◌≤◌, ◌^◌, List, [], ◌∷◌, length, map, Some, Ok, refl, ap, ◌∙◌, arith, lt-ltb, le-leb, All, Data, items_len, items_of, given, Json, parsed, PieceData, CertificateData, NamesSamples, IsReadable, IsHeld, max_pieces, sample_of, entry_of, entries_of, piece_of, pieces_from, certificate_from, certificate_of, number_value, entry_value, piece_value, certificate_value, nat_tests}
 use Rattle.std.proofs.lemmas.List.Elements.{All-tail}
 
 sample_of-value : (n : ℕ) → n < 2 ^ 32 → sample_of (number_value n) ≡ Some n
@@ -12,8 +13,7 @@ entries_of-values : (entries : List (ℕ × ℕ)) → All NamesSamples entries �
     entries_of (items_of (map entry_value entries)) ≡ Some entries
 entries_of-values [] named = refl
 entries_of-values (e ∷ es) named =
-    let rest = entries_of-values es (All-tail NamesSamples e es named) in
-    rw (entry_of-value e (named 0 e (omega arith)), rest) refl
+    rw (entry_of-value e (named 0 e (omega arith)), entries_of-values es (All-tail NamesSamples e es named)) refl
 
 pub items_len-map : {X : Type 0} (value : X → Data) (xs : List X) → items_len (items_of (map value xs)) ≡ length xs
 items_len-map value [] = refl
@@ -31,8 +31,10 @@ pieces_from-values : (number : ℕ) (pieces : List PieceData) → All IsReadable
     pieces_from number (items_of (map piece_value pieces)) ≡ Ok pieces
 pieces_from-values number [] readable = refl
 pieces_from-values number (p ∷ ps) readable =
-    let rest = pieces_from-values (number + 1) ps (All-tail IsReadable p ps readable) in
-    rw (piece_of-value number p (readable 0 p (omega arith)), rest) refl
+    rw (
+      piece_of-value number p (readable 0 p (omega arith)),
+      pieces_from-values (number + 1) ps (All-tail IsReadable p ps readable),
+    ) refl
 
 pub certificate_from-value : (certificate : CertificateData) → length certificate.pieces ≤ max_pieces →
     All IsReadable certificate.pieces →
@@ -48,6 +50,4 @@ certificate_from-value certificate few readable =
 pub certificate_of-read : (bytes : List ℕ) (certificate : CertificateData) →
     parsed bytes ≡ Some (certificate_value certificate) → length certificate.pieces ≤ max_pieces →
     All IsHeld certificate.pieces → certificate_of bytes ≡ Ok certificate
-certificate_of-read bytes certificate is few held =
-    ap (λ o. given Json o certificate_from) is
-    ∙ certificate_from-value certificate few (λ k d less. (held k d less).readable)
+certificate_of-read bytes certificate is few held = grind (arith, ints, nat_tests, given, certificate_from-value)

@@ -100,9 +100,11 @@ joined-short : (servers : List ℕ) → All (λ s. s < 2 ^ 8) servers →
 joined-short [] small = omega arith
 joined-short (s ∷ []) small = omega (arith, server-short s (small 0 s (omega arith)))
 joined-short (s ∷ t ∷ ss) small =
-    let here = server-short s (small 0 s (omega arith)) in
-    let rest = joined-short (t ∷ ss) (λ k d less. small (suc k) d (omega arith)) in
-    simp length-append (omega (arith, here, rest))
+    simp length-append (omega (
+      arith,
+      server-short s (small 0 s (omega arith)),
+      joined-short (t ∷ ss) (λ k d less. small (suc k) d (omega arith)),
+    ))
 
 pub refutation_text-short : (refutation : RefutationData) → IsHeldRefutation refutation →
     length (refutation_text refutation) ≤ 65536

@@ -1,19 +1,12 @@
 -- A reading in steps, as the code takes them: each step is a call that finds a value or doesn't.
-use Rattle.claim_file.proofs.Common.{◌≡◌, Option, Some, None, Result, Ok, Err, option_map, refl, sym, ap, ◌∙◌, inl, inr, given, ClaimFault, Memory, Answers}
+use Rattle.claim_file.proofs.Common.{◌≡◌, Option, Some, None, Result, Ok, Err, option_map, refl, sym, ap, ◌∙◌, inl, inr, given, ClaimFault, Memory, Answers, rules}
 use Rattle.std.specs.Option.{ok_or}
 use Rattle.std.specs.Result.{IsErr, IsErrAnd}
-
-none_found : {A E : Type 0} (fault : E) (found : Option A) {e : E} → Err e ≡ ok_or found fault →
-    (found ≡ None) × (fault ≡ e)
-none_found fault None {e} is = (refl, cc)
-none_found fault (Some y) is = cc
 
 pub stops_shown : {A B C E : Type 0} (fault : E) {e : E} (shown : A → B) (found : Option A) {defined : Option B}
     (rest : B → Result C E) →
     option_map shown found ≡ defined → Err e ≡ ok_or found fault → given fault defined rest ≡ Err e
-stops_shown fault shown found rest kept is =
-    let (none, same) = none_found fault found is in
-    ap (λ o. given fault o rest) (sym kept ∙ ap (option_map shown) none) ∙ ap Err same
+stops_shown fault shown found rest kept is = search rules
 
 -- what the function answers then
 pub answers_fault : {A B : Type 0} (shown : A → B) {defined : Result B ClaimFault} {e : ClaimFault}

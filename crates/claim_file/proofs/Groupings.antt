@@ -1,5 +1,5 @@
 -- The numbers of groups that a claim gives to its servers.
-use Rattle.claim_file.proofs.Common.{◌≡◌, ℕ, zero, suc, ◌+◌, ◌<◌, ◌≤◌, ◌==◌, nat_lt, true, false, not, cond, List, [], ◌∷◌, ◌++◌, length, map, get_or, Option, Some, None, unwrap_or, ◌↔◌, refl, sym, ap, ◌∙◌, subst, arith, inl, inr, nat_tests, and_parts, ltb-true, ltb-false, Decides-eqb, length-range_with_len, get_or-range_with_len, length-map-range_with_len, get_or-map-range_with_len, AllPass-from_list_all, sum_by-append, All, Contains, IsSomeAnd, slice_get, concat, list_all, list_any, position_from, IsWithoutGap, group_count, servers_of, times_listed, groups_of, group_of, is_grouping, IsInGroup}
+use Rattle.claim_file.proofs.Common.{◌≡◌, ℕ, zero, suc, ◌+◌, ◌<◌, ◌≤◌, ◌==◌, nat_lt, true, false, not, cond, List, [], ◌∷◌, ◌++◌, length, map, get_or, Option, Some, None, unwrap_or, ◌↔◌, refl, sym, ap, ◌∙◌, subst, arith, inl, inr, nat_tests, and_parts, ltb-true, ltb-false, Decides-eqb, length-range_with_len, get_or-range_with_len, length-map-range_with_len, get_or-map-range_with_len, AllPass-from_list_all, sum_by-append, All, Contains, IsSomeAnd, slice_get, concat, list_all, list_any, position_from, IsWithoutGap, group_count, servers_of, times_listed, groups_of, group_of, is_grouping, IsInGroup, ints}
 use Rattle.std.proofs.lemmas.List.Folds.{list_all-append, Any-from_list_any, list_any-from_Any}
 use Rattle.std.proofs.lemmas.Bool.{cases_Bool, cases_lt, eq-eqb}
 use Rattle.std.proofs.lemmas.Option.{cond_some, get_or_from_slice_get, slice_get-get_or, slice_get_within}
@@ -7,8 +7,7 @@ use Rattle.claim_file.proofs.Groups.{length-groups, once_each, times_listed-cons
 
 pub given_grouping : (n : ℕ) (listed : List (List ℕ)) (groups : List ℕ) → groups_of n (Some listed) ≡ Some groups →
     (is_grouping n listed ≡ true) × (map (group_of listed) (servers_of n) ≡ groups)
-given_grouping n listed groups e =
-    cond_some (is_grouping n listed) (map (group_of listed) (servers_of n)) groups e
+given_grouping n listed groups e = grind (arith, ints, nat_tests, cond_some)
 
 -- the parts of the test
 pub record IsGrouping (n : ℕ) (listed : List (List ℕ)) : Type 0 where
@@ -88,10 +87,8 @@ groups_of-range n (Some listed) groups some e =
 held_concat : (x : ℕ) (groups : List (List ℕ)) (g : ℕ) → g < length groups →
     list_any (λ s. s == x) (get_or groups g []) ≡ true → 1 ≤ times_listed x (concat groups)
 held_concat x [] g less e = absurd (omega arith)
-held_concat x (h ∷ hs) zero less e =
-    omega (arith, held_times x h e, times-append x h (concat hs))
-held_concat x (h ∷ hs) (suc g) less e =
-    omega (arith, held_concat x hs g (omega arith) e, times-append x h (concat hs))
+held_concat x (h ∷ hs) zero less e = omega (arith, held_times x h e, times-append x h (concat hs))
+held_concat x (h ∷ hs) (suc g) less e = omega (arith, held_concat x hs g (omega arith) e, times-append x h (concat hs))
 
 -- a number that stands once has its place at the group that holds it
 place_once : (x : ℕ) (i : ℕ) (groups : List (List ℕ)) (g : ℕ) → g < length groups →
@@ -133,8 +130,7 @@ below_concat n (h ∷ hs) (suc g) less some below =
 -- there are at most as many groups as are listed
 listed_count : (n : ℕ) (listed : List (List ℕ)) (groups : List ℕ) → groups_of n (Some listed) ≡ Some groups →
     group_count groups ≤ length listed
-listed_count n listed groups e =
-    group_count-le (length listed) groups (groups_below n listed groups e)
+listed_count n listed groups e = grind (arith, ints, nat_tests, group_count-le, groups_below)
 
 -- each of the groups that are listed has a server
 group_held : (n : ℕ) (listed : List (List ℕ)) (groups : List ℕ) → groups_of n (Some listed) ≡ Some groups →
@@ -273,9 +269,7 @@ in_group n (Some listed) groups e server group =
           subst (λ gs. get_or gs server 0 ≡ group_of listed server) same
           (get_or-map-range_with_len (group_of listed) 0 n server server 0 small (omega arith)) in
           let place = place_holds server 0 listed (omega (arith, parts.once server small)) in
-          let is : place.0 ≡ group =
-          (let found = place.1 in let given = get_or_from_slice_get groups server group 0 at in
-          omega (arith, found, given, number)) in
+          let is : place.0 ≡ group = omega (arith, place.1, get_or_from_slice_get groups server group 0 at, number) in
           some_at (λ servers. Contains servers server) listed group
           (subst (λ (g : ℕ). g < length listed) is place.2)
           (subst (λ (g : ℕ). Contains (get_or listed g []) server) is

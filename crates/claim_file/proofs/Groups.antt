@@ -1,12 +1,10 @@
 -- Lists of server numbers, and groups as they are read.
-use Rattle.claim_file.proofs.Common.{◌≡◌, ℕ, zero, suc, ◌+◌, ◌-◌, ◌<◌, ◌≤◌, ◌==◌, nat_lt, true, not, cond, List, [], ◌∷◌, ◌++◌, length, map, Vec, Global, refl, sym, ap, ◌∙◌, arith, and_parts, length-append, append_assoc, Some, get_or, drop, drop-cons, add-one, nat_tests, get_or-range_with_len, length-range_with_len, AllPass-from_list_all, sum_by-cons, concat, list_all, list_any, position_from, range_with_len, servers_of, times_listed}
+use Rattle.claim_file.proofs.Common.{◌≡◌, ℕ, zero, suc, ◌+◌, ◌-◌, ◌<◌, ◌≤◌, ◌==◌, nat_lt, true, not, cond, List, [], ◌∷◌, ◌++◌, length, map, Vec, Global, refl, sym, ap, ◌∙◌, arith, and_parts, length-append, append_assoc, Some, get_or, drop, drop-cons, add-one, nat_tests, get_or-range_with_len, length-range_with_len, AllPass-from_list_all, sum_by-cons, concat, list_all, list_any, position_from, range_with_len, servers_of, times_listed, ints}
 use Rattle.std.proofs.lemmas.List.{length-map}
 
 -- the numbers from a up to n, with the first apart
 pub range_front : (a n : ℕ) → a < n → range_with_len a (n - a) ≡ a ∷ range_with_len (a + 1) (n - (a + 1))
-range_front a n less =
-    let more : n - a ≡ suc (n - (a + 1)) = omega arith in
-    ap (range_with_len a) more
+range_front a n less = grind (arith, ints, nat_tests)
 
 -- one more element at the end of what was found
 pub found_more : {X : Type 0} {all grown rest others : List X} {x : X} (front : List X) →
@@ -20,8 +18,7 @@ pub group_at : (server : ℕ) (groups : List (Vec ℕ Global)) (k : ℕ) (group 
     position_from (λ g. list_any (λ s. s == server) g) k (map (λ list. list.items) (drop k groups))
     ≡ cond (list_any (λ s. s == server) group.items) (Some k)
     (position_from (λ g. list_any (λ s. s == server) g) (k + 1) (map (λ list. list.items) (drop (k + 1) groups)))
-group_at server groups k group is less =
-    rw (drop-cons groups k group less, add-one k, ← is) refl
+group_at server groups k group is less = grind (arith, ints, nat_tests, drop-cons)
 
 -- how many numbers of the list are below n, counted number by number
 abbrev tally : ℕ → List ℕ → ℕ
@@ -75,10 +72,12 @@ pub length-groups : (n : ℕ) (groups : List (List ℕ)) →
     list_all (λ s. times_listed s (concat groups) == 1) (servers_of n) ≡ true →
     length groups ≤ n
 length-groups n groups filled below once =
-    let counted = tally-below n (concat groups) below in
-    let all = tally-once n (concat groups) (once_each n (concat groups) once) in
-    let few = length-concat groups filled in
-    omega arith
+    omega (
+      arith,
+      tally-below n (concat groups) below,
+      tally-once n (concat groups) (once_each n (concat groups) once),
+      length-concat groups filled,
+    )
 
 -- the same of groups as they stand in memory, beside their numbers
 pub few_groups : (n : ℕ) (groups : List (Vec ℕ Global)) (numbers : List ℕ) →

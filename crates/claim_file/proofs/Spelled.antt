@@ -1,5 +1,5 @@
 -- The plain spelling of a claim is read as that claim.
-use Rattle.claim_file.proofs.Common.{◌≡◌, ◌≢◌, ◌∙◌, ℕ, zero, suc, pos, ◌+◌, ◌/◌, ◌%◌, ◌^◌, ◌<◌, ◌≤◌, ◌==◌, nat_lt, true, false, not, List, [], ◌∷◌, ◌++◌, length, map, Option, Some, None, Ok, IsUtf8, refl, sym, ap, subst, arith, length-append, length-range_with_len, get_or-range_with_len, All, AllPairs, codes, decimal, concat, list_any, IsDotted, bytes_eq, le-leb, lt-ltb, nat_tests, bytes_eq-Decides, ints, days_in_month_bounds, serde_json_on_literals, array, string, items_of, after, given, Json, addresses_of, are_different, FieldsData, fields_of, number_lists_of, numbers_of, texts_of, group_of, groups_of, is_grouping, servers_of, times_listed, NamedData, claim_from, claim_of, claim_with, is_in_range, named_of, within_limits, IsTime, two_digits}
+use Rattle.claim_file.proofs.Common.{◌≡◌, ◌≢◌, ◌∙◌, ℕ, zero, suc, pos, ◌+◌, ◌/◌, ◌%◌, ◌^◌, ◌<◌, ◌≤◌, ◌==◌, nat_lt, true, false, not, List, [], ◌∷◌, ◌++◌, length, map, Option, Some, None, Ok, IsUtf8, refl, sym, ap, subst, arith, length-append, length-range_with_len, get_or-range_with_len, All, AllPairs, codes, decimal, concat, list_any, IsDotted, bytes_eq, le-leb, lt-ltb, nat_tests, bytes_eq-Decides, ints, days_in_month_bounds, serde_json_on_literals, array, string, items_of, after, given, Json, addresses_of, are_different, FieldsData, fields_of, number_lists_of, numbers_of, texts_of, group_of, groups_of, is_grouping, servers_of, times_listed, NamedData, claim_from, claim_of, claim_with, is_in_range, named_of, within_limits, IsTime, two_digits, rules}
 use Rattle.std.proofs.lemmas.Bool.{eq-eqb, false_from_ne_true}
 use Rattle.std.proofs.lemmas.Fmt.{IsAscii-decimal}
 use Rattle.std.proofs.lemmas.Str.{IsUtf8-append, IsUtf8-from_ascii}
@@ -42,27 +42,19 @@ addresses_back : (texts addresses : List (List ℕ)) → AreDotted texts address
 addresses_back [] [] each = refl
 addresses_back [] (a ∷ rest) each = absurd each
 addresses_back (t ∷ ts) [] each = absurd each
-addresses_back (t ∷ ts) (a ∷ others) each =
-    rw (address_of-IsDotted t a each.0, addresses_back ts others each.1) refl
+addresses_back (t ∷ ts) (a ∷ others) each = rw (address_of-IsDotted t a each.0, addresses_back ts others each.1) refl
 
 named_back : (f : FieldsData) (named : NamedData) → Names f named → named_of f ≡ Ok named
 named_back f named is =
-    let client = address_of-IsDotted f.client named.client is.client in
-    let servers = addresses_back f.servers named.servers is.servers in
-    let begin = time_of-IsTime f.begin named.first is.begin in
-    let end = time_of-IsTime f.end named.last is.end in
-    rw (client, servers, begin, end) refl
+    rw (
+      address_of-IsDotted f.client named.client is.client,
+      addresses_back f.servers named.servers is.servers,
+      time_of-IsTime f.begin named.first is.begin,
+      time_of-IsTime f.end named.last is.end,
+    ) refl
 
 in_range : (f : FieldsData) (named : NamedData) → IsWithinLimits f named → is_in_range f named ≡ true
-in_range f named is =
-    let a = le-leb 1 (length named.servers) is.some_server in
-    let b = le-leb (length named.servers) 32 is.few_servers in
-    let d = le-leb f.false_max 31 is.few_false in
-    let e = le-leb named.first named.last is.forward in
-    let g = le-leb f.bound_ns 1000000000000000 is.bound in
-    let h = le-leb f.drift_ppb 500000000 is.drift in
-    let i = le-leb f.reading_ns 1000000000 is.reading in
-    rw (a, b, d, e, g, h, i) refl
+in_range f named is = search rules
 
 other : (a b : List ℕ) → a ≢ b → bytes_eq a b ≡ false
 other a b apart = false_from_ne_true (bytes_eq a b) (λ e. apart ((bytes_eq-Decides a b).0 e))

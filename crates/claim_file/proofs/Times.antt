@@ -1,5 +1,5 @@
 -- The answers of the reader of times.
-use Rattle.claim_file.proofs.Common.{◌+◌, nat_lt, nat_le, negsuc, ◌*◌, ◌/◌, ◌%◌, ◌≤◌, ◌<◌, arith, ◌≡◌, ◌^◌, ℕ, ℤ, pos, List, Bool, true, false, ◌&&◌, Option, Some, None, if◌then◌else◌, option_and_then, refl, sym, ap, ◌∙◌, and_parts, le-leb, leb-true, lt-ltb, ltb-true, ints, days_in_month_bounds, bytes_eq-Decides, bytes_eq, IsCivilDate, days_in_month, IsTime, exists, spelling, unix_second, pair_value, date_time_at, in_u32, time_of}
+use Rattle.claim_file.proofs.Common.{◌+◌, nat_lt, nat_le, negsuc, ◌*◌, ◌/◌, ◌%◌, ◌≤◌, ◌<◌, arith, ◌≡◌, ◌^◌, ℕ, ℤ, pos, List, Bool, true, false, ◌&&◌, Option, Some, None, if◌then◌else◌, option_and_then, refl, sym, ap, ◌∙◌, and_parts, le-leb, leb-true, lt-ltb, ltb-true, ints, days_in_month_bounds, bytes_eq-Decides, bytes_eq, IsCivilDate, days_in_month, IsTime, exists, spelling, unix_second, pair_value, date_time_at, in_u32, time_of, rules}
 use Rattle.claim_file.specs.declared.time.DateTime.{DateTime}
 
 -- a date and time that exist: the text is compared with their spelling
@@ -108,9 +108,7 @@ date_time_at-spelling m there =
 -- what the two tests and the range say together
 said : (there same : Bool) (z : ℤ) (second : ℕ) → there ≡ true → same ≡ true → z ≡ pos second → second < 2 ^ 32 →
     (if there && same then in_u32 z else None) ≡ Some second
-said there same z second t e counted small =
-    let less : nat_lt second (2 ^ 32) ≡ true = lt-ltb second (2 ^ 32) small in
-    rw (t, e, counted, less) refl
+said there same z second t e counted small = search rules
 
 pub record IsSaid (there same : Bool) (z : ℤ) (second : ℕ) : Type 0 where
   pub is_there : there ≡ true
@@ -143,18 +141,7 @@ unsaid false same z second e = cc
 -- a date and time exist if the calendar has the day, and the day the time
 exists_from : (m : DateTime) → IsCivilDate (pos m.year) m.month m.day → m.hour < 24 → m.minute < 60 → m.second < 60 →
     exists m ≡ true
-exists_from m date hour minute second =
-    let year : nat_lt m.year 10000 ≡ true = (let d = date.0.1 in
-    lt-ltb m.year 10000 (omega (arith, ints, d))) in
-    let first_month : nat_le 1 m.month ≡ true = le-leb 1 m.month date.1.0 in
-    let last_month : nat_le m.month 12 ≡ true = le-leb m.month 12 date.1.1 in
-    let first_day : nat_le 1 m.day ≡ true = le-leb 1 m.day date.2.0 in
-    let last_day : nat_le m.day (days_in_month (pos m.year) m.month) ≡ true =
-    le-leb m.day (days_in_month (pos m.year) m.month) date.2.1 in
-    let h : nat_lt m.hour 24 ≡ true = lt-ltb m.hour 24 hour in
-    let mi : nat_lt m.minute 60 ≡ true = lt-ltb m.minute 60 minute in
-    let s : nat_lt m.second 60 ≡ true = lt-ltb m.second 60 second in
-    rw (year, first_month, last_month, first_day, last_day, h, mi, s) refl
+exists_from m date hour minute second = search rules
 
 -- a text that writes a date and time says their second
 pub time_of-IsTime : (text : List ℕ) (second : ℕ) → IsTime text second → time_of text ≡ Some second

@@ -4,7 +4,7 @@ ghost use Rattle.std.specs.Prelude.{◌≡◌};
 ghost use Rattle.fault_words.specs.ClaimField as spec;
 ghost use Rattle.fault_words.specs.Sentence.{IsSentence};
 
-use crate::remedy;
+use crate::remedy::{self, WRITE_NANOSECONDS};
 use crate::sentence::{Sentence, says};
 
 /// What the field of this code, from 1 to 9, is called; nothing for another number.
@@ -36,16 +36,13 @@ fn number_sentence(code: u8) -> Sentence
         ),
         6 => says(
             "has to be a whole number from 0 to 10^15",
-            remedy::WRITE_NANOSECONDS,
+            WRITE_NANOSECONDS,
         ),
         7 => says(
             "has to be a whole number from 0 to 500000000",
             "write parts of 10^9 as a bare whole number: 100 ppm are 100000",
         ),
-        _ => says(
-            "has to be a whole number from 0 to 10^9",
-            remedy::WRITE_NANOSECONDS,
-        ),
+        _ => says("has to be a whole number from 0 to 10^9", WRITE_NANOSECONDS),
     }
 }
 

@@ -31,10 +31,7 @@ pub(crate) fn look_at_claim(
 
 /// Whether this is the fault of the bytes of a claim.
 fn has_fault(alloc: Global, fault: &ClaimFault, bytes: &[u8]) -> bool {
-    match read_claim(alloc, bytes) {
-        Ok(_) => false,
-        Err(seen) => seen == *fault,
-    }
+    read_claim(alloc, bytes).is_err_and(|seen| seen == *fault)
 }
 
 /// The same of what its JSON text says.
@@ -68,12 +65,10 @@ fn unknown_name(alloc: Global, value: &Value) -> Result<Seen, AllocError>
     let Some(members) = value.as_object() else {
         return Ok(Seen::nothing(alloc));
     };
-    for name in members.keys() {
-        if !is_known(name.as_str()) {
-            return this_text(alloc, name.as_str());
-        }
+    match members.keys().find(|name| !is_known(name.as_str())) {
+        Some(name) => this_text(alloc, name.as_str()),
+        None => Ok(Seen::nothing(alloc)),
     }
-    Ok(Seen::nothing(alloc))
 }
 
 /// Whether a claim may have this name.
@@ -130,11 +125,8 @@ fn at_address(alloc: Global, value: &Value) -> Result<Seen, AllocError>
 fn at_time(alloc: Global, value: &Value) -> Result<Seen, AllocError>
     ensures { IfOk result IsToldQuietly }
 {
-    let begin = value.get("from").and_then(Value::as_str).unwrap_or("");
-    if read_time(begin).is_none() {
-        return at_field(alloc, value, 4);
-    }
-    at_field(alloc, value, 5)
+    let field = if time_at(value, 4).is_none() { 4 } else { 5 };
+    at_field(alloc, value, field)
 }
 
 /// The number in the field of this code.
@@ -152,10 +144,8 @@ fn time_at(value: &Value, field: u8) -> Option<u32> {
 
 /// How many servers there are.
 fn server_count(value: &Value) -> usize {
-    match value.get("servers").and_then(Value::as_array) {
-        Some(servers) => servers.len(),
-        None => 0,
-    }
+    let servers = value.get("servers").and_then(Value::as_array);
+    servers.map_or(0, |servers| servers.len())
 }
 
 /// The first field that is out of its range.

@@ -107,33 +107,25 @@ impl FileKind {
 
 /// What a file is by its first bytes, if it isn't JSON.
 pub(crate) fn kind_of(bytes: &[u8]) -> FileKind {
-    let Some(front) = bytes.get(..4) else {
-        return if bytes.is_empty() {
-            FileKind::Empty
-        } else {
-            FileKind::Unknown
-        };
-    };
-    match front {
-        [0xd4, 0xc3, 0xb2, 0xa1]
-        | [0xa1, 0xb2, 0xc3, 0xd4]
-        | [0x4d, 0x3c, 0xb2, 0xa1]
-        | [0xa1, 0xb2, 0x3c, 0x4d] => FileKind::Pcap,
-        [0x0a, 0x0d, 0x0d, 0x0a] => FileKind::Pcapng,
-        [0x34, 0xcd, 0xb2, 0xa1] => FileKind::ModifiedPcap,
-        [0x1f, 0x8b, ..] => FileKind::Gzip,
-        [0x28, 0xb5, 0x2f, 0xfd] => FileKind::Zstd,
-        [0xfd, 0x37, 0x7a, 0x58] => FileKind::Xz,
-        [0xef, 0xbb, 0xbf, ..] => FileKind::Marked,
-        [0xff, 0xfe, ..] | [0xfe, 0xff, ..] => FileKind::Utf16,
+    match bytes {
+        [] => FileKind::Empty,
+        [0xd4, 0xc3, 0xb2, 0xa1, ..]
+        | [0xa1, 0xb2, 0xc3, 0xd4, ..]
+        | [0x4d, 0x3c, 0xb2, 0xa1, ..]
+        | [0xa1, 0xb2, 0x3c, 0x4d, ..] => FileKind::Pcap,
+        [0x0a, 0x0d, 0x0d, 0x0a, ..] => FileKind::Pcapng,
+        [0x34, 0xcd, 0xb2, 0xa1, ..] => FileKind::ModifiedPcap,
+        [0x1f, 0x8b, _, _, ..] => FileKind::Gzip,
+        [0x28, 0xb5, 0x2f, 0xfd, ..] => FileKind::Zstd,
+        [0xfd, 0x37, 0x7a, 0x58, ..] => FileKind::Xz,
+        [0xef, 0xbb, 0xbf, _, ..] => FileKind::Marked,
+        [0xff, 0xfe, _, _, ..] | [0xfe, 0xff, _, _, ..] => FileKind::Utf16,
         _ => FileKind::Unknown,
     }
 }
 
 /// Whether a file looks like an object of JSON.
 pub(crate) fn is_object(bytes: &[u8]) -> bool {
-    match bytes.iter().find(|byte| !byte.is_ascii_whitespace()) {
-        Some(first) => *first == b'{',
-        None => false,
-    }
+    let first = bytes.iter().find(|byte| !byte.is_ascii_whitespace());
+    first.is_some_and(|first| *first == b'{')
 }

@@ -49,8 +49,5 @@ pub fn look_at_times<F: Feed + Drop>(alloc: Global, feed: F) -> Option<Recorded>
     requires { IsReadable (F.state feed) }
     ensures { IfSome result (λ times. times.first ≤ times.last) }
 {
-    match Capture::begin(alloc, feed) {
-        Ok(mut source) => times_of(&mut source),
-        Err(_) => None,
-    }
+    times_of(&mut Capture::begin(alloc, feed).ok()?)
 }

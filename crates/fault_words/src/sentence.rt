@@ -4,7 +4,7 @@ ghost use Rattle.std.specs.Prelude.{T};
 ghost use Rattle.fault_words.specs.Sentence.{IsSentence, are_words};
 
 use crate::claim_field::field_sentence;
-use crate::remedy;
+use crate::remedy::{self, SEE_LIMITS};
 use certificate::{CertificateFault, RefutationFault};
 use claim_file::ClaimFault;
 use pcap_reader::CaptureFault;
@@ -32,10 +32,7 @@ pub(crate) fn says(wrong: &'static str, remedy: &'static str) -> Sentence
 fn no_memory() -> Sentence
     ensures { IsSentence result }
 {
-    says(
-        "needs more memory than the system gives",
-        remedy::SEE_LIMITS,
-    )
+    says("needs more memory than the system gives", SEE_LIMITS)
 }
 
 /// That of each fault of a capture.
@@ -181,6 +178,6 @@ pub fn sentence_of(fault: &RunFault) -> Sentence
             "the output can't be written: the disk is full, or its reader went away",
             "make room, and call again; behind head nothing is wrong",
         ),
-        RunFault::Memory => says("the system gives no more memory", remedy::SEE_LIMITS),
+        RunFault::Memory => says("the system gives no more memory", SEE_LIMITS),
     }
 }

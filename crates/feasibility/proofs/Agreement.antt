@@ -7,20 +7,13 @@ use Rattle.feasibility.proofs.Steps.{Drifts, Drifts-turned, rises_by, falls_by}
 -- ---- over natural numbers: the marks ask for x, and the errors differ by y over an advance of r
 
 over_advance : (g p x y r d : ℕ) → x ≤ y → r ≤ d → g * y ≤ p * r → g * x ≤ p * d
-over_advance g p x y r d asks within h =
-    let less : g * x ≤ g * y = mul-le-mul_left g asks in
-    let more : p * r ≤ p * d = mul-le-mul_left p within in
-    omega arith
+over_advance g p x y r d asks within h = omega (arith, mul-le-mul_left g asks, mul-le-mul_left p within)
 
 over_return : (g p x y r d : ℕ) → x + r + d ≤ y → (g + p + p) * y ≤ p * r → g * x ≤ p * d
-over_return g p x y r d asks h =
-    let less : (g + p + p) * (x + r + d) ≤ (g + p + p) * y = mul-le-mul_left (g + p + p) asks in
-    omega arith
+over_return g p x y r d asks h = omega (arith, mul-le-mul_left (g + p + p) asks)
 
 over_rest : (g p x y k d : ℕ) → x + k ≤ y → (g + p + p) * y ≤ p * (d + k) → (g + p + p) * x ≤ p * d
-over_rest g p x y k d asks h =
-    let less : (g + p + p) * (x + k) ≤ (g + p + p) * y = mul-le-mul_left (g + p + p) asks in
-    omega arith
+over_rest g p x y k d asks h = omega (arith, mul-le-mul_left (g + p + p) asks)
 
 -- ---- the two moments and the two marks
 

@@ -6,16 +6,10 @@ use Rattle.feasibility.proofs.Common.{◌≡◌, ℕ, ◌+◌, ◌*◌, ◌≤�
 use Rattle.feasibility.proofs.Slope.{Changes}
 
 allowed_rise : (g p x d t : ℕ) → x ≤ p * g * d → t + x ≡ d * (g * (g + p + p)) → (g + p) * x ≤ p * t
-allowed_rise g p x d t slow sum =
-    let most : (g + p + p) * x ≤ (g + p + p) * (p * g * d) = mul-le-mul_left (g + p + p) slow in
-    let whole : p * (t + x) ≡ p * (d * (g * (g + p + p))) = ap (λ (n : ℕ). p * n) sum in
-    omega arith
+allowed_rise g p x d t slow sum = omega (arith, mul-le-mul_left (g + p + p) slow, ap (λ (n : ℕ). p * n) sum)
 
 allowed_fall : (g p y d t : ℕ) → y ≤ p * (g + p + p) * d → t ≡ d * (g * (g + p + p)) + y → (g + p) * y ≤ p * t
-allowed_fall g p y d t slow sum =
-    let most : g * y ≤ g * (p * (g + p + p) * d) = mul-le-mul_left g slow in
-    let whole : p * t ≡ p * (d * (g * (g + p + p)) + y) = ap (λ (n : ℕ). p * n) sum in
-    omega arith
+allowed_fall g p y d t slow sum = omega (arith, mul-le-mul_left g slow, ap (λ (n : ℕ). p * n) sum)
 
 within_advance : (g p d : ℕ) → p * g * d ≤ d * (g * (g + p + p))
 within_advance g p d = omega arith
@@ -42,6 +36,5 @@ module _ (g p d : ℕ) (r r' e e' : ℤ) (further : r' ≡ r +ℤ pos (d * (g * 
       let forth = drifts in
       let size : unsigned_abs ((r -ℤ (r -ℤ e)) -ℤ (r' -ℤ (r' -ℤ e')))
       ≡ unsigned_abs ((r' -ℤ (r' -ℤ e')) -ℤ (r -ℤ (r -ℤ e))) = omega (arith, ints) in
-      let time : unsigned_abs ((r -ℤ e) -ℤ (r' -ℤ e')) ≡ unsigned_abs ((r' -ℤ e') -ℤ (r -ℤ e)) =
-      omega (arith, ints) in
+      let time : unsigned_abs ((r -ℤ e) -ℤ (r' -ℤ e')) ≡ unsigned_abs ((r' -ℤ e') -ℤ (r -ℤ e)) = omega (arith, ints) in
       rw (size, time) forth

@@ -1,5 +1,6 @@
 -- Pairs of exchanges that contradict each other, and the groups that they are of.
-use Rattle.feasibility.proofs.Common.{rules, ◌≡◌, ◌≢◌, ℕ, ◌<◌, ◌≤◌, ◌⊎◌, inl, inr, ⊎_elim, List, Some, slice_get, refl, sym, ap, ◌∙◌, arith, ClaimData, Exchange, group_of, HasImpossible, Contradicts, IsBroken, DoConflict, Pair, IsContradiction, IsFirstContradiction, HasContradiction}
+use Rattle.feasibility.proofs.Common.{rules, ◌≡◌, ◌≢◌, ℕ, ◌<◌, ◌≤◌, ◌⊎◌, inl, inr, ⊎_elim, List, Some, slice_get, refl, sym, ap, ◌∙◌, arith, ClaimData, Exchange, group_of, HasImpossible, Contradicts, IsBroken, DoConflict, Pair, IsContradiction, IsFirstContradiction, HasContradiction, ints, nat_tests}
+use Rattle.feasibility.proofs.PassingNumbers.{one_there}
 
 -- ---- the first is one
 
@@ -7,8 +8,7 @@ both_first : (a b c d : ℕ) → (a < c) ⊎ ((a ≡ c) × (b ≤ d)) → (c < a
 both_first a b c d h k = (grind (arith, h, k), grind (arith, h, k))
 
 same_pair : (p q : Pair) → p.low ≡ q.low → p.high ≡ q.high → p ≡ q
-same_pair p q low high =
-    ap (λ (n : ℕ). record p { low = n }) low ∙ ap (λ (n : ℕ). record q { high = n }) high
+same_pair p q low high = ap (λ (n : ℕ). record p { low = n }) low ∙ ap (λ (n : ℕ). record q { high = n }) high
 
 pub first_is_one : (claim : ClaimData) (xs : List Exchange) (a b : ℕ) (p q : Pair)
     → IsFirstContradiction claim xs a b p → IsFirstContradiction claim xs a b q → p ≡ q
@@ -54,15 +54,10 @@ module _ (claim : ClaimData) (xs : List Exchange) where
   pub conflict_has_pair : (a b : ℕ) → DoConflict claim xs a b → HasContradiction claim xs a b
   conflict_has_pair a b = ⊎_elim (λ h. from_contradicts a b h) (λ h. turned b a (from_contradicts b a h))
 
-  module _ (a b : ℕ) (pair : Pair) (h : IsContradiction claim xs a b pair) where
-    -- the exchanges of a pair of one number are one
-    one_exchange : pair.low ≡ pair.high → h.low ≡ h.high
-    one_exchange same =
-        let is : Some h.low ≡ Some h.high = sym h.low_stands ∙ ap (slice_get xs) same ∙ h.high_stands in
-        cc
-
-    one_group : pair.low ≡ pair.high → group_of claim h.low ≡ group_of claim h.high
-    one_group same = ap (group_of claim) (one_exchange same)
+  -- the exchanges of a pair of one number are one
+  pub one_group : (a b : ℕ) (pair : Pair) (h : IsContradiction claim xs a b pair) → pair.low ≡ pair.high
+      → group_of claim h.low ≡ group_of claim h.high
+  one_group a b pair h same = grind arith
 
   not_compatible_pair : (a b : ℕ) (pair : Pair) (h : IsContradiction claim xs a b pair) → (c d : ℕ)
       → group_of claim h.low ≡ c → group_of claim h.high ≡ d

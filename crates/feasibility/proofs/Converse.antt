@@ -1,6 +1,6 @@
 -- What a course that fits keeps: the marks of each exchange with a server that isn't false, and
 -- those of its observation. So they agree.
-use Rattle.feasibility.proofs.Common.{◌≡◌, ℕ, ◌≤◌, ℤ, pos, ◌-ℤ◌, ◌*ℤ◌, Bool, false, inl, inr, List, Some, length, refl, sym, arith, All, ints, slice_get_within, ClaimData, RefutationData, Exchange, Mark, low_mark, high_mark, IsPossible, AreCompatible, Moment, error_of, request_start, reply_end, Course, Fits, IsClientMoment, is_liar, IsAgainst, KeepsLow, KeepsHigh, low_marks, high_marks, DoAgree, mark_of, IsRefutedWithDrift, Shows, le_from_times, ≤ℤ_trans_twice, ≤ℤ-from_equal}
+use Rattle.feasibility.proofs.Common.{◌≡◌, ℕ, ◌≤◌, ℤ, pos, ◌-ℤ◌, ◌*ℤ◌, Bool, false, inl, inr, List, Some, length, refl, sym, arith, All, ints, slice_get_within, ClaimData, RefutationData, Exchange, Mark, low_mark, high_mark, IsPossible, AreCompatible, Moment, error_of, request_start, reply_end, Course, Fits, IsClientMoment, is_liar, IsAgainst, KeepsLow, KeepsHigh, low_marks, high_marks, DoAgree, mark_of, IsRefutedWithDrift, Shows, le_from_times, ≤ℤ_trans_twice, ≤ℤ-from_equal, nat_tests}
 use Rattle.std.specs.Prelude.{slice_get}
 use Rattle.feasibility.proofs.Scaling.{times-sub}
 use Rattle.feasibility.proofs.KeptMarks.{moments_in_order, kept_are_compatible}
@@ -9,9 +9,7 @@ use Rattle.feasibility.proofs.TrueExchanges.{all_true, all_marks, all_pairs}
 
 at_reading : (n : ℕ) (reading error place time : ℤ) → place ≡ reading *ℤ pos n → place -ℤ time ≡ error *ℤ pos n
     → time ≡ (reading -ℤ error) *ℤ pos n
-at_reading n reading error place time shows off =
-    let difference = times-sub (reading -ℤ error) reading error n refl in
-    omega (arith, ints, difference)
+at_reading n reading error place time shows off = omega (arith, ints, times-sub (reading -ℤ error) reading error n refl)
 
 module _ (claim : ClaimData) (xs : List Exchange) (course : Course) (k : ℕ) (x : Exchange)
     (at : slice_get xs k ≡ Some x) where
@@ -33,10 +31,7 @@ module _ (claim : ClaimData) (xs : List Exchange) (course : Course) (k : ℕ) (x
   module _ (fits : Fits claim xs course) (true' : course.is_false x.server ≡ false) where
     served : AreServed course.fineness x.t2 x.t3 x.distance times
     unfolding times
-    served =
-        let order = fits.ordered k x at true' in
-        let near = fits.within_root_distance k x at true' in
-        record { before = order.0; answered = order.1; after = order.2; near_t2 = near.0; near_t3 = near.1 }
+    served = grind (arith, ints, nat_tests, fits.ordered k x at true', fits.within_root_distance k x at true')
 
     pub keeps_low : KeepsLow course.fineness (low_mark claim.reading x) (course.request k)
     unfolding times
@@ -106,14 +101,10 @@ module _ {claim : ClaimData} {xs : List Exchange} {course : Course} (slow : clai
 module _ (n : ℕ) (mark : Mark) (moment : Moment) (shown : moment.reading ≡ mark.place *ℤ pos n)
     (off : error_of moment ≡ mark.error *ℤ pos n) where
   pub observed_low : KeepsLow n mark moment
-  observed_low =
-      let time = at_reading n mark.place mark.error moment.reading moment.time shown off in
-      (≤ℤ-from_equal _ _ (sym shown), ≤ℤ-from_equal _ _ time)
+  observed_low = grind (arith, ints, nat_tests, at_reading n mark.place mark.error moment.reading moment.time shown off)
 
   pub observed_high : KeepsHigh n mark moment
-  observed_high =
-      let time = at_reading n mark.place mark.error moment.reading moment.time shown off in
-      (≤ℤ-from_equal _ _ shown, ≤ℤ-from_equal _ _ (sym time))
+  observed_high = grind (arith, at_reading n mark.place mark.error moment.reading moment.time shown off)
 
 pub refuted_where_shown : (claim : ClaimData) (xs : List Exchange) (r : RefutationData) (course : Course)
     → claim.drift_ppb ≤ 500000000 → IsAgainst claim r → Shows claim xs r course → IsRefutedWithDrift claim xs r

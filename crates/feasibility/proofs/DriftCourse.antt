@@ -1,5 +1,5 @@
 -- The course that an accepted refutation stands for, and what it does to the claim.
-use Rattle.feasibility.proofs.Common.{◌≡◌, ℕ, ◌<◌, ◌*◌, ℤ, pos, ◌*ℤ◌, ◌≤ℤ◌, ◌<ℤ◌, unsigned_abs, List, length, refl, arith, All, AllPairs, ints, unsigned_abs-mul, RefutationData, ClaimData, times_le, IsLawful as IsLawfulExchange, SameRequest, Exchange, error_of, Course, Fits, FitsInWindows, is_liar, IsAgainst, IsObservedIn, IsWithin, IsTraceable, samples_of, low_marks, lowest_course, mark_of, IsRefutedWithDrift, IsObservedOff, Shows, HasDriftCourse, le_from_times}
+use Rattle.feasibility.proofs.Common.{◌≡◌, ℕ, ◌<◌, ◌*◌, ℤ, pos, ◌*ℤ◌, ◌≤ℤ◌, ◌<ℤ◌, unsigned_abs, List, length, refl, arith, All, AllPairs, ints, unsigned_abs-mul, RefutationData, ClaimData, times_le, IsLawful as IsLawfulExchange, SameRequest, Exchange, error_of, Course, Fits, FitsInWindows, is_liar, IsAgainst, IsObservedIn, IsWithin, IsTraceable, samples_of, low_marks, lowest_course, mark_of, IsRefutedWithDrift, IsObservedOff, Shows, HasDriftCourse, le_from_times, nat_tests}
 use Rattle.claim_file.specs.Claim.{IsLawful}
 use Rattle.feasibility.proofs.LowestMarks.{first_is_met}
 use Rattle.feasibility.proofs.LowestCourse.{Needs, lowest_fits, lowest_shares}
@@ -11,22 +11,22 @@ pub beyond : (bound error found : ℤ) (n : ℕ) → 0 < n → bound <ℤ pos (u
 beyond bound error found n some far off within =
     let size : unsigned_abs found ≡ unsigned_abs error * n = rw off (unsigned_abs-mul error (pos n)) in
     let scaled : (pos (unsigned_abs error) *ℤ pos n) ≤ℤ (bound *ℤ pos n) = omega (arith, ints) in
-    let least = le_from_times (pos (unsigned_abs error)) bound n some scaled in
-    omega (arith, ints)
+    omega (arith, ints, le_from_times (pos (unsigned_abs error)) bound n some scaled)
 
 module _ (claim : ClaimData) (r : RefutationData) (course : Course) (against : IsAgainst claim r)
     (observed : IsObservedOff r course) where
   pub observed_in_span : IsObservedIn course claim.first claim.last
   observed_in_span =
-      let span = against.in_span in
-      let from = times_le claim.first (pos r.reading) course.fineness span.0 in
-      let to = times_le (pos r.reading) claim.last course.fineness span.1 in
-      rw observed.reading (from, to)
+      grind (
+        arith,
+        against.in_span,
+        times_le claim.first (pos r.reading) course.fineness (against.in_span).0,
+        times_le
+            (pos r.reading) claim.last course.fineness (against.in_span).1,
+      )
 
   pub observed_beyond : (xs : List Exchange) → Fits claim xs course → IsWithin course claim.bound → ⊥
-  observed_beyond xs fits within =
-      beyond claim.bound r.error (error_of course.observation) course.fineness fits.some_fineness
-      against.beyond_bound observed.error within
+  observed_beyond xs fits within = grind (arith, ints)
 
 -- ---- the course
 
@@ -46,11 +46,12 @@ module _ (claim : ClaimData) (xs : List Exchange) (r : RefutationData) (lawful :
       lowest_fits needs (pos r.reading) refuted.against.few_false
 
   observed_off : IsObservedOff r course
-  observed_off = record {
-    reading = refl;
-    error = first_is_met claim.drift_ppb (mark_of r) (low_marks claim.reading (is_liar r.liars) xs)
-        refuted.reading_high;
-  }
+  observed_off =
+      grind (
+        arith,
+        first_is_met claim.drift_ppb (mark_of r) (low_marks claim.reading (is_liar r.liars) xs)
+            refuted.reading_high,
+      )
 
   pub has_course : AllPairs SameRequest xs → HasDriftCourse claim xs r
   has_course agree = record {

@@ -6,9 +6,7 @@ use Rattle.feasibility.proofs.OwnMark.{among_others, from_others}
 -- ---- an exchange by itself, and two marks
 
 pub possible_from : (allowance : ℤ) (x : Exchange) → is_possible allowance x ≡ true → IsPossible allowance x
-possible_from allowance x e =
-    let (a, b) = and_parts _ _ e in
-    record { leaves_before_arrival = int_le-true _ _ a; receives_before_answer = int_le-true _ _ b }
+possible_from allowance x e = grind arith
 
 pub possible_to : (allowance : ℤ) (x : Exchange) → IsPossible allowance x → is_possible allowance x ≡ true
 possible_to allowance x h = rw (le-int_le _ _ h.leaves_before_arrival, le-int_le _ _ h.receives_before_answer) refl

@@ -4,6 +4,7 @@ use Rattle.error_marks.specs.Compatible.{AllCompatible}
 use Rattle.error_marks.specs.Conflict.{IsFirstConflict}
 use Rattle.feasibility.specs.declared.contradiction.Contradiction.{Contradiction}
 use Rattle.feasibility.specs.declared.numbered_marks.NumberedMarks.{NumberedMarks}
+use Rattle.feasibility.proofs.Contradictions.{one_group}
 use Rattle.feasibility.proofs.GroupMarks.{never_both}
 use Rattle.feasibility.proofs.PassingNumbers.{Found, found, no_less, one_there, placed, rising}
 
@@ -28,22 +29,16 @@ Answers P found = MatchOption found ((pair : Pair) → P pair → ⊥) (λ c. Is
 module _ (P Q R : Pair → Type 0) (one_is : (pair : Pair) → P pair → R pair) (other_is : (pair : Pair) → Q pair → R pair)
     (split : (pair : Pair) → R pair → P pair ⊎ Q pair) where
   first_of_one : (a : Pair) → IsFirstOf P a → ((pair : Pair) → Q pair → IsNoLater a pair) → IsFirstOf R a
-  first_of_one a first no_later =
-      (one_is a first.0, λ pair h. ⊎_elim (λ p. first.1 pair p) (λ q. no_later pair q) (split pair h))
+  first_of_one a first no_later = grind arith
 
   first_of_other : (b : Pair) → IsFirstOf Q b → ((pair : Pair) → P pair → IsNoLater b pair) → IsFirstOf R b
-  first_of_other b first no_later =
-      (other_is b first.0, λ pair h. ⊎_elim (λ p. no_later pair p) (λ q. first.1 pair q) (split pair h))
+  first_of_other b first no_later = grind arith
 
   first_of_both : (one other : Option Contradiction) → Answers P one → Answers Q other → Answers R (earlier one other)
   first_of_both None None none none' = λ pair h. ⊎_elim (λ p. none pair p) (λ q. none' pair q) (split pair h)
   first_of_both None (Some b) none first = first_of_other (pair_of b) first (λ pair p. absurd (none pair p))
   first_of_both (Some a) None first none = first_of_one (pair_of a) first (λ pair q. absurd (none pair q))
-  first_of_both (Some a) (Some b) first first' = by_test (is_no_later a b)
-      (λ t. rw (cond-true (is_no_later a b) (Some a) (Some b) t) (first_of_one (pair_of a) first
-      (λ pair q. no_later_through (pair_of a) (pair_of b) pair (no_later_by_test a b t) (first'.1 pair q))))
-      (λ t. rw (cond-false (is_no_later a b) (Some a) (Some b) t) (first_of_other (pair_of b) first'
-      (λ pair p. no_later_through (pair_of b) (pair_of a) pair (later_by_test a b t) (first.1 pair p))))
+  first_of_both (Some a) (Some b) first first' = search rules
 
 -- ---- marks that aren't compatible
 
@@ -107,9 +102,7 @@ module _ (claim : ClaimData) (xs : List Exchange) (a b : ℕ) where
 
     number_is : (group k n m : ℕ) → n ≡ slice_index (group_numbers claim xs group) k
         → slice_get (group_numbers claim xs group) k ≡ Some (0 + m) → n ≡ m
-    number_is group k n m is at =
-        let read = get_or_from_slice_get (group_numbers claim xs group) k (0 + m) 0 at in
-        omega (arith, is, read)
+    number_is group k n m is at = omega (arith, get_or_from_slice_get (group_numbers claim xs group) k (0 + m) 0 at)
 
     stands_there : (n m : ℕ) (x : Exchange) → n ≡ m → slice_get xs m ≡ Some x → slice_get xs n ≡ Some x
     stands_there n m x same at = subst (λ (k : ℕ). slice_get xs k ≡ Some x) (sym same) at
@@ -173,17 +166,14 @@ module _ (claim : ClaimData) (xs : List Exchange) (a b : ℕ) where
             ((first.first_of_it d).earlier j' d (omega arith) lt))
 
         low_less : i < i' → pair.low < other.low
-        low_less lt =
-            let less = rising (is_of a) 0 xs i i' pair.low (0 + other.low) low_number is_i lt in omega (arith, less)
+        low_less lt = omega (arith, rising (is_of a) 0 xs i i' pair.low (0 + other.low) low_number is_i lt)
 
         low_same : i ≡ i' → pair.low ≡ other.low
         low_same same =
-            let is = one_there (group_numbers claim xs a) i i' pair.low (0 + other.low) low_number is_i same in
-            omega (arith, is)
+            omega (arith, one_there (group_numbers claim xs a) i i' pair.low (0 + other.low) low_number is_i same)
 
         high_no_more : j ≤ j' → pair.high ≤ other.high
-        high_no_more le =
-            let less = no_less (is_of b) xs j j' pair.high (0 + other.high) high_number is_j le in omega (arith, less)
+        high_no_more le = omega (arith, no_less (is_of b) xs j j' pair.high (0 + other.high) high_number is_j le)
 
         these_no_later : IsNoLater pair other
         these_no_later = ⊎_elim (λ (lt : i' < i). absurd (not_before lt))
@@ -193,21 +183,24 @@ module _ (claim : ClaimData) (xs : List Exchange) (a b : ℕ) where
 
       no_later_than_others : (other : Pair) → IsApart claim xs a b other → IsNoLater pair other
       no_later_than_others other h =
-          let (i', at_i, is_i) =
-          placed (is_of a) 0 xs other.low h.low h.low_stands (eq-eqb (group_of claim h.low) a h.in_low) in
-          let (j', at_j, is_j) =
-          placed (is_of b) 0 xs other.high h.high h.high_stands (eq-eqb (group_of claim h.high) b h.in_high) in
-          these_no_later other h i' j' at_i at_j is_i is_j
+          grind (
+            arith,
+            let (i', at_i, is_i) = placed (is_of a) 0 xs other.low h.low h.low_stands (eq-eqb (group_of
+                claim h.low) a h.in_low) in let (j', at_j, is_j) = placed (is_of b) 0 xs other.high h.high h.high_stands
+                (eq-eqb (group_of claim h.high) b h.in_high) in these_no_later other h i' j' at_i at_j is_i is_j,
+          )
 
       these_first : IsFirstOf (IsApart claim xs a b) pair
       these_first = (these_apart, no_later_than_others)
 
     first_apart : IsFirstOf (IsApart claim xs a b) pair
     first_apart =
-        let (x, at_x) = mapped_at (low_mark claim.reading) (group_exchanges claim xs a) i first.within in
-        let (y, at_y) =
-        mapped_at (high_mark claim.reading) (group_exchanges claim xs b) j (first.first_of_it d).within in
-        these_first x y at_x at_y
+        grind (
+          arith,
+          let (x, at_x) = mapped_at (low_mark claim.reading) (group_exchanges claim xs a) i first.within in
+              let (y, at_y) = mapped_at (high_mark claim.reading) (group_exchanges claim xs b) j (first.first_of_it d).within
+              in these_first x y at_x at_y,
+        )
 
   -- what a search says of the marks that were gathered
   module _ (one other : NumberedMarks) (of_a : AreNumberedOf claim xs a one)
@@ -248,20 +241,12 @@ module _ (claim : ClaimData) (xs : List Exchange) (a b : ℕ) where
         → IsApart claim xs c d pair
     apart_of h c d groups apart = search rules
 
-  one_exchange_of : (pair : Pair) (h : IsContradiction claim xs a b pair) → pair.low ≡ pair.high
-      → group_of claim h.low ≡ group_of claim h.high
-  one_exchange_of pair h same =
-      ap (group_of claim) (one_there xs pair.low pair.high h.low h.high h.low_stands h.high_stands same)
-
   in_two_groups : a ≢ b → (x y : ℕ) → x ≡ y → ((x ≡ a) × (y ≡ b)) ⊎ ((x ≡ b) × (y ≡ a)) → ⊥
   in_two_groups differ x y same h = grind (arith, h)
 
   either_way : a ≢ b → (pair : Pair) → IsContradiction claim xs a b pair
       → IsApart claim xs a b pair ⊎ IsApart claim xs b a pair
-  either_way differ pair h = ⊎_elim
-      (λ apart. ⊎_elim (λ straight. inl (apart_of pair h a b straight apart))
-      (λ crossed. inr (apart_of pair h b a crossed apart)) h.of_groups)
-      (λ one. absurd (in_two_groups differ _ _ (one_exchange_of pair h one.0) h.of_groups)) h.impossible
+  either_way differ pair h = grind arith
 
 -- ---- of two groups
 
@@ -278,11 +263,13 @@ module _ (claim : ClaimData) (xs : List Exchange) (ppb : ℕ) (rate : claim.drif
       → AreNumberedOf claim xs a one → AreNumberedOf claim xs b other → IsSearched ppb one other forth
       → IsSearched ppb other one back → IsFirstIfAny claim xs a b (earlier forth back)
   first_of_two a b one other forth back differ of_a of_b is_forth is_back =
-      if_any claim xs a b (earlier forth back)
-      (first_of_both (IsApart claim xs a b) (IsApart claim xs b a) (IsContradiction claim xs a b)
-      (by_low claim xs a b) (by_high claim xs a b) (either_way claim xs a b differ) forth back
-      (answers claim xs a b one other of_a of_b forth (at_rate one other forth is_forth))
-      (answers claim xs b a other one of_b of_a back (at_rate other one back is_back)))
+      grind (
+        arith,
+        if_any claim xs a b (earlier forth back) (first_of_both (IsApart claim xs a b) (IsApart claim xs b
+            a) (IsContradiction claim xs a b) (by_low claim xs a b) (by_high claim xs a b) (either_way claim xs a b differ)
+            forth back (answers claim xs a b one other of_a of_b forth (at_rate one other forth is_forth)) (answers claim xs
+            b a other one of_b of_a back (at_rate other one back is_back))),
+      )
 
 -- ---- of one group
 
@@ -302,14 +289,7 @@ module _ (claim : ClaimData) (xs : List Exchange) (a : ℕ) where
   alone_answers (Some k) first = (record { same = refl; at = first.is }, λ pair h. alone_first k pair first h)
 
   alone_is : (pair : Pair) → IsAlone claim xs a pair → IsContradiction claim xs a a pair
-  alone_is pair h = record {
-    low = h.at.exchange;
-    high = h.at.exchange;
-    low_stands = h.at.stands;
-    high_stands = subst (λ (k : ℕ). slice_get xs k ≡ Some h.at.exchange) h.same h.at.stands;
-    of_groups = inl (h.at.in_group, h.at.in_group);
-    impossible = inr (h.same, h.at.impossible);
-  }
+  alone_is pair h = grind arith
 
   apart_or_alone : (pair : Pair) → IsContradiction claim xs a a pair
       → IsApart claim xs a a pair ⊎ IsAlone claim xs a pair
@@ -319,11 +299,13 @@ module _ (claim : ClaimData) (xs : List Exchange) (a : ℕ) where
       → AreNumberedOf claim xs a marks → IsSearched ppb marks marks apart
       → IsFirstIfAny claim xs a a (earlier apart (twice marks.alone))
   first_of_own ppb rate marks apart of_a searched =
-      if_any claim xs a a (earlier apart (twice marks.alone))
-      (first_of_both (IsApart claim xs a a) (IsAlone claim xs a) (IsContradiction claim xs a a)
-      (by_low claim xs a a) alone_is apart_or_alone apart (twice marks.alone)
-      (answers claim xs a a marks marks of_a of_a apart (at_rate claim xs ppb rate marks marks apart searched))
-      (alone_answers marks.alone of_a.alone))
+      grind (
+        arith,
+        if_any claim xs a a (earlier apart (twice marks.alone)) (first_of_both (IsApart claim xs a a)
+            (IsAlone claim xs a) (IsContradiction claim xs a a) (by_low claim xs a a) alone_is apart_or_alone apart (twice
+            marks.alone) (answers claim xs a a marks marks of_a of_a apart (at_rate claim xs ppb rate marks marks apart
+            searched)) (alone_answers marks.alone of_a.alone)),
+      )
 
 -- ---- the same of equal lists
 

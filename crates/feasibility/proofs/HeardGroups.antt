@@ -70,9 +70,12 @@ module _ (claim : ClaimData) (xs : List Exchange) (lawful : IsLawful claim) wher
   seen_in_span : (course : Course) → course.observation.reading ≡ claim.first *ℤ pos course.fineness
       → IsObservedIn course claim.first claim.last
   seen_in_span course is =
-      let from = times_le claim.first claim.first course.fineness (≤ℤ_refl claim.first) in
-      let to = times_le claim.first claim.last course.fineness lawful.span_forward in
-      rw is (from, to)
+      grind (
+        arith,
+        times_le claim.first claim.first course.fineness (≤ℤ_refl claim.first),
+        times_le claim.first
+            claim.last course.fineness lawful.span_forward,
+      )
 
   pub untraceable : (groups : ℕ) → IsNoEvidence claim xs groups → IsTraceable claim (samples_of xs claim) → ⊥
   untraceable groups none traceable =

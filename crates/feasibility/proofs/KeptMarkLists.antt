@@ -1,5 +1,5 @@
 -- Lists of kept marks, as they are gathered.
-use Rattle.feasibility.proofs.Common.{get_or, ◌≡◌, ℕ, ◌+◌, ◌<◌, suc, drop, length, Some, subst, ℤ, Bool, true, false, not, List, [], ◌∷◌, ◌++◌, map, refl, sym, ap, ap₂, ◌∙◌, arith, All, slice_index, ◌==◌, get_or_default_zero, is_outside, list_all, slice_index_or, cond-true, cond-false, All-append, All-cons, All-nil, append_snoc, drop-cons, slice_get-get_or, get_or-map, length-map, Mark, IsWithinRange, low_mark, high_mark, IsLawful as IsLawfulExchange, Exchange, is_possible, true_exchanges, low_marks, high_marks, ne_eqb, eq-eqb}
+use Rattle.feasibility.proofs.Common.{get_or, ◌≡◌, ℕ, ◌+◌, ◌<◌, suc, drop, length, Some, subst, ℤ, Bool, true, false, not, List, [], ◌∷◌, ◌++◌, map, refl, sym, ap, ap₂, ◌∙◌, arith, All, slice_index, ◌==◌, get_or_default_zero, is_outside, list_all, slice_index_or, cond-true, cond-false, All-append, All-cons, All-nil, append_snoc, drop-cons, slice_get-get_or, get_or-map, length-map, Mark, IsWithinRange, low_mark, high_mark, IsLawful as IsLawfulExchange, Exchange, is_possible, true_exchanges, low_marks, high_marks, ne_eqb, eq-eqb, ints, nat_tests}
 use Rattle.std.specs.Prelude.{slice_get}
 
 -- ---- what the element at a place shows
@@ -22,8 +22,7 @@ module _ {X : Type 0} (shown : X → Exchange) (xs : List X) {k : ℕ} {item : X
 
   -- it is lawful, if all that is shown is
   pub lawful_shown : {servers : ℕ} → All (IsLawfulExchange servers) (map shown xs) → IsLawfulExchange servers x
-  lawful_shown {servers} each =
-      subst (IsLawfulExchange servers) is_shown (each k (shown item) (rw length-map within))
+  lawful_shown {servers} each = subst (IsLawfulExchange servers) is_shown (each k (shown item) (rw length-map within))
 
 -- what a list keeps with one more at its end
 pub with_last : (ms : List Mark) (m : Mark) (items : List Mark) → items ≡ ms ++ m ∷ [] → All IsWithinRange ms
@@ -64,37 +63,28 @@ module _ {X : Type 0} (shown : X → Exchange) (items : List X) {k : ℕ} {item 
 
     pub past_liar : is_false x.server ≡ true
         → IsGathering allowance is_false (map shown items) rest old_lows old_highs lows highs
-    past_liar named =
-        let same = skipped named in
-        record {
-          possible = before.possible ∙ ap (list_all (is_possible allowance)) same;
-          lows_are = before.lows_are ∙ ap (λ ys. lows ++ map (low_mark allowance) ys) same;
-          highs_are = before.highs_are ∙ ap (λ ys. highs ++ map (high_mark allowance) ys) same;
-          low_range = before.low_range;
-          high_range = before.high_range;
-        }
+    past_liar named = grind (arith, ints, nat_tests, skipped named)
 
     pub past_kept : {lows' highs' : List Mark} → is_false x.server ≡ false → is_possible allowance x ≡ true →
         lows' ≡ lows ++ low_mark allowance x ∷ [] → highs' ≡ highs ++ high_mark allowance x ∷ [] →
         All IsWithinRange lows' → All IsWithinRange highs' →
         IsGathering allowance is_false (map shown items) rest old_lows old_highs lows' highs'
     past_kept true' can lows_grow highs_grow low_range high_range =
-        let same = kept true' in
-        record {
-          possible = before.possible ∙ ap (list_all (is_possible allowance)) same ∙ rw can refl;
-          lows_are = before.lows_are ∙ ap (λ ys. lows ++ map (low_mark allowance) ys) same
-              ∙ sym (append_snoc lows (low_mark allowance x) (low_marks allowance is_false rest)) ∙ rw lows_grow refl;
-          highs_are = before.highs_are ∙ ap (λ ys. highs ++ map (high_mark allowance) ys) same
-              ∙ sym (append_snoc highs (high_mark allowance x) (high_marks allowance is_false rest))
-              ∙ rw highs_grow refl;
-          low_range = low_range;
-          high_range = high_range;
-        }
+        grind (
+          arith,
+          before.possible,
+          before.lows_are,
+          append_snoc lows (low_mark allowance x) (low_marks allowance
+              is_false rest),
+          before.highs_are,
+          append_snoc highs (high_mark allowance x) (high_marks allowance is_false
+              rest),
+          kept true',
+        )
 
     pub stopped : is_false x.server ≡ false → is_possible allowance x ≡ false →
         false ≡ list_all (is_possible allowance) (true_exchanges is_false (map shown items))
-    stopped true' cannot =
-        sym (before.possible ∙ ap (list_all (is_possible allowance)) (kept true') ∙ rw cannot refl)
+    stopped true' cannot = sym (before.possible ∙ ap (list_all (is_possible allowance)) (kept true') ∙ rw cannot refl)
 
 -- ---- the group of a server
 

@@ -44,14 +44,10 @@ times_in_order ppb a b slow h forth = times_go_on (parts_of ppb a b slow h) fort
 
 module _ (n : ℕ) (place error time : ℤ) where
   no_less_than_mark : time ≤ℤ ((place -ℤ error) *ℤ pos n) → (error *ℤ pos n) ≤ℤ ((place *ℤ pos n) -ℤ time)
-  no_less_than_mark h =
-      let difference = times-sub (place -ℤ error) place error n refl in
-      omega (arith, ints, difference)
+  no_less_than_mark h = omega (arith, ints, times-sub (place -ℤ error) place error n refl)
 
   no_more_than_mark : ((place -ℤ error) *ℤ pos n) ≤ℤ time → ((place *ℤ pos n) -ℤ time) ≤ℤ (error *ℤ pos n)
-  no_more_than_mark h =
-      let difference = times-sub (place -ℤ error) place error n refl in
-      omega (arith, ints, difference)
+  no_more_than_mark h = omega (arith, ints, times-sub (place -ℤ error) place error n refl)
 
 module _ (ppb n : ℕ) (mark : Mark) (kept at_place : Moment) (slow : ppb < billion)
     (h : DriftsWithin ppb kept at_place) (there : at_place.reading ≡ mark.place *ℤ pos n) where
@@ -77,9 +73,7 @@ moment_of n mark = record { time = time_of mark *ℤ pos n; reading = mark.place
 
 error_scaled : (n : ℕ) (mark : Mark) → error_of (moment_of n mark) ≡ mark.error *ℤ pos n
 unfolding moment_of
-error_scaled n mark =
-    let difference = times-sub (time_of mark) mark.place mark.error n refl in
-    omega (arith, ints, difference)
+error_scaled n mark = omega (arith, ints, times-sub (time_of mark) mark.place mark.error n refl)
 
 asks_scaled : (n x : ℕ) (low high : Mark) → low.error -ℤ high.error ≡ pos x
     → error_of (moment_of n low) -ℤ error_of (moment_of n high) ≡ pos (x * n)

@@ -1,5 +1,5 @@
 -- The lowest course fits: the servers that aren't false receive and answer in time.
-use Rattle.feasibility.proofs.Common.{◌≡◌, ℕ, ◌<◌, ◌≤◌, ℤ, pos, ◌+ℤ◌, ◌-ℤ◌, ◌*ℤ◌, ◌≤ℤ◌, Bool, false, ⊎_elim, List, Some, length, refl, ap, arith, All, AllPairs, int_max, int_min, ints, clamps, times_le, times-add, ClaimData, Exchange, Mark, IsLawful as IsLawfulExchange, SameRequest, low_mark, high_mark, IsPossible, AreCompatible, Moment, DriftsWithin, IsWithinDistance, request_start, request_end, reply_start, reply_end, Course, FitsInWindows, IsClientMoment, ReadsInWindows, ComesInOrder, KeepsRootDistance, false_group_count, SharesRequests, KeepsLow, KeepsHigh, low_marks, high_marks, DoAgree, fineness_of, lowest_moment, of_exchange, lowest_course, ≤ℤ_refl, All-slice_get, mul-pos}
+use Rattle.feasibility.proofs.Common.{◌≡◌, ℕ, ◌<◌, ◌≤◌, ℤ, pos, ◌+ℤ◌, ◌-ℤ◌, ◌*ℤ◌, ◌≤ℤ◌, Bool, false, ⊎_elim, List, Some, length, refl, ap, arith, All, AllPairs, int_max, int_min, ints, clamps, times_le, times-add, ClaimData, Exchange, Mark, IsLawful as IsLawfulExchange, SameRequest, low_mark, high_mark, IsPossible, AreCompatible, Moment, DriftsWithin, IsWithinDistance, request_start, request_end, reply_start, reply_end, Course, FitsInWindows, IsClientMoment, ReadsInWindows, ComesInOrder, KeepsRootDistance, false_group_count, SharesRequests, KeepsLow, KeepsHigh, low_marks, high_marks, DoAgree, fineness_of, lowest_moment, of_exchange, lowest_course, ≤ℤ_refl, All-slice_get, mul-pos, nat_tests}
 use Rattle.std.specs.Prelude.{slice_get}
 use Rattle.claim_file.specs.Claim.{IsLawful}
 use Rattle.checker.proofs.RefutationCourse.{around, widened, one_start}
@@ -14,18 +14,30 @@ module _ (n : ℕ) (time place t2 t3 distance : ℤ) where
   before_stamps : time ≤ℤ ((place -ℤ ((place -ℤ int_min t2 t3) -ℤ distance)) *ℤ pos n)
       → (time ≤ℤ ((t2 +ℤ distance) *ℤ pos n)) × (time ≤ℤ ((t3 +ℤ distance) *ℤ pos n))
   before_stamps h =
-      let mark = place -ℤ ((place -ℤ int_min t2 t3) -ℤ distance) in
-      let first = times_le mark (t2 +ℤ distance) n (omega (arith, ints, clamps)) in
-      let second = times_le mark (t3 +ℤ distance) n (omega (arith, ints, clamps)) in
-      (omega (arith, ints, first), omega (arith, ints, second))
+      grind (
+        arith,
+        ints,
+        nat_tests,
+        place -ℤ ((place -ℤ int_min t2 t3) -ℤ distance),
+        times_le (place -ℤ ((place -ℤ
+            int_min t2 t3) -ℤ distance)) (t2 +ℤ distance) n (omega (arith, ints, clamps)),
+        times_le (place -ℤ ((place -ℤ
+            int_min t2 t3) -ℤ distance)) (t3 +ℤ distance) n (omega (arith, ints, clamps)),
+      )
 
   after_stamps : ((place -ℤ ((place -ℤ int_max t2 t3) +ℤ distance)) *ℤ pos n) ≤ℤ time
       → (((t2 -ℤ distance) *ℤ pos n) ≤ℤ time) × (((t3 -ℤ distance) *ℤ pos n) ≤ℤ time)
   after_stamps h =
-      let mark = place -ℤ ((place -ℤ int_max t2 t3) +ℤ distance) in
-      let first = times_le (t2 -ℤ distance) mark n (omega (arith, ints, clamps)) in
-      let second = times_le (t3 -ℤ distance) mark n (omega (arith, ints, clamps)) in
-      (omega (arith, ints, first), omega (arith, ints, second))
+      grind (
+        arith,
+        ints,
+        nat_tests,
+        place -ℤ ((place -ℤ int_max t2 t3) +ℤ distance),
+        times_le (t2 -ℤ distance) (place
+            -ℤ ((place -ℤ int_max t2 t3) +ℤ distance)) n (omega (arith, ints, clamps)),
+        times_le (t3 -ℤ distance) (place -ℤ
+            ((place -ℤ int_max t2 t3) +ℤ distance)) n (omega (arith, ints, clamps)),
+      )
 
 -- a server has room for its two times: the first and the last of each, and of leaving and arriving
 record HasRoom (leaves arrives from2 to2 from3 to3 : ℤ) : Type 0 where
@@ -41,11 +53,7 @@ record HasRoom (leaves arrives from2 to2 from3 to3 : ℤ) : Type 0 where
 module _ (leaves arrives from2 to2 from3 to3 : ℤ) (room : HasRoom leaves arrives from2 to2 from3 to3) where
   in_order : (leaves ≤ℤ int_max leaves from2) × (int_max leaves from2 ≤ℤ int_max (int_max leaves from2) from3)
       × (int_max (int_max leaves from2) from3 ≤ℤ arrives)
-  in_order = (
-    omega (arith, ints, clamps),
-    omega (arith, ints, clamps),
-    omega (arith, ints, clamps, room),
-  )
+  in_order = (omega (arith, ints, clamps), omega (arith, ints, clamps), omega (arith, ints, clamps, room))
 
   receipt_between : (from2 ≤ℤ int_max leaves from2) × (int_max leaves from2 ≤ℤ to2)
   receipt_between = (omega (arith, ints, clamps), omega (arith, ints, clamps, room))
@@ -57,9 +65,14 @@ near : (n : ℕ) (stamp distance time : ℤ)
     → (((stamp -ℤ distance) *ℤ pos n) ≤ℤ time) × (time ≤ℤ ((stamp +ℤ distance) *ℤ pos n))
     → IsWithinDistance n stamp distance time
 near n stamp distance time between =
-    let least = times-sub (stamp -ℤ distance) stamp distance n refl in
-    let most = times-add (stamp +ℤ distance) stamp distance n refl in
-    omega (arith, ints, least, most, between)
+    grind (
+      arith,
+      ints,
+      nat_tests,
+      times-sub (stamp -ℤ distance) stamp distance n refl,
+      times-add (stamp +ℤ distance)
+          stamp distance n refl,
+    )
 
 -- ---- the course
 
@@ -85,9 +98,7 @@ module _ {claim : ClaimData} {is_false : ℕ → Bool} {first : Mark} {xs : List
   moment c = lowest_moment claim.drift_ppb first lows c
 
   some_fineness : 0 < fineness_of claim.drift_ppb
-  some_fineness =
-      let slow = needs.lawful.drift_in_range in
-      mul-pos (omega arith) (omega arith)
+  some_fineness = omega (arith, needs.lawful.drift_in_range)
 
   -- each moment of the client is one of the lowest moments
   at_some_reading : (m : Moment) → IsClientMoment course (length xs) m → (c : ℤ) × (m ≡ moment c)
@@ -182,7 +193,4 @@ module _ {claim : ClaimData} {is_false : ℕ → Bool} {first : Mark} {xs : List
 pub lowest_shares : (claim : ClaimData) (is_false : ℕ → Bool) (first : Mark) (reading : ℤ) (xs : List Exchange)
     → AllPairs SameRequest xs → SharesRequests xs (lowest_course claim is_false first reading xs)
 lowest_shares claim is_false first reading xs agree i j x y at_i at_j same =
-    let start : request_start x claim.reading ≡ request_start y claim.reading =
-    ap (λ (t : ℤ). t -ℤ claim.reading) (one_start xs agree i j x y at_i at_j same) in
-    rw (at_i, at_j)
-    (ap (lowest_moment claim.drift_ppb first (low_marks claim.reading is_false xs)) start)
+    grind (arith, ints, nat_tests, ap (λ (t : ℤ). t -ℤ claim.reading) (one_start xs agree i j x y at_i at_j same))

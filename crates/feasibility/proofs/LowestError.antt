@@ -27,8 +27,7 @@ module _ {X : Type 0} (f : X → ℤ) where
       (each_at_most (int_max a (f x)) xs)
 
   -- and it is no more than what none of them is beyond
-  pub all_at_most : (a c : ℤ) (xs : List X) → a ≤ℤ c → All (λ x. f x ≤ℤ c) xs
-      → fold (λ c x. int_max c (f x)) a xs ≤ℤ c
+  pub all_at_most : (a c : ℤ) (xs : List X) → a ≤ℤ c → All (λ x. f x ≤ℤ c) xs → fold (λ c x. int_max c (f x)) a xs ≤ℤ c
   all_at_most a c [] first all = first
   all_at_most a c (x ∷ xs) first all =
       all_at_most (int_max a (f x)) c xs (int_max-least a (f x) c first (All-head (λ x. f x ≤ℤ c) x xs all))
@@ -63,17 +62,19 @@ module _ (ppb : ℕ) (slow : ppb ≤ 500000000) (first : Mark) (others : List Ma
 
     drift_on : DriftsWithin ppb (lowest_moment ppb first others c) (lowest_moment ppb first others c')
     drift_on =
-        let parts : billion ≡ (billion - ppb) + ppb = omega arith in
-        let h = drifts (billion - ppb) ppb d (c *ℤ pos (fineness_of ppb)) (c' *ℤ pos (fineness_of ppb))
-        (lowest_error ppb first others c) (lowest_error ppb first others c') advance changes in
-        rw (← parts) at h
+        grind (
+          arith,
+          drifts (billion - ppb) ppb d (c *ℤ pos (fineness_of ppb)) (c' *ℤ pos (fineness_of ppb))
+              (lowest_error ppb first others c) (lowest_error ppb first others c') advance changes,
+        )
 
     drift_back : DriftsWithin ppb (lowest_moment ppb first others c') (lowest_moment ppb first others c)
     drift_back =
-        let parts : billion ≡ (billion - ppb) + ppb = omega arith in
-        let h = drifts_back (billion - ppb) ppb d (c *ℤ pos (fineness_of ppb)) (c' *ℤ pos (fineness_of ppb))
-        (lowest_error ppb first others c) (lowest_error ppb first others c') advance changes in
-        rw (← parts) at h
+        grind (
+          arith,
+          drifts_back (billion - ppb) ppb d (c *ℤ pos (fineness_of ppb)) (c' *ℤ pos (fineness_of ppb))
+              (lowest_error ppb first others c) (lowest_error ppb first others c') advance changes,
+        )
 
     time_on : (lowest_moment ppb first others c).time ≤ℤ (lowest_moment ppb first others c').time
     time_on =

@@ -8,14 +8,10 @@ use Rattle.feasibility.proofs.LowestError.{first_at_most, each_at_most, all_at_m
 -- ---- over plain numbers: g and s parts, a low mark x above a high one, d away
 
 falls_enough : (g s p x d : ℕ) → g * x ≤ p * d → x * (g * s) ≤ p * s * d
-falls_enough g s p x d h =
-    let more : s * (g * x) ≤ s * (p * d) = mul-le-mul_left s h in
-    omega arith
+falls_enough g s p x d h = omega (arith, mul-le-mul_left s h)
 
 rises_enough : (g s p x d : ℕ) → s * x ≤ p * d → x * (g * s) ≤ p * g * d
-rises_enough g s p x d h =
-    let more : g * (s * x) ≤ g * (p * d) = mul-le-mul_left g h in
-    omega arith
+rises_enough g s p x d h = omega (arith, mul-le-mul_left g h)
 
 at_most_high : (low high : ℤ) (n m : ℕ) → ((x : ℕ) → low ≡ high +ℤ pos x → x * n ≤ m)
     → ((low *ℤ pos n) -ℤ pos m) ≤ℤ (high *ℤ pos n)
@@ -52,21 +48,14 @@ module _ (ppb : ℕ) (low high : Mark) (agree : AreCompatible ppb low high) wher
   left_below = by_lt_z high.place low.place behind_left ahead_left
 
 own_place : (ppb : ℕ) (mark : Mark) → error_left ppb mark.place mark ≡ mark.error *ℤ pos (fineness_of ppb)
-own_place ppb mark =
-    let h = mark.error *ℤ pos (fineness_of ppb) in
-    let left = asked_after (most_rise ppb) (most_fall ppb) h mark.place mark.place 0 (omega (arith, ints)) in
-    rw left (omega (arith, ints))
+own_place ppb mark = grind arith
 
 module _ (n : ℕ) (place error found : ℤ) where
   late_enough : (error *ℤ pos n) ≤ℤ found → ((place *ℤ pos n) -ℤ found) ≤ℤ ((place -ℤ error) *ℤ pos n)
-  late_enough h =
-      let difference = times-sub (place -ℤ error) place error n refl in
-      omega (arith, ints, difference)
+  late_enough h = omega (arith, ints, times-sub (place -ℤ error) place error n refl)
 
   soon_enough : found ≤ℤ (error *ℤ pos n) → ((place -ℤ error) *ℤ pos n) ≤ℤ ((place *ℤ pos n) -ℤ found)
-  soon_enough h =
-      let difference = times-sub (place -ℤ error) place error n refl in
-      omega (arith, ints, difference)
+  soon_enough h = omega (arith, ints, times-sub (place -ℤ error) place error n refl)
 
 -- a mark is compatible with itself
 pub with_itself : (ppb : ℕ) (mark : Mark) → AreCompatible ppb mark mark
@@ -75,9 +64,12 @@ with_itself ppb mark = compatible_in_order ppb mark mark (≤ℤ_refl mark.error
 module _ (ppb : ℕ) (first : Mark) (others : List Mark) where
   no_lower_than_first : (first.error *ℤ pos (fineness_of ppb)) ≤ℤ lowest_error ppb first others first.place
   no_lower_than_first =
-      let own = own_place ppb first in
-      let least = first_at_most (error_left ppb first.place) (error_left ppb first.place first) others in
-      omega (arith, ints)
+      grind (
+        arith,
+        own_place ppb first,
+        first_at_most (error_left ppb first.place) (error_left ppb first.place first)
+            others,
+      )
 
   pub keeps_first : KeepsLow (fineness_of ppb) first (lowest_moment ppb first others first.place)
   keeps_first = (
@@ -97,9 +89,12 @@ module _ (ppb : ℕ) (first : Mark) (others : List Mark) where
 
   pub keeps_others : All (λ mark. KeepsLow (fineness_of ppb) mark (lowest_moment ppb first others mark.place)) others
   keeps_others k d below' =
-      let mark = slice_index_or others k d in
-      keeps_other mark
-      (each_at_most (error_left ppb mark.place) (error_left ppb mark.place first) others k d below')
+      grind (
+        arith,
+        keeps_other (slice_index_or others k d) (each_at_most (error_left ppb (slice_index_or others k
+            d).place) (error_left ppb (slice_index_or others k d).place first) others k d below'),
+        slice_index_or others k d,
+      )
 
   no_higher : (high : Mark) → AreCompatible ppb first high → All (λ low. AreCompatible ppb low high) others
       → lowest_error ppb first others high.place ≤ℤ (high.error *ℤ pos (fineness_of ppb))
@@ -122,5 +117,4 @@ module _ (ppb : ℕ) (first : Mark) (others : List Mark) where
   pub first_is_met : All (λ low. AreCompatible ppb low first) others
       → error_of (lowest_moment ppb first others first.place) ≡ first.error *ℤ pos (fineness_of ppb)
   first_is_met all =
-      let error = ≤ℤ_antisymm _ _ (no_higher first (with_itself ppb first) all) no_lower_than_first in
-      omega (arith, ints)
+      omega (arith, ints, ≤ℤ_antisymm _ _ (no_higher first (with_itself ppb first) all) no_lower_than_first)

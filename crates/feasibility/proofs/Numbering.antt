@@ -18,9 +18,7 @@ pub record IsNumbering (claim : ClaimData) (group : ℕ) (xs : List Exchange) (k
 as_many : (ms ms' : List Mark) (m : Mark) (ns ns' : List ℕ) (n : ℕ) → ms' ≡ ms ++ m ∷ [] → ns' ≡ ns ++ n ∷ []
     → length ms ≡ length ns → length ms' ≡ length ns'
 as_many ms ms' m ns ns' n is is' same =
-    let long = ap length is ∙ length-append ms (m ∷ []) in
-    let long' = ap length is' ∙ length-append ns (n ∷ []) in
-    omega (arith, long, long')
+    omega (arith, ap length is ∙ length-append ms (m ∷ []), ap length is' ∙ length-append ns (n ∷ []))
 
 module _ (claim : ClaimData) (group : ℕ) (xs : List Exchange) where
   abbrev is_of : Exchange → Bool
@@ -40,10 +38,7 @@ module _ (claim : ClaimData) (group : ℕ) (xs : List Exchange) where
       marks_past : (f : Exchange → Mark) (whole ms ms' : List Mark) → is_of x ≡ true
           → whole ≡ ms ++ map f (filter is_of (drop k xs)) → ms' ≡ ms ++ f x ∷ []
           → whole ≡ ms' ++ map f (filter is_of rest)
-      marks_past f whole ms ms' own is grow =
-          is ∙ ap (λ (ys : List Exchange). ms ++ map f ys) (ap (filter is_of) split ∙ kept is_of x rest own)
-          ∙ sym (append_snoc ms (f x) (map f (filter is_of rest)))
-          ∙ ap (λ (ns : List Mark). ns ++ map f (filter is_of rest)) (sym grow)
+      marks_past f whole ms ms' own is grow = grind (arith, append_snoc ms (f x) (map f (filter is_of rest)))
 
       pub past_own : is_of x ≡ true → IsWithinRange (low_mark claim.reading x)
           → IsWithinRange (high_mark claim.reading x) → IsNumbering claim group xs (k + 1) numbers' lows' highs'

@@ -1,5 +1,5 @@
 -- Where the exchanges with servers that aren't false agree, the lowest course fits.
-use Rattle.feasibility.proofs.Common.{ℕ, ◌≤◌, ℤ, pos, Bool, List, [], ◌∷◌, map, length, refl, All, All-nil, All-head, ClaimData, IsLawful as IsLawfulExchange, Exchange, Mark, low_mark, high_mark, AreCompatible, false_group_count, SomeCourseAt, true_exchanges, low_marks, AreAllCompatible, DoAgree, FitsWithFalse, lowest_course}
+use Rattle.feasibility.proofs.Common.{ℕ, ◌≤◌, ℤ, pos, Bool, List, [], ◌∷◌, map, length, refl, All, All-nil, All-head, ClaimData, IsLawful as IsLawfulExchange, Exchange, Mark, low_mark, high_mark, AreCompatible, false_group_count, SomeCourseAt, true_exchanges, low_marks, AreAllCompatible, DoAgree, FitsWithFalse, lowest_course, arith}
 use Rattle.claim_file.specs.Claim.{IsLawful}
 use Rattle.feasibility.proofs.LowestCourse.{Needs, lowest_fits, lowest_shares}
 
@@ -22,13 +22,12 @@ module _ (claim : ClaimData) (xs : List Exchange) (is_false : ℕ → Bool) (law
   first = first_of (low_marks claim.reading is_false xs)
 
   needs : Needs claim is_false first xs
-  needs = record {
-    lawful = lawful;
-    each = each;
-    agree = agree;
-    first_agrees = first_agrees claim.drift_ppb (low_mark claim.reading) (high_mark claim.reading)
-        (true_exchanges is_false xs) agree.compatible;
-  }
+  needs =
+      grind (
+        arith,
+        first_agrees claim.drift_ppb (low_mark claim.reading) (high_mark claim.reading) (true_exchanges
+            is_false xs) agree.compatible,
+      )
 
   -- observed at any reading
   pub agreement_gives_course_at : (reading : ℤ) → SomeCourseAt claim xs reading

@@ -1,12 +1,9 @@
 -- The numbers of the elements that pass a test, and the elements that stand under them.
-use Rattle.feasibility.proofs.Common.{rules, ◌≡◌, ℕ, zero, suc, ◌+◌, ◌<◌, ◌≤◌, ⊎_elim, Bool, true, false, List, [], ◌∷◌, Some, slice_get, sym, ap, ◌∙◌, subst, arith, filter, cond-true, cond-false, cases_lt, numbers_from, by_test}
+use Rattle.feasibility.proofs.Common.{rules, ◌≡◌, ℕ, zero, suc, ◌+◌, ◌<◌, ◌≤◌, ⊎_elim, Bool, true, false, List, [], ◌∷◌, Some, slice_get, sym, ap, ◌∙◌, subst, arith, filter, cond-true, cond-false, cases_lt, numbers_from, by_test, ints, nat_tests}
 
 pub one_there : {X : Type 0} (xs : List X) (i j : ℕ) (x y : X) → slice_get xs i ≡ Some x → slice_get xs j ≡ Some y
     → i ≡ j → x ≡ y
-one_there xs i j x y at_x at_y same =
-    let at : slice_get xs i ≡ Some y = subst (λ (k : ℕ). slice_get xs k ≡ Some y) (sym same) at_y in
-    let is : Some x ≡ Some y = sym at_x ∙ at in
-    cc
+one_there xs i j x y at_x at_y same = grind arith
 
 further : (k i : ℕ) → (k + 1) + i ≡ k + suc i
 further k i = omega arith
@@ -31,10 +28,7 @@ module _ {X : Type 0} (p : X → Bool) where
   pub placed : (k : ℕ) (xs : List X) (i : ℕ) (x : X) → slice_get xs i ≡ Some x → p x ≡ true
       → (j : ℕ) × (slice_get (filter p xs) j ≡ Some x) × (slice_get (numbers_from p k xs) j ≡ Some (k + i))
   placed k [] i x at passes = absurd cc
-  placed k (y ∷ ys) zero x at passes =
-      let same : y ≡ x = cc in
-      let first : p y ≡ true = rw same passes in
-      (zero, rw first at, rw first (ap Some (here k)))
+  placed k (y ∷ ys) zero x at passes = grind (arith, ints, nat_tests, here)
   placed k (y ∷ ys) (suc i) x at passes =
       let (j, stands, number) = placed (k + 1) ys i x at passes in
       let is = number ∙ ap Some (further k i) in

@@ -21,14 +21,12 @@ module _ (n : ℕ) (place stamp distance time : ℤ) where
   at_most_stamp : time ≤ℤ ((stamp *ℤ pos n) +ℤ (distance *ℤ pos n))
       → time ≤ℤ ((place -ℤ ((place -ℤ stamp) -ℤ distance)) *ℤ pos n)
   at_most_stamp h =
-      let sum = times-add (place -ℤ ((place -ℤ stamp) -ℤ distance)) stamp distance n (omega (arith, ints)) in
-      omega (arith, ints, sum)
+      omega (arith, ints, times-add (place -ℤ ((place -ℤ stamp) -ℤ distance)) stamp distance n (omega (arith, ints)))
 
   at_least_stamp : ((stamp *ℤ pos n) -ℤ (distance *ℤ pos n)) ≤ℤ time
       → ((place -ℤ ((place -ℤ stamp) +ℤ distance)) *ℤ pos n) ≤ℤ time
   at_least_stamp h =
-      let sum = times-sub (place -ℤ ((place -ℤ stamp) +ℤ distance)) stamp distance n (omega (arith, ints)) in
-      omega (arith, ints, sum)
+      omega (arith, ints, times-sub (place -ℤ ((place -ℤ stamp) +ℤ distance)) stamp distance n (omega (arith, ints)))
 
 module _ (n : ℕ) (place t2 t3 distance : ℤ) (times : Times) (served : AreServed n t2 t3 distance times) where
   pub leaves_in_time : times.leaves ≤ℤ ((place -ℤ ((place -ℤ int_min t2 t3) -ℤ distance)) *ℤ pos n)
@@ -49,9 +47,19 @@ module _ (n : ℕ) (place t2 t3 distance : ℤ) (times : Times) (served : AreSer
 
   pub stamps_in_order : 0 < n → (t2 -ℤ distance) ≤ℤ (t3 +ℤ distance)
   stamps_in_order some =
-      let first = times-sub (t2 -ℤ distance) t2 distance n refl in
-      let last = times-add (t3 +ℤ distance) t3 distance n refl in
-      le_from_times (t2 -ℤ distance) (t3 +ℤ distance) n some (omega (arith, ints, served, first, last))
+      grind (
+        arith,
+        times-sub (t2 -ℤ distance) t2 distance n refl,
+        times-add (t3 +ℤ distance) t3 distance n refl,
+        le_from_times (t2 -ℤ distance) (t3 +ℤ distance) n some (omega (
+          arith,
+          ints,
+          served,
+          times-sub (t2 -ℤ distance)
+              t2 distance n refl,
+          times-add (t3 +ℤ distance) t3 distance n refl,
+        )),
+      )
 
   pub goes_on : times.leaves ≤ℤ times.arrives
   goes_on = omega (arith, ints, served)

@@ -13,10 +13,7 @@ pub record Changes (rise fall : ℕ) (a b : ℤ) : Type 0 where
 
 pub Changes-greater : (rise fall : ℕ) (a b a' b' : ℤ) → Changes rise fall a b → Changes rise fall a' b'
     → Changes rise fall (int_max a a') (int_max b b')
-Changes-greater rise fall a b a' b' first second = record {
-  up = omega (arith, ints, clamps, first, second);
-  down = omega (arith, ints, clamps, first, second);
-}
+Changes-greater rise fall a b a' b' first second = grind (arith, ints)
 
 module _ {X : Type 0} (rise fall : ℕ) (f g : X → ℤ) (each : (x : X) → Changes rise fall (f x) (g x)) where
   pub Changes-greatest : (a b : ℤ) (xs : List X) → Changes rise fall a b
@@ -29,11 +26,6 @@ module _ {X : Type 0} (rise fall : ℕ) (f g : X → ℤ) (each : (x : X) → Ch
 -- ---- one mark, whose height is h and whose place u, at the readings c and d further on
 
 module _ (k m : ℕ) (less : k ≤ m) (h u c : ℤ) (d : ℕ) where
-  -- both readings at the place or after
-  both_after : (x : ℕ) → c ≡ u +ℤ pos x
-      → Changes (k * d) (m * d) (h -ℤ pos (m * x)) (h -ℤ pos (m * (x + d)))
-  both_after x at = record { up = omega (arith, ints); down = omega (arith, ints) }
-
   -- both at the place or before, the second x before
   both_before : (x : ℕ) → u ≡ (c +ℤ pos d) +ℤ pos x
       → Changes (k * d) (m * d) (h -ℤ pos (k * (x + d))) (h -ℤ pos (k * x))
@@ -52,25 +44,21 @@ abbrev pub asked : (k m : ℕ) (h u c : ℤ) → ℤ
 asked k m h u c = h -ℤ pos (cond (int_le u c) m k * unsigned_abs (c -ℤ u))
 
 pub asked_after : (k m : ℕ) (h u c : ℤ) (x : ℕ) → c ≡ u +ℤ pos x → asked k m h u c ≡ h -ℤ pos (m * x)
-asked_after k m h u c x at =
-    let test : int_le u c ≡ true = grind (arith, ints) in
-    let size : unsigned_abs (c -ℤ u) ≡ x = omega (arith, ints) in
-    rw (test, size) refl
+asked_after k m h u c x at = grind arith
 
-pub asked_before : (k m : ℕ) (h u c : ℤ) (x : ℕ) → u ≡ c +ℤ pos x → 0 < x
-    → asked k m h u c ≡ h -ℤ pos (k * x)
-asked_before k m h u c x at some =
-    let test : int_le u c ≡ false = grind (arith, ints) in
-    let size : unsigned_abs (c -ℤ u) ≡ x = omega (arith, ints) in
-    rw (test, size) refl
+pub asked_before : (k m : ℕ) (h u c : ℤ) (x : ℕ) → u ≡ c +ℤ pos x → 0 < x → asked k m h u c ≡ h -ℤ pos (k * x)
+asked_before k m h u c x at some = grind arith
 
 module _ (k m : ℕ) (less : k ≤ m) (h u c c' : ℤ) (d : ℕ) (further : c' ≡ c +ℤ pos d) where
   from_after : u ≤ℤ c → Changes (k * d) (m * d) (asked k m h u c) (asked k m h u c')
   from_after after =
-      let x : ℕ = unsigned_abs (c -ℤ u) in
-      let here = asked_after k m h u c x (omega (arith, ints)) in
-      let there = asked_after k m h u c' (x + d) (omega (arith, ints)) in
-      rw (here, there) (both_after k m less h u c d x (omega (arith, ints)))
+      omega (
+        arith,
+        ints,
+        unsigned_abs (c -ℤ u),
+        asked_after k m h u c (unsigned_abs (c -ℤ u)) (omega (arith, ints)),
+        asked_after k m h u c' ((unsigned_abs (c -ℤ u)) + d) (omega (arith, ints)),
+      )
 
   from_before : c <ℤ u → Changes (k * d) (m * d) (asked k m h u c) (asked k m h u c')
   from_before before = by_lt_z c' u

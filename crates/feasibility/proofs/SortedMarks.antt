@@ -1,10 +1,10 @@
 -- Marks of groups, gathered and sorted.
 use Rattle.std.proofs.Common.{IsTrue, ◌↔◌}
-use Rattle.feasibility.proofs.Common.{◌≡◌, ℕ, ◌<◌, get_or, Vec, Global, Bool, true, false, true≢false, not, List, [], ◌∷◌, map, length, IsPermutation, refl, sym, ap, ◌∙◌, subst, arith, All, filter, slice_index, ◌==◌, list_all, AllPass-from_list_all, list_all-from_AllPass, with_items_is, IsWithinRange, ClaimData, Mark, Exchange, is_possible, is_outside, group_exchanges, group_lows, group_highs, IsSound, DoGroupsAgree, AreMarksOf, AreSorted, AreAllSorted, AreOfGroupsInOrder, true_exchanges, low_marks, high_marks, AreAllCompatible, low_mark, high_mark, get_or_default, KeptMarks}
+use Rattle.feasibility.proofs.Common.{◌≡◌, ℕ, ◌<◌, get_or, Vec, Global, Bool, true, false, true≢false, not, List, [], ◌∷◌, map, length, IsPermutation, refl, sym, ap, ◌∙◌, subst, arith, All, filter, slice_index, ◌==◌, list_all, AllPass-from_list_all, list_all-from_AllPass, with_items_is, IsWithinRange, ClaimData, Mark, Exchange, is_possible, is_outside, group_exchanges, group_lows, group_highs, IsSound, DoGroupsAgree, AreMarksOf, AreSorted, AreAllSorted, AreOfGroupsInOrder, true_exchanges, low_marks, high_marks, AreAllCompatible, low_mark, high_mark, get_or_default, KeptMarks, ints, nat_tests}
 use Rattle.std.specs.Vec.{with_items}
 use Rattle.std.proofs.lemmas.List.Sorted.{All-permutation, IsPermutation-sym, length_permutation}
 use Rattle.error_marks.specs.Direction.{IsInOrder}
-use Rattle.error_marks.proofs.Compatibility.{of_permutation, of_sorted}
+use Rattle.error_marks.proofs.Compatibility.{of_permutation}
 use Rattle.feasibility.specs.declared.sorted_marks.SortedMarks.{SortedMarks}
 use Rattle.feasibility.proofs.DriftTest.{possible_from, possible_to}
 
@@ -15,8 +15,7 @@ same_filter p q same (x ∷ xs) = rw (same x, same_filter p q same xs) refl
 module _ (claim : ClaimData) (xs : List Exchange) (group : ℕ) where
   -- the exchanges that aren't with servers outside a group are those of the group
   pub of_group : true_exchanges (is_outside claim.groups group) xs ≡ group_exchanges claim xs group
-  of_group = same_filter (λ x. not (is_outside claim.groups group x.server))
-      (λ x. slice_index claim.groups x.server == group) (λ x. grind arith) xs
+  of_group = grind arith
 
   tests_possible : list_all (is_possible claim.reading) (group_exchanges claim xs group) ≡ true
       → All (λ x. is_possible claim.reading x ≡ true) (group_exchanges claim xs group)
@@ -51,16 +50,15 @@ module _ (claim : ClaimData) (xs : List Exchange) (a b : ℕ) (ms ns : SortedMar
       × AreAllCompatible claim.drift_ppb ns.kept.lows.items ms.kept.highs.items
 
   pub agree_from : SortedAgree → DoGroupsAgree claim xs a b
-  agree_from (one, other) = record {
-    one_way = of_permutation claim.drift_ppb ms.kept.lows.items (group_lows claim xs a) ns.kept.highs.items
-        (group_highs claim xs b) (IsPermutation-sym _ _ (of_a.lows right_a))
-        (IsPermutation-sym _ _ (of_b.highs right_b))
-        one;
-    other_way = of_permutation claim.drift_ppb ns.kept.lows.items (group_lows claim xs b) ms.kept.highs.items
-        (group_highs claim xs a) (IsPermutation-sym _ _ (of_b.lows right_b))
-        (IsPermutation-sym _ _ (of_a.highs right_a))
-        other;
-  }
+  agree_from (one, other) =
+      grind (
+        arith,
+        of_permutation claim.drift_ppb ms.kept.lows.items (group_lows claim xs a) ns.kept.highs.items
+            (group_highs claim xs b) (IsPermutation-sym _ _ (of_a.lows right_a)) (IsPermutation-sym _ _ (of_b.highs right_b))
+            one,
+        of_permutation claim.drift_ppb ns.kept.lows.items (group_lows claim xs b) ms.kept.highs.items (group_highs
+            claim xs a) (IsPermutation-sym _ _ (of_b.lows right_b)) (IsPermutation-sym _ _ (of_a.highs right_a)) other,
+      )
 
   pub agree_to : DoGroupsAgree claim xs a b → SortedAgree
   agree_to h = (
@@ -81,14 +79,11 @@ module _ (claim : ClaimData) (xs : List Exchange) (group : ℕ) (gathered : Kept
       → false ≡ list_all (is_possible claim.reading) (true_exchanges Outside xs)
       → AreMarksOf claim xs group record { is_sound = false; kept = kept }
   unsound_marks kept is =
-      let fails = impossible claim xs group
-      (sym (is ∙ ap (list_all (is_possible claim.reading)) (of_group claim xs group))) in
-      record {
-        sound = (λ t. absurd (true≢false (sym t)), λ sound. absurd (fails sound));
-        lows = λ t. absurd (true≢false (sym t));
-        highs = λ t. absurd (true≢false (sym t));
-        sorted = λ t. absurd (true≢false (sym t));
-      }
+      grind (
+        arith,
+        impossible claim xs group (sym (is ∙ ap (list_all (is_possible claim.reading)) (of_group claim xs
+            group))),
+      )
 
   -- all are possible
   pub gathered_marks : (kept : KeptMarks) (compatible : Bool)
@@ -142,8 +137,7 @@ module _ (claim : ClaimData) (xs : List Exchange) (marks : List SortedMarks) (ea
 
   here : IsTrue answer ↔ (AreAllCompatible claim.drift_ppb m.kept.lows.items n.kept.highs.items
       × AreAllCompatible claim.drift_ppb n.kept.lows.items m.kept.highs.items)
-  here = subst (λ (p : ℕ). IsTrue answer ↔ (AreAllCompatible p m.kept.lows.items n.kept.highs.items
-      × AreAllCompatible p n.kept.lows.items m.kept.highs.items)) (sym rate) exact
+  here = grind arith
 
   pub agree_by_test : answer ≡ true → DoGroupsAgree claim xs a b
   agree_by_test t = agree_from claim xs a b m n (at claim xs marks each a m below_a is_m)
@@ -180,8 +174,3 @@ module _ (v : Vec Mark Global) (lent moved : List Mark) (is : lent ≡ v.items) 
 
   pub order_there : IsInOrder moved → IsInOrder (with_items v moved).items
   order_there order = subst IsInOrder (sym whole) order
-
-pub compatible_moved : (ppb : ℕ) (lows lows' highs highs' : List Mark) → IsPermutation lows lows' →
-    IsPermutation highs highs' → (answer : Bool) → IsTrue answer ↔ AreAllCompatible ppb lows' highs' →
-    IsTrue answer ↔ AreAllCompatible ppb lows highs
-compatible_moved ppb lows lows' highs highs' p q answer exact = of_sorted ppb lows lows' highs highs' p q answer exact

@@ -1,6 +1,6 @@
 -- What is observed in a course that fits is observed in the lowest course of what it was: its error at
 -- its reading is compatible with all marks.
-use Rattle.feasibility.proofs.Common.{◌≤◌, ℕ, ℤ, Bool, List, length, refl, All, ClaimData, IsLawful as IsLawfulExchange, Exchange, Mark, Fits, FitsInWindows, lowest_course, low_marks}
+use Rattle.feasibility.proofs.Common.{◌≤◌, ℕ, ℤ, Bool, List, length, refl, All, ClaimData, IsLawful as IsLawfulExchange, Exchange, Mark, Fits, FitsInWindows, lowest_course, low_marks, arith}
 use Rattle.claim_file.specs.Claim.{IsLawful}
 use Rattle.feasibility.specs.Stamps.{IsObservable}
 use Rattle.feasibility.proofs.Converse.{agree, low_agrees, high_agrees, observed_low, observed_high}
@@ -34,10 +34,4 @@ module _ (claim : ClaimData) (xs : List Exchange) (is_false : ℕ → Bool) (rea
 
   pub from_windows : IsObservable (FitsInWindows claim xs) is_false reading error
       → IsObservable (Fits claim xs) is_false reading error
-  from_windows seen = record {
-    course = seen.course;
-    fits = seen.fits.fits;
-    just_these_false = seen.just_these_false;
-    observed = seen.observed;
-    off = seen.off;
-  }
+  from_windows seen = grind arith

@@ -15,14 +15,7 @@ module _ (start end t2 t3 distance error : ℤ) where
 
   room_from : ((start -ℤ int_min t2 t3) -ℤ distance) ≤ℤ error → error ≤ℤ ((end -ℤ int_max t2 t3) +ℤ distance)
       → start ≤ℤ end → (t2 -ℤ distance) ≤ℤ (t3 +ℤ distance) → AdmitsError start end t2 t3 distance error
-  room_from low high leaves receives = record {
-    leaves_before_receipt = omega (arith, ints, clamps);
-    leaves_before_answer = omega (arith, ints, clamps);
-    leaves_before_arrival = leaves;
-    receives_before_answer = receives;
-    receives_before_arrival = omega (arith, ints, clamps);
-    answers_before_arrival = omega (arith, ints, clamps);
-  }
+  room_from low high leaves receives = grind (arith, ints)
 
 module _ (claim : ClaimData) (xs : List Exchange) (r : RefutationData) where
   module _ (refuted : IsRefuted claim xs r) where

@@ -4,9 +4,7 @@ use Rattle.feasibility.proofs.Common.{◌≡◌, ℕ, zero, suc, ◌+◌, ◌*�
 -- ---- over natural numbers: a change of x or y in the time t, an advance of d
 
 rise : (g p x d t : ℕ) → t + x ≡ d → (g + p) * x ≤ p * t → (g + p + p) * x ≤ p * d
-rise g p x d t sum h =
-    let whole : p * (t + x) ≡ p * d = ap (λ (n : ℕ). p * n) sum in
-    omega arith
+rise g p x d t sum h = omega (arith, ap (λ (n : ℕ). p * n) sum)
 
 -- if the clock advanced by less than its error rose, there was no rise
 no_rise : (g p x d t : ℕ) → 0 < g → t + d ≡ x → (g + p) * x ≤ p * t → (g + p + p) * x ≤ p * d
@@ -17,9 +15,7 @@ no_rise g p (suc x) d t some sum h =
     absurd (omega arith)
 
 fall : (g p y d t : ℕ) → d + y ≡ t → (g + p) * y ≤ p * t → g * y ≤ p * d
-fall g p y d t sum h =
-    let whole : p * (d + y) ≡ p * t = ap (λ (n : ℕ). p * n) sum in
-    omega arith
+fall g p y d t sum h = omega (arith, ap (λ (n : ℕ). p * n) sum)
 
 -- ---- between two moments
 
@@ -29,16 +25,11 @@ pub record Drifts (g p : ℕ) (a b : Moment) : Type 0 where
   pub within : (g + p) * error_change a b ≤ p * unsigned_abs (b.time -ℤ a.time)
 
 pub Drifts-turned : {g p : ℕ} {a b : Moment} (h : Drifts g p a b) → Drifts g p b a
-Drifts-turned {g} {p} {a} {b} h =
-    let within = h.within in
-    let change : error_change b a ≡ error_change a b = omega (arith, ints) in
-    let time : unsigned_abs (a.time -ℤ b.time) ≡ unsigned_abs (b.time -ℤ a.time) = omega (arith, ints) in
-    record { some = h.some; within = rw (change, time) within }
+Drifts-turned {g} {p} {a} {b} h = grind (arith, ints)
 
 module _ {g p : ℕ} {a b : Moment} (h : Drifts g p a b) where
   -- the second moment r later by the clock: a rise of y, or a fall of y
-  pub rises_by : (r y : ℕ) → b.reading ≡ a.reading +ℤ pos r → error_of b -ℤ error_of a ≡ pos y
-      → (g + p + p) * y ≤ p * r
+  pub rises_by : (r y : ℕ) → b.reading ≡ a.reading +ℤ pos r → error_of b -ℤ error_of a ≡ pos y → (g + p + p) * y ≤ p * r
   rises_by r y further change =
       let time : ℕ = unsigned_abs (b.time -ℤ a.time) in
       let size : error_change a b ≡ y = omega (arith, ints) in

@@ -15,8 +15,7 @@ module _ {X : Type 0} (p : X → Bool) (P : X → Type 0) where
       (rw (cond-true (p y) (y ∷ filter p ys) (filter p ys) first) at all)) at passes)
       (λ first. at_passing ys k x (rw (cond-false (p y) (y ∷ filter p ys) (filter p ys) first) at all) at passes)
 
-  pub all_passing : (xs : List X) → ((k : ℕ) (x : X) → slice_get xs k ≡ Some x → p x ≡ true → P x)
-      → All P (filter p xs)
+  pub all_passing : (xs : List X) → ((k : ℕ) (x : X) → slice_get xs k ≡ Some x → p x ≡ true → P x) → All P (filter p xs)
   all_passing [] each = All-nil P
   all_passing (y ∷ ys) each =
       let rest = all_passing ys (λ k x at. each (suc k) x at) in
@@ -28,8 +27,7 @@ module _ {X : Type 0} (p : X → Bool) (P : X → Type 0) where
 module _ (is_false : ℕ → Bool) (xs : List Exchange) where
   pub true_at : (P : Exchange → Type 0) (k : ℕ) (x : Exchange) → All P (true_exchanges is_false xs)
       → slice_get xs k ≡ Some x → is_false x.server ≡ false → P x
-  true_at P k x all at true' =
-      at_passing (λ x. not (is_false x.server)) P xs k x all at (ap not true')
+  true_at P k x all at true' = at_passing (λ x. not (is_false x.server)) P xs k x all at (ap not true')
 
   pub all_true : (P : Exchange → Type 0)
       → ((k : ℕ) (x : Exchange) → slice_get xs k ≡ Some x → is_false x.server ≡ false → P x)

@@ -10,5 +10,4 @@ pub agrees_at : (byte : ℕ → ℕ) (i : ℕ) (xs : List ℕ) (k j : ℕ) → T
     get_or xs k 0 ≡ byte j
 agrees_at byte i [] k j t h at = absurd (omega arith)
 agrees_at byte i (x ∷ xs) zero j t h at = let e : j ≡ i = omega arith in rw e (eqb→eq _ _ (and_l _ _ t))
-agrees_at byte i (x ∷ xs) (suc k) j t h at =
-    agrees_at byte (i + 1) xs k j (and_r _ _ t) (omega arith) (omega arith)
+agrees_at byte i (x ∷ xs) (suc k) j t h at = agrees_at byte (i + 1) xs k j (and_r _ _ t) (omega arith) (omega arith)

@@ -43,8 +43,7 @@ pub one_more : (n : ℕ) → 10 ≤ n → n < 2 ^ 64 → length (decimal n) ≡ 
 one_more n wide fits = ap length (decimal_step n wide fits) ∙ length-append (decimal (n / 10)) ((48 + n % 10) ∷ [])
 
 -- one digit more of a padded number
-padded_step : (w n : ℕ) → 2 ≤ w → n < 2 ^ 64 →
-    zero_padded w n ≡ zero_padded (w - 1) (n / 10) ++ ((48 + n % 10) ∷ [])
+padded_step : (w n : ℕ) → 2 ≤ w → n < 2 ^ 64 → zero_padded w n ≡ zero_padded (w - 1) (n / 10) ++ ((48 + n % 10) ∷ [])
 padded_step w n long fits =
     elim (eq-zero-or-pos (n - 9)) [
       | inl z ↦
@@ -73,8 +72,7 @@ last_three n = grind arith
 pub padded_three : (n : ℕ) → n < 1000 → zero_padded 3 n ≡ three n
 padded_three n h = grind (arith, padded_step, padded_one)
 
-pub padded_more : (w n : ℕ) → 4 ≤ w → n < 2 ^ 64 →
-    zero_padded w n ≡ zero_padded (w - 3) (n / 1000) ++ three (n % 1000)
+pub padded_more : (w n : ℕ) → 4 ≤ w → n < 2 ^ 64 → zero_padded w n ≡ zero_padded (w - 3) (n / 1000) ++ three (n % 1000)
 padded_more w n long fits =
     let a : n / 10 / 10 / 10 ≡ n / 1000 = omega arith in
     let v : w - 1 - 1 - 1 ≡ w - 3 = omega arith in

@@ -45,8 +45,7 @@ agreed-said lines sums is = if_agree-is (all_said lines) sums is
 all_agree-push : (sums : List SumData) (sum : SumData)
     → all_agree (sums ++ sum ∷ []) ≡ (all_agree sums && each_agrees sums sum)
 all_agree-push [] sum = refl
-all_agree-push (s ∷ sums) sum =
-    grind (arith, sum, list_all-append, each_agrees, all_agree-push sums sum)
+all_agree-push (s ∷ sums) sum = grind (arith, sum, list_all-append, each_agrees, all_agree-push sums sum)
 
 all_agree-front : (xs ys : List SumData) → all_agree xs ≡ false → all_agree (xs ++ ys) ≡ false
 all_agree-front [] ys is = cc

@@ -22,8 +22,7 @@ pub without_last-other : (byte last : ℕ) (bytes : List ℕ) → last ≢ byte
 without_last-other byte last bytes other = grind (arith, without_last-end, ne_eqb)
 
 -- a list is empty, or has a last element
-pub snoc_view : {A : Type 0} (xs : List A)
-    → (xs ≡ []) ⊎ ((front : List A) × (last : A) × (xs ≡ front ++ last ∷ []))
+pub snoc_view : {A : Type 0} (xs : List A) → (xs ≡ []) ⊎ ((front : List A) × (last : A) × (xs ≡ front ++ last ∷ []))
 snoc_view [] = inl refl
 snoc_view (x ∷ xs) =
     elim (snoc_view xs) [
@@ -72,9 +71,9 @@ All-last P front last all =
     (all (length front) last (omega (arith, length-append front (last ∷ []))))
 
 -- the lines of a text whose last line is ended
-pub lines_of-ended : (lines : List (List ℕ)) → All HasNoFeed lines
+pub lines_of_ended : (lines : List (List ℕ)) → All HasNoFeed lines
     → lines_of (ended lines) ≡ map (without_last carriage_return) lines
-lines_of-ended lines no_feeds =
+lines_of_ended lines no_feeds =
     elim (snoc_view lines) [
       | inl none ↦
           ap (λ l. lines_of (ended l)) none ∙ ap (map (without_last carriage_return)) (sym none)
@@ -94,10 +93,10 @@ lines_of-ended lines no_feeds =
     ]
 
 -- the lines of a text whose last line lacks its line feed
-pub lines_of-unended : (lines : List (List ℕ)) (last : List ℕ) → All HasNoFeed lines → HasNoFeed last
+pub lines_of_unended : (lines : List (List ℕ)) (last : List ℕ) → All HasNoFeed lines → HasNoFeed last
     → 0 < length last
     → lines_of (ended lines ++ last) ≡ map (without_last carriage_return) (lines ++ last ∷ [])
-lines_of-unended lines last no_feeds no_feed some =
+lines_of_unended lines last no_feeds no_feed some =
     elim (snoc_view last) [
       | inl none ↦ absurd (omega (arith, ap length none))
       | inr view ↦

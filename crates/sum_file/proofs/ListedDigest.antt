@@ -12,8 +12,7 @@ record IsFound (name : List ℕ) (sums : List SumData) (sum : SumData) : Type 0 
   listed : Contains sums sum
   name_is : sum.name ≡ name
 
-found-is : (name : List ℕ) (sums : List SumData) (sum : SumData) → found name sums ≡ Some sum
-    → IsFound name sums sum
+found-is : (name : List ℕ) (sums : List SumData) (sum : SumData) → found name sums ≡ Some sum → IsFound name sums sum
 found-is name [] sum is = cc
 found-is name (first ∷ sums) sum is =
     elim (cases_Bool (bytes_eq first.name name)) [

@@ -85,8 +85,7 @@ sum_from (Ok d) None sum is = cc
 sum_from (Ok d) (Some n) sum is = grind arith
 
 -- digits that decode don't begin with a backslash
-first_digit : (digits rest bytes : List ℕ) → decode_sized digits 32 ≡ Ok bytes
-    → is_escaped (digits ++ rest) ≡ false
+first_digit : (digits rest bytes : List ℕ) → decode_sized digits 32 ≡ Ok bytes → is_escaped (digits ++ rest) ≡ false
 first_digit digits rest bytes decoded =
     let are = (IsOk-decode_sized digits 32).0 (ap is_ok decoded) in
     let first : get_or (digits ++ rest) 0 0 ≡ get_or digits 0 0 = get_or_append_left digits rest 0 0 (omega arith) in

@@ -1,7 +1,7 @@
 -- The text that `sha256sum` writes.
 use Rattle.sum_file.proofs.Common.{◌≡◌, ℕ, zero, suc, ◌==◌, inl, inr, true, not, cond, List, [], ◌∷◌, ◌++◌, map, get_or, Some, None, option_map, option_and_then, Ok, ok_or, refl, sym, ap, ◌∙◌, true≢false, arith, All, AllPairs, and_parts, not-true, or_parts, eq-eqb, All-head, All-tail, list_all-append, AllPass-from_list_all, Form, IsMark, written, carriage_return, line_feed, HasNoFeed, agreed, all_said, first_bad, lines_of, sums_of, text_of, without_last, Agree, IsWritable, SumData}
 use Rattle.sum_file.proofs.Agreement.{if_agree}
-use Rattle.sum_file.proofs.Cuts.{lines_of-ended, snoc_view, without_last-other}
+use Rattle.sum_file.proofs.Cuts.{lines_of_ended, snoc_view, without_last-other}
 use Rattle.sum_file.proofs.Pairs.{all_agree-from}
 use Rattle.sum_file.proofs.Spelling.{line_of-Says}
 use Rattle.sum_file.proofs.Written.{Says-written, clean_written, is_clean, is_ending}
@@ -51,7 +51,7 @@ module _ (mark : ℕ) (marked : IsMark mark) where
       (Says-written mark sum marked (All-head IsWritable sum sums writable)))
       ∙ ap (option_map (λ more. sum ∷ more)) (said sums (All-tail IsWritable sum sums writable))
 
-  pub sums_of-text_of : (sums : List SumData) → All IsWritable sums → AllPairs Agree sums
+  pub sums_of_text_of : (sums : List SumData) → All IsWritable sums → AllPairs Agree sums
       → sums_of (text_of mark sums) ≡ Ok sums
-  sums_of-text_of sums writable agreeing =
-      grind (arith, map, lines_of-ended, no_feeds, stripped, ok_or, option_and_then, if_agree, said, all_agree-from)
+  sums_of_text_of sums writable agreeing =
+      grind (arith, map, lines_of_ended, no_feeds, stripped, ok_or, option_and_then, if_agree, said, all_agree-from)

@@ -71,8 +71,7 @@ lines_are_good text body yielded sums cut all said =
 -- the next part, below those that were yielded
 pub record IsNextPart (body : List ℕ) (yielded : List (Bor (List ℕ))) (part : List ℕ) : Type 0 where
   pub so_far : map (λ p. p.now) yielded ≡ take (length yielded) (parts_in body)
-  pub next : (length yielded < length (parts_in body))
-      × (part ≡ get_or (parts_in body) (length yielded) part)
+  pub next : (length yielded < length (parts_in body)) × (part ≡ get_or (parts_in body) (length yielded) part)
 
 -- its line isn't good
 pub line_is_bad : (text body : List ℕ) (yielded : List (Bor (List ℕ))) (part : List ℕ) (sums : List Sum)

@@ -10,6 +10,7 @@ ghost use Rattle.sum_file.specs.Sum.{Agree, IsWritable, SumData};
 
 /// The lines of a text are those that it is made of, each ended by a line feed, but perhaps the
 /// last. A carriage return at a line's end isn't the line's.
+#[tactic(auto, using(crate::proofs::Cuts::lines_of_ended, crate::proofs::Cuts::lines_of_unended))]
 pub fn texts_are_made_of_lines()
     ensures ended { (lines : List (List ℕ)) → All HasNoFeed lines →
         lines_of (ended lines) ≡ map (without_last carriage_return) lines }
@@ -31,6 +32,7 @@ pub fn written_lines_are_read()
 {}
 
 /// The text that `sha256sum` writes for sums of which no two disagree says those sums.
+#[tactic(auto, using(crate::proofs::Texts::sums_of_text_of))]
 pub fn written_texts_are_read()
     ensures read { (mark : ℕ) (sums : List SumData) → IsMark mark → All IsWritable sums →
         AllPairs Agree sums → sums_of (text_of mark sums) ≡ Ok sums }

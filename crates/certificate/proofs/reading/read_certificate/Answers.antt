@@ -35,5 +35,4 @@ returns-in-Ok-clause-few c =
     (exact c.args.bytes.now c.in-Ok.text.now c.read_text.result c.in-Ok.ensures.cases c.read_text.ensures)
 
 pub returns-in-Err-clause-exact : goal.returns-in-Err-clause-exact
-returns-in-Err-clause-exact c =
-    inr (no_text c.args.bytes.now (is_utf8 c.args.bytes.now) refl c.in-Err.ensures.cases.0)
+returns-in-Err-clause-exact c = inr (no_text c.args.bytes.now (is_utf8 c.args.bytes.now) refl c.in-Err.ensures.cases.0)

@@ -1,4 +1,5 @@
-use Rattle.certificate.proofs.Common.{◌≡◌, Some, None, inl, inr, refl, sym, ap, ◌∙◌, arith, read_key-shorter, parse_map, read_key, key_refused, member_read, member_refused, members_over, value-shorter, no_members, put, top_parts_of}
+use Rattle.certificate.proofs.Common.{◌≡◌, Some, None, inl, inr, refl, sym, ap, ◌∙◌, arith, parse_map, read_key, key_refused, member_read, member_refused, members_over, no_members, put, top_parts_of}
+use Rattle.certificate.proofs.PartsRead.{member-shorter}
 use Rattle.certificate.proofs.reading.read_whole.Goals as goal
 
 pub members-init : goal.members-init
@@ -13,15 +14,8 @@ returns-in_err-name c =
 
 pub members-smaller : goal.members-smaller
 members-smaller c =
-    let l = c.members in
-    let s = c.next_key.new.self in
-    let named : read_key l.reader ≡ Some (Some c.in-Some.name.now, s) = grind arith in
-    let done = c.in_ok-read.ensures in
-    omega (
-      arith,
-      read_key-shorter l.reader (Some c.in-Some.name.now) s named,
-      value-shorter c.args.depth s c.read.new.reader done.0 done.1,
-    )
+    member-shorter c.args.depth c.members.reader c.next_key.new.self c.read.new.reader c.in-Some.name.now (grind arith)
+    c.in_ok-read.ensures.0 c.in_ok-read.ensures.1
 
 pub members-preserved : goal.members-preserved
 members-preserved c =

@@ -16,12 +16,12 @@ written c =
     (λ text same. same (ap has_float is ∙ refutation-no_float refutation) ∙ ap compact_text is ∙ text-value refutation)
     c.to_string.ensures.text
 
-pub returns-clause-text : goal.returns-clause-text
-returns-clause-text c = written c
-
-pub returns-clause-reads_back : goal.returns-clause-reads_back
-returns-clause-reads_back c =
+pub returns : goal.returns
+returns c =
     let refutation = data_of c.args.refutation.now in
-    IfOk-weaker c.to_string.result (λ text. string_bytes text ≡ refutation_text refutation)
-    (λ text. refutation_of (string_bytes text) ≡ Ok refutation)
-    (λ text is. ap refutation_of is ∙ refutation_of-text refutation c.in_ok-value_of.ensures.held) (written c)
+    record {
+      text = written c;
+      reads_back = IfOk-weaker c.to_string.result (λ text. string_bytes text ≡ refutation_text refutation)
+          (λ text. refutation_of (string_bytes text) ≡ Ok refutation)
+          (λ text is. ap refutation_of is ∙ refutation_of-text refutation c.in_ok-value_of.ensures.held) (written c);
+    }

@@ -1,4 +1,4 @@
-use Rattle.feasibility.proofs.Common.{◌≡◌, ℕ, ◌≤◌, true≢false, length, map, refl, sym, ◌∙◌, Some, slice_get, arith, length-map, data_of as claim_data, is_of, IsCompatibleWith, holds}
+use Rattle.feasibility.proofs.Common.{◌≡◌, true≢false, map, refl, sym, ◌∙◌, Some, slice_get, length-map, data_of as claim_data, is_of, IsCompatibleWith, holds}
 use Rattle.feasibility.proofs.KeptMarkLists.{lawful_shown, shown_at}
 use Rattle.feasibility.proofs.GroupRefutation.{all_held, one_more}
 use Rattle.feasibility.proofs.TrueExchanges.{true_at}
@@ -30,14 +30,10 @@ loop-exchange-preserved g c =
     (shown_at g.X.ToExchange.shown _ c.loop-exchange-test.true c.exchange-item.is c.to_exchange.ensures)
     (c.is_inside_or_compatible.ensures.0 c.if-not-is_inside_or_compatible.false) c.loop-exchange.invariant
 
-at_end : (a b k : ℕ) → a ≡ b → b ≤ k → a ≤ k
-at_end a b k is past = omega arith
-
 pub returns : goal.returns
-returns g c =
-    let xs = map g.X.ToExchange.shown c.args.exchanges.now in (
-      λ _. all_held (claim_data c.args.claim.now) c.args.mark (holds c.args.groups) xs c.loop-exchange.exchange-index
-          (at_end (length xs) (length c.args.exchanges.now) c.loop-exchange.exchange-index
-          (length-map c.args.exchanges.now g.X.ToExchange.shown) c.loop-exchange-test.false) c.loop-exchange.invariant,
-      λ _. refl,
-    )
+returns g c = (
+  λ _. all_held (claim_data c.args.claim.now) c.args.mark (holds c.args.groups)
+      (map g.X.ToExchange.shown c.args.exchanges.now) c.loop-exchange.exchange-index
+      (rw length-map c.loop-exchange-test.false) c.loop-exchange.invariant,
+  λ _. refl,
+)

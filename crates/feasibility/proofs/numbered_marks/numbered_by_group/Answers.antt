@@ -22,14 +22,11 @@ loop-group-preserved g c =
           c.in_ok-of_group.ensures.exact;
     }
 
-pub returns-clause-count : goal.returns-clause-count
-returns-clause-count g c =
-    c.loop-group.invariant.count
-    ∙ up_to_end c.loop-group.group c.len-group-end.result _ c.loop-group-test.false c.loop-group.auto.group-end
-    (c.len-group-end.ensures ∙ c.args.claim.now.servers.ok.0)
-
-pub returns-clause-numbered : goal.returns-clause-numbered
-returns-clause-numbered g c = c.loop-group.invariant.numbered
-
-pub returns-clause-each : goal.returns-clause-each
-returns-clause-each g c = c.loop-group.invariant.each
+pub returns : goal.returns
+returns g c = record {
+  count = c.loop-group.invariant.count
+      ∙ up_to_end c.loop-group.group c.len-group-end.result _ c.loop-group-test.false c.loop-group.auto.group-end
+      (c.len-group-end.ensures ∙ c.args.claim.now.servers.ok.0);
+  numbered = c.loop-group.invariant.numbered;
+  each = c.loop-group.invariant.each;
+}

@@ -41,17 +41,13 @@ loop-exchange-preserved g c =
     c.index.result.now split (sym (read_is groups 0 x.server c.index.result.now below c.index.ensures))
     c.with-found.ensures c.loop-exchange.invariant
 
-at_end : (a b k : ℕ) → a ≡ b → b ≤ k → a ≤ k
-at_end a b k is past = omega arith
-
 pub returns-clause-count : goal.returns-clause-count
 returns-clause-count g c =
     let claim = claim_data c.args.claim.now in
     let xs = map g.X.ToExchange.shown c.args.exchanges.now in
     let found = holds c.loop-exchange.found in
-    let past : length xs ≤ c.loop-exchange.exchange-index =
-    at_end (length xs) (length c.args.exchanges.now) c.loop-exchange.exchange-index
-    (length-map c.args.exchanges.now g.X.ToExchange.shown) c.loop-exchange-test.false in
+    let past : length (map g.X.ToExchange.shown c.args.exchanges.now) ≤ c.loop-exchange.exchange-index =
+    rw length-map c.loop-exchange-test.false in
     count_same found (has_exchange claim xs) (numbers_below (length c.args.claim.now.groups.items))
     (all_heard claim xs found (subst (λ (rest : List Exchange). AreHeardTo claim xs rest found)
     (drop_of_length-le xs past) c.loop-exchange.invariant))

@@ -1,4 +1,5 @@
-use Rattle.feasibility.proofs.SortedMarks.{compatible_moved, kept_range, order_there, range_there, written}
+use Rattle.error_marks.proofs.Compatibility.{of_sorted}
+use Rattle.feasibility.proofs.SortedMarks.{kept_range, order_there, range_there, written}
 use Rattle.feasibility.proofs.kept_marks.KeptMarks.sort_and_compare.Goals as goal
 
 pub all_compatible_in_order-requires-clause-lows :
@@ -15,7 +16,7 @@ all_compatible_in_order-requires-clause-highs c =
 
 pub returns-clause-exact : goal.returns-clause-exact
 returns-clause-exact c =
-    compatible_moved c.args.drift_ppb c.args.self.now.lows.items c.deref.result.now c.args.self.now.highs.items
+    of_sorted c.args.drift_ppb c.args.self.now.lows.items c.deref.result.now c.args.self.now.highs.items
     c.deref-2.result.now
     (written c.args.self.now.lows c.deref_mut.result.now c.sort_marks.new.marks c.deref_mut.ensures.value
     c.sort_marks.ensures.permutation c.deref.result.now c.deref.ensures.value)

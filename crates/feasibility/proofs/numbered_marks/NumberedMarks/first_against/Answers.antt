@@ -1,12 +1,9 @@
-use Rattle.feasibility.proofs.Common.{◌≡◌, ℕ, ◌<◌, length, ap, ◌∙◌, arith, get_or_default_zero}
+use Rattle.feasibility.proofs.Common.{◌≡◌, ℕ, ◌<◌, length, refl, ap, ◌∙◌, arith, get_or_default_zero}
 use Rattle.feasibility.proofs.FirstPairs.{first_same, some_mark}
 use Rattle.feasibility.proofs.numbered_marks.NumberedMarks.first_against.Goals as goal
 
 bound_there : (j n m k len : ℕ) → j < n → n ≡ m → m ≡ k → len ≡ k → j < len
 bound_there j n m k len below same same' is = omega arith
-
-number_there : (j n m k : ℕ) → j < n → n ≡ m → m ≡ k → j < k
-number_there j n m k below same same' = omega arith
 
 pub index-requires-in-Some : goal.index-requires-in-Some
 index-requires-in-Some c =
@@ -24,11 +21,11 @@ returns-in-Some c =
     let j = c.in-Some.high in
     let first = rw c.in-Some.is at c.in_ok-low.ensures in
     let i_below : i < length one.numbers.items =
-    number_there i (length c.deref.result.now) (length one.lows.items) (length one.numbers.items) first.within
-    (ap length c.deref.ensures.value) c.requires.one.low_count in
+    bound_there i (length c.deref.result.now) (length one.lows.items) (length one.numbers.items) _ first.within
+    (ap length c.deref.ensures.value) c.requires.one.low_count refl in
     let j_below : j < length other.numbers.items =
-    number_there j (length c.deref-2.result.now) (length other.highs.items) (length other.numbers.items)
-    (first.first_of_it some_mark).within (ap length c.deref-2.ensures.value) c.requires.other.high_count in
+    bound_there j (length c.deref-2.result.now) (length other.highs.items) (length other.numbers.items) _
+    (first.first_of_it some_mark).within (ap length c.deref-2.ensures.value) c.requires.other.high_count refl in
     record {
       i = i;
       j = j;
