@@ -1,6 +1,6 @@
 -- The errors that the entries of an accepted piece admit: there are some, and none is beyond the bound.
-use Rattle.audit.proofs.Common.{◌≡◌, ℕ, zero, suc, ◌-◌, ◌*◌, ◌<◌, ◌≤◌, ℤ, pos, negsuc, neg_ℤ, ◌+ℤ◌, ◌-ℤ◌, ◌*ℤ◌, ◌≤ℤ◌, ◌<ℤ◌, unsigned_abs, Bool, true, false, cond, ◌&&◌, ⊎_elim, List, length, Option, Some, None, count_by, refl, sym, ap, ◌∙◌, subst, arith, IsSomeAnd, ◌↔◌, slice_get, slice_index, list_any, option_map, mul-le-mul_right, cases_lt, cond-true, cond-false, and_parts, and_from, nat_tests, ints, slice_get-map, slice_get_read, IsCeiling, ClaimData, Exchange, request_start, request_end, reply_start, reply_end, Sample, Stretch, samples_of, by_test, MayChangeBy, Admit}
-use Rattle.std.specs.Prelude.{◌==◌}
+use Rattle.std.proofs.Common.{rules}
+use Rattle.audit.proofs.Common.{◌≡◌, ℕ, zero, suc, ◌-◌, ◌*◌, ◌<◌, ◌≤◌, ℤ, pos, negsuc, neg_ℤ, ◌+ℤ◌, ◌-ℤ◌, ◌*ℤ◌, ◌≤ℤ◌, ◌<ℤ◌, unsigned_abs, Bool, true, false, cond, ◌&&◌, ⊎_elim, List, length, Option, Some, None, count_by, refl, sym, ap, ◌∙◌, subst, arith, IsSomeAnd, ◌↔◌, slice_get, slice_index, list_any, option_map, mul-le-mul_right, cases_lt, cond-true, cond-false, and_parts, and_from, nat_tests, ints, slice_get-map, slice_get_read, IsCeiling, ClaimData, Exchange, Sample, Stretch, samples_of, by_test, MayChangeBy, Admit, ◌==◌}
 use Rattle.std.proofs.lemmas.List.Folds.{Any-from_list_any}
 use Rattle.std.proofs.lemmas.List.Sums.{sum_by-le-sum_by}
 use Rattle.std.proofs.lemmas.Map.Keys.{any_passes_from_place}
@@ -11,7 +11,7 @@ use Rattle.sample_interval.specs.Sample.{sample_of}
 use Rattle.sample_interval.specs.Widening.{IsWidening, widening, billion}
 use Rattle.span_cover.specs.Group.{numbers_below, group_interval, group_intervals}
 use Rattle.span_cover.specs.Part.{part_of}
-use Rattle.span_cover.specs.Piece.{farthest, moved_low, moved_high}
+use Rattle.span_cover.specs.Piece.{moved_low, moved_high}
 use Rattle.span_cover.specs.declared.part.Part.{Part}
 use Rattle.checker.specs.Acceptance.{IsSaidBy, ShowBound}
 use Rattle.checker.proofs.Separation.{passes, group_passes, counted, held_ends, held_test, meet_leaves_it_out}
@@ -27,40 +27,24 @@ some_with P (Some x) h = (x, refl, h)
 
 -- ---- ratios
 
-less_one : (k : ℕ) → (pos (suc k) -ℤ pos 1) ≡ pos k
-less_one k = omega (arith, ints)
-
-times : (k d : ℕ) → (pos k *ℤ pos d) ≡ pos (k * d)
-times k d = omega (arith, ints)
-
 one_less : (k d : ℕ) → ((pos (suc k) -ℤ pos 1) *ℤ pos d) ≡ pos (k * d)
-one_less k d = ap (λ (z : ℤ). z *ℤ pos d) (less_one k) ∙ times k d
-
-as_whole : (a n : ℕ) → a < n → pos a <ℤ pos n
-as_whole a n h = omega (arith, ints)
+one_less k d = grind (arith, ints)
 
 as_natural : (a n : ℕ) → pos a <ℤ pos n → a < n
 as_natural a n h = omega (arith, ints)
 
 -- what is no more than a ratio rounded up is less than one more than the ratio
 in_reach : (n d w : ℕ) (z : ℤ) → 0 < d → IsCeiling n d w → z ≤ℤ pos w → ((z -ℤ pos 1) *ℤ pos d) <ℤ pos n
-in_reach n zero w z some ceiling most = absurd (omega (arith, some))
-in_reach n (suc d) w (negsuc k) some ceiling most = omega (arith, ints)
-in_reach n (suc d) w (pos zero) some ceiling most = omega (arith, ints)
-in_reach n (suc d) w (pos (suc k)) some ceiling most =
-    let below : k < w = omega (arith, ints) in
-    rw (one_less k (suc d)) (as_whole (k * suc d) n (⊎_elim (λ less. less)
-    (λ more. absurd (let least = ceiling.least k more in omega (arith, least, below)))
-    (cases_lt (k * suc d) n)))
+in_reach n d w (pos (suc k)) some ceiling most = grind (arith, ints, ceiling.least k, one_less)
+in_reach n d w _ some ceiling most = omega (arith, ints)
 
 -- and what is less than that is no more
 from_reach : (n d w : ℕ) (z : ℤ) → IsCeiling n d w → ((z -ℤ pos 1) *ℤ pos d) <ℤ pos n → z ≤ℤ pos w
-from_reach n d w (negsuc k) ceiling less = omega (arith, ints)
-from_reach n d w (pos zero) ceiling less = omega (arith, ints)
 from_reach n d w (pos (suc k)) ceiling less =
     let fewer = as_natural (k * d) n (rw (one_less k d) at less) in
     ⊎_elim (λ below. omega (arith, ints, below))
     (λ over. absurd (omega (arith, mul-le-mul_right d over, ceiling.not_below, fewer))) (cases_lt k w)
+from_reach n d w _ ceiling less = omega (arith, ints)
 
 low_over : (l e : ℤ) (w : ℕ) → (l -ℤ pos w) ≤ℤ e → (l -ℤ e) ≤ℤ pos w
 low_over l e w h = omega (arith, ints)
@@ -93,12 +77,6 @@ module _ (widenings : WideningLaw) (claim : ClaimData) (rate : claim.drift_ppb �
   abbrev HighRoom : Exchange → Type 0
   HighRoom y = MayChangeBy claim (y.t4_low -ℤ claim.reading) (y.t4_high +ℤ claim.reading) begin end
       (error -ℤ (y.t4_high +ℤ claim.reading -ℤ y.t3 +ℤ y.distance))
-
-  abbrev far_low : Exchange → ℕ
-  far_low x = unsigned_abs (farthest (request_start x claim.reading) (request_end x claim.reading) begin end)
-
-  abbrev far_high : Exchange → ℕ
-  far_high y = unsigned_abs (farthest (reply_start y claim.reading) (reply_end y claim.reading) begin end)
 
   widened : (distance : ℕ)
       → IsCeiling (claim.drift_ppb * distance) (billion - claim.drift_ppb) (widening claim.drift_ppb distance)
@@ -159,8 +137,7 @@ module _ (widenings : WideningLaw) (claim : ClaimData) (rate : claim.drift_ppb �
   part_holds : (point : ℤ) (g j : ℕ) (part : Part) → slice_get shown.parts j ≡ Some part
       → slice_index claim.groups part.server ≡ g → group_leaves_out point g ≡ false
       → leaves_out part.interval point ≡ false
-  part_holds point g j part at is held =
-      grind (arith, by_test, leaves_out, slice_index, any_passes_from_place, and_from, group_is)
+  part_holds point g j part at is held = search (rules, by_test, any_passes_from_place, and_from, group_is)
 
   -- the least admissible error is admitted
   pub some_admitted : Admit claim xs entries stretch.begin stretch.end shown.lo
@@ -227,13 +204,16 @@ module _ (widenings : WideningLaw) (claim : ClaimData) (rate : claim.drift_ppb �
 
     admissible : IsAdmissible (group_intervals claim.groups shown.parts) claim.false_max error
     admissible =
-        let numbers = numbers_below (length claim.groups) in
-        let few = subst (λ (l : List ℕ). count_by admit.is_wrong l ≤ claim.false_max)
-        (sym (all_numbers (length claim.groups))) admit.few in
-        let same = count_is error in
-        let step = sum_by-le-sum_by (λ g. cond (group_leaves_out error g) 1 0)
-        (λ g. cond (admit.is_wrong g) 1 0) numbers no_more_at in
-        omega (arith, few, same, step)
+        omega (
+          arith,
+          numbers_below (length claim.groups),
+          subst (λ (l : List ℕ). count_by admit.is_wrong l ≤
+              claim.false_max) (sym (all_numbers (length claim.groups))) admit.few,
+          count_is error,
+          sum_by-le-sum_by (λ g.
+              cond (group_leaves_out error g) 1 0) (λ g. cond (admit.is_wrong g) 1 0) (numbers_below (length claim.groups))
+              no_more_at,
+        )
 
     -- an error that is admitted is within the bound
     pub none_beyond : pos (unsigned_abs error) ≤ℤ claim.bound

@@ -1,12 +1,11 @@
 -- What is read of a capture is what its bytes give.
-use Rattle.audit.proofs.Common.{◌≡◌, ◌∙◌, ℕ, List, Option, Some, None, Result, Ok, Err, refl, sym, ap, inl, inr, IfSome, IsOk, CaptureFault, Coming, capture_of, AllRemains, ClaimData, PairFault, IsAnswerTo, compact_data, Collection, IsFromOutside, Reads, HasLawfulHeader, capture_read, collection_read, pair_run_fault_of}
-use Rattle.std.proofs.lemmas.Option.{IfSome_then}
+use Rattle.std.proofs.Common.{rules}
+use Rattle.audit.proofs.Common.{◌≡◌, ◌∙◌, ℕ, List, Option, Some, None, Result, Ok, Err, refl, sym, ap, inl, inr, IfSome, IsOk, CaptureFault, Coming, capture_of, AllRemains, ClaimData, PairFault, IsAnswerTo, compact_data, Collection, IsFromOutside, Reads, HasLawfulHeader, capture_read, collection_read, pair_run_fault_of, IfSome_then, run_fault_of, arith, ints, nat_tests}
 use Rattle.pcap_reader.specs.declared.fault.CaptureFault.TheVariants as captures
 use Rattle.pcap_reader.specs.Refusal.{IsRefusal}
 use Rattle.pairing.specs.declared.compact.CompactCollection.{CompactCollection}
 use Rattle.pairing.specs.declared.fault.PairFault.TheVariants as pairs
 use Rattle.pairing.specs.Answer.{IsFromOutside as is_pair_from_outside}
-use Rattle.report.specs.Fault.{run_fault_of}
 
 module _ (claim : ClaimData) where
   of_capture : (bytes : List ℕ) (c : Result Coming CaptureFault) → capture_of bytes ≡ c →
@@ -20,10 +19,7 @@ module _ (claim : ClaimData) where
       IfSome known (λ bytes. Reads compact_data (capture_read claim bytes) (Ok held))
   capture_is_read None remaining held all exact = tt
   capture_is_read (Some bytes) None held (coming, is, same) exact = cc
-  capture_is_read (Some bytes) (Some now) held (coming, is, same) exact =
-      let here : coming ≡ now = cc in
-      of_capture bytes (Ok coming) is ∙
-      ap (λ c. collection_read claim (Ok c)) here ∙ rw exact refl
+  capture_is_read (Some bytes) (Some now) held (coming, is, same) exact = grind (arith, ints, nat_tests, of_capture)
 
   outside : (fault : PairFault) → is_pair_from_outside fault → IsFromOutside (pair_run_fault_of fault)
   outside pairs.Memory h = tt
@@ -39,8 +35,7 @@ module _ (claim : ClaimData) where
   capture_unread (Some bytes) None fault (coming, is, same) exact = cc
   capture_unread (Some bytes) (Some now) fault (coming, is, same) (inl h) = inl (outside fault h)
   capture_unread (Some bytes) (Some now) fault (coming, is, same) (inr exact) =
-      let here : coming ≡ now = cc in
-      inr (of_capture bytes (Ok coming) is ∙ (ap (λ c. collection_read claim (Ok c)) here ∙ rw exact refl))
+      grind (arith, ints, nat_tests, of_capture)
 
   -- the capture's header is refused
   pub capture_refused : (known : Option (List ℕ)) (fault : CaptureFault) → IsRefusal known fault →
@@ -52,14 +47,7 @@ module _ (claim : ClaimData) where
 
 -- ---- the header
 
-lawful_header : (claim : ClaimData) (c : Result Coming CaptureFault) (collection : Collection) →
-    collection_read claim c ≡ Ok collection → IsOk c
-lawful_header claim (Ok coming) collection is = refl
-lawful_header claim (Err fault) collection is = cc
-
 -- a capture that was read has a lawful header
 pub header_was_read : (claim : ClaimData) (known : Option (List ℕ)) (held : CompactCollection) →
     IfSome known (λ bytes. Reads compact_data (capture_read claim bytes) (Ok held)) → HasLawfulHeader known
-header_was_read claim known held reads = IfSome_then known reads (λ bytes read.
-    lawful_header claim (capture_of bytes) (compact_data held)
-    (sym (of_capture claim bytes (capture_of bytes) refl) ∙ read))
+header_was_read claim known held reads = search (rules, of_capture)

@@ -1,8 +1,9 @@
 -- Each exchange in the frames of a capture is collected.
-use Rattle.audit.proofs.Common.{◌≡◌, ◌≢◌, ℕ, zero, suc, ◌&&◌, ◌==◌, ℤ, pos, Bool, true, inl, List, [], ◌∷◌, map, Option, Some, None, refl, sym, ap, ◌∙◌, subst, arith, AllPairs, Contains, slice_get, filter, filter_map, cons_option, option_and_then, option_map, cond-true, cond-false, nat_tests, slice_get-get_or, IsBytes, Unit as TimeUnit, IsUnfolded, Record, mode_of, origin_of, receive_of, transmit_of, ntp_port, ClaimData, Exchange, Request, Reply, request_of, reply_of, reply_in, reply_from, IsPair, requests_of, replies_of, answers, exchange_of, exchanges_of, low_of, high_of, by_test, CapturedFrame, frame_of, HoldsPacket, packet_with, HoldsRequest, IsWindowOf, IsExchangeIn, SameExchange, IsAmong}
+use Rattle.std.proofs.Common.{rules}
+use Rattle.audit.proofs.Common.{◌≡◌, ◌≢◌, ℕ, zero, suc, ◌&&◌, ◌==◌, ℤ, pos, Bool, true, inl, List, [], ◌∷◌, map, Option, Some, refl, sym, ap, ◌∙◌, subst, arith, AllPairs, Contains, slice_get, filter, filter_map, cons_option, option_and_then, option_map, cond-true, cond-false, nat_tests, slice_get-get_or, IsBytes, Unit as TimeUnit, IsUnfolded, Record, mode_of, origin_of, receive_of, transmit_of, ntp_port, ClaimData, Exchange, Request, Reply, request_of, reply_of, reply_in, reply_from, IsPair, requests_of, replies_of, answers, exchange_of, exchanges_of, low_of, high_of, by_test, CapturedFrame, frame_of, HoldsPacket, packet_with, HoldsRequest, IsWindowOf, IsExchangeIn, SameExchange, IsAmong, FrameLaws, ints}
 use Rattle.audit.proofs.PacketParts.{packet_held, unrefused}
 use Rattle.audit.proofs.RecordFrames.{SaidBy, frame_at, said_by}
-use Rattle.audit.proofs.ExchangeRecords.{Laws, AreInPlace, given_among, request_at, gives_request, three_pass, distance_is, moved, window_at}
+use Rattle.audit.proofs.ExchangeRecords.{AreInPlace, given_among, gives_request, holds_request, three_pass, distance_is, window_at}
 use Rattle.audit.proofs.Uniqueness.{floor_same, ceiling_same}
 
 -- ---- lists
@@ -54,7 +55,7 @@ three_same a b c d e f h = grind (arith, nat_tests)
 
 -- ---- requests and replies
 
-module _ (laws : Laws) (claim : ClaimData) (apart : AllPairs (λ a b. a ≢ b) claim.servers) where
+module _ (laws : FrameLaws) (claim : ClaimData) (apart : AllPairs (λ a b. a ≢ b) claim.servers) where
   -- a record that holds a reply gives it
   gives_reply : (r : Record) (server : ℕ) (address : List ℕ) (port : ℕ) (header : List ℕ)
       → slice_get claim.servers server ≡ Some address → IsBytes r.bytes
@@ -62,43 +63,33 @@ module _ (laws : Laws) (claim : ClaimData) (apart : AllPairs (λ a b. a ≢ b) c
       → reply_of claim r ≡ Some (record { server = server; port = port; header = header; head = r.head })
   unfolding reply_of
   gives_reply r server address port header listed bytes holds mode =
-      let found = packet_held laws.datagram r.bytes bytes address ntp_port claim.client port header (inl refl) holds in
-      let p = packet_with address ntp_port claim.client port header found.0 in
-      let answered = (laws.reply claim p server apart).1 (record {
-        from_server = listed;
-        from_port = refl;
-        to_client = refl;
-        mode = mode;
-      }) in
-      ap (option_and_then (reply_in claim r.head)) found.1 ∙ ap (option_map (reply_from r.head p)) answered
+      grind (
+        arith,
+        ints,
+        nat_tests,
+        packet_held laws.datagram r.bytes bytes address ntp_port claim.client port header
+            (inl refl) holds,
+        packet_with address ntp_port claim.client port header (packet_held laws.datagram r.bytes bytes
+            address ntp_port claim.client port header (inl refl) holds).0,
+        (laws.reply claim (packet_with address ntp_port
+            claim.client port header (packet_held laws.datagram r.bytes bytes address ntp_port claim.client port header (inl
+            refl) holds).0) server apart).1 (record {
+              from_server = listed;
+              from_port = refl;
+              to_client = refl;
+              mode = mode;
+            }),
+      )
 
-  -- a record that gives a request holds it
-  holds_request : (r : Record) (q : Request) (address : List ℕ) → IsBytes r.bytes → request_of claim r ≡ Some q
-      → slice_get claim.servers q.server ≡ Some address
-      → HoldsRequest r.bytes claim.client q.port address q.stamp
-  holds_request r q address bytes gives listed =
-      let at = request_at laws claim apart r q bytes gives in
-      let port : q.port ≡ at.packet.datagram.source_port = ap (λ (x : Request). x.port) at.is in
-      let stamp : q.stamp ≡ transmit_of at.packet.header = ap (λ (x : Request). x.stamp) at.is in
-      let to_server : at.packet.datagram.destination ≡ address = (let there = at.asks.to_server in cc) in
-      record {
-        header = at.packet.header;
-        held = moved r.bytes at.packet.header at.asks.from_client (sym port) to_server at.asks.to_port at.held;
-        version = at.asks.version;
-        mode = at.asks.mode;
-        stamped = sym stamp;
-      }
-
-  -- the same of a request that a reply may be one to
+  -- a record that gives a request holds it, also one that a reply may be one to
   holds_named : (r : Record) (q : Request) (reply : Reply) (address : List ℕ) → IsBytes r.bytes
       → request_of claim r ≡ Some q → answers reply q ≡ true → slice_get claim.servers reply.server ≡ Some address
       → HoldsRequest r.bytes claim.client reply.port address (origin_of reply.header)
-  holds_named r q reply address bytes gives passes listed =
-      grind (arith, three_same, origin_of, holds_request, slice_get)
+  holds_named r q reply address bytes gives passes listed = search (rules, three_same, holds_request)
 
 -- ---- exchanges
 
-module _ (laws : Laws)
+module _ (laws : FrameLaws)
     (one_tick : (stamp : ℕ) (near s t : ℤ) → IsUnfolded stamp near s → IsUnfolded stamp near t → s ≡ t)
     (claim : ClaimData) (apart : AllPairs (λ a b. a ≢ b) claim.servers)
     (unit : TimeUnit) (records : List Record) (given : AreInPlace unit records) where
@@ -129,15 +120,11 @@ module _ (laws : Laws)
     unfolding requests_of replies_of
     pair =
         let gives_q = gives_request laws claim apart asked.by x.server is.server is.port (origin_of is.header)
-        is.server_listed (given.bytes x.request asked.by asked.stands)
-        (subst (λ (f : CapturedFrame). HoldsRequest f.bytes claim.client is.port is.server (origin_of is.header))
-        (sym asked.is) is.asks) in
+        is.server_listed (given.bytes x.request asked.by asked.stands) (rw (← asked.is) at is.asks) in
         let gives_r = gives_reply laws claim apart answered.by x.server is.server is.port is.header
-        is.server_listed (given.bytes x.reply answered.by answered.stands)
-        (subst (λ (f : CapturedFrame). HoldsPacket f.bytes is.server ntp_port claim.client is.port is.header)
-        (sym answered.is) is.answers) is.mode in
-        let passes = three_pass laws claim apart x.server x.server is.port is.port (origin_of is.header)
-        (origin_of is.header) refl refl refl in
+        is.server_listed (given.bytes x.reply answered.by answered.stands) (rw (← answered.is) at is.answers)
+        is.mode in
+        let passes = three_pass x.server is.port (origin_of is.header) in
         record {
           given = given_among (reply_of claim) records x.reply answered.by reply answered.stands gives_r;
           accepted = unrefused is.header is.usable;
@@ -150,17 +137,12 @@ module _ (laws : Laws)
 
     same : SameExchange x (exchange_of q reply)
     same =
-        let window : IsWindowOf unit is.request (low_of asked.by.head) (high_of asked.by.head) =
-        subst (λ (f : CapturedFrame). IsWindowOf unit f (low_of asked.by.head) (high_of asked.by.head)) asked.is
+        let t1 = window_same unit (frame_of asked.by) x.t1_low x.t1_high (low_of asked.by.head) (high_of asked.by.head)
+        (rw (← asked.is) at is.t1)
         (window_at laws claim apart unit records given x.request asked.by asked.by.head refl asked.stands) in
-        let window' : IsWindowOf unit is.reply (low_of answered.by.head) (high_of answered.by.head) =
-        subst (λ (f : CapturedFrame). IsWindowOf unit f (low_of answered.by.head) (high_of answered.by.head))
-        answered.is
+        let t4 = window_same unit (frame_of answered.by) x.t4_low x.t4_high (low_of answered.by.head)
+        (high_of answered.by.head) (rw (← answered.is) at is.t4)
         (window_at laws claim apart unit records given x.reply answered.by answered.by.head refl answered.stands) in
-        let t1 = window_same unit is.request x.t1_low x.t1_high (low_of asked.by.head) (high_of asked.by.head) is.t1
-        window in
-        let t4 = window_same unit is.reply x.t4_low x.t4_high (low_of answered.by.head) (high_of answered.by.head)
-        is.t4 window' in
         let near : (stamp : ℕ) (s : ℤ) → IsUnfolded stamp (low_of asked.by.head) s → IsUnfolded stamp x.t1_low s =
         λ stamp s unfolds. subst (λ (moment : ℤ). IsUnfolded stamp moment s) (sym t1.0) unfolds in
         let y = exchange_of q reply in

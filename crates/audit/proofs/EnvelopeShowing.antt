@@ -1,13 +1,10 @@
 -- What an envelope shows.
-use Rattle.audit.proofs.Common.{◌≡◌, ◌∙◌, ◌≤◌, ℕ, List, length, Bool, true, false, Result, Ok, Err, refl, sym, ap, subst, arith, nat_tests, length-map, All-map, All, nat_lt, if◌then◌else◌, range_with_len, max_pieces, ClaimData, Sample, HoldsError, IsContradicted, Stretch, FindFault, TooManyPieces, FindsEnvelope, IsEnvelopeOf, bound_outcome, EvidenceData, samples_in}
+use Rattle.audit.proofs.Common.{◌≡◌, ◌∙◌, ◌≤◌, ℕ, List, length, Ok, refl, sym, ap, subst, arith, ⊎_elim, cases_lt, length-map, All-map, All, range_with_len, max_pieces, ClaimData, Sample, HoldsError, IsContradicted, Stretch, FindsEnvelope, IsEnvelopeOf, bound_outcome, EvidenceData, samples_in, map, Hull, Empty, count_of}
 use Rattle.std.proofs.lemmas.List.FromFn.{length-map-range_with_len}
-use Rattle.std.specs.Prelude.{map}
-use Rattle.intersection.specs.declared.kinds.Hull.{Hull}
-use Rattle.intersection.specs.declared.kinds.Hull.TheVariants.{Empty}
+use Rattle.finder.proofs.EnvelopePieces.{envelope_of_few, envelope_of_many}
 use Rattle.finder.specs.declared.envelope.Envelope.{Envelope as FoundEnvelope}
 use Rattle.finder.specs.Entry.{best_hull}
 use Rattle.finder.specs.Envelope.{EnvelopeData, PieceHullData, data_of, envelope_of, envelope_to, piece_data, piece_hull_at}
-use Rattle.finder.specs.Piece.{count_of}
 
 -- ---- the pieces
 
@@ -17,17 +14,11 @@ module _ (samples : List Sample) (claim : ClaimData) (step : ℕ) where
     few : count_of claim step ≤ max_pieces
     same : envelope ≡ envelope_to samples claim step (count_of claim step)
 
-  abbrev answer_if : Bool → Result EnvelopeData FindFault
-  answer_if many = if many then Err TooManyPieces else Ok (envelope_to samples claim step (count_of claim step))
-
-  whole_if : (many : Bool) → nat_lt max_pieces (count_of claim step) ≡ many → (envelope : EnvelopeData) →
-      answer_if many ≡ Ok envelope → IsWhole envelope
-  whole_if true is envelope e = absurd cc
-  whole_if false is envelope e = record { few = grind (arith, nat_tests, is); same = cc }
-
   whole : (envelope : EnvelopeData) → envelope_of samples claim step ≡ Ok envelope → IsWhole envelope
-  unfolding envelope_of
-  whole envelope e = whole_if (nat_lt max_pieces (count_of claim step)) refl envelope e
+  whole envelope e = ⊎_elim
+      (λ many. let refused = envelope_of_many samples claim step many in absurd cc)
+      (λ few. let found = envelope_of_few samples claim step few in record { few = few; same = cc })
+      (cases_lt max_pieces (count_of claim step))
 
   -- an envelope that is held in memory has no more pieces than a certificate
   pub count_is_few : (envelope : FoundEnvelope) → envelope_of samples claim step ≡ Ok (data_of envelope) →
@@ -45,11 +36,6 @@ module _ (samples : List Sample) (claim : ClaimData) (step : ℕ) where
       omega (arith, is.few, length-map envelope.pieces.items piece_data, count)
 
 -- ---- what their hulls hold
-
-contradicted : (claim : ClaimData) (samples : List Sample) (stretch : Stretch) (hull : Hull)
-    → HoldsError claim samples stretch hull → hull ≡ Empty → IsContradicted claim samples stretch
-contradicted claim samples stretch hull holds is =
-    subst (λ (h : Hull). HoldsError claim samples stretch h) is holds
 
 module _ (P : PieceHullData → Type 0) (at : ℕ → PieceHullData) (each : (k : ℕ) → P (at k)) where
   all_numbers : (ks : List ℕ) → All (λ k. P (at k)) ks
@@ -78,7 +64,7 @@ envelope_shows step e law envelope finds =
       holds_error = subst (λ (d : EnvelopeData). All Holds d.pieces) (sym is.same)
           (all_pieces Holds at (λ k. law (at k).stretch) n);
       empty = subst (λ (d : EnvelopeData). All Void d.pieces) (sym is.same) (all_pieces Void at
-          (λ k. contradicted e.claim samples (at k).stretch (at k).hull (law (at k).stretch)) n);
+          (λ k is. subst (λ (h : Hull). HoldsError e.claim samples (at k).stretch h) is (law (at k).stretch)) n);
       bound = finds.least;
       outcome_is = refl;
     }

@@ -1,14 +1,10 @@
 -- An error beyond the bound: in parts of a tick, in nanoseconds, and of an accepted refutation.
-use Rattle.audit.proofs.Common.{◌≡◌, ℕ, suc, ◌*◌, ◌<◌, ℤ, pos, negsuc, ◌*ℤ◌, unsigned_abs, Bool, true, false, inl, ⊎_elim, List, length, get_or, Some, ap, ◌∙◌, arith, slice_get, mul-le-mul_right, cases_lt, ints, length-map, slice_get-get_or, IsBytes, nanoseconds_per_second, IsFloor, ticks_per_second, Format, Record, IsCapture, RefutationData, ClaimData, AreGiven, Exchange, error_of, Course, FitsInWindows, IsAgainst, HasCourse, SharesRequests, frame_of, IsClaimText, HasCourseBeyond, IsBeyond, IsBeyondNanoseconds, EvidenceData, IsEvidenceOf, CourseContests, ShowsContested, IsContestedOf}
+use Rattle.audit.proofs.Common.{◌≡◌, ℕ, suc, ◌*◌, ◌<◌, ℤ, pos, ◌*ℤ◌, unsigned_abs, unsigned_abs-mul, Bool, true, false, inl, ⊎_elim, List, length, get_or, Some, ap, ◌∙◌, arith, slice_get, mul-le-mul_right, cases_lt, ints, length-map, slice_get-get_or, IsBytes, nanoseconds_per_second, IsFloor, ticks_per_second, Format, Record, IsCapture, RefutationData, ClaimData, AreGiven, Exchange, error_of, Course, FitsInWindows, IsAgainst, HasCourse, SharesRequests, frame_of, IsClaimText, HasCourseBeyond, IsBeyond, IsBeyondNanoseconds, EvidenceData, IsEvidenceOf, CourseContests, ShowsContested, IsContestedOf}
 use Rattle.intersection.specs.Fineness.{times_le}
 use Rattle.audit.proofs.RecordFrames.{captured, each_record}
 use Rattle.audit.proofs.ExchangeRecords.{in_place}
 
 -- ---- sizes
-
-abs_times : (e : ℤ) (n : ℕ) → unsigned_abs (e *ℤ pos n) ≡ unsigned_abs e * n
-abs_times (pos e) n = omega (arith, ints)
-abs_times (negsuc e) n = omega (arith, ints)
 
 -- n times a strict order
 times_lt : (a b n : ℕ) → 0 < n → a < b → a * n < b * n
@@ -28,7 +24,7 @@ module _ (text : List ℕ) (claim : ClaimData) (said : IsClaimText text claim) (
 
   size_is : unsigned_abs (error_of has.course.observation) ≡ size * has.course.fineness
   unfolding size
-  size_is = ap unsigned_abs has.error_is ∙ abs_times has.error has.course.fineness
+  size_is = ap unsigned_abs has.error_is ∙ unsigned_abs-mul has.error (pos has.course.fineness)
 
   beyond_ticks : said.bound < size
   unfolding size

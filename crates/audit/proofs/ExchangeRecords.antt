@@ -1,20 +1,9 @@
 -- The exchanges of records are exchanges in them.
-use Rattle.audit.proofs.Common.{by_test, ◌≡◌, ◌≢◌, ℕ, zero, suc, ◌+◌, ◌*◌, ◌<◌, ℤ, pos, int_lt, Bool, true, ◌&&◌, ◌==◌, inr, ◌↔◌, List, [], ◌∷◌, ◌++◌, length, map, Option, Some, None, refl, sym, ap, ◌∙◌, subst, arith, All, AllPairs, Contains, slice_get, filter, filter_map, unwrap_or, cons_option, option_and_then, option_map, cond-false, nat_tests, take-append_seam, drop-append_seam, All-nil, All-cons, All-contains, All-filter, All-take, All-drop, get_or_from_slice_get, slice_get_within, IsBytes, Unit as TimeUnit, IsFloor, IsCeiling, floor_of, ceiling_of, IsUnfolded, unfolded, per_second, ticks_per_second, window_low, window_high, Endian, Format, Record, IsCapture, spelling, record_spelling, spelled, mode_of, precision_of, precision_ticks_of, root_delay_of, root_dispersion_of, origin_of, receive_of, transmit_of, root_distance_of, Packet, ntp_port, packet_of, ClaimData, Exchange, Request, Reply, IsRequestTo, IsReplyOf, request_of, reply_of, requested_server, replying_server, request_in, reply_in, request_to, reply_from, IsExchangeOf, requests_of, replies_of, requests_for, answers, exchange_of, exchanges_of, low_of, high_of, distance_of, refusal_of, CapturedFrame, frame_of, HoldsPacket, HoldsShown, packet_with, HoldsRequest, IsUsable, IsWindowOf, IsExchangeIn}
-use Rattle.era_unfold.specs.declared.unit.Unit.TheVariants.{Micro, Nano}
+use Rattle.std.proofs.Common.{rules}
+use Rattle.audit.proofs.Common.{by_test, ◌≡◌, ◌≢◌, ℕ, zero, suc, ◌+◌, ◌*◌, ◌<◌, pos, int_lt, Bool, true, ◌&&◌, ◌==◌, inr, List, [], ◌∷◌, ◌++◌, length, map, Option, Some, None, refl, sym, ap, ◌∙◌, subst, arith, All, AllPairs, Contains, slice_get, filter, filter_map, unwrap_or, cons_option, option_and_then, option_map, cond-false, nat_tests, take-append_seam, drop-append_seam, All-nil, All-contains, All-filter, All-take, All-drop, IsBytes, Unit as TimeUnit, per_second, window_low, window_high, Endian, Format, Record, IsCapture, spelling, record_spelling, mode_of, precision_of, precision_ticks_of, root_delay_of, root_dispersion_of, origin_of, receive_of, transmit_of, root_distance_of, Packet, ntp_port, packet_of, ClaimData, Exchange, Request, Reply, IsRequestTo, request_of, reply_of, requested_server, replying_server, request_in, reply_in, request_to, reply_from, IsExchangeOf, IsPair, requests_of, replies_of, answers, exchange_of, exchanges_of, low_of, high_of, distance_of, CapturedFrame, frame_of, HoldsPacket, HoldsShown, packet_with, HoldsRequest, IsUsable, IsWindowOf, IsExchangeIn, FrameLaws, All-cons_option, All-slice_get, NameEachOther, ints}
 use Rattle.pcap_reader.specs.declared.format.RecordHead.{RecordHead}
-use Rattle.audit.proofs.PacketParts.{DatagramLaw, packet_given, packet_held, usable_from}
-use Rattle.audit.proofs.RecordFrames.{each_record, frame_at, mapped, said_by}
-
--- the laws of the layers below
-pub record Laws : Type 0 where
-  pub datagram : DatagramLaw
-  pub request : (claim : ClaimData) (packet : Packet) (server : ℕ) → AllPairs (λ a b. a ≢ b) claim.servers
-      → (requested_server claim packet ≡ Some server) ↔ IsRequestTo claim server packet
-  pub reply : (claim : ClaimData) (packet : Packet) (server : ℕ) → AllPairs (λ a b. a ≢ b) claim.servers
-      → (replying_server claim packet ≡ Some server) ↔ IsReplyOf claim server packet
-  pub down : (n d : ℕ) → 0 < d → IsFloor n d (floor_of n d)
-  pub up : (n d : ℕ) → 0 < d → IsCeiling n d (ceiling_of n d)
-  pub stamp : (stamp : ℕ) (near : ℤ) → IsUnfolded stamp near (unfolded stamp near)
+use Rattle.audit.proofs.PacketParts.{packet_given, packet_held, usable_from}
+use Rattle.audit.proofs.RecordFrames.{each_record, frame_at, mapped, passed, said_by}
 
 -- ---- lists
 
@@ -23,16 +12,11 @@ module _ {X Y : Type 0} (f : X → Option Y) where
   abbrev GivesAt : List X → Y → Type 0
   GivesAt xs y = (k : ℕ) × (x : X) × (slice_get xs k ≡ Some x) × (f x ≡ Some y)
 
-  step_given : (x : X) (xs : List X) (o : Option Y) (ys : List Y) → f x ≡ o → All (GivesAt xs) ys
-      → All (GivesAt (x ∷ xs)) (cons_option o ys)
-  step_given x xs None ys is rest = λ k d below.
-      let found = rest k d below in (suc found.0, found.1, found.2, found.3)
-  step_given x xs (Some y) ys is rest = All-cons (GivesAt (x ∷ xs)) y ys (0, x, refl, is)
-      (λ k d below. let found = rest k d below in (suc found.0, found.1, found.2, found.3))
-
   pub all_given : (xs : List X) → All (GivesAt xs) (filter_map f xs)
   all_given [] = All-nil (GivesAt [])
-  all_given (x ∷ xs) = step_given x xs (f x) (filter_map f xs) refl (all_given xs)
+  all_given (x ∷ xs) =
+      All-cons_option (GivesAt (x ∷ xs)) (f x) (filter_map f xs) (λ y is. (0, x, refl, is))
+      (λ k d below. let found = all_given xs k d below in (suc found.0, found.1, found.2, found.3))
 
   kept_among : (o : Option Y) (ys : List Y) (y : Y) → Contains ys y → Contains (cons_option o ys) y
   kept_among None ys y there = there
@@ -45,11 +29,8 @@ module _ {X Y : Type 0} (f : X → Option Y) where
   pub given_among : (xs : List X) (k : ℕ) (x : X) (y : Y) → slice_get xs k ≡ Some x → f x ≡ Some y
       → Contains (filter_map f xs) y
   given_among [] k x y at is = absurd cc
-  given_among (first ∷ xs) zero x y at is =
-      let same : first ≡ x = cc in
-      first_among (f first) (filter_map f xs) y (ap f same ∙ is)
-  given_among (first ∷ xs) (suc k) x y at is =
-      kept_among (f first) (filter_map f xs) y (given_among xs k x y at is)
+  given_among (first ∷ xs) zero x y at is = grind (arith, ints, nat_tests, first_among)
+  given_among (first ∷ xs) (suc k) x y at is = grind (arith, ints, nat_tests, given_among xs k x y at is, kept_among)
 
 -- what passes a test is kept
 kept : {Y : Type 0} (p : Y → Bool) (ys : List Y) (y : Y) → Contains ys y → p y ≡ true → Contains (filter p ys) y
@@ -59,35 +40,46 @@ kept p (z ∷ ys) y (suc k, below, is) passes =
     let found = kept p ys y (k, omega (arith, below), is) passes in
     by_test (p z) (λ test. rw test (suc found.0, omega (arith, found.1), found.2)) (λ test. rw test found)
 
+pub three_pass : (a b c : ℕ) → (a == a && (b == b && c == c)) ≡ true
+three_pass a b c = grind (arith, nat_tests)
+
 lone : {Y : Type 0} (q y : Y) → Contains (q ∷ []) y → q ≡ y
 lone q y (zero, below, is) = is
 lone q y (suc k, below, is) = absurd (omega arith)
 
--- what comes of a value, if there is one
-passed : {A B : Type 0} (f : A → Option B) (o : Option A) (b : B) → option_and_then f o ≡ Some b
-    → (a : A) × (o ≡ Some a) × (f a ≡ Some b)
-passed f x1 b is = grind (arith)
-
 -- ---- requests and replies
 
-module _ (laws : Laws) (claim : ClaimData) (apart : AllPairs (λ a b. a ≢ b) claim.servers) where
+-- the same packet, with addresses and ports said in other words
+moved : {s s₂ : List ℕ} {p p₂ : ℕ} {d d₂ : List ℕ} {q q₂ : ℕ} (frame header : List ℕ) → s ≡ s₂ → p ≡ p₂ → d ≡ d₂
+    → q ≡ q₂ → HoldsPacket frame s p d q header → HoldsPacket frame s₂ p₂ d₂ q₂ header
+moved frame header a b c e held = rw (a, b, c, e) at held
+
+restamped : {p p₂ t t₂ : ℕ} (frame client server : List ℕ) → p ≡ p₂ → t ≡ t₂ → HoldsRequest frame client p server t
+    → HoldsRequest frame client p₂ server t₂
+restamped frame client server a b held = rw (a, b) at held
+
+module _ (laws : FrameLaws) (claim : ClaimData) (apart : AllPairs (λ a b. a ≢ b) claim.servers) where
   -- the packet of a record that gives a reply
   pub record IsReplyAt (r : Record) (reply : Reply) : Type 0 where
-    pub packet : Packet
-    pub held : HoldsShown r.bytes packet
-    pub answers' : IsReplyOf claim reply.server packet
-    pub is : reply ≡ reply_from r.head packet reply.server
+    pub head_is : reply.head ≡ r.head
+    pub server : List ℕ
+    pub listed : slice_get claim.servers reply.server ≡ Some server
+    pub held : HoldsPacket r.bytes server ntp_port claim.client reply.port reply.header
+    pub mode : mode_of reply.header ≡ 4
 
   pub reply_at : (r : Record) (reply : Reply) → IsBytes r.bytes → reply_of claim r ≡ Some reply → IsReplyAt r reply
   unfolding reply_of
   reply_at r reply bytes e =
       let read = passed (reply_in claim r.head) (packet_of r.bytes) reply e in
       let from = mapped (reply_from r.head read.0) (replying_server claim read.0) reply read.2 in
+      let is = (laws.reply claim read.0 from.0 apart).0 from.1 in
       subst (IsReplyAt r) from.2 (record {
-        packet = read.0;
-        held = packet_given laws.datagram r.bytes bytes read.0 read.1;
-        answers' = (laws.reply claim read.0 from.0 apart).0 from.1;
-        is = refl;
+        head_is = refl;
+        server = read.0.datagram.source;
+        listed = is.from_server;
+        held = moved r.bytes read.0.header refl is.from_port is.to_client refl
+            (packet_given laws.datagram r.bytes bytes read.0 read.1);
+        mode = is.mode;
       })
 
   -- and of one that gives a request
@@ -108,6 +100,23 @@ module _ (laws : Laws) (claim : ClaimData) (apart : AllPairs (λ a b. a ≢ b) c
         asks = (laws.request claim read.0 to.0 apart).0 to.1;
         is = refl;
       })
+
+  -- such a record holds the request
+  pub holds_request : (r : Record) (q : Request) (address : List ℕ) → IsBytes r.bytes → request_of claim r ≡ Some q
+      → slice_get claim.servers q.server ≡ Some address
+      → HoldsRequest r.bytes claim.client q.port address q.stamp
+  holds_request r q address bytes gives listed =
+      let at = request_at r q bytes gives in
+      let port : q.port ≡ at.packet.datagram.source_port = ap (λ (x : Request). x.port) at.is in
+      let stamp : q.stamp ≡ transmit_of at.packet.header = ap (λ (x : Request). x.stamp) at.is in
+      let to_server : at.packet.datagram.destination ≡ address = (let there = at.asks.to_server in cc) in
+      record {
+        header = at.packet.header;
+        held = moved r.bytes at.packet.header at.asks.from_client (sym port) to_server at.asks.to_port at.held;
+        version = at.asks.version;
+        mode = at.asks.mode;
+        stamped = sym stamp;
+      }
 
   -- a record that holds a request gives it
   pub gives_request : (r : Record) (server : ℕ) (address : List ℕ) (port stamp : ℕ)
@@ -130,31 +139,22 @@ module _ (laws : Laws) (claim : ClaimData) (apart : AllPairs (λ a b. a ≢ b) c
       ∙ ap (option_map (request_to r.head p)) asked
       ∙ ap (λ (n : ℕ). Some (record { server = server; port = port; stamp = n; head = r.head })) holds.stamped
 
-  pub three_pass : (a b c d e f : ℕ) → a ≡ b → c ≡ d → e ≡ f → (a == b && (c == d && e == f)) ≡ true
-  three_pass a b c d e f x y z = grind (arith, nat_tests)
-
 -- ---- times
 
 some_units : (unit : TimeUnit) → 0 < per_second unit
 some_units x0 = grind (arith)
 
-module _ (laws : Laws) where
-  window_of : (unit : TimeUnit) (head : RecordHead) → head.unit ≡ unit → (frame : CapturedFrame)
-      → frame.seconds ≡ head.sec → frame.part ≡ head.sub → IsWindowOf unit frame (low_of head) (high_of head)
+module _ (laws : FrameLaws) where
+  window_of : (r : Record) → IsWindowOf r.head.unit (frame_of r) (low_of r.head) (high_of r.head)
   unfolding window_low window_high
-  window_of unit head is frame second part =
-      let units = laws.down ((head.sec * per_second head.unit + head.sub) * ticks_per_second) (per_second head.unit)
-      (some_units head.unit) in
-      let next = laws.up ((head.sec * per_second head.unit + head.sub + 1) * ticks_per_second) (per_second head.unit)
-      (some_units head.unit) in
-      record {
-        low_tick = window_low head.unit head.sec head.sub;
-        high_tick = window_high head.unit head.sec head.sub;
-        low_is = refl;
-        high_is = refl;
-        floor = rw (second, part, sym is) units;
-        ceiling = rw (second, part, sym is) next;
-      }
+  window_of r = record {
+    low_tick = window_low r.head.unit r.head.sec r.head.sub;
+    high_tick = window_high r.head.unit r.head.sec r.head.sub;
+    low_is = refl;
+    high_is = refl;
+    floor = laws.down _ _ (some_units r.head.unit);
+    ceiling = laws.up _ _ (some_units r.head.unit);
+  }
 
   pub distance_is : (header : List ℕ) → IsUsable header → distance_of header ≡ pos (root_delay_of header * 32768
       + root_dispersion_of header * 65536 + precision_ticks_of (precision_of header))
@@ -169,74 +169,46 @@ pub record AreInPlace (unit : TimeUnit) (records : List Record) : Type 0 where
   pub in_unit : (k : ℕ) (r : Record) → slice_get records k ≡ Some r → r.head.unit ≡ unit
   pub bytes : (k : ℕ) (r : Record) → slice_get records k ≡ Some r → IsBytes r.bytes
 
--- the same packet, with addresses and ports said in other words
-pub moved : {s s₂ : List ℕ} {p p₂ : ℕ} {d d₂ : List ℕ} {q q₂ : ℕ} (frame header : List ℕ) → s ≡ s₂ → p ≡ p₂ → d ≡ d₂
-    → q ≡ q₂ → HoldsPacket frame s p d q header → HoldsPacket frame s₂ p₂ d₂ q₂ header
-moved frame header a b c e held = rw (a, b, c, e) at held
-
-module _ (laws : Laws) (claim : ClaimData) (apart : AllPairs (λ a b. a ≢ b) claim.servers) (unit : TimeUnit)
+module _ (laws : FrameLaws) (claim : ClaimData) (apart : AllPairs (λ a b. a ≢ b) claim.servers) (unit : TimeUnit)
     (records : List Record) (given : AreInPlace unit records) where
   -- the record with the number of a head
   number_at : (k : ℕ) (r : Record) (head : RecordHead) → head ≡ r.head → slice_get records k ≡ Some r
       → slice_get (map frame_of records) head.number ≡ Some (frame_of r)
-  number_at k r head is at =
-      let number : head.number ≡ k = ap (λ (h : RecordHead). h.number) is ∙ given.numbered k r at in
-      ap (slice_get (map frame_of records)) number ∙ frame_at records k r at
+  number_at k r head is at = rw (is, given.numbered k r at) (frame_at records k r at)
 
   pub window_at : (k : ℕ) (r : Record) (head : RecordHead) → head ≡ r.head → slice_get records k ≡ Some r
       → IsWindowOf unit (frame_of r) (low_of head) (high_of head)
-  window_at k r head is at =
-      window_of laws unit head (ap (λ (h : RecordHead). h.unit) is ∙ given.in_unit k r at) (frame_of r)
-      (sym (ap (λ (h : RecordHead). h.sec) is)) (sym (ap (λ (h : RecordHead). h.sub) is))
+  window_at k r head is at = search (rules, given, window_of)
 
-  exchange_in : (q : Request) (reply : Reply) → Contains (replies_of claim records) reply
-      → refusal_of reply.header ≡ None → requests_for reply (requests_of claim records) ≡ q ∷ []
-      → reply.server ≡ q.server → reply.port ≡ q.port → origin_of reply.header ≡ q.stamp
+  exchange_in : (q : Request) (reply : Reply) → IsPair claim records q reply → NameEachOther q reply
       → IsExchangeIn claim unit (map frame_of records) (exchange_of q reply)
   unfolding requests_of replies_of
-  exchange_in q reply contained accepted only same_server same_port same_stamp =
+  exchange_in q reply pair named =
       let replied = All-contains (GivesAt (reply_of claim) records) (replies_of claim records) reply
-      (all_given (reply_of claim) records) contained in
-      let asked = subst (λ (qs : List Request). All (GivesAt (request_of claim) records) qs) only
+      (all_given (reply_of claim) records) pair.given in
+      let asked = subst (λ (qs : List Request). All (GivesAt (request_of claim) records) qs) pair.only
       (All-filter (answers reply) (GivesAt (request_of claim) records) (requests_of claim records)
       (all_given (request_of claim) records)) 0 q (omega arith) in
       let r = replied.1 in
       let s = asked.1 in
       let at_r = reply_at laws claim apart r reply (given.bytes replied.0 r replied.2) replied.3 in
       let at_s = request_at laws claim apart s q (given.bytes asked.0 s asked.2) asked.3 in
-      let head_r : reply.head ≡ r.head = ap (λ (x : Reply). x.head) at_r.is in
       let head_s : q.head ≡ s.head = ap (λ (x : Request). x.head) at_s.is in
-      let header : reply.header ≡ at_r.packet.header = ap (λ (x : Reply). x.header) at_r.is in
-      let port : reply.port ≡ at_r.packet.datagram.destination_port = ap (λ (x : Reply). x.port) at_r.is in
-      let from_port : q.port ≡ at_s.packet.datagram.source_port = ap (λ (x : Request). x.port) at_s.is in
-      let stamp : q.stamp ≡ transmit_of at_s.packet.header = ap (λ (x : Request). x.stamp) at_s.is in
-      let server = at_r.packet.datagram.source in
-      let listed : slice_get claim.servers reply.server ≡ Some server = at_r.answers'.from_server in
-      let to_server : at_s.packet.datagram.destination ≡ server =
-      (let there = at_s.asks.to_server in let here = ap (slice_get claim.servers) same_server in cc) in
       record {
         request = frame_of s;
         reply = frame_of r;
         request_stands = number_at asked.0 s q.head head_s asked.2;
-        reply_stands = number_at replied.0 r reply.head head_r replied.2;
-        server = server;
+        reply_stands = number_at replied.0 r reply.head at_r.head_is replied.2;
+        server = at_r.server;
         port = reply.port;
         header = reply.header;
-        server_listed = listed;
-        answers = subst
-            (λ (h : List ℕ). HoldsPacket r.bytes server ntp_port claim.client reply.port h) (sym header)
-            (moved r.bytes at_r.packet.header refl at_r.answers'.from_port at_r.answers'.to_client (sym port)
-            at_r.held);
-        mode = ap mode_of header ∙ at_r.answers'.mode;
-        usable = usable_from reply.header accepted;
-        asks = record {
-          header = at_s.packet.header;
-          held = moved s.bytes at_s.packet.header at_s.asks.from_client (sym from_port ∙ sym same_port) to_server
-              at_s.asks.to_port at_s.held;
-          version = at_s.asks.version;
-          mode = at_s.asks.mode;
-          stamped = sym stamp ∙ sym same_stamp;
-        };
+        server_listed = at_r.listed;
+        answers = at_r.held;
+        mode = at_r.mode;
+        usable = usable_from reply.header pair.accepted;
+        asks = restamped s.bytes claim.client at_r.server (sym named.port) (sym named.stamp)
+            (holds_request laws claim apart s q at_r.server (given.bytes asked.0 s asked.2) asked.3
+            (ap (slice_get claim.servers) (sym named.server) ∙ at_r.listed));
         only = λ k frame at holds.
             let said = said_by records k frame at in
             let other = said.by in
@@ -247,30 +219,27 @@ module _ (laws : Laws) (claim : ClaimData) (apart : AllPairs (λ a b. a ≢ b) c
               head = other.head;
             } in
             let holds_other = subst
-            (λ (f : CapturedFrame). HoldsRequest f.bytes claim.client reply.port server (origin_of reply.header))
+            (λ (f : CapturedFrame). HoldsRequest f.bytes claim.client reply.port at_r.server (origin_of reply.header))
             (sym said.is) holds in
-            let gives = gives_request laws claim apart other reply.server server reply.port (origin_of reply.header)
-            listed (given.bytes k other said.stands) holds_other in
-            let passes = three_pass laws claim apart reply.server reply.server reply.port reply.port
-            (origin_of reply.header) (origin_of reply.header) refl refl refl in
-            let same = lone q found (rw only at (kept (answers reply) (filter_map (request_of claim) records) found
+            let gives = gives_request laws claim apart other reply.server at_r.server reply.port
+            (origin_of reply.header) at_r.listed (given.bytes k other said.stands) holds_other in
+            let passes = three_pass reply.server reply.port (origin_of reply.header) in
+            let same = lone q found (rw pair.only at (kept (answers reply) (filter_map (request_of claim) records) found
             (given_among (request_of claim) records k other found said.stands gives) passes)) in
             sym (ap (λ (x : Request). x.head.number) same ∙ given.numbered k other said.stands);
         t1 = window_at asked.0 s q.head head_s asked.2;
         t2 = laws.stamp (receive_of reply.header) (low_of q.head);
         t3 = laws.stamp (transmit_of reply.header) (low_of q.head);
-        t4 = window_at replied.0 r reply.head head_r replied.2;
-        distance = distance_is laws reply.header (usable_from reply.header accepted);
+        t4 = window_at replied.0 r reply.head at_r.head_is replied.2;
+        distance = distance_is laws reply.header (usable_from reply.header pair.accepted);
       }
 
   pub all_exchanges : All (IsExchangeOf claim records) (exchanges_of claim records) → (k : ℕ) (x : Exchange)
       → slice_get (exchanges_of claim records) k ≡ Some x → IsExchangeIn claim unit (map frame_of records) x
   all_exchanges sound k x at =
-      let of = subst (IsExchangeOf claim records) (get_or_from_slice_get (exchanges_of claim records) k x x at)
-      (sound k x (slice_get_within (exchanges_of claim records) k x at)) in
+      let of = All-slice_get (IsExchangeOf claim records) (exchanges_of claim records) k x sound at in
       subst (IsExchangeIn claim unit (map frame_of records)) (sym of.made)
-      (exchange_in of.request of.reply of.pair.given of.pair.accepted of.pair.only of.named.server of.named.port
-      of.named.stamp)
+      (exchange_in of.request of.reply of.pair of.named)
 
 -- ---- the records of a capture
 
@@ -281,20 +250,13 @@ module _ (xs ys : List ℕ) (all : IsBytes (xs ++ ys)) where
   bytes_after : IsBytes ys
   bytes_after = subst IsBytes (drop-append_seam xs ys) (All-drop (λ (b : ℕ). b < 256) (length xs) (xs ++ ys) all)
 
-record_bytes : (order : Endian) (r : Record) → IsBytes (record_spelling order r) → IsBytes r.bytes
-record_bytes order r h =
-    bytes_after
-    (spelled order 4 r.head.sec ++ spelled order 4 r.head.sub ++ spelled order 4 r.head.captured
-    ++ spelled order 4 r.head.original)
-    r.bytes h
-
 bytes_of_each : (order : Endian) (records : List Record) → IsBytes (spelling order records) → (k : ℕ) (r : Record)
     → slice_get records k ≡ Some r → IsBytes r.bytes
 bytes_of_each order [] h k r at = absurd cc
 bytes_of_each order (first ∷ records) h zero r at =
     let same : first ≡ r = cc in
     subst (λ (x : Record). IsBytes x.bytes) same
-    (record_bytes order first (bytes_before (record_spelling order first) (spelling order records) h))
+    (bytes_after _ first.bytes (bytes_before (record_spelling order first) (spelling order records) h))
 bytes_of_each order (first ∷ records) h (suc k) r at =
     bytes_of_each order records (bytes_after (record_spelling order first) (spelling order records) h) k r at
 

@@ -1,8 +1,6 @@
 -- What the outcome of a search for a refutation shows.
-use Rattle.audit.proofs.Common.{◌≡◌, Option, Some, None, refl, sym, false, IfSome, IsNone, RefutationData, data_of as refutation_data, IsRefuted, Outcome, Yes, No, CourseContests, ShowsContested, EvidenceData, ShowsOf, IsContestedOf, no_second, nothing_said}
-use Rattle.std.specs.Prelude.{option_map}
+use Rattle.audit.proofs.Common.{◌≡◌, Option, Some, None, refl, sym, false, IfSome, IsNone, RefutationData, data_of as refutation_data, IsRefuted, Outcome, Yes, No, CourseContests, ShowsContested, EvidenceData, ShowsOf, IsContestedOf, no_second, nothing_said, option_map, IsNearestRefutation, NoneIsRefuted}
 use Rattle.certificate.specs.declared.refutation.Refutation.{Refutation}
-use Rattle.finder.specs.NearestRefutation.{IsNearestRefutation, NoneIsRefuted}
 use Rattle.audit.specs.FindRefutation.{IsIrrefutableOf, IsRefutableOf, IsFindRefutationOf, find_refutation, refutation_found_in, found_refutation_outcome}
 use Rattle.audit.proofs.Excess.{contests}
 use Rattle.audit.proofs.Showing.{of_evidence, of_inputs}

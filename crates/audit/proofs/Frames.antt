@@ -52,8 +52,7 @@ module _ (unit : TimeUnit) where
       → map frame_of (records_from unit number place frames) ≡ frames
   same_frames number place [] = refl
   same_frames number place (frame ∷ frames) =
-      ap (λ (l : List CapturedFrame). frame ∷ l)
-      (same_frames (number + 1) (place + (16 + length frame.bytes)) frames)
+      rw (same_frames (number + 1) (place + (16 + length frame.bytes)) frames) refl
 
 -- ---- their capture
 

@@ -1,7 +1,34 @@
--- What was read of a capture, and the pieces of a span.
-use Rattle.audit.proofs.Common.{pair_run_fault_of, ◌≡◌, ◌∙◌, ℕ, zero, suc, ◌≤◌, ℤ, pos, List, [], ◌∷◌, Bool, true, false, length, Option, Some, None, Result, Ok, Err, refl, sym, ap, IsSomeAnd, slice_get, nat_lt, if◌then◌else◌, ltb-false, PieceData, ClaimData, PairFault, answer_of, unless_broken, most_exchanges, Collection, collection_of, counts_of, exchanges_of, CaptureFault, Record, Coming, capture_of, begin_of, stretches_from, Stretch, capture_read, collection_read}
-use Rattle.std.specs.Result.{result_map_both}
+-- What was read of a claim and of a capture, and the pieces of a span.
+use Rattle.audit.proofs.Common.{pair_run_fault_of, ◌≡◌, ◌∙◌, ℕ, zero, suc, ◌≤◌, ℤ, pos, List, [], ◌∷◌, Bool, true, false, length, Option, Some, None, Result, Ok, Err, refl, sym, ap, IsSomeAnd, slice_get, nat_lt, if◌then◌else◌, ltb-false, PieceData, ClaimData, PairFault, answer_of, unless_broken, most_exchanges, Collection, collection_of, counts_of, exchanges_of, CaptureFault, Record, Coming, capture_of, begin_of, stretches_from, Stretch, capture_read, collection_read, result_map_both, claim_of, or_fault, claim_read, max_claim, whole_read, TooBig, ◌≢◌, IsLawful, IsWithinLimits, arith, ints, nat_tests}
+use Rattle.claim_file.specs.declared.fault.ClaimFault.{ClaimFault}
+use Rattle.report.specs.declared.fault.Input.TheVariants as inputs
+use Rattle.report.specs.declared.fault.RunFault.TheVariants as faults
+use Rattle.std.proofs.lemmas.List.Kept.{AllPairs-cons}
 use Rattle.pairing.specs.declared.fault.PairFault.TheVariants.{TooManyExchanges}
+
+-- ---- what was read of a claim
+
+whole : (over : Bool) (read : Result ClaimData ClaimFault) (claim : ClaimData) →
+    (if over then Err (TooBig inputs.Claim) else or_fault faults.Claim read) ≡ Ok claim → read ≡ Ok claim
+whole true read claim is = cc
+whole false (Ok other) claim is = cc
+whole false (Err fault) claim is = cc
+
+pub claim_of_read : (bytes : List ℕ) (claim : ClaimData) → claim_read bytes ≡ Ok claim → claim_of bytes ≡ Ok claim
+unfolding whole_read
+claim_of_read bytes claim is = whole (nat_lt max_claim (length bytes)) (claim_of bytes) claim is
+
+-- a lawful claim keeps the limits of a claim's text
+pub within_limits : (claim : ClaimData) → IsLawful claim → IsWithinLimits claim
+within_limits claim lawful = record {
+  servers = (lawful.some_server, lawful.few_servers);
+  addresses_differ = AllPairs-cons (λ a b. a ≢ b) claim.client claim.servers
+      (λ k d below same. lawful.client_is_no_server k d below (sym same)) lawful.addresses_differ;
+  groups_in_range = lawful.groups_in_range;
+  span_forward = lawful.span_forward;
+  bound = lawful.bound_ns_in_range;
+  grants = (lawful.few_false, lawful.drift_in_range, lawful.reading_ns_in_range);
+}
 
 -- ---- what was read of a capture
 
@@ -33,22 +60,26 @@ module _ (claim : ClaimData) (bytes : List ℕ) (collection : Collection) where
       × (length (exchanges_of claim records) ≤ most_exchanges)
   unfolding collection_of
   few_collected records is =
-      let found = few (nat_lt most_exchanges (length (exchanges_of claim records))) (record {
-        exchanges = exchanges_of claim records;
-        counts = counts_of claim records;
-      }) collection is in
-      (found.0, ltb-false most_exchanges (length (exchanges_of claim records)) found.1)
+      grind (
+        arith,
+        ints,
+        nat_tests,
+        few (nat_lt most_exchanges (length (exchanges_of claim records))) (record {
+          exchanges = exchanges_of claim records;
+          counts = counts_of claim records;
+        }) collection is,
+      )
 
   of_coming : (coming : Coming) → answer_of claim coming ≡ Ok collection → capture_of bytes ≡ Ok coming →
       Collected claim bytes collection
   unfolding answer_of
   of_coming coming answered is =
-      let whole = unbroken coming.fault (collection_of claim coming.records) collection answered in
-      let made = few_collected coming.records whole.1 in (
-        coming.records,
-        is ∙ ap (λ (fault : Option CaptureFault). Ok (record { records = coming.records; fault = fault })) whole.0,
-        made.0,
-        made.1,
+      grind (
+        arith,
+        ints,
+        nat_tests,
+        unbroken coming.fault (collection_of claim coming.records) collection answered,
+        few_collected coming.records (unbroken coming.fault (collection_of claim coming.records) collection answered).1,
       )
 
   of_read : (c : Result Coming CaptureFault) → collection_read claim c ≡ Ok collection → capture_of bytes ≡ c →

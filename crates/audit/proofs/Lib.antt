@@ -1,5 +1,4 @@
 mod Common
-pub mod Nanosecond
 pub mod SampleLines
 pub mod Capture
 pub mod LeastShowing
@@ -19,7 +18,6 @@ pub mod Admission
 pub mod Headline
 pub mod Excess
 pub mod Opposition
-pub mod ClaimLimits
 pub mod Showing
 pub mod VerdictShowing
 pub mod SearchShowing

@@ -1,22 +1,5 @@
 -- What is shown and what is contested never meet.
-use Rattle.audit.proofs.Common.{◌≡◌, ℕ, ℤ, pos, ◌*ℤ◌, ◌≤ℤ◌, inl, inr, ⊎_elim, List, length, Option, Some, None, refl, sym, ap, ◌∙◌, subst, arith, slice_get, slice_get_cases, slice_get_within, ClaimData, Exchange, Moment, IsWithinDistance, request_start, reply_end, Course, Fits, IsClientMoment, IsContestedShown, IsAmong, SameExchange, IsShown}
-use Rattle.checker.specs.PieceFit.{FitsPiece}
-
--- ---- exchanges that agree
-
-module _ (x y : Exchange) (same : SameExchange x y) (n : ℕ) where
-  leaves_as : (allowance leaving : ℤ) → (request_start y allowance *ℤ pos n) ≤ℤ leaving
-      → (request_start x allowance *ℤ pos n) ≤ℤ leaving
-  leaves_as allowance leaving h = rw same.t1_low h
-
-  arrives_as : (allowance arriving : ℤ) → arriving ≤ℤ (reply_end y allowance *ℤ pos n)
-      → arriving ≤ℤ (reply_end x allowance *ℤ pos n)
-  arrives_as allowance arriving h = rw same.t4_high h
-
-  distances_as : (received sent : ℤ)
-      → IsWithinDistance n y.t2 y.distance received × IsWithinDistance n y.t3 y.distance sent
-      → IsWithinDistance n x.t2 x.distance received × IsWithinDistance n x.t3 x.distance sent
-  distances_as received sent h = rw (same.t2, same.t3, same.distance) h
+use Rattle.audit.proofs.Common.{◌≡◌, ℕ, inl, inr, List, length, Option, Some, None, refl, sym, ap, ◌∙◌, subst, arith, slice_get, slice_get_within, ClaimData, Exchange, Moment, Course, Fits, IsClientMoment, IsContestedShown, IsAmong, SameExchange, IsShown, FitsPiece, slice_get-below}
 
 -- ---- one course for two lists of exchanges
 
@@ -61,12 +44,10 @@ module _ (xs ys : List Exchange) (among : (k : ℕ) (x : Exchange) → slice_get
   moment_of : (course : Course) (moment : Moment) → IsClientMoment (renumbered course) (length xs) moment
       → IsClientMoment course (length ys) moment
   moment_of course moment (inl is) = inl is
-  moment_of course moment (inr (k, below, which)) = ⊎_elim
-      (λ found.
-      let there = has k found.0 found.2 in
-      inr (place k, slice_get_within ys (place k) there.0 there.1, which))
-      (λ past. absurd (let most = past.0 in omega (arith, most, below)))
-      (slice_get_cases xs k).1
+  moment_of course moment (inr (k, below, which)) =
+      let (x, at) = slice_get-below xs k below in
+      let there = has k x at in
+      inr (place k, slice_get_within ys (place k) there.0 there.1, which)
 
   -- if it fits the second list, it fits the first
   still_fits : (claim : ClaimData) (course : Course) → Fits claim ys course → Fits claim xs (renumbered course)
@@ -74,20 +55,16 @@ module _ (xs ys : List Exchange) (among : (k : ℕ) (x : Exchange) → slice_get
     some_fineness = fits.some_fineness;
     few_false = fits.few_false;
     leaves_after_stamp = λ k x at.
-        let there = has k x at in
-        leaves_as x there.0 there.2 course.fineness claim.reading (course.request (place k)).reading
-        (fits.leaves_after_stamp (place k) there.0 there.1);
+        let there = has k x at in rw there.2.t1_low (fits.leaves_after_stamp (place k) there.0 there.1);
     arrives_before_stamp = λ k x at.
-        let there = has k x at in
-        arrives_as x there.0 there.2 course.fineness claim.reading (course.reply (place k)).reading
-        (fits.arrives_before_stamp (place k) there.0 there.1);
+        let there = has k x at in rw there.2.t4_high (fits.arrives_before_stamp (place k) there.0 there.1);
     drift = λ a b is_a is_b. fits.drift a b (moment_of course a is_a) (moment_of course b is_b);
     ordered = λ k x at true'.
         let there = has k x at in
         fits.ordered (place k) there.0 there.1 (ap course.is_false (sym there.2.server) ∙ true');
     within_root_distance = λ k x at true'.
         let there = has k x at in
-        distances_as x there.0 there.2 course.fineness (course.received (place k)) (course.sent (place k))
+        rw (← there.2.t2, ← there.2.t3, ← there.2.distance) at
         (fits.within_root_distance (place k) there.0 there.1 (ap course.is_false (sym there.2.server) ∙ true'));
   }
 

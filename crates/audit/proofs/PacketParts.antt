@@ -1,7 +1,7 @@
 -- packets and headers
-use Rattle.audit.proofs.Common.{◌≡◌, ◌≢◌, ℕ, ◌+◌, ◌*◌, ◌≤◌, pos, int_lt, Bool, true, false, cond, ◌||◌, ◌==◌, not, ◌⊎◌, inl, inr, ◌↔◌, List, [], ◌∷◌, ◌++◌, length, append_assoc, take, drop, Option, Some, None, Result, Ok, Err, refl, sym, ap, ◌∙◌, subst, arith, nat_tests, ints, take-append-drop, length-take-le, length-append, take-append_seam, IsBytes, header_of, version_of, leap_of, stratum_of, precision_of, origin_of, receive_of, transmit_of, Packet, packet_of, is_ntp, ntp_port, refusal_of, has_zero_stamp, is_synchronized_stratum, cond-false, by_test, HoldsPacket, HoldsShown, packet_with, IsUsable}
+use Rattle.std.proofs.Common.{rules}
+use Rattle.audit.proofs.Common.{◌≡◌, ◌≢◌, ℕ, ◌+◌, ◌*◌, ◌≤◌, pos, int_lt, Bool, true, false, cond, ◌||◌, ◌==◌, not, ◌⊎◌, inl, inr, ◌↔◌, List, [], ◌∷◌, ◌++◌, length, append_assoc, take, drop, Option, Some, None, Result, Ok, Err, refl, sym, ap, ◌∙◌, subst, arith, nat_tests, ints, take-append-drop, length-take-le, length-append, take-append_seam, IsBytes, header_of, version_of, leap_of, stratum_of, precision_of, origin_of, receive_of, transmit_of, Packet, packet_of, is_ntp, ntp_port, refusal_of, has_zero_stamp, is_synchronized_stratum, by_test, HoldsPacket, HoldsShown, packet_with, DatagramLaw, IsUsable, big_bytes}
 use Rattle.frame_reader.specs.declared.skip.Skip.{Skip}
-use Rattle.byteorder.specs.Endian.{big_bytes}
 use Rattle.frame_reader.specs.Frame.{Fields, Parts, datagram_of, HoldsDatagram, ipv4_bytes, tag_bytes, total_length_of, udp_bytes}
 
 -- ---- packets
@@ -15,13 +15,8 @@ ntp_port_of d h = grind (arith, by_test, ntp_port, inl, inr)
 
 -- ---- lists that are joined
 
-module _ (a b c d e : List ℕ) where
-  five : a ++ b ++ c ++ d ++ e ≡ a ++ (b ++ (c ++ (d ++ e)))
-  five = simp append_assoc
-
-  module _ (front : List ℕ) where
-    after_front : front ++ a ++ b ++ c ++ d ++ e ≡ front ++ (a ++ (b ++ (c ++ (d ++ e))))
-    after_front = simp append_assoc
+five : (a b c d e : List ℕ) → a ++ b ++ c ++ d ++ e ≡ a ++ (b ++ (c ++ (d ++ e)))
+five a b c d e = simp append_assoc
 
 -- what stands before the payload of a UDP datagram
 abbrev udp_head : ℕ → ℕ → ℕ → ℕ → List ℕ
@@ -38,6 +33,10 @@ ipv4_head p total =
 udp_length : (source_port destination_port size checksum : ℕ) (payload : List ℕ)
     → length (udp_head source_port destination_port size checksum ++ payload) ≡ 8 + length payload
 udp_length source_port destination_port size checksum payload = omega arith
+
+ipv4_joined : (p : Parts) (d : Fields) (total : ℕ) → total_length_of p d ≡ total
+    → ipv4_bytes p d ≡ ipv4_head p total ++ d.source ++ d.destination ++ p.options ++ udp_bytes p d ++ p.rest
+ipv4_joined p d total is = grind (arith, append_assoc)
 
 -- ---- a frame by its layers
 
@@ -63,8 +62,7 @@ module _ (frame : List ℕ) (d : Fields) (header rest : List ℕ) (payload : d.p
           tag = p.tag;
           padding = p.padding;
           both_addresses = fit.ethernet_addresses;
-          joined = holds.joined
-              ∙ sym (five p.ethernet_addresses (tag_bytes p.tag) (0x08 ∷ 0x00 ∷ []) (ipv4_bytes p d) p.padding);
+          joined = holds.joined ∙ simp append_assoc;
         };
         ipv4 = record {
           words = p.header_words;
@@ -79,13 +77,10 @@ module _ (frame : List ℕ) (d : Fields) (header rest : List ℕ) (payload : d.p
           header_length = (fit.header_words, fit.header);
           two_flags = fit.flags;
           whole_length = omega (arith, total, fits);
-          joined = sym (after_front d.source d.destination p.options udp p.rest (ipv4_head p (total_length_of p d)))
-              ∙ ap (λ (n : ℕ). ipv4_head p n ++ d.source ++ d.destination ++ p.options ++ udp ++ p.rest) total;
+          joined = ipv4_joined p d _ total;
         };
         ports = (fit.source_port, fit.destination_port);
-        udp = ap (λ (l : List ℕ). udp_head d.source_port d.destination_port (8 + length l) p.udp_checksum ++ l) payload
-            ∙ sym (append_assoc
-            (udp_head d.source_port d.destination_port (8 + length (header ++ rest)) p.udp_checksum) header rest);
+        udp = rw payload (simp append_assoc);
         whole = whole;
       }
 
@@ -118,13 +113,7 @@ module _ (frame source : List ℕ) (source_port : ℕ) (destination : List ℕ) 
   total_is = grind (arith, length, udp_is, udp_length)
 
   packet_is_ipv4 : held.packet ≡ ipv4_bytes parts fields
-  packet_is_ipv4 = held.ipv4.joined
-      ∙ ap (λ (n : ℕ). ipv4_head parts n ++ source ++ destination ++ held.ipv4.options ++ held.datagram
-      ++ held.ipv4.rest) total_is
-      ∙ ap (λ (l : List ℕ). ipv4_head parts (total_length_of parts fields) ++ source ++ destination
-      ++ held.ipv4.options ++ l ++ held.ipv4.rest) udp_is
-      ∙ after_front source destination held.ipv4.options (udp_bytes parts fields) held.ipv4.rest
-      (ipv4_head parts (total_length_of parts fields))
+  packet_is_ipv4 = grind (arith, append_assoc, udp_is, total_is, held.ipv4.joined)
 
   datagram_held : HoldsDatagram frame fields
   datagram_held = record {
@@ -160,10 +149,6 @@ held_from frame p d holds e = by_test (is_ntp d)
     (layers_of frame d (header_of d.payload) (drop 48 d.payload) (sym (take-append-drop 48 d.payload))
     (length-take-le 48 d.payload facts.1) holds))
     (λ no'. let none = rw no' at e in absurd cc)
-
--- the law on datagrams
-abbrev pub DatagramLaw : Type 0
-DatagramLaw = (frame : List ℕ) (d : Fields) → IsBytes frame → (datagram_of frame ≡ Ok d) ↔ HoldsDatagram frame d
 
 abbrev packet_from : Result Fields Skip → Option Packet
 packet_from (Ok d) = ntp_of d
@@ -235,12 +220,7 @@ passes x0 h = grind (arith)
 
 pub usable_from : (header : List ℕ) → refusal_of header ≡ None → IsUsable header
 unfolding refusal_of
-usable_from header e =
-    let facts = five_fail _ _ _ _ _ (not (version_of header == 4)) (leap_of header == 3)
-    (not (is_synchronized_stratum (stratum_of header))) (int_lt (pos 16) (precision_of header))
-    (has_zero_stamp header) e in
-    usable_if header (passes (version_of header == 4) facts.0) facts.1
-    (passes (is_synchronized_stratum (stratum_of header)) facts.2) facts.3 facts.4
+usable_from header e = search (rules, five_fail, usable_if, passes)
 
 pub unrefused : (header : List ℕ) → IsUsable header → refusal_of header ≡ None
 unfolding refusal_of
@@ -254,11 +234,7 @@ unrefused header usable =
     let zero : has_zero_stamp header ≡ false =
     none_zero (origin_of header) (receive_of header) (transmit_of header) usable.origin usable.receive
     usable.transmit in
-    cond-false (not (version_of header == 4)) _ _ version
-    ∙ cond-false (leap_of header == 3) _ _ leap
-    ∙ cond-false (not (is_synchronized_stratum (stratum_of header))) _ _ stratum
-    ∙ cond-false (int_lt (pos 16) (precision_of header)) _ _ precision
-    ∙ cond-false (has_zero_stamp header) _ None zero
+    rw (version, leap, stratum, precision, zero) refl
 
 pub usable : (header : List ℕ) → (refusal_of header ≡ None) ↔ IsUsable header
 usable header = (usable_from header, unrefused header)

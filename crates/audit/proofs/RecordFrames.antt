@@ -1,5 +1,5 @@
 -- What a capture's records are, one by one, and the frames that they say.
-use Rattle.audit.proofs.Common.{◌≡◌, ℕ, zero, suc, ◌+◌, ◌<◌, ◌≤◌, ⊎_elim, List, [], ◌∷◌, ◌++◌, length, map, get_or, Option, Some, None, refl, sym, ap, ◌∙◌, subst, append_assoc, arith, All, slice_get, flat_map, option_map, cases_lt, length-append, length-map, All-map, slice_get-get_or, slice_get-map, slice_get_cases, Unit as TimeUnit, per_second, Endian, Format, Record, AreRecordsFrom, IsCapture, IsRecordAt, magic_of, spelling, spelled, CapturedFrame, IsCaptureOf, IsLawfulFrame, frame_of, record_bytes}
+use Rattle.audit.proofs.Common.{◌≡◌, ℕ, zero, suc, ◌+◌, ◌<◌, ◌≤◌, ⊎_elim, List, [], ◌∷◌, ◌++◌, length, map, get_or, Option, Some, None, refl, sym, ap, ◌∙◌, subst, append_assoc, arith, All, slice_get, flat_map, option_and_then, option_map, cases_lt, length-append, length-map, All-map, slice_get-get_or, slice_get-map, Unit as TimeUnit, per_second, Endian, Format, Record, AreRecordsFrom, IsCapture, IsRecordAt, magic_of, spelling, spelled, CapturedFrame, IsCaptureOf, IsLawfulFrame, frame_of, record_bytes, slice_get-below, ints, nat_tests}
 
 -- ---- records, one by one
 
@@ -10,10 +10,7 @@ IsNumbered unit number r = (place : ℕ) × IsRecordAt unit number place r
 each_from : (unit : TimeUnit) (number place : ℕ) (records : List Record) → AreRecordsFrom unit number place records
     → (k : ℕ) (r : Record) → slice_get records k ≡ Some r → IsNumbered unit (number + k) r
 each_from unit number place [] are k r at = absurd cc
-each_from unit number place (first ∷ records) are zero r at =
-    let same : first ≡ r = cc in
-    let is : number ≡ number + 0 = omega arith in
-    subst (λ (n : ℕ). IsNumbered unit n r) is (place, subst (IsRecordAt unit number place) same are.0)
+each_from unit number place (first ∷ records) are zero r at = grind (arith, ints, nat_tests)
 each_from unit number place (first ∷ records) are (suc k) r at =
     let is : number + 1 + k ≡ number + suc k = omega arith in
     subst (λ (n : ℕ). IsNumbered unit n r) is
@@ -36,15 +33,15 @@ module _ (unit : TimeUnit) (records : List Record) (are : AreRecordsFrom unit 0 
       (λ k d below. range_of k (get_or records k d)
       (each_record k (get_or records k d) (slice_get-get_or records k d below)))
 
-  too_many : 4000000 < length records → ⊥
-  too_many many = ⊎_elim
-      (λ found.
-      let is = each_record 4000000 found.0 found.2 in
-      let number = is.1.number_is in
-      let small = is.1.lawful.number in
-      omega (arith, number, small))
-      (λ past. let most = past.0 in omega (arith, most, many))
-      (slice_get_cases records 4000000).1
+  few_records : length records ≤ 4000000
+  few_records = ⊎_elim
+      (λ many.
+      let (r, at) = slice_get-below records 4000000 many in
+      let is = (each_record 4000000 r at).1 in
+      let number = is.number_is in
+      let small = is.lawful.number in
+      absurd (omega (arith, number, small)))
+      (λ few. few) (cases_lt 4000000 (length records))
 
 -- ---- their bytes
 
@@ -57,9 +54,6 @@ module _ (order : Endian) (unit : TimeUnit) where
       ++ spelled order 4 r.head.original ++ r.bytes) ++ spelling order records) (sym are.0.whole)
       ∙ ap (λ (l : List ℕ). record_bytes order (frame_of r) ++ l)
       (respelled (number + 1) (place + (16 + length r.bytes)) records are.1)
-
-few_frames : (n : ℕ) → (4000000 < n → ⊥) → n ≤ 4000000
-few_frames n no' = ⊎_elim (λ many. absurd (no' many)) (λ few. few) (cases_lt 4000000 n)
 
 -- a capture of records is one of the frames that they say
 pub captured : (bytes : List ℕ) (format : Format) (records : List Record) → IsCapture bytes format records
@@ -75,9 +69,7 @@ captured bytes format records capture =
       twelve_ignored = (let parts = length-append h.ignored h.snapshot in
           let a = h.ignored_length in let b = h.snapshot_length in omega (arith, parts, a, b));
       in_range = all_in_range format.unit records capture.are_records;
-      few = (let most = few_frames (length records)
-          (too_many format.unit records capture.are_records) in
-          omega (arith, sized, most));
+      few = omega (arith, sized, few_records format.unit records capture.are_records);
       joined = capture.joined
           ∙ ap (λ (l : List ℕ). l ++ spelling format.order records)
           (h.joined ∙ ap (λ (l : List ℕ). l ++ spelled format.order 4 1) (append_assoc front h.ignored h.snapshot))
@@ -98,6 +90,11 @@ pub mapped : {A B : Type 0} (f : A → B) (o : Option A) (b : B) → option_map 
     → (a : A) × (o ≡ Some a) × (f a ≡ b)
 mapped f None b is = absurd cc
 mapped f (Some a) b is = (a, refl, cc)
+
+-- what comes of a value, if there is one
+pub passed : {A B : Type 0} (f : A → Option B) (o : Option A) (b : B) → option_and_then f o ≡ Some b
+    → (a : A) × (o ≡ Some a) × (f a ≡ Some b)
+passed f x1 b is = grind (arith)
 
 pub said_by : (records : List Record) (k : ℕ) (frame : CapturedFrame)
     → slice_get (map frame_of records) k ≡ Some frame → SaidBy records k frame

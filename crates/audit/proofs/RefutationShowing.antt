@@ -1,6 +1,7 @@
 -- What it shows whether a refutation stands.
-use Rattle.audit.proofs.Common.{◌≡◌, Bool, Ok, AreInputsOf, FeedState, OfClaimAndCapture, refutation_read, List, ℕ, true, false, refl, sym, true≢false, AllPairs, RefutationData, SameRequest, SettlesWithDrift, Outcome, Yes, No, CourseContests, ShowsContested, EvidenceData, ShowsOf, GiveRefutation, IsContestedOf, IsSettledFor, IsUncontestedOf, refute, refuted_outcome, refutation_said, refutation_second}
-use Rattle.checker.specs.Settlement.{Settles}
+use Rattle.std.proofs.Common.{rules}
+use Rattle.audit.proofs.Common.{◌≡◌, Bool, Result, Ok, Err, IfOk, AreInputsOf, FeedState, OfClaimAndCapture, refutation_read, List, ℕ, true, false, refl, sym, true≢false, AllPairs, RefutationData, SameRequest, SettlesWithDrift, Outcome, Yes, No, CourseContests, ShowsContested, EvidenceData, ShowsOf, GiveRefutation, IsContestedOf, IsSettledFor, IsUncontestedOf, refute, refuted_outcome, refutation_said, refutation_second, Settles}
+use Rattle.std.specs.declared.alloc.AllocError.{AllocError}
 use Rattle.audit.proofs.Excess.{contests}
 use Rattle.audit.proofs.Showing.{of_inputs, said_is}
 
@@ -8,28 +9,20 @@ module _ (refutation : RefutationData) (e : EvidenceData) (agree : AllPairs Same
   -- of one whose error never changes
   pub judgement_shows : (stands : Bool) → Settles e.claim e.collection.exchanges refutation stands →
       IsSettledFor false refutation e (refuted_outcome stands)
-  judgement_shows true judged = record {
-    accepted = judged.exact.0 refl;
-    course = judged.course refl agree;
-    no_yes = judged.no_yes refl;
-  }
-  judgement_shows false judged = record {
-    refused = λ refuted. true≢false (sym (judged.exact.1 refuted));
-    shown_by_none = tt;
-  }
+  judgement_shows true judged = search rules
+  judgement_shows false judged = search rules
 
   -- of one whose error may drift
-  pub drift_judgement_shows : (stands : Bool) → SettlesWithDrift e.claim e.collection.exchanges refutation stands →
+  drift_judgement_shows : (stands : Bool) → SettlesWithDrift e.claim e.collection.exchanges refutation stands →
       IsSettledFor true refutation e (refuted_outcome stands)
-  drift_judgement_shows true judged = record {
-    accepted = judged.exact.0 refl;
-    course = judged.course refl agree;
-    no_yes = judged.no_yes refl;
-  }
-  drift_judgement_shows false judged = record {
-    refused = λ refuted. true≢false (sym (judged.exact.1 refuted));
-    shown_by_none = λ against course shows. true≢false (sym (judged.converse against course shows));
-  }
+  drift_judgement_shows true judged = search rules
+  drift_judgement_shows false judged = search rules
+
+  pub drift_shows : (answer : Result Bool AllocError) →
+      IfOk answer (SettlesWithDrift e.claim e.collection.exchanges refutation) →
+      IfOk answer (λ stands. IsSettledFor true refutation e (refuted_outcome stands))
+  drift_shows (Ok stands) judged = drift_judgement_shows stands judged
+  drift_shows (Err fault) judged = tt
 
 -- the bytes of any inputs that say the refutation and give the evidence show the same
 given : (P : RefutationData → EvidenceData → Type 0) (refutation : RefutationData) (e : EvidenceData) → P refutation e →
@@ -51,5 +44,4 @@ refutation_shown contested drift about refutation e Yes h claim second capture a
   stands = given (IsContestedOf drift) refutation e h claim second capture are;
   shown = of_inputs e ShowsContested (contests contested drift refutation e h) claim second capture are;
 }
-refutation_shown contested drift about refutation e No h claim second capture are =
-    given (IsUncontestedOf drift) refutation e h claim second capture are
+refutation_shown contested drift about refutation e No h claim second capture are = search rules

@@ -1,20 +1,14 @@
 -- A run, once its text is made.
-use Rattle.audit.proofs.Common.{⊎_elim, IfOk-weaker, IsFindingOf, ◌≡◌, ◌∙◌, ◌⊎◌, ℕ, List, Option, Some, None, Result, Ok, Err, refl, sym, ap, subst, inl, inr, false, IfSome, IfErr, IfOk, IsOk, MatchResult, FeedState, SinkState, Outcome, RunFault, ClaimData, compact_data, Collection, max_certificate, claim_read, max_claim, max_refutation, IsAnswerFor, IsMadeFor, IsUnwritten, Publishes, Ready, Report, GetsText, is_claim, is_second, is_capture, is_sums, is_device, refused, IsFromOutside, HasClaim, HasLawfulHeader, IsBeforeCapture, IsBeforeSecond, IsUnwrittenAt, Runs, capture_read, evidence_data, evidence_of, AreInputsOf, AskedData, Finding, ShowsOf, for_a_program, no_finding, HasSecond, SecondData, SecondKind, most_second, second_read, no_second, certificate_second, refutation_second, InputsData, IsOfMaking, Tells, TellsFinding, TellsTwice, inputs_data, inputs_read, report_on, run_report, with_second}
-use Rattle.std.specs.Prelude.{Bool, option_map}
-use Rattle.std.proofs.lemmas.Option.{IfSome_then}
-use Rattle.byte_stream.specs.Intake.{TakesAtMost}
-use Rattle.report.specs.declared.fault.Input.{Input}
+use Rattle.std.proofs.Common.{rules}
+use Rattle.audit.proofs.Common.{⊎_elim, IfOk-weaker, IsFindingOf, ◌≡◌, ◌∙◌, ◌⊎◌, ℕ, List, Option, Some, None, Result, Ok, Err, refl, sym, ap, subst, inl, inr, false, IfSome, IfErr, IfOk, IsOk, MatchResult, FeedState, SinkState, Outcome, RunFault, ClaimData, compact_data, Collection, max_certificate, claim_read, max_claim, max_refutation, IsAnswerFor, IsMadeFor, IsUnwritten, Publishes, Ready, Report, GetsText, is_claim, is_second, is_capture, is_sums, is_device, refused, IsFromOutside, HasClaim, HasLawfulHeader, IsBeforeCapture, IsBeforeSecond, IsUnwrittenAt, Runs, capture_read, evidence_data, evidence_of, AreInputsOf, AskedData, Finding, ShowsOf, for_a_program, no_finding, HasSecond, SecondData, SecondKind, most_second, second_read, no_second, certificate_second, refutation_second, InputsData, IsOfMaking, Tells, TellsFinding, TellsTwice, inputs_data, inputs_read, report_on, run_report, with_second, Bool, option_map, IfSome_then, TakesAtMost, Input, most_read, RunState, BytesLaws, arith, ints, nat_tests}
 use Rattle.report.specs.declared.fault.Input.TheVariants as inputs
 use Rattle.report.specs.declared.fault.RunFault.TheVariants as faults
 use Rattle.claim_file.specs.Claim.{data_of as claim_data}
-use Rattle.report.specs.Input.{most_read}
-use Rattle.report.specs.Run.{RunState}
 use Rattle.report.proofs.InputIntake.{takes_within}
 use Rattle.report.proofs.LinelessRefusal.{writes_nothing}
 use Rattle.audit.specs.Run.{HasRead, IsToldToo, RunsFor, RunsTwice}
 use Rattle.audit.specs.declared.engine.Inputs.{Inputs}
 use Rattle.audit.proofs.Capture.{header_was_read}
-use Rattle.audit.specs.Contested.{BytesLaws}
 use Rattle.audit.proofs.Showing.{finding_shown, nothing_shown, refused_twice}
 
 -- ---- the fault of an answer
@@ -42,28 +36,24 @@ module _ {A : Type 0} where
 
   same_device : (which : Input → Bool) (read : Result A RunFault) (answer : Result Outcome RunFault) →
       EndsIn read answer → is_device which read ≡ is_device which answer
-  same_device which (Err (faults.Device input)) answer is = rw is refl
-  same_device which (Err fault) answer is = rw is refl
   same_device which (Ok value) (Ok outcome) ends = refl
   same_device which (Ok value) (Err (faults.Device input)) ends = absurd ends
   same_device which (Ok value) (Err fault) ends = refl
+  same_device which _ answer is = rw is refl
 
   -- so much is taken of an input at most
   taken : (which : Input) (limit : ℕ) (read : Result A RunFault) (answer : Result Outcome RunFault) →
       EndsIn read answer → (before after : FeedState) → TakesAtMost (most_read which limit read) before after →
       TakesAtMost (most_read which limit answer) before after
-  taken which limit (Err (faults.TooBig input)) answer is before after h = rw is h
-  taken which limit (Err fault) answer is before after h = rw is h
   taken which limit (Ok value) answer ends before after h = takes_within which limit answer before after h
+  taken which limit _ answer is before after h = rw is h
 
   second_taken : (kind : SecondKind) (read : Result A RunFault) (answer : Result Outcome RunFault) →
       EndsIn read answer → (before after : FeedState) → TakesAtMost (most_second kind read) before after →
       TakesAtMost (most_second kind answer) before after
   second_taken no_second read answer ends before after h = h
-  second_taken certificate_second read answer ends before after h =
-      taken inputs.Certificate max_certificate read answer ends before after h
-  second_taken refutation_second read answer ends before after h =
-      taken inputs.Refutation max_refutation read answer ends before after h
+  second_taken certificate_second read answer ends before after h = grind (arith, ints, nat_tests, taken)
+  second_taken refutation_second read answer ends before after h = grind (arith, ints, nat_tests, taken)
 
   -- what a fault shows that comes before all was read
   shown_by_fault : (P : RunFault → Type 0) → ((fault : RunFault) → IsLate fault → P fault) →
@@ -88,10 +78,8 @@ not_before X Y fault ends = absurd ends
 
 -- no file of sums was read
 unsummed : (made : Result Ready RunFault) → IsUnwritten made → is_device is_sums made ≡ false
-unsummed (Ok m) h = refl
 unsummed (Err (faults.Device inputs.Sums)) h = absurd h
-unsummed (Err (faults.Device input)) h = refl
-unsummed (Err fault) h = refl
+unsummed _ h = refl
 
 refusal_for : (fault : RunFault) → IsUnwritten (Err fault) → IsMadeFor (refused fault) (Err fault)
 refusal_for (faults.Write sent) h = absurd h
@@ -120,48 +108,27 @@ refused_report : (asked : AskedData) (finding : Finding) (fault : RunFault) → 
     (known : Option (Result InputsData RunFault)) → IfSome known (λ k. IsFromOutside fault ⊎ (k ≡ Err fault)) →
     IfSome (option_map (report_on asked finding) known) (λ report. IsMadeFor report (Err fault))
 refused_report asked finding fault nothing None h = tt
-refused_report asked finding fault nothing (Some k) (inl outside) =
-    made_outside (report_on asked finding k) fault outside
-refused_report asked finding fault nothing (Some k) (inr is) =
-    subst (λ (k : Result InputsData RunFault). IsMadeFor (report_on asked finding k) (Err fault)) (sym is)
-    (refusal_for fault nothing)
+refused_report asked finding fault nothing (Some k) (inl outside) = grind (arith, ints, nat_tests, made_outside)
+refused_report asked finding fault nothing (Some k) (inr is) = grind (arith, ints, nat_tests, refusal_for)
 
 -- what was read is what the bytes of the inputs say
-module _ (said : SecondData) (claim : ClaimData) (collection : Collection) where
-  known_after : (second : Option (Result SecondData RunFault)) (capture : Option (List ℕ)) →
-      IfSome second (λ read. read ≡ Ok said) → IfSome capture (λ bytes. capture_read claim bytes ≡ Ok collection) →
-      IfSome (with_second claim second capture) (λ known. known ≡ Ok (inputs_data said (evidence_of claim collection)))
-  known_after None capture second_is capture_is = tt
-  known_after (Some (Err fault)) capture second_is capture_is = absurd cc
-  known_after (Some (Ok other)) None second_is capture_is = tt
-  known_after (Some (Ok other)) (Some bytes) second_is capture_is =
-      let same : other ≡ said = cc in rw (same, capture_is) refl
+module _ (asked : AskedData) (finding : Finding) (said : SecondData) (claim : ClaimData) (collection : Collection)
+    (P : Report → Type 0) (holds : P (report_on asked finding (Ok (inputs_data said (evidence_of claim collection)))))
+  where
+    known_inputs : (bytes second capture : Option (List ℕ)) → IfSome bytes (λ b. claim_read b ≡ Ok claim) →
+        IfSome (second_read asked.second second) (λ read. read ≡ Ok said) →
+        IfSome capture (λ b. capture_read claim b ≡ Ok collection) →
+        IfSome (option_map (report_on asked finding) (inputs_read asked.second bytes second capture)) P
+    known_inputs None second capture claim_is second_is capture_is = tt
+    known_inputs (Some b) second capture claim_is second_is capture_is = search rules
 
-  known_inputs : (kind : SecondKind) (bytes second capture : Option (List ℕ)) →
-      IfSome bytes (λ b. claim_read b ≡ Ok claim) → IfSome (second_read kind second) (λ read. read ≡ Ok said) →
-      IfSome capture (λ b. capture_read claim b ≡ Ok collection) →
-      IfSome (inputs_read kind bytes second capture)
-      (λ known. known ≡ Ok (inputs_data said (evidence_of claim collection)))
-  known_inputs kind None second capture claim_is second_is capture_is = tt
-  known_inputs kind (Some b) second capture claim_is second_is capture_is =
-      rw claim_is (known_after (second_read kind second) capture second_is capture_is)
-
-known_report : (asked : AskedData) (finding : Finding) (read : InputsData) (P : Report → Type 0)
-    (known : Option (Result InputsData RunFault)) → IfSome known (λ k. k ≡ Ok read) →
-    P (report_on asked finding (Ok read)) → IfSome (option_map (report_on asked finding) known) P
-known_report asked finding read P None is holds = tt
-known_report asked finding read P (Some k) is holds = rw is holds
-
--- what holds of the report on what was read holds of the report on the bytes
-pub report_known : (asked : AskedData) (finding : Finding) (said : SecondData) (claim : ClaimData)
-    (collection : Collection) (before : RunState) →
-    AreInputsOf asked.second said (evidence_of claim collection) before.claim before.second before.capture →
-    (P : Report → Type 0) → P (report_on asked finding (Ok (inputs_data said (evidence_of claim collection)))) →
-    IfSome (run_report asked finding before) P
-report_known asked finding said claim collection before are P holds =
-    known_report asked finding (inputs_data said (evidence_of claim collection)) P _
-    (known_inputs said claim collection asked.second before.claim.remaining before.second.remaining
-    before.capture.remaining are.claim_is are.second_is are.capture_is) holds
+    -- what holds of the report on what was read holds of the report on the bytes
+    report_known : (before : RunState) →
+        AreInputsOf asked.second said (evidence_of claim collection) before.claim before.second before.capture →
+        IfSome (run_report asked finding before) P
+    report_known before are =
+        known_inputs before.claim.remaining before.second.remaining before.capture.remaining are.claim_is are.second_is
+        are.capture_is
 
 -- ---- the whole
 
@@ -193,8 +160,7 @@ module _ {T F V : Type 0} (asked : AskedData) (said : V → SecondData) (finding
 
   made_for : (read : Result (Inputs V) RunFault) → Read read → Makes read →
       IfSome (run_report asked finding before) (λ r. IsMadeFor r made)
-  made_for (Ok i) h makes = report_known asked finding (said i.second) (claim_data i.evidence.claim)
-      (compact_data i.evidence.held) before h.of_bytes (λ report. IsMadeFor report made) makes.0
+  made_for (Ok i) h makes = search rules
   made_for (Err fault) h is = rw is (refused_report asked finding fault h.unwritten _ h.refused)
 
   had : (read : Result (Inputs V) RunFault) → Read read → IsOk read → HasClaim before.claim.remaining
@@ -303,8 +269,8 @@ module _ {T F V : Type 0} (laws : BytesLaws) (asked : AskedData) (said : V → S
             draft = drafts.publishes.text (report_on (for_a_program asked) finding (Ok read)) drafts.is_made;
             text = text;
             of_bytes = report_known asked finding (said i.second) (claim_data i.evidence.claim)
-                (compact_data i.evidence.held) before h.of_bytes
-                (λ r. GetsText r out.contents out'.contents answer) text;
+                (compact_data i.evidence.held) (λ r. GetsText r out.contents out'.contents answer) text before
+                h.of_bytes;
             closed = tells.publishes.closed;
             sink = tells.publishes.sink;
             unfailed = λ which. sym (same_device which (Ok i) answer

@@ -1,10 +1,7 @@
 -- The lines of samples that are left to go out, and the line of counts.
-use Rattle.audit.proofs.Common.{◌≡◌, ◌∙◌, ◌+◌, ◌<◌, ◌≤◌, ◌++◌, ℕ, List, [], length, drop, get_or, refl, sym, ap, append_assoc, Plain, ClaimData, Exchange, Collection, sample_line, samples_text}
+use Rattle.audit.proofs.Common.{◌≡◌, ◌∙◌, ◌+◌, ◌<◌, ◌≤◌, ◌++◌, ℕ, List, length, drop, get_or, refl, ap, append_assoc, Plain, ClaimData, Exchange, Collection, sample_line, samples_text, add-one, drop-cons, drop_all}
 use Rattle.audit_text.specs.CountsLine.{counts_line}
 use Rattle.audit_text.specs.Table.{heading, rows_from}
-use Rattle.std.proofs.Common.{add-one}
-use Rattle.std.proofs.Math.Seq.{drop-cons}
-use Rattle.std.proofs.lemmas.List.{drop_all}
 
 module _ (claim : ClaimData) (collection : Collection) where
   -- the line of counts

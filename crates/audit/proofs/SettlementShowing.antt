@@ -1,4 +1,5 @@
 -- What a settled claim shows.
+use Rattle.std.proofs.Common.{rules}
 use Rattle.audit.proofs.Common.{◌≡◌, ℕ, ◌<◌, ◌⊎◌, ⊎_elim, List, length, map, get_or, Err, sym, subst, AllPairs, get_or-map, length-map, slice_get_within, CertificateData, SameRequest, Exchange, IsVerdictOn, ClaimData, FindFault, SettledData, HasTooManyPieces, IsSettledAs, verdict_on, EvidenceData, samples_in, IsSettlementOf, IsSettledOf}
 use Rattle.feasibility.specs.Contradiction.{AreAllConflicts, IsFirstContradiction, ShownConflict}
 use Rattle.feasibility.specs.PairMarks.{conflict_data}
@@ -19,11 +20,7 @@ module _ (e : EvidenceData) (agree : AllPairs SameRequest e.collection.exchanges
     shown_by = h;
     agree = agree;
   }
-  settled_of (settles.refuted refutation) h = record {
-    accepted = h.accepted;
-    course = h.course agree;
-    no_yes = h.none_accepted;
-  }
+  settled_of (settles.refuted refutation) h = search rules
   settled_of settled h = h
 
 -- why nothing is known shows what it says

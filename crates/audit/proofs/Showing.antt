@@ -1,12 +1,10 @@
 -- What an outcome shows, from the bytes of the inputs.
-use Rattle.audit.proofs.Common.{IfOk-weaker, subst, ap, ◌∙◌, CertificateData, ◌⊎◌, ◌≡◌, ℕ, true, List, Option, Some, None, Result, Ok, Err, refl, sym, inl, inr, IfSome, IfOk, option_map, MatchResult, FeedState, SinkState, SettledData, FindFault, find_run_fault_of, Outcome, RunFault, IsMadeFor, Publishes, Ready, Report, refused, whole_text, ArePiecesTraced, HasVerdictYes, IsTracedTo, EvidenceData, GiveEvidence, IsEvidenceOf, OfClaimAndCapture, AreInputsOf, Finding, QuestionData, no_finding, SecondData, SecondKind, IsContestedOf, InputsData, IsOfMaking, IsUnfound, IsFindingFrom, IsFindingOf, IsSettlementFrom, IsSettlementOf, ShowsFinding, IsLeastBoundOf, SettlesFit, IsSettledFrom, IsSettledOf, IsShownOf}
+use Rattle.std.proofs.lemmas.Grind.{common_steps}
+use Rattle.std.proofs.Common.{rules}
+use Rattle.audit.proofs.Common.{IfOk-weaker, subst, ap, ◌∙◌, CertificateData, ◌⊎◌, ◌≡◌, ℕ, true, List, Option, Some, None, Result, Ok, Err, refl, sym, inl, inr, IfSome, IfOk, option_map, MatchResult, FeedState, SinkState, SettledData, FindFault, find_run_fault_of, Outcome, RunFault, IsMadeFor, Publishes, Ready, Report, refused, whole_text, ArePiecesTraced, HasVerdictYes, IsTracedTo, EvidenceData, GiveEvidence, IsEvidenceOf, OfClaimAndCapture, AreInputsOf, Finding, QuestionData, no_finding, SecondData, SecondKind, IsContestedOf, InputsData, IsOfMaking, IsUnfound, IsFindingFrom, IsFindingOf, IsSettlementFrom, IsSettlementOf, ShowsFinding, IsLeastBoundOf, SettlesFit, IsSettledFrom, IsSettledOf, IsShownOf, IfSome_then, result_map_both, BytesLaws, TellsOf, arith, ints, nat_tests}
 use Rattle.finder.specs.Settlement as settles
 use Rattle.finder.specs.declared.fault.FindFault.TheVariants as finds
 use Rattle.report.specs.declared.fault.RunFault.TheVariants as faults
-use Rattle.std.proofs.lemmas.Option.{IfSome_then}
-use Rattle.std.specs.Result.{result_map_both}
-use Rattle.audit.specs.Contested.{BytesLaws}
-use Rattle.audit.specs.Report.{TellsOf}
 use Rattle.audit.proofs.Excess.{contests}
 
 -- ---- what evidence shows, the bytes that give it show
@@ -14,17 +12,13 @@ use Rattle.audit.proofs.Excess.{contests}
 pub of_inputs : {kind : SecondKind} {said : SecondData} (e : EvidenceData) (R : List ℕ → List ℕ → Type 0) →
     ((b f : List ℕ) → IsEvidenceOf b f e → R b f) → (claim second capture : FeedState) →
     AreInputsOf kind said e claim second capture → OfClaimAndCapture claim capture R
-of_inputs e R shows claim second capture are =
-    IfSome_then claim.remaining are.claim_is (λ b claim_is. IfSome_then capture.remaining are.capture_is
-    (λ f capture_is. shows b f (record { claim_is = claim_is; collection_is = capture_is })))
+of_inputs e R shows claim second capture are = grind (arith, ints, nat_tests, common_steps)
 
 -- of what only evidence is asked of
 pub of_evidence : {kind : SecondKind} {said : SecondData} (P : EvidenceData → Type 0) (e : EvidenceData) → P e →
     (claim second capture : FeedState) → AreInputsOf kind said e claim second capture →
     OfClaimAndCapture claim capture (GiveEvidence P)
-of_evidence P e holds claim second capture are =
-    of_inputs e (GiveEvidence P) (λ b f is. record { evidence = e; evidence_is = is; holds = holds })
-    claim second capture are
+of_evidence P e holds claim second capture are = search (rules, of_inputs)
 
 -- ---- what a second input says, its bytes say
 
@@ -39,8 +33,7 @@ pub said_is : {T : Type 0} (said : T → SecondData) → ((t u : T) → said t �
     (known : Option (List ℕ)) → IfSome (option_map (λ s. result_map_both said (λ fault. fault) (read s)) known)
     (λ r. r ≡ Ok (said t)) → IfSome known R
 said_is said one read t R shows None is = tt
-said_is said one read t R shows (Some s) is =
-    let found = mapped_ok said (λ fault. fault) (read s) (said t) is in shows s (cc (one found.0 t found.2))
+said_is said one read t R shows (Some s) is = grind (arith, ints, nat_tests, mapped_ok)
 
 -- ---- a yes, and what was found
 
@@ -100,13 +93,11 @@ module _ (laws : BytesLaws) (b f : List ℕ) (e : EvidenceData) (is : IsEvidence
 pub finding_shown : {kind : SecondKind} {said : SecondData} (laws : BytesLaws) (e : EvidenceData) (finding : Finding)
     (claim second capture : FeedState) → AreInputsOf kind said e claim second capture → IsFindingOf e finding →
     ShowsFinding finding claim capture
-finding_shown laws e finding claim second capture are found =
-    of_inputs e (IsFindingFrom finding) (λ b f is. finding_of laws b f e is finding found) claim second capture are
+finding_shown laws e finding claim second capture are found = search (rules, of_inputs, finding_of)
 
 pub nothing_shown : (claim capture : Option (List ℕ)) → IfSome claim (λ b. IfSome capture (IsFindingFrom no_finding b))
-nothing_shown None capture = tt
-nothing_shown (Some b) None = tt
 nothing_shown (Some b) (Some f) = record { settled = inl refl; least = tt; fits = tt }
+nothing_shown _ _ = tt
 
 -- ---- what is told
 
@@ -125,7 +116,8 @@ memory_unfound question inputs = record {
 
 pub made_whole_is : {T E : Type 0} (text : Result T E) (items : T → List ℕ) (outcome : Outcome)
     (made : Result Ready RunFault) (expected : List ℕ) →
-    MatchResult text (λ t. made ≡ Ok (record { text = items t; outcome = outcome })) (λ e. made ≡ Err faults.Memory) → IfOk text (λ t. items t ≡ expected) → IsMadeFor (whole_text expected outcome) made
+    MatchResult text (λ t. made ≡ Ok (record { text = items t; outcome = outcome })) (λ e. made ≡ Err faults.Memory) →
+    IfOk text (λ t. items t ≡ expected) → IsMadeFor (whole_text expected outcome) made
 made_whole_is (Ok t) items outcome made expected is same = rw is (sym same, refl)
 made_whole_is (Err e) items outcome made expected is same = rw is tt
 
@@ -159,8 +151,7 @@ pub refused_as : {D : Type 0} (report : Result D FindFault → Report) (found : 
     (fault ≡ finds.Memory) ⊎ (found ≡ Err fault) → IsMadeFor (report found) (Err told)
 refused_as report found finds.Memory told refuses is why = rw is tt
 refused_as report found finds.TooManyPieces told refuses is (inl memory) = absurd cc
-refused_as report found finds.TooManyPieces told refuses is (inr same) =
-    rw is (subst (λ (r : Report). IsMadeFor r (Err faults.Pieces)) (sym (ap report same ∙ refuses)) (refl, refl))
+refused_as report found finds.TooManyPieces told refuses is (inr same) = grind (arith, ints, nat_tests)
 
 -- a fault is told, and nothing behind it
 pub refused_twice : (P : Outcome → Type 0) (X : Type 0) (fault : RunFault) (answer : Result Outcome RunFault) →

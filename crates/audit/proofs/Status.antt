@@ -1,7 +1,6 @@
 -- The status of an outcome.
-use Rattle.audit.proofs.Common.{◌≡◌, ◌∙◌, ℕ, Result, Ok, Err, refl, sym, subst, arith, IfOk, Outcome, Yes, No, RunFault}
-use Rattle.report.specs.declared.fault.RunFault.TheVariants.{Memory}
-use Rattle.report.specs.ExitStatus.{status_of}
+use Rattle.std.proofs.Common.{rules}
+use Rattle.audit.proofs.Common.{◌≡◌, ◌∙◌, ℕ, Result, Ok, sym, subst, arith, IfOk, Outcome, RunFault, status_of}
 
 -- an answer with the status of an outcome is that outcome
 outcome_is : (answer : Result Outcome RunFault) (outcome : Outcome) →
@@ -11,5 +10,4 @@ outcome_is x0 o same = grind (arith)
 -- what an outcome shows, by its status
 pub shown_by_status : (P : Outcome → Type 0) (answer : Result Outcome RunFault) (status : ℕ) →
     status ≡ status_of answer → IfOk answer P → (outcome : Outcome) → status ≡ status_of (Ok outcome) → P outcome
-shown_by_status P answer status is shows outcome told =
-    subst (λ (a : Result Outcome RunFault). IfOk a P) (outcome_is answer outcome (sym is ∙ told)) shows
+shown_by_status P answer status is shows outcome told = search (rules, outcome_is)

@@ -1,5 +1,5 @@
 -- A text says one claim at most.
-use Rattle.audit.proofs.Common.{◌≡◌, ℕ, suc, ◌*◌, ℤ, pos, ◌↔◌, List, [], ◌∷◌, length, map, codes, Option, Some, None, refl, sym, ap, ◌∙◌, arith, slice_get, AllZip, option_map, IsDotted, nanoseconds_per_second, IsFloor, IsCeiling, ticks_per_second, Data, number, string, unsigned, array, get, items_of, address_of, ClaimData, IsTime, time_of, IsClaimText, IsTimeAt, numbers_value}
+use Rattle.audit.proofs.Common.{◌≡◌, ℕ, suc, ◌*◌, ℤ, pos, ◌↔◌, List, [], ◌∷◌, length, map, codes, Option, Some, refl, sym, ap, ◌∙◌, arith, slice_get, AllZip, option_map, IsDotted, nanoseconds_per_second, IsFloor, IsCeiling, ticks_per_second, Data, number, string, unsigned, array, get, items_of, address_of, ClaimData, IsTime, time_of, IsClaimText, IsTimeAt, numbers_value, ints, nat_tests}
 
 -- the laws of the layers below
 pub record Laws : Type 0 where
@@ -91,18 +91,26 @@ module _ (laws : Laws) where
 
     bound_same : c.bound ≡ d.bound
     bound_same =
-        let is = floor_same (d.bound_ns * ticks_per_second) nanoseconds_per_second x.bound y.bound
-        (rw bound_ns_same at x.bound_is) y.bound_is in
-        x.bound_in_ticks ∙ ap pos is ∙ sym y.bound_in_ticks
+        grind (
+          arith,
+          ints,
+          nat_tests,
+          floor_same (d.bound_ns * ticks_per_second) nanoseconds_per_second x.bound
+              y.bound (rw bound_ns_same at x.bound_is) y.bound_is,
+        )
 
     reading_ns_same : c.reading_ns ≡ d.reading_ns
     reading_ns_same = number_at (codes "reading_ns") c.reading_ns d.reading_ns x.reading_ns y.reading_ns
 
     reading_same : c.reading ≡ d.reading
     reading_same =
-        let is = ceiling_same (d.reading_ns * ticks_per_second) nanoseconds_per_second x.reading y.reading
-        (rw reading_ns_same at x.reading_is) y.reading_is in
-        x.reading_in_ticks ∙ ap pos is ∙ sym y.reading_in_ticks
+        grind (
+          arith,
+          ints,
+          nat_tests,
+          ceiling_same (d.reading_ns * ticks_per_second) nanoseconds_per_second x.reading
+              y.reading (rw reading_ns_same at x.reading_is) y.reading_is,
+        )
 
     listed_same : x.listed ≡ y.listed
     listed_same = grind (arith, groups_same, get, codes, value_same)

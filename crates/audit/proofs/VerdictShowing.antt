@@ -1,18 +1,14 @@
 -- What a verdict shows.
-use Rattle.audit.proofs.Common.{Bool, List, ℕ, Some, refl, sym, ap, CertificateData, certificate_read, IsVerdictOn, IsBytes, Outcome, Yes, No, HasVerdict, IsDenied, IsTracedByPieces, IsTracedTo, check, outcome_of, EvidenceData, samples_in, ShowsOf, OfClaimAndCapture, IsShown, certificate_said, certificate_second}
-use Rattle.checker.specs.declared.verdict.Verdict.{Verdict}
+use Rattle.std.proofs.Common.{rules}
+use Rattle.audit.proofs.Common.{Bool, List, ℕ, Some, refl, sym, ap, CertificateData, certificate_read, IsVerdictOn, IsBytes, Outcome, Yes, No, HasVerdict, IsDenied, IsTracedByPieces, IsTracedTo, check, outcome_of, EvidenceData, samples_in, ShowsOf, OfClaimAndCapture, IsShown, certificate_said, certificate_second, Verdict, Style, IsEnoughFor, BytesLaws, arith, ints, nat_tests}
 use Rattle.checker.specs.declared.verdict.Verdict.TheVariants as verdicts
-use Rattle.line_writer.specs.declared.field.Style.{Style}
 use Rattle.line_writer.specs.declared.field.Style.TheVariants as styles
-use Rattle.audit.specs.Check.{IsEnoughFor}
-use Rattle.audit.specs.Contested.{BytesLaws}
 use Rattle.audit.proofs.Showing.{of_inputs, pieces_traced, said_is, traced_to}
 
 -- that it is known whether any course fits is enough in any style
 pub fits_known : (style : Style) (fits : Bool) → IsEnoughFor style (Some fits)
 fits_known styles.Plain fits = refl
-fits_known styles.Human fits = refl
-fits_known styles.Columns fits = refl
+fits_known _ fits = refl
 
 module _ (certificate : CertificateData) (e : EvidenceData) where
   -- what the outcome of a verdict shows
@@ -23,13 +19,7 @@ module _ (certificate : CertificateData) (e : EvidenceData) where
     whole = settled.yes refl;
     by_pieces = settled.by_pieces refl;
   }
-  verdict_shows (verdicts.No piece why) settled = record {
-    piece = piece;
-    why = why;
-    verdict_is = sym settled.exact;
-    contradiction = λ is. settled.contradiction piece (ap (verdicts.No piece) is);
-    held = settled.held piece why refl;
-  }
+  verdict_shows (verdicts.No piece why) settled = search rules
 
   -- the bytes of any inputs that say the certificate and give the evidence show the same
   pub verdict_shown : (about : List ℕ) → BytesLaws → (outcome : Outcome) → HasVerdict certificate e outcome →
@@ -50,12 +40,4 @@ module _ (certificate : CertificateData) (e : EvidenceData) where
           within = pieces_traced laws b f e is certificate h;
         }) claim second capture are) second.remaining are.second_is;
   }
-  verdict_shown about laws No h claim second capture are = said_is certificate_said (λ t u same. cc) certificate_read
-      certificate (λ s. OfClaimAndCapture claim capture (λ b. IsDenied b s))
-      (λ s read. of_inputs e (λ b. IsDenied b s) (λ b f is. record {
-        certificate = certificate;
-        evidence = e;
-        certificate_is = read;
-        evidence_is = is;
-        verdict = h;
-      }) claim second capture are) second.remaining are.second_is
+  verdict_shown about laws No h claim second capture are = grind (arith, ints, nat_tests)

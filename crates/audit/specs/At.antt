@@ -1,7 +1,7 @@
 -- The report of `at`: what each server says about the clock's error at one moment, and the hull
 -- over the groups, which holds the error.
 use Rattle.std.specs.Prelude.{ℕ, ◌*◌, ◌^◌, ℤ, pos, List}
-use Rattle.audit.specs.Common.{FeedState, piece_hull, HoldsError, Stretch, Hull, best_parts, Yes, Report, whole_text, Style, parts_text}
+use Rattle.audit.specs.Common.{FeedState, piece_hull, HoldsError, Stretch, Hull, best_parts, Yes, whole_text, Style, parts_text}
 use Rattle.audit.specs.Evidence.{EvidenceData, GiveEvidence, OfClaimAndCapture, samples_in}
 use Rattle.audit.specs.Question.{QuestionData}
 
@@ -20,10 +20,6 @@ abbrev pub at_text : Style → ℕ → EvidenceData → List ℕ
 at_text style unix_second e =
     parts_text style e.claim (best_parts (samples_in e) e.claim (tick_of unix_second))
     (hull_at unix_second e)
-
--- the report of `at` on a claim and the exchanges of a capture
-abbrev pub at_report : Style → ℕ → EvidenceData → Report
-at_report style unix_second e = whole_text (at_text style unix_second e) Yes
 
 -- a Unix second's first tick, as a stretch of readings
 abbrev pub stretch_at : ℕ → Stretch
@@ -44,6 +40,6 @@ HullHoldsError unix_second claim capture =
 -- what does each server say about the clock at a Unix second?
 abbrev pub at : ℕ → QuestionData
 at unix_second = record {
-  report = λ style finding said e. at_report style unix_second e;
+  report = λ style finding said e. whole_text (at_text style unix_second e) Yes;
   Shows = λ claim second capture outcome. HullHoldsError unix_second claim capture;
 }

@@ -6,7 +6,7 @@ use Rattle.report.specs.declared.fault.Outcome.TheVariants as outcomes
 use Rattle.audit.specs.CaptureInput.{capture_read}
 use Rattle.audit.specs.Evidence.{EvidenceData, IsEvidenceOf, OfClaimAndCapture, samples_in}
 use Rattle.audit.specs.Headline.{IsShown}
-use Rattle.audit.specs.Question.{Finding, QuestionData, no_finding}
+use Rattle.audit.specs.Question.{ByOutcome, Finding, QuestionData, no_finding}
 use Rattle.audit.specs.Second.{SecondData, certificate_said}
 
 -- the outcome of a verdict
@@ -127,14 +127,9 @@ abbrev pub IsNotTraced : FeedState → FeedState → FeedState → Type 0
 IsNotTraced claim second capture =
     IfSome second.remaining (λ s. OfClaimAndCapture claim capture (λ c. IsDenied c s))
 
--- what the outcome of a verdict shows of evidence, and of inputs
+-- what the outcome of a verdict shows of evidence
 abbrev pub HasVerdict : CertificateData → EvidenceData → Outcome → Type 0
-HasVerdict certificate e outcomes.Yes = HasVerdictYes certificate e
-HasVerdict certificate e outcomes.No = HasVerdictNo certificate e
-
-abbrev pub ShowsVerdict : FeedState → FeedState → FeedState → Outcome → Type 0
-ShowsVerdict claim second capture outcomes.Yes = IsTraced claim second capture
-ShowsVerdict claim second capture outcomes.No = IsNotTraced claim second capture
+HasVerdict certificate e = ByOutcome (HasVerdictYes certificate e) (HasVerdictNo certificate e)
 
 -- the report on a certificate; nothing else is checked
 abbrev pub report_on : Style → List ℕ → Finding → SecondData → EvidenceData → Report
@@ -146,5 +141,6 @@ report_on style about finding said e = refused Memory
 abbrev pub check : List ℕ → QuestionData
 check about = record {
   report = λ style finding said e. report_on style about finding said e;
-  Shows = ShowsVerdict;
+  Shows = λ claim second capture.
+      ByOutcome (IsTraced claim second capture) (IsNotTraced claim second capture);
 }

@@ -39,8 +39,8 @@ pub use Rattle.claim_file.specs.Group.{IsInGroup}
 pub use Rattle.claim_file.specs.Reading.{claim_of}
 pub use Rattle.claim_file.specs.Time.{IsTime}
 pub use Rattle.era_unfold.specs.Nanoseconds.{nanoseconds_per_second}
-pub use Rattle.era_unfold.specs.Ratio.{IsCeiling, IsFloor}
-pub use Rattle.era_unfold.specs.Stamp.{IsUnfolded}
+pub use Rattle.era_unfold.specs.Ratio.{IsCeiling, IsFloor, ceiling_of, floor_of}
+pub use Rattle.era_unfold.specs.Stamp.{IsUnfolded, unfolded}
 pub use Rattle.era_unfold.specs.Window.{per_second, ticks_per_second}
 pub use Rattle.era_unfold.specs.declared.unit.Unit.{Unit}
 pub use Rattle.feasibility.specs.Cover.{SomeCourse}
@@ -62,7 +62,7 @@ pub use Rattle.finder.specs.declared.carried.LeastCarried.{LeastCarried}
 pub use Rattle.finder.specs.declared.fault.FindFault.{FindFault}
 pub use Rattle.finder.specs.declared.fault.FindFault.TheVariants.{TooManyPieces}
 pub use Rattle.finder.specs.declared.least.LeastBound.{LeastBound}
-pub use Rattle.frame_reader.specs.Frame.{tag_bytes}
+pub use Rattle.frame_reader.specs.Frame.{Fields, HoldsDatagram, datagram_of, tag_bytes}
 pub use Rattle.intersection.specs.declared.kinds.Hull.{Hull}
 pub use Rattle.intersection.specs.declared.kinds.Hull.TheVariants.{Empty}
 pub use Rattle.json_text.specs.Text.{parsed}
@@ -74,6 +74,7 @@ pub use Rattle.ntp_packet.specs.Packet.{Packet, ntp_port, packet_of}
 pub use Rattle.pairing.specs.Answer.{answer_of}
 pub use Rattle.pairing.specs.Compact.{compact_data}
 pub use Rattle.pairing.specs.Exchange.{AreLawful, SameRequest}
+pub use Rattle.pairing.specs.Message.{IsReplyOf, IsRequestTo, replying_server, requested_server}
 pub use Rattle.pairing.specs.Pairing.{Collection, exchanges_of}
 pub use Rattle.pairing.specs.Refusal.{refusal_of}
 pub use Rattle.pairing.specs.Sources.{common_reference, source_count}

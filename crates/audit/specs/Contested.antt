@@ -1,12 +1,11 @@
 -- What is shown against a claim from bytes, in relations alone.
 use Rattle.std.specs.Prelude.{◌≡◌, ℕ, ◌*◌, ◌<◌, ℤ, pos, ◌*ℤ◌, ◌<ℤ◌, unsigned_abs, true, List, Some, Ok, slice_get}
-use Rattle.audit.specs.Common.{IsBytes, Unit as TimeUnit, nanoseconds_per_second, ticks_per_second, Endian, RefutationData, ClaimData, Collection, Exchange, claim_read, error_of, IsInWindow, Course, FitsInWindows, SharesRequests, is_refuted}
+use Rattle.audit.specs.Common.{IsBytes, Unit as TimeUnit, nanoseconds_per_second, ticks_per_second, Endian, RefutationData, ClaimData, Collection, Exchange, claim_read, error_of, IsInWindow, Course, FitsInWindows, IsWithin, IsWithinNanoseconds, SharesRequests, is_refuted}
 use Rattle.audit.specs.CaptureInput.{capture_read}
 use Rattle.audit.specs.Captured.{CapturedFrame, IsCaptureOf}
 use Rattle.audit.specs.Claimed.{IsClaimText, IsWithinLimits}
 use Rattle.audit.specs.Exchanged.{IsExchangeIn, IsAmong}
 use Rattle.audit.specs.Headline.{IsShown, ShowsHeadline}
-use Rattle.audit.specs.Nanoseconds.{GivesNanoseconds}
 
 -- the clock's error, when it is observed, is more than a bound to one side
 abbrev pub IsBeyond : Course → ℤ → Type 0
@@ -80,6 +79,12 @@ RefutationContests = (claim_bytes capture_bytes : List ℕ) (claim : ClaimData)
 abbrev pub NeverBoth : Type 0
 NeverBoth = (claim_bytes capture_bytes : List ℕ) → IsShown claim_bytes capture_bytes
     → ¬ (IsContestedShown claim_bytes capture_bytes)
+
+-- what is within the bound in ticks of a claim that was read, is within its bound in nanoseconds
+abbrev pub GivesNanoseconds : Type 0
+GivesNanoseconds = (bytes : List ℕ) (claim : ClaimData) (course : Course)
+    → claim_read bytes ≡ Ok claim → IsWithin course claim.bound
+    → IsWithinNanoseconds course claim.bound_ns
 
 -- the laws on bytes that tell what an answer shows of them
 pub record BytesLaws : Type 0 where

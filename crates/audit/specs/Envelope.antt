@@ -1,7 +1,7 @@
 -- The report of `envelope`: the hull of each piece, and the least bound that holds; and what it
 -- says about every course of events.
 use Rattle.std.specs.Prelude.{◌≡◌, ℕ, All, Option, Some, None, is_some, Result, Ok, Err}
-use Rattle.audit.specs.Common.{FeedState, HoldsError, IsContradicted, Empty, LeastCarried, FindFault, LeastBound, EnvelopeData, IsLeast, envelope_of, FindsEnvelope, hull_at, count_of, Outcome, Yes, No, Memory, Report, refused, whole_text, Style, envelope_text, EnvelopeOptions, LeastLine}
+use Rattle.audit.specs.Common.{HoldsError, IsContradicted, Empty, LeastCarried, FindFault, LeastBound, EnvelopeData, IsLeast, envelope_of, FindsEnvelope, hull_at, count_of, Outcome, Yes, No, Memory, Report, refused, whole_text, Style, envelope_text, EnvelopeOptions, LeastLine}
 use Rattle.finder.specs.declared.least.LeastBound.TheVariants.{Holds, NoneHolds}
 use Rattle.audit.specs.Evidence.{EvidenceData, GiveEvidence, OfClaimAndCapture, samples_in}
 use Rattle.audit.specs.Find.{find_run_fault_of}
@@ -34,12 +34,6 @@ report_of style asked found e (Err fault) = refused (find_run_fault_of fault)
 abbrev pub envelope_in : ℕ → EvidenceData → Result EnvelopeData FindFault
 envelope_in step e = envelope_of (samples_in e) e.claim step
 
--- the report of `envelope` on a claim and the exchanges of a capture
-abbrev pub envelope_report : Style → EnvelopeOptions → Option (Option LeastCarried) →
-    EvidenceData → Report
-envelope_report style asked found e =
-    report_of style asked found e (envelope_in asked.step.seconds e)
-
 -- This evidence has an envelope, with this outcome. In every course of events that fits the
 -- exchanges, whenever the clock reads a time of a piece, its error lies in the piece's hull; if the
 -- hull is empty, then in no such course does it read a time of that piece. The least bound is the
@@ -55,11 +49,6 @@ pub record IsEnvelopeOf (step : ℕ) (outcome : Outcome) (e : EvidenceData) : Ty
   pub bound : IsLeast (hull_at (samples_in e) e.claim step) (count_of e.claim step) envelope.least
   pub outcome_is : bound_outcome envelope.least ≡ outcome
 
--- The bytes of claim and capture give evidence with such an envelope, if they are known.
-abbrev pub IsEnveloped : ℕ → Outcome → FeedState → FeedState → Type 0
-IsEnveloped step outcome claim capture =
-    OfClaimAndCapture claim capture (GiveEvidence (IsEnvelopeOf step outcome))
-
 -- what the report is on
 abbrev pub envelope_finding : EnvelopeFinding → Finding
 envelope_finding found = record no_finding { least = found.least }
@@ -70,9 +59,12 @@ pub record IsEnvelopeFor (asked : EnvelopeOptions) (e : EvidenceData) (found : E
   pub finds : FindsEnvelope (samples_in e) e.claim asked.step.seconds (Ok found.envelope)
   pub asked_is : is_some found.least ≡ asked.least
 
--- How far off may the clock have been, piece by piece?
+-- How far off may the clock have been, piece by piece? The bytes of claim and capture give evidence
+-- with such an envelope, if they are known.
 abbrev pub envelope : EnvelopeOptions → QuestionData
 envelope asked = record {
-  report = λ style finding said e. envelope_report style asked finding.least e;
-  Shows = λ claim second capture outcome. IsEnveloped asked.step.seconds outcome claim capture;
+  report = λ style finding said e.
+      report_of style asked finding.least e (envelope_in asked.step.seconds e);
+  Shows = λ claim second capture outcome.
+      OfClaimAndCapture claim capture (GiveEvidence (IsEnvelopeOf asked.step.seconds outcome));
 }

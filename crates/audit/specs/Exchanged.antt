@@ -3,10 +3,10 @@
 -- A reply of a server that is usable, and the one and only request of the whole capture that it
 -- names by server, port and timestamp. T1 and T4 are the windows of the times at which the two were
 -- captured, T2 and T3 the reply's timestamps.
-use Rattle.std.specs.Prelude.{◌≡◌, ◌≢◌, ℕ, ◌+◌, ◌*◌, ◌≤◌, ℤ, pos, ◌≤ℤ◌, List, Some, slice_get}
-use Rattle.audit.specs.Common.{IsFloor, IsCeiling, IsUnfolded, per_second, ticks_per_second, Unit as TimeUnit, version_of, leap_of, mode_of, stratum_of, precision_of, precision_ticks_of, root_delay_of, root_dispersion_of, origin_of, receive_of, transmit_of, ntp_port, ClaimData, Exchange}
+use Rattle.std.specs.Prelude.{◌≡◌, ◌≢◌, ℕ, ◌+◌, ◌*◌, ◌<◌, ◌≤◌, ℤ, pos, ◌≤ℤ◌, ◌↔◌, List, AllPairs, Some, slice_get}
+use Rattle.audit.specs.Common.{IsFloor, IsCeiling, IsUnfolded, per_second, ticks_per_second, Unit as TimeUnit, version_of, leap_of, mode_of, stratum_of, precision_of, precision_ticks_of, root_delay_of, root_dispersion_of, origin_of, receive_of, transmit_of, ntp_port, ClaimData, Exchange, IsReplyOf, IsRequestTo, Packet, ceiling_of, floor_of, replying_server, requested_server, unfolded}
 use Rattle.audit.specs.Captured.{CapturedFrame}
-use Rattle.audit.specs.FramedPacket.{HoldsPacket}
+use Rattle.audit.specs.FramedPacket.{DatagramLaw, HoldsPacket}
 
 -- the frame holds a request, which is in mode 3, from this client and port to this server, with
 -- this transmit timestamp
@@ -67,6 +67,19 @@ pub record IsExchangeIn (claim : ClaimData) (unit : TimeUnit) (frames : List Cap
   pub t4 : IsWindowOf unit reply x.t4_low x.t4_high
   pub distance : x.distance ≡ pos (root_delay_of header * 32768
       + root_dispersion_of header * 65536 + precision_ticks_of (precision_of header))
+
+-- the laws of the layers below by which exchanges are found in frames
+pub record FrameLaws : Type 0 where
+  pub datagram : DatagramLaw
+  pub request : (claim : ClaimData) (packet : Packet) (server : ℕ)
+      → AllPairs (λ a b. a ≢ b) claim.servers
+      → (requested_server claim packet ≡ Some server) ↔ IsRequestTo claim server packet
+  pub reply : (claim : ClaimData) (packet : Packet) (server : ℕ)
+      → AllPairs (λ a b. a ≢ b) claim.servers
+      → (replying_server claim packet ≡ Some server) ↔ IsReplyOf claim server packet
+  pub down : (n d : ℕ) → 0 < d → IsFloor n d (floor_of n d)
+  pub up : (n d : ℕ) → 0 < d → IsCeiling n d (ceiling_of n d)
+  pub stamp : (stamp : ℕ) (near : ℤ) → IsUnfolded stamp near (unfolded stamp near)
 
 -- two exchanges agree in all that these frames say of them; the leap indicator, the stratum and the
 -- reference are left open

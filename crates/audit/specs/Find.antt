@@ -7,7 +7,7 @@ use Rattle.finder.specs.declared.fault.FindFault.TheVariants as finds
 use Rattle.report.specs.declared.fault.Outcome.TheVariants as outcomes
 use Rattle.audit.specs.Check.{verdict_on}
 use Rattle.audit.specs.Evidence.{EvidenceData, GiveEvidence, OfClaimAndCapture, samples_in}
-use Rattle.audit.specs.Question.{QuestionData}
+use Rattle.audit.specs.Question.{ByOutcome, QuestionData}
 
 -- a certificate of pieces of this many seconds: for a program its compact text and a line feed, and
 -- for a person that it is found
@@ -40,10 +40,6 @@ found_report style step claim (Err fault) = refused (find_run_fault_of fault)
 abbrev pub found_in : ℕ → EvidenceData → Result FoundData FindFault
 found_in step e = found_of (samples_in e) e.claim step
 
--- the report of `find` on a claim and the exchanges of a capture
-abbrev pub find_report : Style → ℕ → EvidenceData → Report
-find_report style step e = found_report style step e.claim (found_in step e)
-
 -- a certificate is found of this evidence, and it is accepted
 pub record IsFoundOf (step : ℕ) (e : EvidenceData) : Type 0 where
   pub found : CertificateData
@@ -73,23 +69,19 @@ IsFound step claim capture = OfClaimAndCapture claim capture (GiveEvidence (IsFo
 abbrev pub IsNotFound : ℕ → FeedState → FeedState → Type 0
 IsNotFound step claim capture = OfClaimAndCapture claim capture (GiveEvidence (IsNotFoundOf step))
 
--- what the outcome of a search shows of evidence, and of inputs
+-- what the outcome of a search shows of evidence
 abbrev pub IsSearchOf : ℕ → EvidenceData → Outcome → Type 0
-IsSearchOf step e outcomes.Yes = IsFoundOf step e
-IsSearchOf step e outcomes.No = IsNotFoundOf step e
+IsSearchOf step e = ByOutcome (IsFoundOf step e) (IsNotFoundOf step e)
 
 -- This is what is found of evidence, and it shows what it says.
 pub record IsFoundBy (step : ℕ) (e : EvidenceData) (found : FoundData) : Type 0 where
   pub found_is : found_in step e ≡ Ok found
   pub shows : IsSearchOf step e (found_outcome found)
 
-abbrev pub ShowsSearch : ℕ → FeedState → FeedState → Outcome → Type 0
-ShowsSearch step claim capture outcome =
-    OfClaimAndCapture claim capture (GiveEvidence (λ e. IsSearchOf step e outcome))
-
 -- is there a certificate with pieces of this many seconds?
 abbrev pub find : ℕ → QuestionData
 find step = record {
-  report = λ style finding said e. find_report style step e;
-  Shows = λ claim second capture outcome. ShowsSearch step claim capture outcome;
+  report = λ style finding said e. found_report style step e.claim (found_in step e);
+  Shows = λ claim second capture outcome.
+      OfClaimAndCapture claim capture (GiveEvidence (λ e. IsSearchOf step e outcome));
 }

@@ -1,11 +1,11 @@
 -- The report of `find --refutation`: a refutation, or that none is found; and what its outcome
 -- says.
 use Rattle.std.specs.Prelude.{◌≡◌, ℕ, false, List, ◌++◌, codes, Option, Some, None}
-use Rattle.audit.specs.Common.{FeedState, RefutationData, refutation_text, ClaimData, IsNearestRefutation, NoneIsRefuted, nearest_refutation, Outcome, Yes, No, Report, whole_text, Style, Plain, refutation_answer, no_refutation_text}
+use Rattle.audit.specs.Common.{FeedState, RefutationData, refutation_text, ClaimData, IsNearestRefutation, NoneIsRefuted, nearest_refutation, Outcome, Yes, No, whole_text, Style, Plain, refutation_answer, no_refutation_text}
 use Rattle.audit.specs.Contested.{ShowsContested}
 use Rattle.audit.specs.Evidence.{EvidenceData, GiveEvidence, OfClaimAndCapture}
 use Rattle.audit.specs.Refute.{IsContestedOf}
-use Rattle.audit.specs.Question.{QuestionData}
+use Rattle.audit.specs.Question.{ByOutcome, QuestionData}
 
 -- a refutation: for a program its compact text and a line feed, and for a person what it says
 abbrev pub refutation_for : Style → ClaimData → RefutationData → List ℕ
@@ -26,12 +26,6 @@ found_refutation_outcome None = No
 -- what is found in the exchanges of a capture
 abbrev pub refutation_found_in : EvidenceData → Option RefutationData
 refutation_found_in e = nearest_refutation e.claim e.collection.exchanges
-
--- the report of `find --refutation` on a claim and the exchanges of a capture
-abbrev pub find_refutation_report : Style → EvidenceData → Report
-find_refutation_report style e =
-    whole_text (found_refutation_text style e.claim (refutation_found_in e))
-    (found_refutation_outcome (refutation_found_in e))
 
 -- A refutation is found of this evidence, with the error nearest above the bound, or else nearest
 -- below it on the other side; and it stands.
@@ -56,18 +50,16 @@ pub record IsRefutable (claim capture : FeedState) : Type 0 where
 abbrev pub IsIrrefutable : FeedState → FeedState → Type 0
 IsIrrefutable claim capture = OfClaimAndCapture claim capture (GiveEvidence IsIrrefutableOf)
 
--- what the outcome of the search shows of evidence, and of inputs
+-- what the outcome of the search shows of evidence
 abbrev pub IsFindRefutationOf : EvidenceData → Outcome → Type 0
-IsFindRefutationOf e Yes = IsRefutableOf e
-IsFindRefutationOf e No = IsIrrefutableOf e
-
-abbrev pub ShowsFindRefutation : FeedState → FeedState → Outcome → Type 0
-ShowsFindRefutation claim capture Yes = IsRefutable claim capture
-ShowsFindRefutation claim capture No = IsIrrefutable claim capture
+IsFindRefutationOf e = ByOutcome (IsRefutableOf e) (IsIrrefutableOf e)
 
 -- is there a refutation of the claim?
 abbrev pub find_refutation : QuestionData
 find_refutation = record {
-  report = λ style finding said e. find_refutation_report style e;
-  Shows = λ claim second capture outcome. ShowsFindRefutation claim capture outcome;
+  report = λ style finding said e.
+      whole_text (found_refutation_text style e.claim (refutation_found_in e))
+      (found_refutation_outcome (refutation_found_in e));
+  Shows = λ claim second capture.
+      ByOutcome (IsRefutable claim capture) (IsIrrefutable claim capture);
 }

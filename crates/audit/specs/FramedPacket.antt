@@ -1,6 +1,6 @@
 -- The NTP packet that a frame holds, as parts that are joined: Ethernet, IPv4, UDP, NTP.
-use Rattle.std.specs.Prelude.{◌≡◌, ℕ, ◌+◌, ◌*◌, ◌^◌, ◌<◌, List, [], ◌∷◌, ◌++◌, length, Option}
-use Rattle.audit.specs.Common.{big_bytes, tag_bytes, Packet}
+use Rattle.std.specs.Prelude.{◌≡◌, ℕ, ◌+◌, ◌*◌, ◌^◌, ◌<◌, List, [], ◌∷◌, ◌++◌, length, Option, Ok, ◌↔◌}
+use Rattle.audit.specs.Common.{Fields, HoldsDatagram, IsBytes, big_bytes, datagram_of, tag_bytes, Packet}
 
 -- Ethernet: two addresses, one tag or none, and the type of IPv4, which is 0x0800 (RFC 894). After
 -- the packet there may be padding.
@@ -47,6 +47,11 @@ pub record HoldsPacket (frame source : List ℕ) (source_port : ℕ) (destinatio
   pub udp : datagram ≡ big_bytes 2 source_port ++ big_bytes 2 destination_port
       ++ big_bytes 2 (8 + length (header ++ rest)) ++ big_bytes 2 checksum ++ header ++ rest
   pub whole : length header ≡ 48
+
+-- the law on datagrams of the layer below
+abbrev pub DatagramLaw : Type 0
+DatagramLaw = (frame : List ℕ) (d : Fields) → IsBytes frame
+    → (datagram_of frame ≡ Ok d) ↔ HoldsDatagram frame d
 
 -- a packet from one address and port to another, with this header and more after it
 abbrev pub packet_with : List ℕ → ℕ → List ℕ → ℕ → List ℕ → List ℕ → Packet

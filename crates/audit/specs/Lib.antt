@@ -15,7 +15,6 @@ pub mod Request
 pub mod Finding
 pub mod Question
 pub mod Report
-pub mod Nanoseconds
 pub mod Run
 pub mod FramedPacket
 pub mod Exchanged

@@ -1,7 +1,7 @@
 -- What a question is: the report that is made of a second input and evidence, and what its outcome
 -- shows of the bytes of the inputs. Each question stands in a module of its own.
 use Rattle.std.specs.Prelude.{◌≡◌, Bool, Option, None, Result, Ok, Err, IfSome}
-use Rattle.audit.specs.Common.{FeedState, SettledData, LeastCarried, FindFault, Style, Plain, claim_read, Report, Outcome}
+use Rattle.audit.specs.Common.{FeedState, SettledData, LeastCarried, FindFault, Style, Plain, claim_read, Report, Outcome, Yes, No}
 use Rattle.finder.specs.declared.fault.FindFault.TheVariants.{Memory}
 use Rattle.audit.specs.CaptureInput.{capture_read}
 use Rattle.audit.specs.Evidence.{EvidenceData}
@@ -45,6 +45,11 @@ abbrev pub plainly : QuestionData → SecondKind → AskedData
 plainly question second = asked_of question second Plain
 
 -- ---- what an outcome shows
+
+-- one thing at a yes, another at a no
+abbrev pub ByOutcome : Type 0 → Type 0 → Outcome → Type 0
+ByOutcome at_yes at_no Yes = at_yes
+ByOutcome at_yes at_no No = at_no
 
 -- The bytes of inputs, as far as they are known, give this second input and evidence.
 pub record AreInputsOf (kind : SecondKind) (said : SecondData) (e : EvidenceData)

@@ -5,7 +5,7 @@ use Rattle.checker.specs.declared.verdict.Verdict.TheVariants as verdicts
 use Rattle.audit.specs.Check.{verdict_on}
 use Rattle.audit.specs.Contested.{ShowsContested}
 use Rattle.audit.specs.Evidence.{EvidenceData, GiveEvidence, OfClaimAndCapture}
-use Rattle.audit.specs.Question.{QuestionData}
+use Rattle.audit.specs.Question.{ByOutcome, QuestionData}
 use Rattle.audit.specs.Second.{SecondData, refutation_said}
 
 -- the outcome for whether a refutation stands
@@ -29,13 +29,6 @@ unfoldable pub judged_text : Style → ClaimData → RefutationData → Bool →
 judged_text Plain claim refutation stands = refuted_text stands
 judged_text style claim refutation stands =
     refutation_answer (refuted_word stands) claim refutation
-
--- the report of `refute` on a refutation, a claim and the exchanges of a capture, with what stands
--- about the inputs
-abbrev pub refute_report : Style → Bool → List ℕ → RefutationData → EvidenceData → Report
-refute_report style drift about refutation e = whole_text
-    (judged_text style e.claim refutation (stands_on drift refutation e) ++ about_told style about)
-    (refuted_outcome (stands_on drift refutation e))
 
 -- the refutation is accepted
 abbrev pub IsOfRefuted : Bool → RefutationData → EvidenceData → Type 0
@@ -89,19 +82,16 @@ abbrev pub IsUncontested : Bool → FeedState → FeedState → FeedState → Ty
 IsUncontested drift claim second capture =
     OfClaimAndCapture claim capture (GiveRefutation (IsUncontestedOf drift) second.remaining)
 
--- what the outcome for a refutation shows of evidence, and of inputs
+-- what the outcome for a refutation shows of evidence
 abbrev pub IsSettledFor : Bool → RefutationData → EvidenceData → Outcome → Type 0
-IsSettledFor drift refutation e Yes = IsContestedOf drift refutation e
-IsSettledFor drift refutation e No = IsUncontestedOf drift refutation e
+IsSettledFor drift refutation e =
+    ByOutcome (IsContestedOf drift refutation e) (IsUncontestedOf drift refutation e)
 
-abbrev pub ShowsRefutation : Bool → FeedState → FeedState → FeedState → Outcome → Type 0
-ShowsRefutation drift claim second capture Yes = IsContested drift claim second capture
-ShowsRefutation drift claim second capture No = IsUncontested drift claim second capture
-
--- the report on a refutation; nothing else is judged
+-- the report on a refutation, with what stands about the inputs; nothing else is judged
 abbrev pub report_on : Style → Bool → List ℕ → SecondData → EvidenceData → Report
-report_on style drift about (refutation_said refutation) e =
-    refute_report style drift about refutation e
+report_on style drift about (refutation_said refutation) e = whole_text
+    (judged_text style e.claim refutation (stands_on drift refutation e) ++ about_told style about)
+    (refuted_outcome (stands_on drift refutation e))
 report_on style drift about said e = refused Memory
 
 -- does a refutation stand against the claim, and may the clock's error drift? A person is told this
@@ -109,5 +99,6 @@ report_on style drift about said e = refused Memory
 abbrev pub refute : Bool → List ℕ → QuestionData
 refute drift about = record {
   report = λ style finding said e. report_on style drift about said e;
-  Shows = ShowsRefutation drift;
+  Shows = λ claim second capture.
+      ByOutcome (IsContested drift claim second capture) (IsUncontested drift claim second capture);
 }

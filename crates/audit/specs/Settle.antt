@@ -1,7 +1,7 @@
 -- The report of `settle`, and what it shows: that the claim is shown, refuted, fitted by no course
 -- or without evidence, or that it stays open. Which refutation and which least bound are found has
 -- no definition of its own, so the report is one on what was found.
-use Rattle.std.specs.Prelude.{◌≡◌, ℕ, Bool, true, false, List, length, AllPairs, ◌++◌, codes, Option, Some, None, IsSome, Result, Ok, Err}
+use Rattle.std.specs.Prelude.{◌≡◌, ℕ, Bool, true, false, List, length, AllPairs, ◌++◌, codes, Option, Some, None, IsSome, is_some, unwrap_or, ◌&&◌, not, if◌then◌else◌, Result, Ok, Err}
 use Rattle.audit.specs.Common.{IsBytes, FeedState, CertificateData, refutation_text, RefutationData, certificate_text, SettledData, settled_data, shown, refuted, fitted_by_none, no_evidence, left_open, IsFittedByNone, IsLeftOpen, IsShownBy, IsUnheard, LeastCarried, FindFault, SameRequest, Outcome, Yes, No, Report, refused, whole_text, Style, Plain, Human, evidence_answer, open_answer, refutation_answer, shown_answer, about_told, conflicts_text, evidence_text, open_text}
 use Rattle.finder.specs.declared.fault.FindFault.TheVariants.{Memory}
 use Rattle.audit.specs.Check.{ArePiecesTraced, HasVerdictYes, IsTracedTo}
@@ -42,24 +42,13 @@ names_least (shown certificate) = true
 names_least (left_open begin end hull covers most) = true
 names_least settled = false
 
--- the bound in nanoseconds, if one was looked for and found
-abbrev pub nanoseconds_in : Option (Option LeastCarried) → Option ℕ
-nanoseconds_in None = None
-nanoseconds_in (Some found) = nanoseconds_of found
-
--- an answer for a person that names the least bound, or that needs none; there is none if it needs
--- one and none was looked for
-abbrev pub answer_on : EvidenceData → SettledData → Bool → Option (Option LeastCarried)
-    → Option (List ℕ)
-answer_on e settled false found = Some (settled_answer e None settled)
-answer_on e settled true None = None
-answer_on e settled true (Some found) = Some (settled_answer e (nanoseconds_of found) settled)
-
--- the whole text, if it is known
+-- the whole text; there is none for a person if it names the least bound, and none was looked for
 abbrev pub text_for : Style → EvidenceData → Option (Option LeastCarried) → SettledData
     → Option (List ℕ)
 text_for Plain e found settled = Some (settled_text e settled)
-text_for style e found settled = answer_on e settled (names_least settled) found
+text_for style e found settled =
+    if names_least settled && not (is_some found) then None
+    else Some (settled_answer e (nanoseconds_of (unwrap_or found None)) settled)
 
 -- a text in this style is on the least bound
 abbrev pub is_on_least : Style → SettledData → Bool

@@ -29,6 +29,7 @@ fn run_fault_of(fault: PairFault) -> RunFault
 /// them, `Device` if the feed failed. `Memory` comes before the first byte is taken, or if the
 /// capture begins with a lawful header. The hash of the index of requests is keyed by two numbers
 /// of `hasher`: callers that don't trust the capture's writer should pass one with a random key.
+#[tactic(auto, using(crate::proofs::Capture::capture_refused))]
 pub(crate) fn read_capture_from<F: Feed, H: BuildHasher + Drop>(
     alloc: Global,
     feed: F,

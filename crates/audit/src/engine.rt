@@ -5,8 +5,8 @@
 //! each function here is one promise, `RunsFor`: the text and the answer are those that the bytes
 //! of the inputs call for; with it stands what an outcome shows.
 
-ghost use Rattle.std.specs.Prelude.{IfOk};
-ghost use Rattle.audit.specs.Common.{IsReadable, IsWritable, SinkState, run_state};
+ghost use Rattle.std.specs.Prelude.{Err, IfErr, IfOk};
+ghost use Rattle.audit.specs.Common.{IsReadable, IsUnwritten, IsWritable, SinkState, run_state};
 ghost use Rattle.audit.specs.Evidence.{IsLawfulEvidence, evidence_data};
 ghost use Rattle.audit.specs.Question.{asked_of};
 ghost use Rattle.audit.specs.Report.{TellsFinding, TellsTwice, inputs_data};
@@ -59,6 +59,7 @@ fn read_inputs<V: SecondInput, C: Feed, T: SecondSource<V>, F: Feed, H: BuildHas
         second.old second.new capture result.0 result.1 }
     ensures lawful { IfOk result.1 (λ inputs. V.IsLawful inputs.second
         × IsLawfulEvidence inputs.evidence) }
+    ensures unwritten { IfErr result.1 (λ fault. IsUnwritten (Err fault)) }
 {
     let claim = match read_claim_from(alloc, claim) {
         Ok(claim) => claim,
@@ -217,6 +218,7 @@ pub fn run_twice<
 
 /// Answers a question as `run` does, with the text on `to.out`, and reports a fault on `to.err`.
 /// Beside the capture's feed stands the conclusion.
+#[tactic(auto, using(crate::proofs::Status::shown_by_status))]
 pub fn answer<
     Q: Question,
     C: Feed,

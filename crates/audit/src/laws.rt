@@ -5,12 +5,11 @@
 ghost use Rattle.std.specs.Prelude.{◌≡◌, ℕ, ◌↔◌, ◌≢◌, ◌⊎◌, List, map, None, Some, Ok, AllPairs, slice_get};
 ghost use Rattle.audit.specs.Common.{IsBytes, Unit as TimeUnit, ClaimData, claim_of, Packet, ntp_port, packet_of, exchanges_of, refusal_of, Exchange, Endian, Format, Record, IsCapture};
 ghost use Rattle.audit.specs.Headline.{ShowsHeadline};
-ghost use Rattle.audit.specs.Contested.{BytesLaws, CourseContests, NeverBoth, RefutationContests};
+ghost use Rattle.audit.specs.Contested.{BytesLaws, CourseContests, GivesNanoseconds, NeverBoth, RefutationContests};
 ghost use Rattle.audit.specs.Claimed.{IsClaimText};
-ghost use Rattle.audit.specs.Exchanged.{IsUsable, IsExchangeIn, IsAmong};
+ghost use Rattle.audit.specs.Exchanged.{FrameLaws, IsUsable, IsExchangeIn, IsAmong};
 ghost use Rattle.audit.specs.Captured.{CapturedFrame, IsCaptureOf, frame_of};
 ghost use Rattle.audit.specs.FramedPacket.{HoldsPacket, HoldsShown, packet_with};
-ghost use Rattle.audit.specs.Nanoseconds.{GivesNanoseconds};
 
 use checker::laws::{
     accepted_refutations_have_a_course, bounds_hold_in_nanoseconds, capture_fits_each_piece,
@@ -33,6 +32,7 @@ use pcap_reader::laws::{one_reading, what_is_read_is_a_capture};
 use sample_interval::laws::widening_is_one_number;
 
 /// What is within the bound in ticks of a claim that was read, is within its bound in nanoseconds.
+#[tactic(auto, using(crate::proofs::Headline::claim_of_read))]
 pub fn bounds_of_bytes_hold_in_nanoseconds()
     ensures { GivesNanoseconds }
 {
@@ -41,6 +41,7 @@ pub fn bounds_of_bytes_hold_in_nanoseconds()
 }
 
 /// A frame gives an NTP packet exactly if it holds it, its layers joined from Ethernet to NTP.
+#[tactic(auto, using(crate::proofs::PacketParts::packet_given, crate::proofs::PacketParts::packet_held))]
 pub fn packet_is_given_where_held()
     ensures given { (frame : List ℕ) (p : Packet) → IsBytes frame → packet_of frame ≡ Some p →
         HoldsShown frame p }
@@ -55,11 +56,13 @@ pub fn packet_is_given_where_held()
 }
 
 /// A reply's own header refuses it exactly if it isn't usable.
+#[tactic(auto, using(crate::proofs::PacketParts::usable))]
 pub fn usable_replies_are_not_refused()
     ensures { (header : List ℕ) → (refusal_of header ≡ None) ↔ IsUsable header }
 {}
 
 /// A capture of records is one of the frames that these say.
+#[tactic(auto, using(crate::proofs::RecordFrames::captured))]
 pub fn records_are_frames()
     ensures { (bytes : List ℕ) (format : Format) (records : List Record) →
         IsCapture bytes format records →
@@ -67,6 +70,7 @@ pub fn records_are_frames()
 {}
 
 /// A capture of frames is one of records that say these, in the same byte order and unit.
+#[tactic(auto, using(crate::proofs::Frames::of_records))]
 pub fn frames_are_records()
     ensures { (bytes : List ℕ) (order : Endian) (unit : TimeUnit) (frames : List CapturedFrame) →
         IsCaptureOf bytes order unit frames →
@@ -85,6 +89,17 @@ pub fn captures_say_one_list_of_frames()
     one_reading();
 }
 
+/// What the layers below say of a frame, of its time and of the request or reply in it.
+fn layers_say_what_frames_hold()
+    ensures { FrameLaws }
+{
+    given_where_held();
+    request_is_to_one_server();
+    reply_is_of_one_server();
+    ratios_are_rounded_as_little_as_can_be();
+    every_stamp_is_unfolded();
+}
+
 /// The exchanges that are collected of a capture are exchanges in its frames.
 pub fn exchanges_are_in_the_frames()
     ensures { (bytes : List ℕ) (format : Format) (records : List Record) (claim : ClaimData) →
@@ -93,11 +108,7 @@ pub fn exchanges_are_in_the_frames()
         (k : ℕ) (x : Exchange) → slice_get (exchanges_of claim records) k ≡ Some x →
         IsExchangeIn claim format.unit (map frame_of records) x }
 {
-    given_where_held();
-    request_is_to_one_server();
-    reply_is_of_one_server();
-    ratios_are_rounded_as_little_as_can_be();
-    every_stamp_is_unfolded();
+    layers_say_what_frames_hold();
     exchanges_are_those_of_the_pairs();
 }
 
@@ -110,16 +121,13 @@ pub fn exchanges_in_the_frames_are_collected()
         IsExchangeIn claim format.unit (map frame_of records) x →
         IsAmong (exchanges_of claim records) x }
 {
-    given_where_held();
-    request_is_to_one_server();
-    reply_is_of_one_server();
-    ratios_are_rounded_as_little_as_can_be();
-    every_stamp_is_unfolded();
+    layers_say_what_frames_hold();
     unfolded_is_one_number();
     exchanges_are_those_of_the_pairs();
 }
 
 /// What is read of a claim's bytes is what their text says.
+#[tactic(auto, using(crate::proofs::ClaimText::read))]
 pub fn claims_are_what_their_text_says()
     ensures { (text : List ℕ) (claim : ClaimData) → claim_of text ≡ Ok claim →
         IsClaimText text claim }

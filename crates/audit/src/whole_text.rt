@@ -44,6 +44,7 @@ pub(crate) fn with_about(
 ///
 /// `Write(n)` comes if the sink failed after exactly n bytes of the text; n is the whole length if
 /// only `finish` failed.
+#[tactic(auto, using(crate::proofs::Showing::made_whole_is))]
 pub(crate) fn publish_text<S: Sink>(
     out: &mut S,
     text: Result<Vec<u8>, AllocError>,

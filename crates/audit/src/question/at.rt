@@ -3,7 +3,6 @@
 ghost use Rattle.std.specs.Prelude.{◌≡◌, IfOk};
 ghost use Rattle.audit.specs.Common.{IsWritable, IsPiece};
 ghost use Rattle.audit.specs.At as spec;
-ghost use Rattle.audit.specs.At.{at};
 ghost use Rattle.audit.specs.Evidence.{IsLawfulEvidence, evidence_data};
 ghost use Rattle.audit.specs.Report.{TellsAlone};
 
@@ -63,7 +62,7 @@ pub(crate) fn tell<S: Sink>(
 ) -> Result<Outcome, RunFault>
     requires evidence { IsLawfulEvidence evidence.now }
     requires out { IsWritable (S.state out.old) }
-    ensures { TellsAlone (at asked.unix_second) style (evidence_data evidence.now)
+    ensures { TellsAlone (spec.at asked.unix_second) style (evidence_data evidence.now)
         (S.state out.old) (S.state out.new) result }
 {
     hulls_hold_the_error();

@@ -3,7 +3,6 @@
 ghost use Rattle.std.specs.Prelude.{◌≡◌, ◌≤◌, Some, vec_len};
 ghost use Rattle.audit.specs.Common.{certificate_data, max_pieces, data_of, IsVerdictOn};
 ghost use Rattle.audit.specs.Check as spec;
-ghost use Rattle.audit.specs.Check.{IsEnoughFor, check, fit_finding};
 ghost use Rattle.audit.specs.Evidence.{IsLawfulEvidence, evidence_data, samples_in};
 
 use crate::evidence::Evidence;
@@ -40,7 +39,7 @@ fn outcome_of(verdict: &Verdict) -> Outcome
 
 /// Whether any course of events fits, if that is told in this style.
 fn fits_told(style: Style, found: &Option<bool>) -> Option<bool>
-    requires { IsEnoughFor style found.now }
+    requires { spec.IsEnoughFor style found.now }
     ensures { spec.fits_told style found.now ≡ Some result }
 {
     match style {
@@ -79,12 +78,13 @@ impl<'a> Question for Check<'a> {
 
     type Finding = Option<bool>;
 
-    ghost asks = { λ asked. check asked.about.now };
+    ghost asks = { λ asked. spec.check asked.about.now };
 
-    ghost finding = { fit_finding };
+    ghost finding = { spec.fit_finding };
 
-    ghost IsFound = { λ _ style _ found. IsEnoughFor style found };
+    ghost IsFound = { λ _ style _ found. spec.IsEnoughFor style found };
 
+    #[tactic(auto, using(crate::proofs::Showing::memory_unfound, crate::proofs::VerdictShowing::fits_known))]
     fn find(
         self,
         alloc: Global,

@@ -47,6 +47,7 @@ impl Question for EnvelopeOptions {
 
     ghost IsFound = { λ asked style. IsEnvelopeFor asked };
 
+    #[tactic(auto, using(crate::proofs::Showing::memory_unfound))]
     fn find(
         self,
         alloc: Global,
@@ -64,6 +65,7 @@ impl Question for EnvelopeOptions {
         }
     }
 
+    #[tactic(auto, using(crate::proofs::EnvelopeShowing::count_is_few, crate::proofs::EnvelopeShowing::few_pieces))]
     fn tell<S: Sink>(
         self,
         alloc: Global,

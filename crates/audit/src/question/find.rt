@@ -3,7 +3,6 @@
 ghost use Rattle.std.specs.Prelude.{◌≡◌, ◌++◌, IfOk, codes};
 ghost use Rattle.audit.specs.Common.{certificate_data, certificate_text, data_of, found_data};
 ghost use Rattle.audit.specs.Find as spec;
-ghost use Rattle.audit.specs.Find.{IsFoundBy, find, find_run_fault_of, found_outcome};
 ghost use Rattle.audit.specs.Question.{no_finding};
 
 use crate::evidence::Evidence;
@@ -28,7 +27,7 @@ pub struct Find {
 
 /// What a run answers if no certificate could be looked for.
 pub(crate) fn run_fault_of(fault: FindFault) -> RunFault
-    ensures { result ≡ find_run_fault_of fault }
+    ensures { result ≡ spec.find_run_fault_of fault }
 {
     match fault {
         FindFault::TooManyPieces => RunFault::Pieces,
@@ -38,7 +37,7 @@ pub(crate) fn run_fault_of(fault: FindFault) -> RunFault
 
 /// The outcome of a search.
 fn outcome_of(found: &Found) -> Outcome
-    ensures { result ≡ found_outcome (found_data found.now) }
+    ensures { result ≡ spec.found_outcome (found_data found.now) }
 {
     match found {
         Found::Certificate(_) => Outcome::Yes,
@@ -85,12 +84,13 @@ impl Question for Find {
 
     type Finding = Found;
 
-    ghost asks = { λ asked. find asked.step.seconds };
+    ghost asks = { λ asked. spec.find asked.step.seconds };
 
     ghost finding = { λ _. no_finding };
 
-    ghost IsFound = { λ asked style e found. IsFoundBy asked.step.seconds e (found_data found) };
+    ghost IsFound = { λ asked _ e found. spec.IsFoundBy asked.step.seconds e (found_data found) };
 
+    #[tactic(auto, using(crate::proofs::SearchShowing::found_shows, crate::proofs::Showing::nothing_found))]
     fn find(
         self,
         alloc: Global,

@@ -4,7 +4,6 @@ ghost use Rattle.std.specs.Prelude.{◌≡◌, ◌++◌, IfOk, codes, option_map
 ghost use Rattle.audit.specs.Common.{IsWritable, refutation_data, refutation_text, data_of};
 ghost use Rattle.audit.specs.FindRefutation as spec;
 ghost use Rattle.audit.specs.Evidence.{IsLawfulEvidence, evidence_data};
-ghost use Rattle.audit.specs.FindRefutation.{found_refutation_outcome};
 ghost use Rattle.audit.specs.Report.{TellsAlone};
 
 use crate::evidence::Evidence;
@@ -22,7 +21,7 @@ use std::alloc::{AllocError, Global};
 
 /// The outcome of a search.
 fn outcome_of(found: &Option<Refutation>) -> Outcome
-    ensures { result ≡ found_refutation_outcome (option_map refutation_data found.now) }
+    ensures { result ≡ spec.found_refutation_outcome (option_map refutation_data found.now) }
 {
     match found {
         Some(_) => Outcome::Yes,

@@ -1,11 +1,10 @@
 //! What is made for `refute`.
 
 ghost use Rattle.std.specs.Prelude.{◌≡◌, true, false, IfOk};
-ghost use Rattle.audit.specs.Common.{refutation_data, data_of, Settles};
+ghost use Rattle.audit.specs.Common.{refutation_data, data_of};
 ghost use Rattle.audit.specs.Evidence.{IsLawfulEvidence, evidence_data};
 ghost use Rattle.audit.specs.Question.{no_finding};
 ghost use Rattle.audit.specs.Refute as spec;
-ghost use Rattle.audit.specs.Refute.{IsSettledFor, refute, stands_on};
 
 use crate::evidence::Evidence;
 use crate::laws::course_beyond_the_bound_contests_the_claim;
@@ -38,6 +37,7 @@ fn refuted_outcome(stands: bool) -> Outcome
 }
 
 /// Whether a refutation stands. Memory is taken only if its error may drift.
+#[tactic(auto, using(crate::proofs::RefutationShowing::drift_shows, crate::proofs::RefutationShowing::judgement_shows))]
 fn does_stand(
     alloc: Global,
     drift: bool,
@@ -46,8 +46,8 @@ fn does_stand(
 ) -> Result<bool, AllocError>
     requires { IsLawfulEvidence evidence.now }
     ensures tested { IfOk result (λ stands. stands
-        ≡ stands_on drift (refutation_data refutation.now) (evidence_data evidence.now)) }
-    ensures shows { IfOk result (λ stands. IsSettledFor drift (refutation_data refutation.now)
+        ≡ spec.stands_on drift (refutation_data refutation.now) (evidence_data evidence.now)) }
+    ensures shows { IfOk result (λ stands. spec.IsSettledFor drift (refutation_data refutation.now)
         (evidence_data evidence.now) (spec.refuted_outcome stands)) }
 {
     if drift {
@@ -87,7 +87,7 @@ impl<'a> Question for Refute<'a> {
 
     type Finding = ();
 
-    ghost asks = { λ asked. refute asked.drift asked.about.now };
+    ghost asks = { λ asked. spec.refute asked.drift asked.about.now };
 
     ghost finding = { λ _. no_finding };
 
@@ -103,6 +103,7 @@ impl<'a> Question for Refute<'a> {
         Ok(())
     }
 
+    #[tactic(auto, using(crate::proofs::Showing::told_fault))]
     fn tell<S: Sink>(
         self,
         alloc: Global,

@@ -15,6 +15,7 @@ use report::{Outcome, RunFault, output_buffer, publish};
 use std::alloc::{AllocError, Global};
 
 /// Tells what each exchange says about the clock.
+#[tactic(auto, using(crate::proofs::Showing::told_fault))]
 pub(crate) fn tell<S: Sink>(
     alloc: Global,
     style: Style,

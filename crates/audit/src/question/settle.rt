@@ -1,9 +1,8 @@
 //! What is made for `settle`.
 
-ghost use Rattle.std.specs.Prelude.{◌≡◌, Some, IfOk, IfSome};
-ghost use Rattle.audit.specs.Common.{settled_data, Human};
+ghost use Rattle.std.specs.Prelude.{◌≡◌, Some, IfOk};
+ghost use Rattle.audit.specs.Common.{settled_data};
 ghost use Rattle.audit.specs.Evidence.{IsLawfulEvidence, evidence_data};
-ghost use Rattle.audit.specs.Least.{IsLeastBoundOf};
 ghost use Rattle.audit.specs.Settle as spec;
 ghost use Rattle.audit.specs.Settle.{IsEnoughFor, IsSettledOf, finding_of, settled_outcome};
 
@@ -130,45 +129,8 @@ fn is_on_least(style: Style, settled: &Settled) -> bool
     }
 }
 
-/// What settles a claim, with the least bound if a text in this style is on it.
-fn with_least(
-    alloc: Global,
-    style: Style,
-    evidence: &Evidence,
-    settled: Settled,
-) -> Result<Settlement, AllocError>
-    requires { IsLawfulEvidence evidence.now }
-    ensures settled { IfOk result (λ found. found.settled ≡ settled) }
-    ensures least { IfOk result (λ found.
-        IfSome found.least (IsLeastBoundOf (evidence_data evidence.now))) }
-    ensures enough { IfOk result (IsEnoughFor style (evidence_data evidence.now)) }
-{
-    let least = least_if(alloc, is_on_least(style, &settled), evidence)?;
-    Ok(Settlement { settled, least })
-}
-
-/// The least bound in nanoseconds, if there is one and it was looked for.
-fn nanoseconds_in(least: Option<Option<LeastCarried>>) -> Option<u64>
-    ensures { result ≡ spec.nanoseconds_in least }
-{
-    match least {
-        Some(found) => nanoseconds_of(found),
-        None => None,
-    }
-}
-
-/// The text for a person.
-fn answer_for(alloc: Global, evidence: &Evidence, found: &Settlement) -> Result<Vec<u8>, AllocError>
-    requires evidence { IsLawfulEvidence evidence.now }
-    requires settled { IsSettledOf (evidence_data evidence.now) (settled_data found.now.settled) }
-    requires enough { IsEnoughFor Human (evidence_data evidence.now) found.now }
-    ensures { IfOk result (λ text. spec.text_for Human (evidence_data evidence.now)
-        found.now.least (settled_data found.now.settled) ≡ Some text.items) }
-{
-    settled_answer(alloc, evidence, nanoseconds_in(found.least), &found.settled)
-}
-
 /// The whole text.
+#[tactic(auto, using(crate::proofs::SettlementText::answered))]
 fn text_for(
     alloc: Global,
     style: Style,
@@ -183,7 +145,10 @@ fn text_for(
 {
     match style {
         Style::Plain => settled_text(alloc, evidence, &found.settled),
-        _ => answer_for(alloc, evidence, found),
+        _ => {
+            let least = nanoseconds_of(found.least.unwrap_or(None));
+            settled_answer(alloc, evidence, least, &found.settled)
+        }
     }
 }
 
@@ -198,6 +163,7 @@ impl<'a> Question for Settle<'a> {
 
     ghost IsFound = { λ _ style e found. IsEnoughFor style e found };
 
+    #[tactic(auto, using(crate::proofs::SettlementText::enough_with, crate::proofs::Showing::memory_unfound))]
     fn find(
         self,
         alloc: Global,
@@ -208,8 +174,8 @@ impl<'a> Question for Settle<'a> {
         verdicts_are_traceable();
         samples_of_exchanges_keep_limits();
         match finder::settle(alloc, &evidence.held.exchanges, &evidence.claim) {
-            Ok(settled) => match with_least(alloc, style, evidence, settled) {
-                Ok(found) => Ok(found),
+            Ok(settled) => match least_if(alloc, is_on_least(style, &settled), evidence) {
+                Ok(least) => Ok(Settlement { settled, least }),
                 Err(AllocError) => Err(RunFault::Memory),
             },
             Err(fault) => Err(run_fault_of(fault)),

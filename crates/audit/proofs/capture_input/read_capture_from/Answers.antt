@@ -1,6 +1,6 @@
 use Rattle.audit.proofs.Common.{Err, List, ℕ, sym, subst, IfSome, TakesFrom-at_most, TakesFrom-trans, compact_data, RunFault, Reads, capture_read}
 use Rattle.claim_file.specs.Claim.{data_of}
-use Rattle.audit.proofs.Capture.{capture_is_read, capture_unread, capture_refused}
+use Rattle.audit.proofs.Capture.{capture_is_read, capture_unread}
 use Rattle.audit.proofs.capture_input.read_capture_from.Goals as goal
 
 pub returns-in-Ok-collected-clause-known : goal.returns-in-Ok-collected-clause-known
@@ -27,11 +27,3 @@ returns-in-Err-collected-clause-at_most g c =
     TakesFrom-at_most _ _ _
     (TakesFrom-trans _ _ _ c.in-Ok.ensures.begins.takes c.collect_compact-collected.ensures.leaves.takes)
     c.into_feed-feed.ensures.known c.into_feed-feed.ensures.counted
-
-pub returns-in-Err-clause-known : goal.returns-in-Err-clause-known
-returns-in-Err-clause-known g c =
-    let known = (g.F.Feed.state c.args.feed).remaining in
-    let claim = data_of c.args.claim.now in
-    subst (λ (f : RunFault). IfSome known (λ (b : List ℕ). Reads compact_data (capture_read claim b) (Err f)))
-    (sym c.from.ensures)
-    (capture_refused claim _ c.in-Err.fault c.in-Err.ensures.refuses.refusal)

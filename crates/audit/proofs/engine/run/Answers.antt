@@ -14,15 +14,7 @@ returns-in-Ok-clause-shows g c =
     g.Q.Second.SecondInput.said _ _ _ _ _ _ c.in-Ok.inputs
     (rw c.in-Ok.is at (c.read_inputs-capture.ensures.has_read sink sink).of_bytes) _ c.tell_finding.ensures.tells
 
-pub publish-requires-clause-unwritten : goal.publish-requires-clause-unwritten
-publish-requires-clause-unwritten g c =
-    let sink = g.S.Sink.state c.args.out.now in
-    rw c.in-Err.is at (c.read_inputs-capture.ensures.has_read sink sink).unwritten
-
 pub returns-in-Err-clause-runs : goal.returns-in-Err-clause-runs
 returns-in-Err-clause-runs g c =
     told_runs c.bytes_tell_what_they_show.ensures _ g.Q.Second.SecondInput.said _ _ _ _ _ _ _
     c.read_inputs-capture.result.1 (c.read_inputs-capture.ensures.has_read _ _) (rw c.in-Err.is c.publish.ensures)
-
-pub returns-in-Err-clause-shows : goal.returns-in-Err-clause-shows
-returns-in-Err-clause-shows g c = rw c.publish.ensures.stays tt

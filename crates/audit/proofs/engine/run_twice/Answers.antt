@@ -8,11 +8,6 @@ returns-in-Ok g c =
     c.read_inputs-capture.result.1 (c.read_inputs-capture.ensures.has_read _ _)
     (rw c.in-Ok.is c.tell_finding_twice-answer.ensures)
 
-pub publish-requires-clause-unwritten : goal.publish-requires-clause-unwritten
-publish-requires-clause-unwritten g c =
-    let sink = g.D.Sink.state c.args.draft.now in
-    rw c.in-Err.is at (c.read_inputs-capture.ensures.has_read sink sink).unwritten
-
 pub returns-in-Err : goal.returns-in-Err
 returns-in-Err g c =
     told_twice c.bytes_tell_what_they_show.ensures _ g.Q.Second.SecondInput.said _ _ _ _ _ _ _ _ _

@@ -1,7 +1,6 @@
 use Rattle.audit.proofs.Common.{List, length, sym, subst, AreLawful, Exchange}
 use Rattle.audit.proofs.Excess.{course_beyond, given_records}
-use Rattle.audit.proofs.Headline.{collected_of}
-use Rattle.audit.proofs.Nanosecond.{claim_of_read}
+use Rattle.audit.proofs.Headline.{claim_of_read, collected_of}
 use Rattle.audit.proofs.laws.accepted_refutation_contests_the_claim.Goals as goal
 
 pub returns : goal.returns

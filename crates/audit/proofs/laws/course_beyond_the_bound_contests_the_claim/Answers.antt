@@ -1,8 +1,6 @@
 use Rattle.audit.proofs.Common.{List, map, subst, Exchange, exchanges_of, frame_of, HasCourseBeyond}
-use Rattle.audit.proofs.ClaimLimits.{within_limits}
 use Rattle.audit.proofs.Excess.{beyond_in_ticks, beyond_in_nanoseconds}
-use Rattle.audit.proofs.Headline.{collected_of}
-use Rattle.audit.proofs.Nanosecond.{claim_of_read}
+use Rattle.audit.proofs.Headline.{claim_of_read, collected_of, within_limits}
 use Rattle.audit.proofs.laws.course_beyond_the_bound_contests_the_claim.Goals as goal
 
 pub returns : goal.returns

@@ -1,10 +1,8 @@
 use Rattle.audit.proofs.Common.{◌≡◌, List, map, ℤ, refl, sym, subst, IsInWindow, are_samples, stretch_of, samples_of, verdict_of, Exchange, exchanges_of, frame_of}
 use Rattle.checker.specs.declared.verdict.Verdict.TheVariants.{Yes}
 use Rattle.audit.proofs.Admission.{some_admitted, none_beyond}
-use Rattle.audit.proofs.ClaimLimits.{within_limits}
 use Rattle.audit.proofs.Excess.{given_records}
-use Rattle.audit.proofs.Headline.{collected_of, piece_of}
-use Rattle.audit.proofs.Nanosecond.{claim_of_read}
+use Rattle.audit.proofs.Headline.{claim_of_read, collected_of, piece_of, within_limits}
 use Rattle.audit.proofs.laws.yes_shows_the_headline.Goals as goal
 
 pub returns : goal.returns

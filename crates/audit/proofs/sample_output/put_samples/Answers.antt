@@ -8,19 +8,13 @@ use Rattle.audit.proofs.sample_output.put_samples.Goals as goal
 pub loop-number-init : goal.loop-number-init
 loop-number-init g c = grind (arith, evidence_data, output_state, samples_text, put_count, all_left, going_start)
 
-pub write_sample_line-requires-clause-exchange : goal.write_sample_line-requires-clause-exchange
-write_sample_line-requires-clause-exchange g c = record {
-  servers = length c.args.evidence.now.claim.servers.items;
-  lawful = keeps_limits exchange_shown c.deref-held-items.result.now c.loop-number.number _ c.loop-number-test.true
-      c.to_exchange.result c.to_exchange.ensures _
-      (rw c.deref-held-items.ensures.value c.requires.lawful.exchanges.each);
-}
-
-pub write_sample_line-requires-clause-listed : goal.write_sample_line-requires-clause-listed
-write_sample_line-requires-clause-listed g c =
-    (keeps_limits exchange_shown c.deref-held-items.result.now c.loop-number.number _ c.loop-number-test.true
-    c.to_exchange.result c.to_exchange.ensures (length c.args.evidence.now.claim.servers.items)
-    (rw c.deref-held-items.ensures.value c.requires.lawful.exchanges.each)).listed
+pub write_sample_line-requires : goal.write_sample_line-requires
+write_sample_line-requires g c =
+    let servers = length c.args.evidence.now.claim.servers.items in
+    let lawful = keeps_limits exchange_shown c.deref-held-items.result.now c.loop-number.number _
+    c.loop-number-test.true c.to_exchange.result c.to_exchange.ensures servers
+    (rw c.deref-held-items.ensures.value c.requires.lawful.exchanges.each) in
+    record { exchange = record { servers = servers; lawful = lawful }; listed = lawful.listed }
 
 pub returns-in-Err-clause-puts : goal.returns-in-Err-clause-puts
 returns-in-Err-clause-puts g c = going_short c.loop-number.invariant.going _ Yes c.in-Err.fault c.in-Err.ensures.puts

@@ -1,6 +1,6 @@
 use Rattle.audit.proofs.Common.{Ok, refl, evidence_data}
 use Rattle.audit.specs.Samples.{samples_ready}
-use Rattle.audit.proofs.Showing.{told_fault, told_whole}
+use Rattle.audit.proofs.Showing.{told_whole}
 use Rattle.audit.proofs.question.samples.tell.Goals as goal
 
 pub returns-in-Ok : goal.returns-in-Ok
@@ -11,9 +11,6 @@ returns-in-Ok g c = record {
   shows = λ claim second capture are. tt;
   publishes = c.publish_samples.ensures;
 }
-
-pub returns-in-Err : goal.returns-in-Err
-returns-in-Err g c = told_fault tt tt c.publish.ensures
 
 pub returns-in_default : goal.returns-in_default
 returns-in_default g c =

@@ -9,6 +9,3 @@ conflicts_text-requires-clause-numbers c =
     rw (c.deref-in-NothingFits.ensures.value, c.deref.ensures.value)
     (numbers_within e.claim e.collection.exchanges c.in-NothingFits.conflicts.items fitted.all _
     (length-map c.args.evidence.now.held.exchanges.items exchange_shown))
-
-pub conflicts_text-requires-clause-exchanges : goal.conflicts_text-requires-clause-exchanges
-conflicts_text-requires-clause-exchanges c = rw c.deref.ensures.value c.requires.evidence.exchanges.each

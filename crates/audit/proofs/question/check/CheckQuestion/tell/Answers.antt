@@ -1,5 +1,4 @@
-use Rattle.audit.proofs.Common.{refl, evidence_data}
-use Rattle.certificate.specs.Certificate.{data_of as certificate_data}
+use Rattle.audit.proofs.Common.{refl, evidence_data, certificate_data}
 use Rattle.audit.proofs.Showing.{told_whole}
 use Rattle.audit.proofs.VerdictShowing.{verdict_shows, verdict_shown}
 use Rattle.audit.proofs.question.check.CheckQuestion.tell.Goals as goal

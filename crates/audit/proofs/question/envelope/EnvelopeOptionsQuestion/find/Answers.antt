@@ -1,29 +1,7 @@
 use Rattle.audit.proofs.Common.{None, refl, evidence_data, no_finding}
 use Rattle.audit.specs.Envelope.{report_of}
-use Rattle.audit.proofs.Showing.{making_fault, memory_unfound, nothing_found, refused_as}
+use Rattle.audit.proofs.Showing.{making_fault, nothing_found, refused_as}
 use Rattle.audit.proofs.question.envelope.EnvelopeOptionsQuestion.find.Goals as goal
-
-pub returns-in-Ok-least_if-clause-found : goal.returns-in-Ok-least_if-clause-found
-returns-in-Ok-least_if-clause-found c = record {
-  settled = tt;
-  least = c.in-Ok-least_if.ensures.least;
-  fits = tt;
-}
-
-pub returns-in-Ok-least_if-clause-in_style : goal.returns-in-Ok-least_if-clause-in_style
-returns-in-Ok-least_if-clause-in_style c = record {
-  finds = rw c.samples_of.ensures.samples at c.in-Ok.ensures;
-  asked_is = c.in-Ok-least_if.ensures.asked;
-}
-
-pub returns-in-Ok-least_if-clause-for_a_program : goal.returns-in-Ok-least_if-clause-for_a_program
-returns-in-Ok-least_if-clause-for_a_program c = record {
-  finds = rw c.samples_of.ensures.samples at c.in-Ok.ensures;
-  asked_is = c.in-Ok-least_if.ensures.asked;
-}
-
-pub returns-in-Err-least_if-clause-fault : goal.returns-in-Err-least_if-clause-fault
-returns-in-Err-least_if-clause-fault c = memory_unfound _ _
 
 pub returns-in-Err-clause-fault : goal.returns-in-Err-clause-fault
 returns-in-Err-clause-fault c =

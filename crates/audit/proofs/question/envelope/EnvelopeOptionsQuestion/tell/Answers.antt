@@ -1,17 +1,7 @@
 use Rattle.audit.proofs.Common.{◌∙◌, Bool, sym, ap, refl, IsEnvelopeOf, evidence_data, least_line_of, samples_in}
-use Rattle.audit.proofs.EnvelopeShowing.{count_is_few, envelope_shows, few_pieces}
+use Rattle.audit.proofs.EnvelopeShowing.{envelope_shows}
 use Rattle.audit.proofs.Showing.{of_evidence, told_whole}
 use Rattle.audit.proofs.question.envelope.EnvelopeOptionsQuestion.tell.Goals as goal
-
-pub line_on-line-requires-clause-few : goal.line_on-line-requires-clause-few
-line_on-line-requires-clause-few g c =
-    count_is_few _ (evidence_data c.args.evidence.now).claim c.args.self.step.seconds c.args.found.now.envelope
-    c.requires.found.finds.exact
-
-pub envelope_text-text-requires-clause-few : goal.envelope_text-text-requires-clause-few
-envelope_text-text-requires-clause-few g c =
-    few_pieces _ (evidence_data c.args.evidence.now).claim c.args.self.step.seconds c.args.found.now.envelope
-    c.requires.found.finds.exact
 
 pub returns : goal.returns
 returns g c =

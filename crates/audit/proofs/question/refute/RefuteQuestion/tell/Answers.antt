@@ -1,5 +1,5 @@
 use Rattle.audit.proofs.Common.{refl, data_of as refutation_data, evidence_data}
-use Rattle.audit.proofs.Showing.{told_fault, told_whole}
+use Rattle.audit.proofs.Showing.{told_whole}
 use Rattle.audit.proofs.RefutationShowing.{refutation_shown}
 use Rattle.audit.proofs.question.refute.RefuteQuestion.tell.Goals as goal
 
@@ -11,6 +11,3 @@ returns-in-Ok g c =
     (refutation_shown c.course_beyond_the_bound_contests_the_claim.ensures c.args.self.drift c.args.self.about.now
     refutation e c.refuted_outcome.result (rw c.refuted_outcome.ensures c.in-Ok.ensures.shows))
     (c.publish_text.ensures _ (c.with_about-text.ensures _ c.judged_text-text.ensures))
-
-pub returns-in-Err : goal.returns-in-Err
-returns-in-Err g c = told_fault tt tt c.publish.ensures

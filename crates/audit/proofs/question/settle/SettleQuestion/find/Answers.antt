@@ -1,11 +1,10 @@
-use Rattle.audit.proofs.Common.{Err, Finding, None, inr, refl, settled_data, evidence_data, samples_in, IsSettledOf}
-use Rattle.audit.specs.Settle.{settle_report}
+use Rattle.audit.proofs.Common.{Err, Finding, None, inr, refl, settled_data, evidence_data, samples_in, IsSettledOf, settle_report}
 use Rattle.audit.proofs.SettlementShowing.{fault_found, settled_of}
-use Rattle.audit.proofs.Showing.{making_fault, memory_unfound, refused_as}
+use Rattle.audit.proofs.Showing.{making_fault, refused_as}
 use Rattle.audit.proofs.question.settle.SettleQuestion.find.Goals as goal
 
-pub returns-in-Ok-with_least : goal.returns-in-Ok-with_least
-returns-in-Ok-with_least c =
+pub returns-in-Ok-least_if-clause-found : goal.returns-in-Ok-least_if-clause-found
+returns-in-Ok-least_if-clause-found c =
     let e = evidence_data c.args.evidence.now in
     let settled = settled_data c.in-Ok.settled in
     let settles = rw c.deref.ensures.value at c.in-Ok.ensures in
@@ -13,19 +12,7 @@ returns-in-Ok-with_least c =
     (λ certificate. c.verdicts_are_traceable.ensures e.claim (samples_in e) certificate c.requires.evidence.claim
     (c.samples_of_exchanges_keep_limits.ensures.of_claim e.claim e.collection.exchanges c.requires.evidence.claim
     c.requires.evidence.exchanges.each)) settled settles.settled in
-    record {
-      found = record {
-        settled = rw c.in-Ok-with_least.ensures.settled holds;
-        least = c.in-Ok-with_least.ensures.least;
-        fits = tt;
-      };
-      in_style = c.in-Ok-with_least.ensures.enough;
-      for_a_program = refl;
-      fault = tt;
-    }
-
-pub returns-in-Err-with_least-clause-fault : goal.returns-in-Err-with_least-clause-fault
-returns-in-Err-with_least-clause-fault c = memory_unfound _ _
+    record { settled = holds; least = c.in-Ok-least_if.ensures.least; fits = tt }
 
 pub returns-in-Err-clause-fault : goal.returns-in-Err-clause-fault
 returns-in-Err-clause-fault c =
