@@ -24,7 +24,4 @@ module _ (n t : ℕ) where
 
 pub beyond_as_shown : (bound_ns : ℕ) (error : ℤ) →
     ticks_down bound_ns < unsigned_abs error ↔ IsTrue (is_beyond bound_ns error)
-beyond_as_shown bound_ns error = (
-  λ beyond. lt-ltb bound_ns (longer (unsigned_abs error)) (shown_beyond bound_ns (unsigned_abs error) beyond),
-  λ shown. beyond_in_ticks bound_ns (unsigned_abs error) (ltb-true bound_ns (longer (unsigned_abs error)) shown),
-)
+beyond_as_shown bound_ns error = grind (arith, longer, shown_beyond, beyond_in_ticks)

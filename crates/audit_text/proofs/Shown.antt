@@ -1,5 +1,5 @@
 -- What is shown of a thing at its place in a list, as the exchange of a held one.
-use Rattle.audit_text.proofs.Common.{◌≡◌, ◌∙◌, ◌<◌, ℕ, List, length, map, get_or, All, Some, ap, sym, subst, option_map, slice_get, get_or-map, length-map, Exchange, IsLawful}
+use Rattle.audit_text.proofs.Common.{◌≡◌, ◌∙◌, ◌<◌, ℕ, List, length, map, get_or, All, Some, ap, sym, subst, option_map, slice_get, get_or-map, length-map, Exchange, IsLawful, arith}
 use Rattle.std.proofs.lemmas.Option.{slice_get-get_or, slice_get-map}
 
 module _ {X Y : Type 0} (shown : X → Y) (held : List X) (i : ℕ) (d : X) (within : i < length held)
@@ -14,8 +14,7 @@ module _ {X Y : Type 0} (shown : X → Y) (held : List X) (i : ℕ) (d : X) (wit
 
   -- and is found there
   pub found_at : slice_get (map shown held) i ≡ Some x
-  found_at =
-      slice_get-map shown held i ∙ ap (option_map shown) (slice_get-get_or held i d within) ∙ ap Some (sym is)
+  found_at = grind (arith, slice_get-map, shown, held, slice_get-get_or, within, is)
 
 -- an exchange keeps the limits that all keep
 module _ {X : Type 0} (shown : X → Exchange) (held : List X) (i : ℕ) (d : X) (within : i < length held)

@@ -1,11 +1,11 @@
 -- The text of `envelope`: what is known of the clock's error in each piece of a span, and the least
 -- bound that holds in all of them.
-use Rattle.std.specs.Prelude.{◌≡◌, ℕ, List, [], ◌∷◌, ◌++◌, true, codes, flat_map, if◌then◌else◌}
+use Rattle.std.specs.Prelude.{ℕ, List, [], ◌∷◌, ◌++◌, codes, flat_map, if◌then◌else◌}
 use Rattle.audit_text.specs.Common.{FieldData, line_of, Heading, Named, Number, Second, Nanoseconds, Address, Low, High, Style, ClaimData, Sample, Part, parts_named, EnvelopeData, PieceHullData, LeastBound, Holds, NoneHolds}
 use Rattle.line_writer.specs.declared.field.ColumnKind.TheVariants as kind
 use Rattle.audit_text.specs.Second.{second_of}
 use Rattle.audit_text.specs.Parts.{part_fields}
-use Rattle.audit_text.specs.Table.{IsUnder, heading, hull_high, hull_low, is_plain, row_of, rows_from, word_for}
+use Rattle.audit_text.specs.Table.{heading, hull_high, hull_low, is_plain, row_of, rows_from, word_for}
 use Rattle.audit_text.specs.LeastLine.{least_line}
 use Rattle.audit_text.specs.SampleLine.{server_of}
 use Rattle.audit_text.specs.declared.envelope.EnvelopeOptions.{EnvelopeOptions}
@@ -81,16 +81,3 @@ envelope_text style asked samples claim envelope least =
     heading style (piece_columns asked) ++
     rows_from (piece_lines style asked samples claim) 0 envelope.pieces ++
     bound_line style envelope.least ++ least_line style least
-
--- ---- a law
-
--- In the row of a piece every text ends where the heading of its column ends, and so in the row of
--- a server, if servers are asked for.
-abbrev pub PiecesAreUnder : Type 0
-PiecesAreUnder = (asked : EnvelopeOptions) (number : ℕ) (piece : PieceHullData) →
-    IsUnder (piece_columns asked) (piece_fields number piece)
-
-abbrev pub ServersAreUnder : Type 0
-ServersAreUnder = (asked : EnvelopeOptions) → asked.servers ≡ true →
-    (claim : ClaimData) (number : ℕ) (piece : PieceHullData) (part : Part) →
-    IsUnder (piece_columns asked) (server_columns claim number piece part)

@@ -1,5 +1,5 @@
 -- The command line as a table: each command with its operands and options, as `--help` has them.
-use Rattle.std.specs.Prelude.{◌≡◌, pos, true, false, List, [], ◌∷◌, ◌++◌, Some, codes}
+use Rattle.std.specs.Prelude.{◌≡◌, pos, true, false, List, [], ◌∷◌, Some, codes}
 use Rattle.command_line.specs.Common.{new_shape, is_empty, App, Rule, Shape, Text, app_of, new_rule, SetTrue, Command, out-Command, Signed}
 
 -- ---- operands and options
@@ -76,13 +76,9 @@ abbrev pub envelope : Shape
 envelope = on_claim (codes "envelope")
     (step ∷ flag (codes "servers") ∷ flag (codes "least") ∷ [])
 
--- the commands that show what a capture says
-abbrev pub readings : List Shape
-readings = list ∷ samples ∷ at ∷ []
-
 -- all commands
 abbrev pub commands : List Shape
-commands = readings ++ settle ∷ check ∷ find ∷ refute ∷ envelope ∷ []
+commands = list ∷ samples ∷ at ∷ settle ∷ check ∷ find ∷ refute ∷ envelope ∷ []
 
 -- the program with these commands
 abbrev pub program_of : List Shape → App

@@ -42,21 +42,14 @@ fn bare<'a>(alloc: Global) -> Command<'a>
         .subcommand_required(true)
 }
 
-/// The program with the commands that show what a capture says.
-fn with_readings<'a>(alloc: Global) -> Result<Command<'a>, AllocError>
-    ensures { IfOk result (IsProgram (table.program_of table.readings)) }
-{
-    bare(alloc)
-        .subcommand(list::declaration(alloc)?)?
-        .subcommand(samples::declaration(alloc)?)?
-        .subcommand(at::declaration(alloc)?)
-}
-
 /// The program with its commands, those that judge a claim behind the others.
 pub(crate) fn program<'a>(alloc: Global) -> Result<Command<'a>, AllocError>
     ensures { IfOk result (IsProgram table.ntpaudit) }
 {
-    with_readings(alloc)?
+    bare(alloc)
+        .subcommand(list::declaration(alloc)?)?
+        .subcommand(samples::declaration(alloc)?)?
+        .subcommand(at::declaration(alloc)?)?
         .subcommand(settle::declaration(alloc)?)?
         .subcommand(check::declaration(alloc)?)?
         .subcommand(find::declaration(alloc)?)?

@@ -1,4 +1,5 @@
 -- How a listing goes on, call by call.
+use Rattle.std.proofs.Common.{rules}
 use Rattle.listing.proofs.Common.{◌≡◌, ◌∙◌, ◌++◌, ◌+◌, ◌<◌, ◌≤◌, ◌^◌, ℕ, List, [], length, Option, Some, None, Ok, refl, sym, ap, subst, arith, append-nil, length-append, RecordHead, SourceState, IsFresh, IsStep, TakesFrom-none, TakesFrom-trans, SinkState, OutputState, IsReady, Puts, fresh_output, put_count, line_of, HasPassed, IsUnderWay, PutsLine, progress, most_line, texts_of}
 use Rattle.std.proofs.KnownBytes.{Appends-nil}
 use Rattle.listing.proofs.Progress.{passed_start, passed_more}
@@ -15,27 +16,7 @@ texts_few (Some line) = omega arith
 module _ {start : SourceState} {sink : SinkState} where
   pub under_way_start : {o : OutputState} → IsFresh start → IsReady o → o ≡ fresh_output sink →
       IsUnderWay start sink (progress start o) 0
-  under_way_start {o = o} fresh ready empty = record {
-    ready = ready;
-    unfailed = fresh.unfailed;
-    same_faults = refl;
-    takes = TakesFrom-none start.supply;
-    few = omega (arith, fresh.none_given);
-    few_packets = omega arith;
-    short = let none : put_count o ≡ 0 = rw empty refl in omega arith;
-    sink_faults = ap (λ (x : OutputState). x.sink.faults) empty;
-    done = [];
-    packets_are = refl;
-    put = rw empty (record {
-      went = Appends-nil sink.contents;
-      counted = refl;
-      gathered = refl;
-      parts = refl;
-      gone = [];
-      kept = [];
-    });
-    passed = passed_start start.remaining start.given fresh.none_given;
-  }
+  under_way_start {o = o} fresh ready empty = search rules
 
   -- what is gathered went out
   pub under_way_flushed : {s : SourceState} {o o' : OutputState} {packets : ℕ} →

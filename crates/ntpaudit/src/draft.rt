@@ -44,21 +44,19 @@ fn is_input(rt: &HostRuntime, found: &Metadata, operand: &str) -> bool {
 /// What hinders this file from being replaced, if there is one.
 fn obstacle_of(rt: &HostRuntime, found: &Metadata, paths: &Paths) -> Option<Obstacle> {
     if found.is_dir() {
-        return Some(Obstacle::Folder);
-    }
-    if found.is_symlink() {
-        return Some(Obstacle::Link);
-    }
-    if !found.is_file() {
-        return Some(Obstacle::Special);
-    }
-    if is_input(rt, found, paths.claim.as_str())
+        Some(Obstacle::Folder)
+    } else if found.is_symlink() {
+        Some(Obstacle::Link)
+    } else if !found.is_file() {
+        Some(Obstacle::Special)
+    } else if is_input(rt, found, paths.claim.as_str())
         || is_input(rt, found, paths.capture.as_str())
         || is_input(rt, found, path_or_none(&paths.sums))
     {
-        return Some(Obstacle::Input);
+        Some(Obstacle::Input)
+    } else {
+        None
     }
-    None
 }
 
 /// What hinders the file of this path from being made or replaced, if something does.

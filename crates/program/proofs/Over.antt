@@ -1,5 +1,5 @@
 -- What a run promises of its inputs, it promises of their feeds.
-use Rattle.std.proofs.Common.{ℕ, List, Option, ap, inl, inr}
+use Rattle.std.proofs.Common.{ℕ, List, Option, arith}
 use Rattle.std.specs.Prelude.{Result}
 use Rattle.std.proofs.lemmas.Result.{IfErr-weaker}
 use Rattle.byte_stream.specs.State.{FeedState, SinkState}
@@ -17,27 +17,7 @@ module _ {T F : Type 0} (s : T → FeedState) (f : F → FeedState) {before afte
   runs_of : {answer : Result Outcome RunFault} {report : Option Report} {most : ℕ} {Has : Option (List ℕ) → Type 0} →
       Runs report most Has before after second second' capture capture' answer →
       Runs report most Has before after (s second) (s second') (f capture) (f capture') answer
-  runs_of {answer} runs = record {
-    reports = runs.reports;
-    unwritten = runs.unwritten;
-    second_untouched = IfErr-weaker answer _ _ (λ fault untouched early. ap s (untouched early)) runs.second_untouched;
-    capture_untouched = IfErr-weaker answer _ _ (λ fault untouched early. ap f (untouched early)) runs.capture_untouched;
-    claim_at_most = runs.claim_at_most;
-    second_at_most = runs.second_at_most;
-    capture_at_most = runs.capture_at_most;
-    claim_memory = λ memory. elim (runs.claim_memory memory) [
-      | inl untouched ↦ inl (ap s untouched.0, ap f untouched.1)
-      | inr read ↦ inr read
-    ];
-    second_memory = λ memory. elim (runs.second_memory memory) [
-      | inl untouched ↦ inl (ap f untouched)
-      | inr read ↦ inr read
-    ];
-    capture_memory = λ memory. elim (runs.capture_memory memory) [
-      | inl untouched ↦ inl (ap f untouched)
-      | inr read ↦ inr read
-    ];
-  }
+  runs_of {answer} runs = grind (arith, IfErr-weaker)
 
 module _ {T F : Type 0} (s : T → FeedState) (f : F → FeedState) {asked : AskedData} {before after : RunState}
     {second second' : T} {capture capture' : F} where
@@ -49,21 +29,9 @@ module _ {T F : Type 0} (s : T → FeedState) (f : F → FeedState) {asked : Ask
   pub twice_over : {out out' : SinkState} {answer : Result Outcome RunFault} →
       RunsTwice asked before after second second' capture capture' out out' answer →
       RunsTwice asked before after (s second) (s second') (f capture) (f capture') out out' answer
-  twice_over told = record {
-    finding = told.finding;
-    found = told.found;
-    drafted = told.drafted;
-    runs = runs_of s f told.runs;
-    then_told = told.then_told;
-    shows = told.shows;
-  }
+  twice_over told = grind (arith, runs_of)
 
   pub answers_over : {err err' : SinkState} {conclusion : Conclusion} →
       AnswersFor asked before after second second' capture capture' err err' conclusion →
       AnswersFor asked before after (s second) (s second') (f capture) (f capture') err err' conclusion
-  answers_over told = record {
-    answer = told.answer;
-    promise = runs_over told.promise;
-    concludes = told.concludes;
-    conclusion_is = told.conclusion_is;
-  }
+  answers_over told = grind (arith, runs_over)

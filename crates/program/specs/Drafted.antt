@@ -1,11 +1,11 @@
 -- The answer to a question whose text for a program goes into a draft.
 use Rattle.std.specs.Prelude.{◌≡◌, ◌⊎◌, ◌==◌, ℕ, List, Bool, true, false, if◌then◌else◌, is_some, Option, Some, None, Result, Ok, Err, IfErr, IfOk, MatchResult}
-use Rattle.program.specs.Common.{FeedState, SinkState, Full, no_feed, Concludes, conclusion_of, Conclusion, Outcome, RunFault, Memory, Write, AskedData, RunsFor, RunsTwice, AreSummed, CountFaults, Feeds, IsUnjudgedFor, TakeAtMost, feed_of, feeds, InputBytesData, data_of}
+use Rattle.program.specs.Common.{FeedState, SinkState, Full, no_feed, Concludes, conclusion_of, Conclusion, Outcome, RunFault, Memory, Write, AskedData, RunsFor, RunsTwice, AreSummed, CountFaults, Feeds, IsUnjudgedFor, TakeAtMost, feed_of, feeds, InputBytesData}
 use Rattle.program.specs.Files.{DraftsState, IsEmpty, IsHindered, IsPlaced}
 use Rattle.program.specs.Inputs.{SumNames, run_over, sums_of}
 use Rattle.program.specs.Invocation.{Asking, is_human}
 use Rattle.program.specs.Opening.{AreOpened, Places}
-use Rattle.program.specs.Response.{AreRead, IsUnready, names_of}
+use Rattle.program.specs.Response.{IsAsked, IsDoneBy, IsGivenUp, names_of}
 use Rattle.program.specs.World.{World}
 use Rattle.program.specs.declared.drafted.Written.{Written}
 use Rattle.program.specs.declared.hindrance.Hindrance.{Hindrance}
@@ -107,41 +107,20 @@ pub record IsDraftedBy (asked : AskedData) (names : SumNames) (feeds : Feeds) (t
       (λ _. DraftsOn asked (feeds_on read) path out out' before after written)
       (IsUndrafted out out' before after written)
 
--- The answer to a question in a draft, by the text of a file of sums if there is one: then what was
--- read of it and of the inputs is handed back.
+-- The answer to a question in a draft, by the text of a file of sums if there is one.
 abbrev pub DraftsBy : AskedData → SumNames → Feeds → Option (List ℕ) → List ℕ → SinkState
     → SinkState → DraftsState → DraftsState → Option Summed → Written → Type 0
-DraftsBy asked names feeds None path out out' before after summed written =
-    DraftsOn asked feeds path out out' before after written × (summed ≡ None)
-DraftsBy asked names feeds (Some text) path out out' before after None written = ⊥
-DraftsBy asked names feeds (Some text) path out out' before after (Some summed) written =
-    (summed.text.items ≡ text) × IsDraftedBy asked names feeds text path out out' before after
-    (data_of summed.read) written
-
--- The file of sums was read, if there is one, and what is asked on its text is answered.
-pub record IsAskedInDraft (asking : Asking) (names : SumNames) (feeds : Feeds)
-    (sums : Option FeedState) (path : List ℕ) (out out' : SinkState)
-    (before after : DraftsState) (summed : Option Summed) (written : Written) : Type 0 where
-  pub text : Option (List ℕ)
-  pub read : AreRead sums text
-  pub drafts : DraftsBy (asking.by text) names feeds text path out out' before after
-      summed written
-
--- The run is given up before the question is asked.
-pub record IsGivenUpUndrafted (makes_lines : Bool) (sums : Option FeedState)
-    (out out' : SinkState) (before after : DraftsState) (summed : Option Summed)
-    (written : Written) : Type 0 where
-  pub fault : RunFault
-  pub why : IsUnready makes_lines sums fault
-  pub undrafted : IsUndrafted out out' before after written fault
-  pub unsummed : summed ≡ None
+DraftsBy asked names feeds text path out out' before after summed written =
+    IsDoneBy (DraftsOn asked feeds path out out' before after written)
+    (λ t read. IsDraftedBy asked names feeds t path out out' before after read written) text summed
 
 -- the answer to a question in a draft, by a file of sums if there is one
 abbrev pub Drafts : Asking → SumNames → Feeds → Option FeedState → List ℕ → SinkState → SinkState
     → DraftsState → DraftsState → Option Summed → Written → Type 0
 Drafts asking names feeds sums path out out' before after summed written =
-    IsAskedInDraft asking names feeds sums path out out' before after summed written
-    ⊎ IsGivenUpUndrafted asking.makes_lines sums out out' before after summed written
+    IsAsked sums (λ text.
+    DraftsBy (asking.by text) names feeds text path out out' before after summed written)
+    ⊎ IsGivenUp asking.makes_lines sums summed (IsUndrafted out out' before after written)
 
 -- All inputs were opened, and the question was answered in a draft, or it couldn't be. If they are
 -- held to sums, what was read of them is handed back.

@@ -36,11 +36,8 @@ places_of paths = record {
 }
 
 abbrev pub judged_places : Input → JudgedPaths → Places
-judged_places which paths = record {
-  claim = string_bytes paths.evidence.claim;
+judged_places which paths = record (places_of paths.evidence) {
   second = Some (place which (string_bytes paths.second));
-  capture = string_bytes paths.evidence.capture;
-  sums = option_map string_bytes paths.evidence.sums;
 }
 
 -- What an engine is asked, on the text of the file of sums to which the inputs are held, if there

@@ -57,16 +57,37 @@ pub record AreUnmade (makes_lines : Bool) (sums : Option FeedState) (fault : Run
 abbrev pub IsUnready : Bool → Option FeedState → RunFault → Type 0
 IsUnready makes_lines sums fault = IsUnread sums fault ⊎ AreUnmade makes_lines sums fault
 
--- It is given up: that is told, and nothing else is done.
-pub record IsGivenUp (makes_lines : Bool) (sums : Option FeedState)
-    (sink sink' err err' : SinkState) (summed : Option Summed) (conclusion : Conclusion)
-    : Type 0 where
+-- It is given up then: that is told as this says.
+pub record IsGivenUp (makes_lines : Bool) (sums : Option FeedState) (summed : Option Summed)
+    (IsTold : RunFault → Type 0) : Type 0 where
   pub fault : RunFault
   pub why : IsUnready makes_lines sums fault
+  pub told : IsTold fault
+  pub unsummed : summed ≡ None
+
+-- The file of sums was read, if there is one, and what is asked on its text is answered as this
+-- says.
+pub record IsAsked (sums : Option FeedState) (IsAnsweredBy : Option (List ℕ) → Type 0)
+    : Type 0 where
+  pub text : Option (List ℕ)
+  pub read : AreRead sums text
+  pub answers : IsAnsweredBy text
+
+-- What is done without a file of sums, or by the text of one: then what was read of it and of the
+-- inputs is handed back.
+abbrev pub IsDoneBy : (Without : Type 0) (By : List ℕ → InputBytesData → Type 0)
+    → Option (List ℕ) → Option Summed → Type 0
+IsDoneBy Without By None summed = Without × (summed ≡ None)
+IsDoneBy Without By (Some text) None = ⊥
+IsDoneBy Without By (Some text) (Some summed) =
+    (summed.text.items ≡ text) × By text (data_of summed.read)
+
+-- This fault is told, and nothing else is done.
+pub record IsToldAlone (sink sink' err err' : SinkState) (conclusion : Conclusion)
+    (fault : RunFault) : Type 0 where
   pub untouched : sink' ≡ sink
   pub concludes : Concludes (Err fault) err err'
   pub conclusion_is : conclusion ≡ conclusion_of (Err fault)
-  pub unsummed : summed ≡ None
 
 -- What was read of the inputs is judged by the text of a file of sums, which has them by these
 -- names.
@@ -77,28 +98,18 @@ pub record IsJudgedBy (asked : AskedData) (names : SumNames) (feeds : Feeds) (te
   pub judges : JudgesBySums asked (sums_of names text) (run_over feeds sink) (run_over after sink')
       err err' read conclusion
 
--- The answer to a question, by the text of a file of sums if there is one: then what was read of it
--- and of the inputs is handed back, and judged.
+-- The answer to a question, by the text of a file of sums if there is one: then what was read is
+-- judged.
 abbrev pub AnswersBy : AskedData → SumNames → Feeds → Option (List ℕ) → SinkState → SinkState
     → SinkState → SinkState → Option Summed → Conclusion → Type 0
-AnswersBy asked names feeds None sink sink' err err' summed conclusion =
-    IsAnswered asked feeds sink sink' err err' conclusion × (summed ≡ None)
-AnswersBy asked names feeds (Some text) sink sink' err err' None conclusion = ⊥
-AnswersBy asked names feeds (Some text) sink sink' err err' (Some summed) conclusion =
-    (summed.text.items ≡ text)
-    × IsJudgedBy asked names feeds text sink sink' err err' (data_of summed.read) conclusion
-
--- The file of sums was read, if there is one, and what is asked on its text is answered.
-pub record IsAsked (asking : Asking) (names : SumNames) (feeds : Feeds) (sums : Option FeedState)
-    (sink sink' err err' : SinkState) (summed : Option Summed) (conclusion : Conclusion)
-    : Type 0 where
-  pub text : Option (List ℕ)
-  pub read : AreRead sums text
-  pub answers : AnswersBy (asking.by text) names feeds text sink sink' err err' summed conclusion
+AnswersBy asked names feeds text sink sink' err err' summed conclusion =
+    IsDoneBy (IsAnswered asked feeds sink sink' err err' conclusion)
+    (λ t read. IsJudgedBy asked names feeds t sink sink' err err' read conclusion) text summed
 
 -- the answer to a question, by a file of sums if there is one
 abbrev pub Responds : Asking → SumNames → Feeds → Option FeedState → SinkState → SinkState
     → SinkState → SinkState → Option Summed → Conclusion → Type 0
 Responds asking names feeds sums sink sink' err err' summed conclusion =
-    IsAsked asking names feeds sums sink sink' err err' summed conclusion
-    ⊎ IsGivenUp asking.makes_lines sums sink sink' err err' summed conclusion
+    IsAsked sums (λ text.
+    AnswersBy (asking.by text) names feeds text sink sink' err err' summed conclusion)
+    ⊎ IsGivenUp asking.makes_lines sums summed (IsToldAlone sink sink' err err' conclusion)

@@ -3,18 +3,20 @@
 ghost use Rattle.std.specs.Prelude.{◌≡◌, ℕ, List, IfOk, map, option_map, string_bytes};
 ghost use Rattle.sum_file.specs.Sum.{data_of as sum_data, digest_named};
 ghost use Rattle.program.specs.About as spec;
-ghost use Rattle.program.specs.About.{about_of, data_of};
+ghost use Rattle.program.specs.About.{about_of, data_of, inputs_of};
+ghost use Rattle.program.specs.Invocation.{judged_places, places_of};
 
+use crate::invocation::{JudgedPaths, Paths};
 use fault_words::shown;
 use report::{Input, input_word};
 use std::alloc::{AllocError, Global};
 use sum_file::{Sum, SumFault, digest_of, read_sums};
 
 /// The program's version, and the logic in which it is proved, as `--version` tells them.
-pub const VERSION: &str = "0.11.0 (logic dac8208d650f15bf)";
+pub const VERSION: &str = "0.11.1 (logic dac8208d650f15bf)";
 
 /// The same as a line of a report.
-const PROGRAM: &str = "ntpaudit 0.11.0 logic dac8208d650f15bf\n";
+const PROGRAM: &str = "ntpaudit 0.11.1 logic dac8208d650f15bf\n";
 
 /// An input of a run, and the operand that names it.
 #[derive(Clone, Copy, Debug)]
@@ -23,6 +25,32 @@ pub(crate) struct Called<'a> {
     pub(crate) input: Input,
     /// The operand.
     pub(crate) name: &'a str,
+}
+
+/// The inputs of a question without a second one.
+pub(crate) fn asked_inputs<'a>(paths: &'a Paths) -> [Called<'a>; 2]
+    ensures { map data_of result ≡ inputs_of (places_of paths.now) }
+{
+    [
+        Called {
+            input: Input::Claim,
+            name: paths.claim.as_str(),
+        },
+        Called {
+            input: Input::Capture,
+            name: paths.capture.as_str(),
+        },
+    ]
+}
+
+/// The inputs of a judgement.
+pub(crate) fn judged_inputs<'a>(second: Input, paths: &'a JudgedPaths) -> [Called<'a>; 3]
+    ensures { map data_of result ≡ inputs_of (judged_places second paths.now) }
+{
+    let [claim, capture] = asked_inputs(&paths.evidence);
+    let name = paths.second.as_str();
+    let input = second;
+    [claim, capture, Called { input, name }]
 }
 
 /// The sums of a text, none if there is no text or it is refused.

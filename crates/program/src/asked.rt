@@ -28,10 +28,7 @@ pub enum Asked {
 pub(crate) fn is_human(style: Style) -> bool
     ensures { result ≡ words.is_human style }
 {
-    match style {
-        Style::Plain => false,
-        _ => true,
-    }
+    !matches!(style, Style::Plain)
 }
 
 impl Asked {

@@ -8,13 +8,13 @@ ghost use Rattle.program.specs.Files.{MayDraft};
 ghost use Rattle.program.specs.Inputs.{feeds_of, names_in, run_over};
 ghost use Rattle.program.specs.Invocation.{requested};
 
+use crate::about::asked_inputs;
 use crate::asked::is_human;
 use crate::files::Files;
 use crate::hindrance::Hindrance;
 use crate::inputs::{Inputs, Opened};
 use crate::invocation::Paths;
-use crate::response::{Prepared, Summed, prepare, read_sums};
-use crate::told::called;
+use crate::response::{Summed, prepare, read_sums};
 use audit::{Question, Request, Settle, Style, run, run_twice};
 use byte_stream::{Feed, Sink};
 use fault_words::Obstacle;
@@ -231,8 +231,8 @@ pub(crate) fn write_request<Fs: Files, N: NamedFeed + Drop, S: Sink, H: BuildHas
 {
     let Opened { inputs, sums } = opened;
     match request {
-        Request::Settle => match prepare(alloc, paths.style, &called(paths), sums) {
-            Ok(Prepared { text, about }) => {
+        Request::Settle => match prepare(alloc, paths.style, &asked_inputs(paths), sums) {
+            Ok((text, about)) => {
                 let question = Settle {
                     about: about.as_slice(),
                 };

@@ -1,7 +1,7 @@
 //! The inputs of a run, opened by their paths.
 
-ghost use Rattle.std.specs.Prelude.{◌≡◌, ◌≤◌, ◌+◌, ◌<◌, ◌^◌, [], ◌∷◌, length, IfOk, IfErr, IfSome, option_map, string_bytes};
-ghost use Rattle.program.specs.Common.{option_to_list, IsReadable, no_feed, Sums, feeds};
+ghost use Rattle.std.specs.Prelude.{◌≡◌, ◌≤◌, ◌+◌, ◌<◌, ◌^◌, [], ◌∷◌, length, IfOk, IfErr, option_map, string_bytes};
+ghost use Rattle.program.specs.Common.{option_to_list, no_feed, Sums, feeds};
 ghost use Rattle.program.specs.Files.{IsFeedOf};
 ghost use Rattle.program.specs.Invocation.{judged_places, places_of};
 ghost use Rattle.program.specs.Opening.{AreOpened, IsFirstUnopened, IsSumsOf, order_of, place};
@@ -41,7 +41,6 @@ pub(crate) fn open<'a, Fs: Files>(
     ensures named { IfOk result (λ input. input.name.now ≡ path.now) }
     ensures opened { IfOk result (λ input.
         IsFeedOf ((Fs.state files.old).standing path.now) (Fs.Opened.state input.feed)) }
-    ensures readable { IfOk result (λ input. IsReadable (Fs.Opened.state input.feed)) }
     ensures fault { IfErr result (IsFirstUnopened (Fs.state files.old).standing
         (place which path.now ∷ []) (Fs.state files.old).opened (Fs.state files.new).opened) }
     ensures same { (Fs.state files.new).standing ≡ (Fs.state files.old).standing }
@@ -62,8 +61,6 @@ fn open_sums<'a, Fs: Files>(
     requires { (Fs.state files.old).opened + 1 < 2 ^ 64 }
     ensures opened { IfOk result (λ sums. IsSumsOf (Fs.state files.old).standing
         (option_map string_bytes path.now) (option_map (λ s. Fs.Opened.state s.feed) sums)) }
-    ensures readable { IfOk result (λ sums. IfSome sums (λ s.
-        IsReadable (Fs.Opened.state s.feed))) }
     ensures fault { IfErr result (IsFirstUnopened (Fs.state files.old).standing
         (option_to_list (option_map (place Sums) (option_map string_bytes path.now)))
         (Fs.state files.old).opened (Fs.state files.new).opened) }
@@ -91,10 +88,6 @@ pub(crate) fn open_evidence<'a, Fs: Files>(
         (Fs.state files.new).opened (feeds (Fs.Opened.state opened.inputs.claim.feed) no_feed
         (Fs.Opened.state opened.inputs.capture.feed))
         (option_map (λ s. Fs.Opened.state s.feed) opened.sums)) }
-    ensures readable { IfOk result (λ opened.
-        IsReadable (Fs.Opened.state opened.inputs.claim.feed)
-        × IsReadable (Fs.Opened.state opened.inputs.capture.feed)
-        × IfSome opened.sums (λ s. IsReadable (Fs.Opened.state s.feed))) }
     ensures fault { IfErr result (IsFirstUnopened (Fs.state files.old).standing
         (order_of (places_of paths.now))
         (Fs.state files.old).opened (Fs.state files.new).opened) }
@@ -127,11 +120,6 @@ pub(crate) fn open_judged<'a, Fs: Files>(
         (feeds (Fs.Opened.state opened.inputs.claim.feed)
         (Fs.Opened.state opened.inputs.second.feed) (Fs.Opened.state opened.inputs.capture.feed))
         (option_map (λ s. Fs.Opened.state s.feed) opened.sums)) }
-    ensures readable { IfOk result (λ opened.
-        IsReadable (Fs.Opened.state opened.inputs.claim.feed)
-        × IsReadable (Fs.Opened.state opened.inputs.second.feed)
-        × IsReadable (Fs.Opened.state opened.inputs.capture.feed)
-        × IfSome opened.sums (λ s. IsReadable (Fs.Opened.state s.feed))) }
     ensures fault { IfErr result (IsFirstUnopened (Fs.state files.old).standing
         (order_of (judged_places which paths.now))
         (Fs.state files.old).opened (Fs.state files.new).opened) }

@@ -28,7 +28,6 @@ mod named;
 mod response;
 mod run;
 mod table;
-mod told;
 
 pub use about::VERSION;
 pub use asked::Asked;

@@ -4,13 +4,14 @@ ghost use Rattle.std.specs.Prelude.{◌≡◌, [], IfErr, IfOk, IfSome, map, opt
 ghost use Rattle.program.specs.Common.{IsReadable, IsWritable, no_feed, MayRun, asked_of, data_of};
 ghost use Rattle.program.specs.Inputs.{feeds_of, names_in, run_over};
 ghost use Rattle.program.specs.About.{data_of as called_data};
-ghost use Rattle.program.specs.Invocation.{is_human, judged_of, requested, told_of};
+ghost use Rattle.program.specs.Invocation as words;
+ghost use Rattle.program.specs.Invocation.{judged_of, requested, told_of};
 ghost use Rattle.program.specs.Response.{AnswersBy, AreRead, IsUnready, IsUnread, Responds};
 
-use crate::about::Called;
+use crate::about::{Called, about, asked_inputs, judged_inputs};
+use crate::asked::is_human;
 use crate::inputs::{Inputs, Opened};
 use crate::invocation::{JudgedPaths, Judgement, Paths};
-use crate::told::{called, called_too, told};
 use audit::{Check, Outputs, Question, Refute, Request, Settle, Style, answer};
 use byte_stream::Sink;
 use report::{Conclusion, Input, RunFault, conclude, read_input};
@@ -96,32 +97,27 @@ pub(crate) fn read_sums<N: NamedFeed + Drop>(
     }
 }
 
-/// The text of a file of sums, if there is one, and what is told about the inputs that it has.
-#[derive(Drop)]
-pub(crate) struct Prepared {
-    /// The text.
-    pub(crate) text: Option<Vec<u8>>,
-    /// What is told.
-    pub(crate) about: Vec<u8>,
-}
-
-/// Makes what is told in this style about these inputs, once the file of sums is read.
+/// The text of a file of sums, if there is one, and what is told in this style about these inputs.
 pub(crate) fn prepare<N: NamedFeed + Drop>(
     alloc: Global,
     style: Style,
     inputs: &[Called<'_>],
     sums: Option<N>,
-) -> Result<Prepared, RunFault>
+) -> Result<(Option<Vec<u8>>, Vec<u8>), RunFault>
     requires { IfSome sums (λ file. IsReadable (N.state file)) }
-    ensures read { IfOk result (λ p. AreRead (option_map N.state sums)
-        (option_map (λ t. t.items) p.text)) }
-    ensures about { IfOk result (λ p. p.about.items
-        ≡ told_of style (map called_data inputs.now) (option_map (λ t. t.items) p.text)) }
-    ensures fault { IfErr result (IsUnready (is_human style) (option_map N.state sums)) }
+    ensures read { IfOk result (λ made. AreRead (option_map N.state sums)
+        (option_map (λ t. t.items) made.0)) }
+    ensures about { IfOk result (λ made. made.1.items
+        ≡ told_of style (map called_data inputs.now) (option_map (λ t. t.items) made.0)) }
+    ensures fault { IfErr result (IsUnready (words.is_human style) (option_map N.state sums)) }
 {
     let text = read_sums(alloc, sums)?;
-    let about = told(alloc, style, inputs, &text)?;
-    Ok(Prepared { text, about })
+    let about = if is_human(style) {
+        about(alloc, inputs, &text)?
+    } else {
+        Vec::new(alloc)
+    };
+    Ok((text, about))
 }
 
 /// Answers a request, by a file of sums if there is one. Returns what was read then, and the
@@ -147,8 +143,8 @@ pub(crate) fn ask<N: NamedFeed + Drop, S: Sink, E: Sink, H: BuildHasher + Drop>(
     let Opened { inputs, sums } = opened;
     let style = paths.style;
     match request {
-        Request::Settle => match prepare(alloc, style, &called(paths), sums) {
-            Ok(Prepared { text, about }) => {
+        Request::Settle => match prepare(alloc, style, &asked_inputs(paths), sums) {
+            Ok((text, about)) => {
                 let about = about.as_slice();
                 answer_by(alloc, Settle { about }, style, text, inputs, to, hasher)
             }
@@ -182,8 +178,13 @@ pub(crate) fn judge<N: NamedFeed + Drop, S: Sink, E: Sink, H: BuildHasher + Drop
 {
     let Opened { inputs, sums } = opened;
     let style = paths.evidence.style;
-    match prepare(alloc, style, &called_too(judgement.second(), paths), sums) {
-        Ok(Prepared { text, about }) => {
+    match prepare(
+        alloc,
+        style,
+        &judged_inputs(judgement.second(), paths),
+        sums,
+    ) {
+        Ok((text, about)) => {
             let about = about.as_slice();
             match judgement {
                 Judgement::Check => {

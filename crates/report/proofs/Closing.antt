@@ -39,13 +39,7 @@ module _ (report : Report) (before : Option (List ℕ)) where
 -- an outcome, with the whole text
 pub closes_ok : (old mid : OutputState) (after : SinkState) (outcome : Outcome) → SendsAll old mid →
     Finishes mid.sink after false → Closes old after (Ok outcome) (Ok outcome)
-closes_ok old mid after outcome p finishes = record {
-  text = λ report before ran. (ran.0, (gets_all report before after.contents old mid ran.1 p finishes.kept).0);
-  stays = inl refl;
-  closed = finishes.closed;
-  sink = λ before start. omega (arith, finishes.counts, p.puts.faults, start);
-  device = λ which. refl;
-}
+closes_ok old mid after outcome p finishes = grind (arith, gets_all)
 
 -- an outcome that couldn't be finished
 pub closes_unfinished : (old mid : OutputState) (after : SinkState) (outcome : Outcome) → SendsAll old mid →

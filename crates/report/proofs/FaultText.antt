@@ -31,13 +31,11 @@ either_ascii : (b : Bool) (xs ys : List ℕ) → IsAscii xs → IsAscii ys → I
 either_ascii true xs ys p q = p
 either_ascii false xs ys p q = q
 
-glyph_is_small : (d : ℕ) → d < 10 → digit_glyph false d < 128
-glyph_is_small d h = grind (arith, nat_tests)
-
 digits_are_ascii : (k n : ℕ) (after : List ℕ) → IsAscii after → IsAscii (digits_onto k 10 false n after)
 digits_are_ascii zero n after ascii = ascii
 digits_are_ascii (suc k) n after ascii =
-    let here = IsAscii-cons _ after (glyph_is_small (n % 10) (omega arith)) ascii in
+    let small : digit_glyph false (n % 10) < 128 = grind (arith, nat_tests) in
+    let here = IsAscii-cons _ after small ascii in
     either_ascii (n / 10 == 0) _ _ here (digits_are_ascii k (n / 10) _ here)
 
 decimal_is_ascii : (n : ℕ) → IsAscii (decimal n)
@@ -52,15 +50,12 @@ is_plain (Named name n) = are_small name
 is_plain Nothing = true
 is_plain _ = false
 
-blank_is_ascii : IsAscii (codes " ")
-blank_is_ascii = ascii_literal (codes " ") refl
-
 field_is_ascii : (field : FieldData) → is_plain field ≡ true → IsAscii (text_of Plain field)
 field_is_ascii (Word word) plain = ascii_literal word plain
 field_is_ascii (Number n) plain = decimal_is_ascii n
 field_is_ascii (Named name n) plain =
-    IsAscii-append (name ++ codes " ") _ (IsAscii-append name _ (ascii_literal name plain) blank_is_ascii)
-    (decimal_is_ascii n)
+    IsAscii-append (name ++ codes " ") _
+    (IsAscii-append name _ (ascii_literal name plain) (ascii_literal (codes " ") refl)) (decimal_is_ascii n)
 field_is_ascii Nothing plain = IsAscii-nil
 field_is_ascii _ plain = absurd (cc)
 
@@ -68,7 +63,7 @@ rest_is_ascii : (fields : List FieldData) → list_all is_plain fields ≡ true 
 rest_is_ascii [] plain = IsAscii-nil
 rest_is_ascii (field ∷ fields) plain =
     let (here, rest) = and_parts _ _ plain in
-    let after = IsAscii-append (codes " ") _ blank_is_ascii (field_is_ascii field here) in
+    let after = IsAscii-append (codes " ") _ (ascii_literal (codes " ") refl) (field_is_ascii field here) in
     IsAscii-append (next_text Plain field) _ (either_ascii (is_absent Plain field) [] _ IsAscii-nil after)
     (rest_is_ascii fields rest)
 

@@ -7,14 +7,7 @@ appends_same a b xs ys e p = subst (Appends a b) e p
 
 -- at the start nothing was put
 pub put_nothing : (sink : SinkState) → HasPut sink.contents (fresh_output sink) []
-put_nothing sink = record {
-  gone = [];
-  kept = [];
-  parts = refl;
-  gathered = refl;
-  went = Appends-nil sink.contents;
-  counted = refl;
-}
+put_nothing sink = grind (arith, Appends-nil)
 
 -- what has gone out and what is gathered
 both_parts : (before : Option (List ℕ)) (o : OutputState) (texts : List (List ℕ)) (p : HasPut before o texts) →

@@ -1,6 +1,7 @@
 -- What a command comes to, and how its answer is reported: a fault by its line, and an outcome by
 -- nothing.
-use Rattle.std.specs.Prelude.{◌≡◌, ℕ, List, [], ◌++◌, codes, Option, Some, None, Result, Ok, Err}
+use Rattle.std.specs.Prelude.{◌≡◌, ℕ, List, [], ◌++◌, codes, Option, None, Result, Ok, Err}
+use Rattle.std.specs.Result.{result_err}
 use Rattle.byte_stream.specs.State.{SinkState}
 use Rattle.report.specs.declared.conclusion.Conclusion.{Conclusion}
 use Rattle.report.specs.declared.fault.Outcome.{Outcome}
@@ -11,14 +12,9 @@ use Rattle.report.specs.FaultText.{fault_text}
 use Rattle.report.specs.Run.{RunState}
 use Rattle.report.specs.Reports.{Report, Reports}
 
--- the fault that is an answer: none if it's an outcome
-abbrev pub fault_of : Result Outcome RunFault → Option RunFault
-fault_of (Ok outcome) = None
-fault_of (Err fault) = Some fault
-
 -- what a command comes to with this answer: its exit status, and the fault that is reported
 abbrev pub conclusion_of : Result Outcome RunFault → Conclusion
-conclusion_of answer = record { code = status_of answer; fault = fault_of answer }
+conclusion_of answer = record { code = status_of answer; fault = result_err answer }
 
 -- what a refused command line comes to
 abbrev pub refused_conclusion : Conclusion

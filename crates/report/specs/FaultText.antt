@@ -11,63 +11,47 @@ use Rattle.report.specs.declared.fault.RunFault.TheVariants as faults
 use Rattle.report.specs.declared.fault.SumsFault.{SumsFault}
 use Rattle.report.specs.declared.fault.SumsFault.TheVariants as sums
 
--- the word for each fault of a capture
-abbrev pub capture_word : CaptureFault → List ℕ
-capture_word TornHeader = codes "torn-header"
-capture_word Magic = codes "magic"
-capture_word Version = codes "version"
-capture_word Link = codes "link"
-capture_word (TornRecord place) = codes "torn-record"
-capture_word (TooLong place) = codes "too-long"
-capture_word (BadFraction place) = codes "bad-fraction"
-capture_word TooMany = codes "too-many"
-capture_word Read = codes "read"
-capture_word Memory = codes "memory"
-capture_word Failed = codes "failed"
+-- what is said of each fault of a capture: its word, and the place of a record whose fault it is
+abbrev pub capture_said : CaptureFault → List FieldData
+capture_said TornHeader = Word (codes "torn-header") ∷ Nothing ∷ []
+capture_said Magic = Word (codes "magic") ∷ Nothing ∷ []
+capture_said Version = Word (codes "version") ∷ Nothing ∷ []
+capture_said Link = Word (codes "link") ∷ Nothing ∷ []
+capture_said (TornRecord place) = Word (codes "torn-record") ∷ Named (codes "at") place ∷ []
+capture_said (TooLong place) = Word (codes "too-long") ∷ Named (codes "at") place ∷ []
+capture_said (BadFraction place) = Word (codes "bad-fraction") ∷ Named (codes "at") place ∷ []
+capture_said TooMany = Word (codes "too-many") ∷ Nothing ∷ []
+capture_said Read = Word (codes "read") ∷ Nothing ∷ []
+capture_said Memory = Word (codes "memory") ∷ Nothing ∷ []
+capture_said Failed = Word (codes "failed") ∷ Nothing ∷ []
 
--- the place of a fault of a record, and nothing for the others
-abbrev pub place_of : CaptureFault → FieldData
-place_of (TornRecord place) = Named (codes "at") place
-place_of (TooLong place) = Named (codes "at") place
-place_of (BadFraction place) = Named (codes "at") place
-place_of _ = Nothing
+-- of a claim: its word, and the code of a field whose fault it is
+abbrev pub claim_said : ClaimFault → List FieldData
+claim_said claims.Json = Word (codes "json") ∷ Nothing ∷ []
+claim_said (claims.Field code) = Word (codes "field") ∷ Named (codes "field") code ∷ []
+claim_said claims.Address = Word (codes "address") ∷ Nothing ∷ []
+claim_said claims.Time = Word (codes "time") ∷ Nothing ∷ []
+claim_said claims.Range = Word (codes "range") ∷ Nothing ∷ []
+claim_said claims.RepeatedServer = Word (codes "repeated-server") ∷ Nothing ∷ []
+claim_said claims.Memory = Word (codes "memory") ∷ Nothing ∷ []
+claim_said claims.Groups = Word (codes "groups") ∷ Nothing ∷ []
 
--- the word for each fault of a claim
-abbrev pub claim_word : ClaimFault → List ℕ
-claim_word claims.Json = codes "json"
-claim_word (claims.Field code) = codes "field"
-claim_word claims.Address = codes "address"
-claim_word claims.Time = codes "time"
-claim_word claims.Range = codes "range"
-claim_word claims.RepeatedServer = codes "repeated-server"
-claim_word claims.Memory = codes "memory"
-claim_word claims.Groups = codes "groups"
+-- of a certificate: its word, and the number of a piece whose fault it is
+abbrev pub certificate_said : CertificateFault → List FieldData
+certificate_said certificates.Json = Word (codes "json") ∷ Nothing ∷ []
+certificate_said certificates.Top = Word (codes "top") ∷ Nothing ∷ []
+certificate_said (certificates.Shape piece) =
+    Word (codes "shape") ∷ Named (codes "piece") piece ∷ []
+certificate_said (certificates.TooManyEntries piece) =
+    Word (codes "too-many-entries") ∷ Named (codes "piece") piece ∷ []
+certificate_said certificates.TooManyPieces = Word (codes "too-many-pieces") ∷ Nothing ∷ []
+certificate_said certificates.Memory = Word (codes "memory") ∷ Nothing ∷ []
 
--- the code of a field's fault, and nothing for the others
-abbrev pub code_of : ClaimFault → FieldData
-code_of (claims.Field code) = Named (codes "field") code
-code_of _ = Nothing
-
--- the word for each fault of a certificate
-abbrev pub certificate_word : CertificateFault → List ℕ
-certificate_word certificates.Json = codes "json"
-certificate_word certificates.Top = codes "top"
-certificate_word (certificates.Shape piece) = codes "shape"
-certificate_word (certificates.TooManyEntries piece) = codes "too-many-entries"
-certificate_word certificates.TooManyPieces = codes "too-many-pieces"
-certificate_word certificates.Memory = codes "memory"
-
--- the number of a piece whose fault it is, and nothing for the others
-abbrev pub piece_of : CertificateFault → FieldData
-piece_of (certificates.Shape piece) = Named (codes "piece") piece
-piece_of (certificates.TooManyEntries piece) = Named (codes "piece") piece
-piece_of _ = Nothing
-
--- the word for each fault of a refutation
-abbrev pub refutation_word : RefutationFault → List ℕ
-refutation_word refutations.Json = codes "json"
-refutation_word refutations.Shape = codes "shape"
-refutation_word refutations.Memory = codes "memory"
+-- of a refutation: its word
+abbrev pub refutation_said : RefutationFault → List FieldData
+refutation_said refutations.Json = Word (codes "json") ∷ Nothing ∷ []
+refutation_said refutations.Shape = Word (codes "shape") ∷ Nothing ∷ []
+refutation_said refutations.Memory = Word (codes "memory") ∷ Nothing ∷ []
 
 -- the word for an input
 abbrev pub input_word : Input → List ℕ
@@ -77,10 +61,10 @@ input_word inputs.Certificate = codes "certificate"
 input_word inputs.Refutation = codes "refutation"
 input_word inputs.Sums = codes "sums"
 
--- an input is refused: which one, its fault's number and word, and where in it
-abbrev pub refused : Input → ℕ → List ℕ → FieldData → List FieldData
-refused input number word place =
-    Word (codes "ntpaudit:") ∷ Word (input_word input) ∷ Number number ∷ Word word ∷ place ∷ []
+-- an input is refused: which one, its fault's number, and what is said of that
+abbrev pub refused : Input → ℕ → List FieldData → List FieldData
+refused input number said =
+    Word (codes "ntpaudit:") ∷ Word (input_word input) ∷ Number number ∷ said
 
 -- what is said of inputs that can't be held to their sums, or differ from them
 abbrev pub sums_fields : SumsFault → List FieldData
@@ -94,13 +78,12 @@ sums_fields (sums.Differ input) =
 -- what the line of each fault says
 abbrev pub fault_fields : RunFault → List FieldData
 fault_fields (faults.Capture fault) =
-    refused inputs.Capture (capture_number fault) (capture_word fault) (place_of fault)
-fault_fields (faults.Claim fault) =
-    refused inputs.Claim (claim_number fault) (claim_word fault) (code_of fault)
+    refused inputs.Capture (capture_number fault) (capture_said fault)
+fault_fields (faults.Claim fault) = refused inputs.Claim (claim_number fault) (claim_said fault)
 fault_fields (faults.Certificate fault) =
-    refused inputs.Certificate (certificate_number fault) (certificate_word fault) (piece_of fault)
+    refused inputs.Certificate (certificate_number fault) (certificate_said fault)
 fault_fields (faults.Refutation fault) =
-    refused inputs.Refutation (refutation_number fault) (refutation_word fault) Nothing
+    refused inputs.Refutation (refutation_number fault) (refutation_said fault)
 fault_fields faults.Exchanges = Word (codes "ntpaudit: exchanges over 1000000") ∷ Nothing ∷ []
 fault_fields faults.Pieces = Word (codes "ntpaudit: pieces over 100000") ∷ Nothing ∷ []
 fault_fields (faults.TooBig input) =

@@ -48,9 +48,6 @@ pub fn conclude<E: Sink>(answer: &Result<Outcome, RunFault>, err: &mut E) -> Con
     let _ = deliver(line.as_bytes(), err);
     Conclusion {
         code: status(answer),
-        fault: match answer {
-            Ok(_) => None,
-            Err(fault) => Some(*fault),
-        },
+        fault: answer.err(),
     }
 }

@@ -36,8 +36,5 @@ pub fn deliver<S: Sink>(text: &[u8], out: &mut S) -> Result<(), usize>
     ensures { Delivers text.now (S.state out.old) (S.state out.new) result }
 {
     push_all(out, text)?;
-    match out.finish() {
-        Ok(()) => Ok(()),
-        Err(_) => Err(text.len()),
-    }
+    out.finish().map_err(|_| text.len())
 }

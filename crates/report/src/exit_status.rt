@@ -14,10 +14,8 @@ pub fn status(answer: &Result<Outcome, RunFault>) -> u8
     match answer {
         Ok(Outcome::Yes) => 0,
         Ok(Outcome::No) => 1,
-        Err(fault) => match fault {
-            RunFault::Memory => 3,
-            RunFault::Device(_) | RunFault::Write(_) => 4,
-            _ => 2,
-        },
+        Err(RunFault::Memory) => 3,
+        Err(RunFault::Device(_) | RunFault::Write(_)) => 4,
+        Err(_) => 2,
     }
 }

@@ -2,9 +2,9 @@
 
 ghost use Rattle.std.specs.Prelude.{◌≡◌, ◌+◌, ◌≤◌, ◌++◌, [], ◌∷◌, length, IfOk, string_bytes};
 ghost use Rattle.line_writer.specs.declared.line.TheConstants.{CAPACITY};
-ghost use Rattle.report.specs.Common.{Plain, Nothing, Word, field_data, fields_text, most_of, room_of};
+ghost use Rattle.report.specs.Common.{Plain, Word, field_data, fields_text, most_of, room_of};
 ghost use Rattle.report.specs.FaultText as spec;
-ghost use Rattle.report.specs.FaultText.{capture_word, place_of, claim_word, code_of, certificate_word, piece_of, fault_text, refutation_word, refused};
+ghost use Rattle.report.specs.FaultText.{capture_said, claim_said, certificate_said, fault_text, refutation_said, refused};
 
 use crate::fault::{Input, RunFault, SumsFault};
 use certificate::{CertificateFault, RefutationFault};
@@ -16,8 +16,7 @@ use std::str;
 
 /// The word for a capture's fault, and the place of the record whose fault it is.
 fn capture_words(fault: &CaptureFault) -> (&'static str, Field<'static>)
-    ensures word { result.0.now ≡ capture_word fault.now }
-    ensures place { field_data result.1 ≡ place_of fault.now }
+    ensures said { (Word result.0.now ∷ field_data result.1 ∷ []) ≡ capture_said fault.now }
     ensures room { length result.0.now + most_of (field_data result.1) ≤ 66 }
 {
     match fault {
@@ -37,8 +36,7 @@ fn capture_words(fault: &CaptureFault) -> (&'static str, Field<'static>)
 
 /// The word for a claim's fault, and the code of the field whose fault it is.
 fn claim_words(fault: &ClaimFault) -> (&'static str, Field<'static>)
-    ensures word { result.0.now ≡ claim_word fault.now }
-    ensures code { field_data result.1 ≡ code_of fault.now }
+    ensures said { (Word result.0.now ∷ field_data result.1 ∷ []) ≡ claim_said fault.now }
     ensures room { length result.0.now + most_of (field_data result.1) ≤ 66 }
 {
     match fault {
@@ -55,8 +53,7 @@ fn claim_words(fault: &ClaimFault) -> (&'static str, Field<'static>)
 
 /// The word for a certificate's fault, and the number of the piece whose fault it is.
 fn certificate_words(fault: &CertificateFault) -> (&'static str, Field<'static>)
-    ensures word { result.0.now ≡ certificate_word fault.now }
-    ensures piece { field_data result.1 ≡ piece_of fault.now }
+    ensures said { (Word result.0.now ∷ field_data result.1 ∷ []) ≡ certificate_said fault.now }
     ensures room { length result.0.now + most_of (field_data result.1) ≤ 66 }
 {
     match fault {
@@ -73,8 +70,7 @@ fn certificate_words(fault: &CertificateFault) -> (&'static str, Field<'static>)
 
 /// The word for a refutation's fault.
 fn refutation_words(fault: &RefutationFault) -> (&'static str, Field<'static>)
-    ensures word { result.0.now ≡ refutation_word fault.now }
-    ensures alone { field_data result.1 ≡ Nothing }
+    ensures said { (Word result.0.now ∷ field_data result.1 ∷ []) ≡ refutation_said fault.now }
     ensures room { length result.0.now + most_of (field_data result.1) ≤ 66 }
 {
     match fault {
@@ -111,7 +107,8 @@ fn put_refused(line: &mut Line, input: Input, number: u8, words: (&'static str, 
     requires room { length line.old + 200 ≤ CAPACITY }
     requires words { length words.0.now + most_of (field_data words.1) ≤ 66 }
     ensures { line.new ≡ fields_text Plain
-        (refused input number words.entry.0.now (field_data words.entry.1)) ++ line.old }
+        (refused input number (Word words.entry.0.now ∷ field_data words.entry.1 ∷ []))
+        ++ line.old }
 {
     let fields = [
         Field::Word("ntpaudit:"),

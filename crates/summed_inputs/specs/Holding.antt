@@ -53,8 +53,7 @@ feeds claim second capture = record { claim = claim; second = second; capture = 
 -- bytes of a second input that has this digest were read; none, if the question has none
 abbrev pub IsSecondHeld : SecondKind → List ℕ → Option (List ℕ) → List ℕ → Type 0
 IsSecondHeld no_second digest known read = read ≡ []
-IsSecondHeld certificate_second digest known read = IsHeld digest known read
-IsSecondHeld refutation_second digest known read = IsHeld digest known read
+IsSecondHeld kind digest known read = IsHeld digest known read
 
 -- why a second input isn't held to this digest
 abbrev pub IsSecondUnheld :
@@ -89,8 +88,7 @@ pub record IsSummed (text name : List ℕ) (known : Option (List ℕ)) (bytes : 
 abbrev pub IsSecondSummed :
     SecondKind → List ℕ → List ℕ → Option (List ℕ) → List ℕ → Type 0
 IsSecondSummed no_second text name known bytes = bytes ≡ []
-IsSecondSummed certificate_second text name known bytes = IsSummed text name known bytes
-IsSecondSummed refutation_second text name known bytes = IsSummed text name known bytes
+IsSecondSummed kind text name known bytes = IsSummed text name known bytes
 
 -- All three were read, and have their sums.
 pub record AreSummed (kind : SecondKind) (sums : SumsData) (before : Feeds)

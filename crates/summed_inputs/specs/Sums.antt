@@ -30,8 +30,7 @@ digests claim second capture = record { claim = claim; second = second; capture 
 -- input needs none
 abbrev pub needed : SecondKind → Option (List ℕ) → Option (List ℕ)
 needed no_second found = Some []
-needed certificate_second found = found
-needed refutation_second found = found
+needed kind found = found
 
 -- The file of sums gives these digests for the inputs.
 pub record AreGiven (kind : SecondKind) (sums : SumsData) (digests : Digests) : Type 0 where

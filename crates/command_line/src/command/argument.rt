@@ -48,20 +48,19 @@ pub(crate) fn is_given(words: &ArgMatches, name: &str) -> bool
 }
 
 /// The first value of an operand or option, as text.
-pub(crate) fn value<'a>(words: &ArgMatches<'a>, name: &str) -> Option<&'a str>
+fn value<'a>(words: &ArgMatches<'a>, name: &str) -> Option<&'a str>
     ensures { option_map (λ text. text.now) result ≡ first_of name.now (found_rows words.now) }
 {
     words.get_str(name)
 }
 
 /// The text of an operand, empty if it was left out.
-pub(crate) fn operand(alloc: Global, words: &ArgMatches, name: &str) -> Result<String, AllocError>
-    ensures { IfOk result (λ text.
-        string_bytes text ≡ spec.operand name.now (found_rows words.now)) }
+pub(crate) fn operand<'a>(words: &ArgMatches<'a>, name: &str) -> &'a str
+    ensures { result.now ≡ spec.operand name.now (found_rows words.now) }
 {
     match value(words, name) {
-        Some(text) => String::from_str(alloc, text),
-        None => Ok(String::new(alloc)),
+        Some(text) => text,
+        None => "",
     }
 }
 
@@ -110,17 +109,10 @@ pub(crate) fn step_option<'a>(alloc: Global, help: &'a str) -> Arg<'a>
         .default_value("64")
 }
 
-/// The number that is given for the length of a piece, in seconds.
-fn seconds_of(words: &ArgMatches) -> Option<u32>
-    ensures { IfSome result (λ seconds. step_given (found_rows words.now) ≡ Some seconds) }
-{
-    words.get_one::<u32>("step")
-}
-
 /// The length of a piece that is asked for.
 pub(crate) fn step_of(words: &ArgMatches) -> Option<Step>
     ensures { IfSome result (λ step. step_given (found_rows words.now) ≡ Some step.seconds) }
 {
-    let seconds = seconds_of(words)?;
+    let seconds = words.get_one::<u32>("step")?;
     Step::new(seconds)
 }

@@ -4,7 +4,7 @@ ghost use Rattle.std.specs.Prelude.{◌≡◌, IfOk, codes};
 ghost use Rattle.command_line.specs.Commands as table;
 ghost use Rattle.command_line.specs.Invocation.{IsCalled, IsShownTime, found_rows, time_given};
 
-use crate::command::argument::{is_given, operand, required, value};
+use crate::command::argument::{is_given, operand, required};
 use crate::command::evidence::{ask, evidence_command};
 use audit::{At, Request};
 use claim_file::read_time;
@@ -35,10 +35,7 @@ pub(crate) fn declaration<'a>(alloc: Global) -> Result<Command<'a>, AllocError>
 fn time_of(words: &ArgMatches) -> Option<u32>
     ensures { result ≡ time_given (found_rows words.now) }
 {
-    match value(words, "TIME") {
-        Some(text) => read_time(text),
-        None => read_time(""),
-    }
+    read_time(operand(words, "TIME"))
 }
 
 /// The TIME that is refused, if a person is told of it.
@@ -46,7 +43,7 @@ fn shown_time(alloc: Global, words: &ArgMatches) -> Result<Option<String>, Alloc
     ensures { IfOk result (IsShownTime (found_rows words.now)) }
 {
     if is_given(words, "human") {
-        Ok(Some(operand(alloc, words, "TIME")?))
+        Ok(Some(String::from_str(alloc, operand(words, "TIME"))?))
     } else {
         Ok(None)
     }

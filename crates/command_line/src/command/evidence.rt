@@ -56,8 +56,8 @@ fn paths(alloc: Global, words: &ArgMatches) -> Result<Paths, AllocError>
 {
     Ok(Paths {
         style: style(words),
-        claim: operand(alloc, words, "CLAIM")?,
-        capture: operand(alloc, words, "CAPTURE")?,
+        claim: String::from_str(alloc, operand(words, "CLAIM"))?,
+        capture: String::from_str(alloc, operand(words, "CAPTURE"))?,
         sums: text_of(alloc, words, "sums")?,
         output: text_of(alloc, words, "output")?,
     })
@@ -73,7 +73,7 @@ pub(crate) fn judged_paths(
 {
     Ok(JudgedPaths {
         evidence: paths(alloc, words)?,
-        second: operand(alloc, words, name)?,
+        second: String::from_str(alloc, operand(words, name))?,
     })
 }
 

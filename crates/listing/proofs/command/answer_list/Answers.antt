@@ -1,9 +1,5 @@
+use Rattle.listing.proofs.Common.{arith}
 use Rattle.listing.proofs.command.answer_list.Goals as goal
 
 pub returns-clause-answers : goal.returns-clause-answers
-returns-clause-answers g c = record {
-  answer = c.run_list-capture.result.1;
-  promise = c.run_list-capture.ensures.reports;
-  concludes = c.conclude.ensures.concludes;
-  conclusion_is = c.conclude.ensures.exact;
-}
+returns-clause-answers g c = grind arith

@@ -1,10 +1,31 @@
-use Rattle.std.proofs.Common.{◌∙◌, Option, Some, None, ap, sym}
-use Rattle.std.specs.Prelude.{IfSome}
+use Rattle.std.proofs.Common.{◌≡◌, ◌∙◌, ℕ, List, Option, Some, None, Result, Ok, refl, ap, codes, subst, sym}
+use Rattle.std.proofs.lemmas.Option.{IfSome_then}
+use Rattle.std.specs.Prelude.{IfSome, option_map}
+use Rattle.std.specs.Str.Parse.{ExplainsUnsignedError, HasUnsignedDigitsIfOk, ParsesUnsigned, digits_value, without_leading_plus}
+use Rattle.clap.specs.Words.{ReadsOne, found_of, one_text}
+use Rattle.clap.proofs.WalkLemmas.{one_text-rows}
 use Rattle.command_line.proofs.command.argument.step_of.Goals as goal
 
-weaker : {A : Type 0} (given : Option A) (P Q : A → Type 0) → ((x : A) → P x → Q x) → IfSome given P → IfSome given Q
-weaker None P Q imply held = tt
-weaker (Some x) P Q imply held = imply x held
+-- the number that a text's digits are
+abbrev number : List ℕ → ℕ
+number text = digits_value 10 (without_leading_plus text)
+
+-- what is read of a text that is given is its number
+reads : (E : Type 0) (G : List ℕ → Result ℕ E → Type 0) →
+    ((text : List ℕ) (x : Result ℕ E) → G text x → ParsesUnsigned 32 10 text x) →
+    (given : Option (List ℕ)) (seconds : ℕ) → (given ≡ None → Some seconds ≡ None) →
+    ((text : List ℕ) → given ≡ Some text → ReadsOne G text (Some seconds)) →
+    option_map number given ≡ Some seconds
+reads E G parses None seconds none value = let wrong : Some seconds ≡ None = none refl in cc
+reads E G parses (Some text) seconds none value = ap Some (sym (parses text (Ok seconds) (value text refl)).1)
 
 pub returns : goal.returns
-returns c = weaker c.new.result _ _ (λ step is. c.in_ok-seconds.ensures ∙ ap Some (sym is)) c.new.ensures.value
+returns c =
+    let f = found_of c.args.words.now in
+    let seconds = c.in_ok-seconds.seconds in
+    let given = subst (λ (given : Option (List ℕ)). option_map number given ≡ Some seconds)
+    (one_text-rows f (codes "step"))
+    (reads _ (λ text x. ParsesUnsigned 32 10 text x × ExplainsUnsignedError 10 text x × HasUnsignedDigitsIfOk text x)
+    (λ text x parsed. parsed.0) (one_text f (codes "step")) seconds c.in_ok-seconds.ensures.none
+    c.in_ok-seconds.ensures.value) in
+    IfSome_then c.new.result c.new.ensures.value (λ step is. given ∙ ap Some (sym is))
