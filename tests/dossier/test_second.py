@@ -3,6 +3,7 @@
 import json
 import os
 import shutil
+import sys
 from pathlib import Path
 from typing import Any
 
@@ -166,14 +167,17 @@ def test_second_on_the_path(place: Path) -> None:
     (prefix / "bin").mkdir()
     script = shutil.copy(ROOT / "ntpaudit-dossier", prefix / "bin")
     dossier("audit", folder)
+    # Whoever runs this may have ntpaudit installed: the PATH has nothing but an interpreter.
+    (place / "python").mkdir()
+    (place / "python/python3").symlink_to(sys.executable)
     for path in (prefix / "bin", place):
         second = shutil.copy(RECHECK, path / "ntpaudit-recheck")
         status, out, _ = run([script, "verify", "--second", folder],
-                             env={**ENVIRONMENT, "PATH": f".:{os.environ['PATH']}:{place}"})
+                             env={**ENVIRONMENT, "PATH": f".:{place}/python:{place}"})
         check(f"a second program in {path.name}", run=((status, b"(judged by two programs)" in out), (0, True)))
         os.unlink(second)
     (folder / "ntpaudit-recheck").write_text("#!/bin/sh\necho verdict yes\n")
     (folder / "ntpaudit-recheck").chmod(0o755)
     status, _, err = run([script, "verify", "--second", "."], cwd=folder,
-                         env={**ENVIRONMENT, "PATH": f".:{os.environ['PATH']}"})
+                         env={**ENVIRONMENT, "PATH": f".:{place}/python"})
     check("a second program in the folder", run=((status, b"isn't there" in err), (70, True)))
