@@ -154,8 +154,8 @@ class Process:
         return failed(fault("the process of this folder was ended", MEMORY))
 
     def ended(self) -> int:
-        """The signal that ended it, or 0. It is ended at once, or when its files are in their places; then all that it
-        called, and it, whatever it is at. If it waits for a device that doesn't answer, it is left to itself."""
+        """The signal that ended it, or 0. It is asked to end, which it does once its files are in their places; then it
+        and all that it called are killed. If it waits for a device that doesn't answer, it is left to itself."""
         os.close(self.output)
         with suppress(ProcessLookupError):
             os.kill(self.process, END)

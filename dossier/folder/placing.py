@@ -124,7 +124,7 @@ def copy_of(folder: Folder, name: str, path: str) -> str:
 
 @contextmanager
 def undisturbed() -> Iterator[None]:
-    """Has signals wait, while files may have names that only this process knows, for it to take these away."""
+    """Lets signals wait while files have names that only this process knows: nobody else would take them away."""
     before = signal.pthread_sigmask(signal.SIG_BLOCK, (signal.SIGINT, signal.SIGTERM, signal.SIGALRM, END))
     try:
         yield
