@@ -1,5 +1,5 @@
 -- The line that reports a fault is ASCII, and so UTF-8.
-use Rattle.report.proofs.Common.{◌≡◌, ℕ, zero, suc, ◌/◌, ◌%◌, ◌<◌, ◌++◌, ◌==◌, Bool, true, false, if◌then◌else◌, List, [], ◌∷◌, codes, refl, arith, IsUtf8, IsAscii, RunFault, fault_text, fault_fields}
+use Rattle.report.proofs.Common.{◌≡◌, ℕ, zero, suc, ◌/◌, ◌%◌, ◌<◌, ◌++◌, ◌==◌, Bool, true, false, if◌then◌else◌, subst, List, [], ◌∷◌, codes, refl, arith, IsUtf8, IsAscii, RunFault, fault_text, fault_fields}
 use Rattle.std.proofs.lemmas.Bool.Decides.{nat_tests}
 use Rattle.std.proofs.lemmas.Bool.{and_parts, ltb-true}
 use Rattle.std.proofs.lemmas.Str.{IsAscii-append, IsUtf8-from_ascii}
@@ -14,7 +14,7 @@ use Rattle.certificate.specs.declared.refutation_fault.RefutationFault.TheVarian
 use Rattle.report.specs.declared.fault.Input.TheVariants.{Claim}
 use Rattle.report.specs.declared.fault.RunFault.TheVariants as faults
 use Rattle.report.specs.declared.fault.SumsFault.TheVariants as sums
-use Rattle.line_writer.specs.Field.{FieldData, fields_text, is_absent, next_text, rest_text, text_of, Word, Number, Named, Nothing}
+use Rattle.line_writer.specs.Field.{FieldData, next_text, rest_text, Word, Number, Named, Nothing}
 use Rattle.line_writer.specs.declared.field.Style.TheVariants.{Plain}
 
 -- a text of bytes below 128 alone
@@ -50,39 +50,38 @@ is_plain (Named name n) = are_small name
 is_plain Nothing = true
 is_plain _ = false
 
-field_is_ascii : (field : FieldData) → is_plain field ≡ true → IsAscii (text_of Plain field)
-field_is_ascii (Word word) plain = ascii_literal word plain
-field_is_ascii (Number n) plain = decimal_is_ascii n
-field_is_ascii (Named name n) plain =
-    IsAscii-append (name ++ codes " ") _
-    (IsAscii-append name _ (ascii_literal name plain) (ascii_literal (codes " ") refl)) (decimal_is_ascii n)
-field_is_ascii Nothing plain = IsAscii-nil
-field_is_ascii _ plain = absurd (cc)
+next_is_ascii : (field : FieldData) → is_plain field ≡ true → IsAscii (next_text Plain field)
+next_is_ascii (Word word) plain = ascii_literal (codes " " ++ word) plain
+next_is_ascii (Number n) plain = IsAscii-append (codes " ") _ (ascii_literal (codes " ") refl) (decimal_is_ascii n)
+next_is_ascii (Named name n) plain =
+    IsAscii-append (codes " " ++ (name ++ codes " ")) _
+    (IsAscii-append (codes " " ++ name) _ (ascii_literal (codes " " ++ name) plain) (ascii_literal (codes " ") refl))
+    (decimal_is_ascii n)
+next_is_ascii Nothing plain = IsAscii-nil
+next_is_ascii _ plain = absurd (cc)
 
 rest_is_ascii : (fields : List FieldData) → list_all is_plain fields ≡ true → IsAscii (rest_text Plain fields)
 rest_is_ascii [] plain = IsAscii-nil
 rest_is_ascii (field ∷ fields) plain =
     let (here, rest) = and_parts _ _ plain in
-    let after = IsAscii-append (codes " ") _ (ascii_literal (codes " ") refl) (field_is_ascii field here) in
-    IsAscii-append (next_text Plain field) _ (either_ascii (is_absent Plain field) [] _ IsAscii-nil after)
-    (rest_is_ascii fields rest)
+    IsAscii-append (next_text Plain field) _ (next_is_ascii field here) (rest_is_ascii fields rest)
 
-fields_are_ascii : (fields : List FieldData) → list_all is_plain fields ≡ true → IsAscii (fields_text Plain fields)
-fields_are_ascii [] plain = IsAscii-nil
-fields_are_ascii (field ∷ fields) plain =
-    let (here, rest) = and_parts _ _ plain in
-    IsAscii-append (text_of Plain field) _ (field_is_ascii field here) (rest_is_ascii fields rest)
-
-faults_are_plain : (fault : RunFault) → list_all is_plain (fault_fields fault) ≡ true
-faults_are_plain (faults.Capture captures.Magic) = refl
-faults_are_plain (faults.Claim claims.Json) = refl
-faults_are_plain (faults.Certificate certificates.Json) = refl
-faults_are_plain (faults.Refutation refutations.Json) = refl
-faults_are_plain (faults.TooBig Claim) = refl
-faults_are_plain (faults.Device Claim) = refl
-faults_are_plain (faults.Sums (sums.Missing Claim)) = refl
-faults_are_plain (faults.Sums (sums.Differ Claim)) = refl
-faults_are_plain fault = refl
+-- each line is a blank less than what would follow another field
+faults_are_plain : (fault : RunFault) →
+    (list_all is_plain (fault_fields fault) ≡ true)
+    × (rest_text Plain (fault_fields fault) ≡ codes " " ++ fault_text fault)
+faults_are_plain (faults.Capture captures.Magic) = (refl, refl)
+faults_are_plain (faults.Claim claims.Json) = (refl, refl)
+faults_are_plain (faults.Certificate certificates.Json) = (refl, refl)
+faults_are_plain (faults.Refutation refutations.Json) = (refl, refl)
+faults_are_plain (faults.TooBig Claim) = (refl, refl)
+faults_are_plain (faults.Device Claim) = (refl, refl)
+faults_are_plain (faults.Sums (sums.Missing Claim)) = (refl, refl)
+faults_are_plain (faults.Sums (sums.Differ Claim)) = (refl, refl)
+faults_are_plain fault = (refl, refl)
 
 pub fault_is_utf8 : (fault : RunFault) → IsUtf8 (fault_text fault)
-fault_is_utf8 fault = IsUtf8-from_ascii _ (fields_are_ascii (fault_fields fault) (faults_are_plain fault))
+fault_is_utf8 fault =
+    let (plain, same) = faults_are_plain fault in
+    let after_blank = subst IsAscii same (rest_is_ascii (fault_fields fault) plain) in
+    IsUtf8-from_ascii _ (λ i. after_blank (suc i))

@@ -11,6 +11,7 @@ ghost use Rattle.report.specs.Run.{RunState};
 
 /// If an input is refused before any line, nothing is written, and no fault of the sink is
 /// answered: not even if `finish` fails.
+#[tactic(auto, using(crate::proofs::LinelessRefusal::writes_nothing))]
 pub fn refusal_stays()
     ensures unwritten { (fault : RunFault) (before after : RunState)
         (answer : Result Outcome RunFault) → Reports (Some (refused fault)) before after answer →

@@ -4,8 +4,6 @@ use Rattle.report.proofs.fault_text.fault_line.Goals as goal
 
 pub unwrap-text-requires : goal.unwrap-text-requires
 unwrap-text-requires c =
-    let text = fault_text c.args.fault.now in
-    let bytes : c.as_bytes.result.now ≡ text =
-    c.as_bytes.ensures.text ∙ c.put_fault.ensures ∙ rw c.new-line.ensures (append-nil text) in
-    let is = subst IsUtf8 (sym bytes) (fault_is_utf8 c.args.fault.now) in
-    search (rules, is)
+    let bytes : c.as_bytes.result.now ≡ fault_text c.args.fault.now =
+    c.as_bytes.ensures.text ∙ c.put_fault.ensures ∙ rw c.new-line.ensures (append-nil (fault_text c.args.fault.now)) in
+    let is = subst IsUtf8 (sym bytes) (fault_is_utf8 c.args.fault.now) in search (rules, is)

@@ -17,8 +17,7 @@ returns-in-Err-finish-clause-closes g c =
     (record { kept = finishes.known; closed = finishes.closes; counts = finishes.counts_fault }))
 
 pub returns-in-Err-flush-clause-closes : goal.returns-in-Err-flush-clause-closes
-returns-in-Err-flush-clause-closes g c =
-    closes_short _ _ c.args.ran c.in-Err-flush.failed (rw c.in-Ok.is tt) c.in-Err-flush.ensures.puts_nothing
+returns-in-Err-flush-clause-closes g c = closes_short _ _ _ _ (rw c.in-Ok.is tt) c.in-Err-flush.ensures.puts_nothing
 
 pub returns-in-Device-clause-closes : goal.returns-in-Device-clause-closes
 returns-in-Device-clause-closes g c =

@@ -1,4 +1,4 @@
-use Rattle.std.proofs.Common.{arith, length}
+use Rattle.report.proofs.Common.{arith, length}
 use Rattle.report.proofs.OutputSteps.{put_flushed, put_stopped}
 use Rattle.report.proofs.output.Output.flush.Goals as goal
 
@@ -10,8 +10,7 @@ returns-in-Err-clause-puts_nothing g c =
     let short = rw c.as_slice.ensures.value at c.in-Err.ensures.cut in
     let went = rw c.as_slice.ensures.value at c.in-Err.ensures.err in
     record {
-      texts = λ before texts put.
-          put_stopped before _ _ texts c.in-Err.gone put (record { short = short; went = went });
+      texts = λ before texts put. put_stopped before _ _ texts c.in-Err.gone put short went;
       fault = tt;
       count = tt;
       is_open = c.in-Err.ensures.stays_open;
