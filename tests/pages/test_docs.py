@@ -6,7 +6,7 @@
 - FORMATS.md has the fields of tests/second/columns.py.
 - GUIDE.md's table of steps says what `find` finds in data/chrony-ns.pcap.
 - What is quoted from the crates stands there as it is quoted, and each library's root documentation has an example.
-- THEOREM.md says how many lines docs/statement counts, and they are 360 at most; with `run` they are 100 at most.
+- THEOREM.md says how many lines docs/statement counts, and they are 400 at most; with `run` they are 100 at most.
 - No page has more words than its limit, as `wc -w` counts all of it: prose, tables, blocks.
 - A fact that used to stand in many places has one home: no other page states it, and may only link to it.
 - Where a person reads, a number of ticks has its milliseconds or nanoseconds beside it.
@@ -140,7 +140,7 @@ def test_statement() -> None:
     text = (ROOT / "docs/THEOREM.md").read_text("utf-8")
     lines = int(count.split()[0]) if status == 0 else 0
     check(f"THEOREM.md: {count}", status=(status, 0), said=(f": {count}." in text, True),
-          short=(0 < lines <= 360, True))
+          short=(0 < lines <= 400, True))
     status, printed, _ = run([ROOT / "docs/statement", "run"])
     page = printed.decode()
     lines = int(page.splitlines()[-1].split()[0]) if status == 0 else 0

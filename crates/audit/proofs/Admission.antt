@@ -1,6 +1,6 @@
 -- The errors that the entries of an accepted piece admit: there are some, and none is beyond the bound.
 use Rattle.std.proofs.Common.{rules}
-use Rattle.audit.proofs.Common.{◌≡◌, ℕ, zero, suc, ◌-◌, ◌*◌, ◌<◌, ◌≤◌, ℤ, pos, negsuc, neg_ℤ, ◌+ℤ◌, ◌-ℤ◌, ◌*ℤ◌, ◌≤ℤ◌, ◌<ℤ◌, unsigned_abs, Bool, true, false, cond, ◌&&◌, ⊎_elim, List, length, Option, Some, None, count_by, refl, sym, ap, ◌∙◌, subst, arith, IsSomeAnd, ◌↔◌, slice_get, slice_index, list_any, option_map, mul-le-mul_right, cases_lt, cond-true, cond-false, and_parts, and_from, nat_tests, ints, slice_get-map, slice_get_read, IsCeiling, ClaimData, Exchange, Sample, Stretch, samples_of, by_test, MayChangeBy, Admit, ◌==◌}
+use Rattle.audit.proofs.Common.{◌≡◌, ℕ, suc, ◌-◌, ◌*◌, ◌<◌, ◌≤◌, ℤ, pos, neg_ℤ, ◌+ℤ◌, ◌-ℤ◌, ◌*ℤ◌, ◌≤ℤ◌, ◌<ℤ◌, unsigned_abs, Bool, true, false, cond, ◌&&◌, ⊎_elim, List, length, Option, Some, None, count_by, refl, sym, ap, ◌∙◌, subst, arith, IsSomeAnd, ◌↔◌, slice_get, slice_index, list_any, option_map, mul-le-mul_right, cases_lt, cond-true, cond-false, and_parts, and_from, nat_tests, ints, slice_get-map, slice_get_read, IsCeiling, ClaimData, Exchange, Sample, Stretch, samples_of, by_test, MayChangeBy, Admit, ◌==◌}
 use Rattle.std.proofs.lemmas.List.Folds.{Any-from_list_any}
 use Rattle.std.proofs.lemmas.List.Sums.{sum_by-le-sum_by}
 use Rattle.std.proofs.lemmas.Map.Keys.{any_passes_from_place}
@@ -41,22 +41,14 @@ in_reach n d w _ some ceiling most = omega (arith, ints)
 -- and what is less than that is no more
 from_reach : (n d w : ℕ) (z : ℤ) → IsCeiling n d w → ((z -ℤ pos 1) *ℤ pos d) <ℤ pos n → z ≤ℤ pos w
 from_reach n d w (pos (suc k)) ceiling less =
-    let fewer = as_natural (k * d) n (rw (one_less k d) at less) in
-    ⊎_elim (λ below. omega (arith, ints, below))
-    (λ over. absurd (omega (arith, mul-le-mul_right d over, ceiling.not_below, fewer))) (cases_lt k w)
+    grind (arith, ints, nat_tests, as_natural, one_less, ⊎_elim, mul-le-mul_right, cases_lt)
 from_reach n d w _ ceiling less = omega (arith, ints)
 
-low_over : (l e : ℤ) (w : ℕ) → (l -ℤ pos w) ≤ℤ e → (l -ℤ e) ≤ℤ pos w
-low_over l e w h = omega (arith, ints)
+low_over : (l e : ℤ) (w : ℕ) → ((l -ℤ pos w) ≤ℤ e) ↔ ((l -ℤ e) ≤ℤ pos w)
+low_over l e w = (λ h. omega (arith, ints), λ h. omega (arith, ints))
 
-low_back : (l e : ℤ) (w : ℕ) → (l -ℤ e) ≤ℤ pos w → (l -ℤ pos w) ≤ℤ e
-low_back l e w h = omega (arith, ints)
-
-high_over : (e l : ℤ) (w : ℕ) → e ≤ℤ (l +ℤ pos w) → (e -ℤ l) ≤ℤ pos w
-high_over e l w h = omega (arith, ints)
-
-high_back : (e l : ℤ) (w : ℕ) → (e -ℤ l) ≤ℤ pos w → e ≤ℤ (l +ℤ pos w)
-high_back e l w h = omega (arith, ints)
+high_over : (e l : ℤ) (w : ℕ) → (e ≤ℤ (l +ℤ pos w)) ↔ ((e -ℤ l) ≤ℤ pos w)
+high_over e l w = (λ h. omega (arith, ints), λ h. omega (arith, ints))
 
 size_within : (e b : ℤ) → neg_ℤ b ≤ℤ e → e ≤ℤ b → pos (unsigned_abs e) ≤ℤ b
 size_within e b above below = omega (arith, ints)
@@ -89,11 +81,11 @@ module _ (widenings : WideningLaw) (claim : ClaimData) (rate : claim.drift_ppb �
 
   low_room : (x : Exchange) → (moved_low (sample_of x claim.reading) begin end claim.drift_ppb ≤ℤ error) ↔ LowRoom x
   unfolding moved_low
-  low_room x = grind (arith, reached, widening, low_over, low_back)
+  low_room x = grind (arith, reached, widening, low_over)
 
   high_room : (y : Exchange) → (error ≤ℤ moved_high (sample_of y claim.reading) begin end claim.drift_ppb) ↔ HighRoom y
   unfolding moved_high
-  high_room y = grind (arith, reached, widening, high_over, high_back)
+  high_room y = grind (arith, reached, widening, high_over)
 
 -- ---- all entries
 
@@ -117,6 +109,22 @@ module _ (widenings : WideningLaw) (claim : ClaimData) (rate : claim.drift_ppb �
       → Said (a, b) part
       → part ≡ part_of (sample_of x claim.reading) (sample_of y claim.reading) stretch claim.drift_ppb
   part_is a b x y part at_a at_b said = grind (arith, part_of, sample_is, sample_of)
+
+  -- that part is of the first one's server, and holds an error exactly if both leave room for it
+  rooms : (a b : ℕ) (x y : Exchange) (part : Part) (error : ℤ) → slice_get xs a ≡ Some x → slice_get xs b ≡ Some y
+      → Said (a, b) part → (part.server ≡ x.server) × ((leaves_out part.interval error ≡ false)
+      ↔ (LowRoom widenings claim rate stretch.begin stretch.end error x
+      × HighRoom widenings claim rate stretch.begin stretch.end error y))
+  rooms a b x y part error at_a at_b said =
+      let is = part_is a b x y part at_a at_b said in
+      let low = low_room widenings claim rate stretch.begin stretch.end error x in
+      let high = high_room widenings claim rate stretch.begin stretch.end error y in (
+        ap (λ (p : Part). p.server) is,
+        (
+          λ held. let ends = held_ends part.interval error held in (low.0 (rw is at ends.0), high.0 (rw is at ends.1)),
+          λ room. held_test part.interval error (rw is (low.1 room.0)) (rw is (high.1 room.1)),
+        ),
+      )
 
   -- a part of a group, which leaves a point out
   abbrev in_group : ℤ → ℕ → Part → Bool
@@ -147,19 +155,11 @@ module _ (widenings : WideningLaw) (claim : ClaimData) (rate : claim.drift_ppb �
         (all_numbers (length claim.groups))
         (let few = shown.hull.1.0 in let same = count_is shown.lo in omega (arith, few, same));
     room = λ j a b x y named at_a at_b fine.
-        let found = some_with (Said (a, b)) (slice_get shown.parts j)
+        let (part, at, said) = some_with (Said (a, b)) (slice_get shown.parts j)
         (rw named at (AllZip-left Said entries shown.parts shown.said j)) in
-        let part = found.0 in
-        let is = part_is a b x y part at_a at_b found.2 in
-        let server : part.server ≡ x.server = ap (λ (p : Part). p.server) is in
-        let held = part_holds shown.lo (slice_index claim.groups x.server) j part found.1
-        (ap (slice_index claim.groups) server) fine in
-        let ends = held_ends part.interval shown.lo held in
-        let low = subst (λ (p : Part). p.interval.lo ≤ℤ shown.lo) is ends.0 in
-        let high = subst (λ (p : Part). shown.lo ≤ℤ p.interval.hi) is ends.1 in (
-          (low_room widenings claim rate stretch.begin stretch.end shown.lo x).0 low,
-          (high_room widenings claim rate stretch.begin stretch.end shown.lo y).0 high,
-        );
+        let (server, holds) = rooms a b x y part shown.lo at_a at_b said in
+        holds.0 (part_holds shown.lo (slice_index claim.groups x.server) j part at
+        (ap (slice_index claim.groups) server) fine);
   }
 
   module _ (error : ℤ) (admit : Admit claim xs entries stretch.begin stretch.end error) where
@@ -167,22 +167,13 @@ module _ (widenings : WideningLaw) (claim : ClaimData) (rate : claim.drift_ppb �
     admitted_by : (j : ℕ) (part : Part) → slice_get shown.parts j ≡ Some part
         → admit.is_wrong (slice_index claim.groups part.server) ≡ false → leaves_out part.interval error ≡ false
     admitted_by j part at fine =
-        let found = some_with (λ entry. Said entry part) (slice_get entries j)
+        let (entry, there, said) = some_with (λ entry. Said entry part) (slice_get entries j)
         (rw at at (AllZip-right Said entries shown.parts shown.said j)) in
-        let entry = found.0 in
-        let low_at = exchange_at entry.0 found.2.low found.2.low_is in
-        let high_at = exchange_at entry.1 found.2.high found.2.high_is in
-        let x = low_at.0 in
-        let y = high_at.0 in
-        let is = part_is entry.0 entry.1 x y part low_at.1 high_at.1 found.2 in
-        let server : part.server ≡ x.server = ap (λ (p : Part). p.server) is in
-        let room = admit.room j entry.0 entry.1 x y found.1 low_at.1 high_at.1
-        (ap (λ (s : ℕ). admit.is_wrong (slice_index claim.groups s)) (sym server) ∙ fine) in
-        let low = (low_room widenings claim rate stretch.begin stretch.end error x).1 room.0 in
-        let high = (high_room widenings claim rate stretch.begin stretch.end error y).1 room.1 in
-        held_test part.interval error
-        (subst (λ (p : Part). p.interval.lo ≤ℤ error) (sym is) low)
-        (subst (λ (p : Part). error ≤ℤ p.interval.hi) (sym is) high)
+        let (x, x_at, _) = exchange_at entry.0 said.low said.low_is in
+        let (y, y_at, _) = exchange_at entry.1 said.high said.high_is in
+        let (server, holds) = rooms entry.0 entry.1 x y part error x_at y_at said in
+        holds.1 (admit.room j entry.0 entry.1 x y there x_at y_at
+        (ap (λ (s : ℕ). admit.is_wrong (slice_index claim.groups s)) (sym server) ∙ fine))
 
     -- so a group that leaves it out is wrong
     out_is_wrong : (g : ℕ) → group_leaves_out error g ≡ true → admit.is_wrong g ≡ true

@@ -1,6 +1,6 @@
 -- What is read of a capture is what its bytes give.
 use Rattle.std.proofs.Common.{rules}
-use Rattle.audit.proofs.Common.{◌≡◌, ◌∙◌, ℕ, List, Option, Some, None, Result, Ok, Err, refl, sym, ap, inl, inr, IfSome, IsOk, CaptureFault, Coming, capture_of, AllRemains, ClaimData, PairFault, IsAnswerTo, compact_data, Collection, IsFromOutside, Reads, HasLawfulHeader, capture_read, collection_read, pair_run_fault_of, IfSome_then, run_fault_of, arith, ints, nat_tests}
+use Rattle.audit.proofs.Common.{◌≡◌, ℕ, List, Option, Some, None, Result, Ok, Err, ap, inl, inr, IfSome, CaptureFault, Coming, capture_of, AllRemains, ClaimData, PairFault, IsAnswerTo, compact_data, Collection, IsFromOutside, Reads, HasLawfulHeader, capture_read, collection_read, pair_run_fault_of, run_fault_of, arith, ints, nat_tests}
 use Rattle.pcap_reader.specs.declared.fault.CaptureFault.TheVariants as captures
 use Rattle.pcap_reader.specs.Refusal.{IsRefusal}
 use Rattle.pairing.specs.declared.compact.CompactCollection.{CompactCollection}
@@ -48,6 +48,6 @@ module _ (claim : ClaimData) where
 -- ---- the header
 
 -- a capture that was read has a lawful header
-pub header_was_read : (claim : ClaimData) (known : Option (List ℕ)) (held : CompactCollection) →
-    IfSome known (λ bytes. Reads compact_data (capture_read claim bytes) (Ok held)) → HasLawfulHeader known
-header_was_read claim known held reads = search (rules, of_capture)
+pub header_was_read : (claim : ClaimData) (known : Option (List ℕ)) (collection : Collection) →
+    IfSome known (λ bytes. capture_read claim bytes ≡ Ok collection) → HasLawfulHeader known
+header_was_read claim known collection is = search (rules, of_capture)

@@ -1,12 +1,12 @@
 -- What the proofs of this crate name from elsewhere.
 pub use Rattle.std.proofs.Common.{Bool, Err, List, None, Ok, Option, Result, Some, [], ap, append-nil, append_assoc}
 pub use Rattle.std.proofs.Common.{arith, codes, cond, count_by, drop, false, get_or, inl, inr, int_lt, length, map}
-pub use Rattle.std.proofs.Common.{neg_ℤ, negsuc, not, pos, refl, subst, suc, sym, take, true, true≢false, unsigned_abs}
-pub use Rattle.std.proofs.Common.{zero, ℕ, ℤ, ⊎_elim, ◌&&◌, ◌*ℤ◌, ◌*◌, ◌++◌, ◌+ℤ◌, ◌+◌, ◌-ℤ◌, ◌-◌, ◌<ℤ◌, ◌<◌, ◌==◌}
-pub use Rattle.std.proofs.Common.{◌||◌, ◌↔◌, ◌∙◌, ◌∷◌, ◌≡◌, ◌≢◌, ◌≤ℤ◌, ◌≤◌, ◌⊎◌, add-one}
+pub use Rattle.std.proofs.Common.{neg_ℤ, not, pos, refl, subst, suc, sym, take, true, unsigned_abs, zero, ℕ, ℤ, ⊎_elim}
+pub use Rattle.std.proofs.Common.{◌&&◌, ◌*ℤ◌, ◌*◌, ◌++◌, ◌+ℤ◌, ◌+◌, ◌-ℤ◌, ◌-◌, ◌<ℤ◌, ◌<◌, ◌==◌, ◌↔◌, ◌∙◌, ◌∷◌, ◌≡◌, ◌≢◌}
+pub use Rattle.std.proofs.Common.{◌≤ℤ◌, ◌≤◌, ◌⊎◌, add-one}
 pub use Rattle.std.proofs.Math.Nat.{mul-le-mul_right}
 pub use Rattle.std.proofs.Math.Seq.{drop-append_seam, take-append_seam, drop-cons}
-pub use Rattle.std.proofs.lemmas.Bool.{and_from, and_parts, cases_lt, cond-false, cond-true, ltb-false}
+pub use Rattle.std.proofs.lemmas.Bool.{and_from, and_parts, cases_lt, cond-false, cond-true}
 pub use Rattle.std.proofs.lemmas.Bool.Decides.{nat_tests}
 pub use Rattle.std.proofs.lemmas.Int.{ints, unsigned_abs-mul}
 pub use Rattle.std.proofs.lemmas.List.{get_or-map, length-append, length-drop, length-map, length-take-le}
@@ -16,9 +16,8 @@ pub use Rattle.std.proofs.lemmas.Option.{slice_get-get_or, slice_get-map, slice_
 pub use Rattle.std.proofs.lemmas.Result.{IfOk-weaker}
 pub use Rattle.std.specs.List.{cons_option, list_any}
 pub use Rattle.std.specs.Option.{option_and_then}
-pub use Rattle.std.specs.Prelude.{All, AllPairs, Contains, IfErr, IfOk, IfSome, IsNone, IsOk, IsSome, IsSomeAnd}
-pub use Rattle.std.specs.Prelude.{MatchResult, filter, filter_map, if◌then◌else◌, is_some, nat_lt, slice_get}
-pub use Rattle.std.specs.Prelude.{slice_index, unwrap_or}
+pub use Rattle.std.specs.Prelude.{All, AllPairs, Contains, IfErr, IfOk, IfSome, IsNone, IsSome, IsSomeAnd, MatchResult}
+pub use Rattle.std.specs.Prelude.{filter, filter_map, if◌then◌else◌, is_some, nat_lt, slice_get, slice_index, unwrap_or}
 pub use Rattle.audit_text.specs.SampleLine.{sample_line}
 unfoldable pub use Rattle.audit_text.specs.Samples.{samples_text}
 pub use Rattle.certificate.specs.Refutation.{data_of}
@@ -28,7 +27,7 @@ pub use Rattle.lemma_base.proofs.List.{All-cons_option, All-slice_get, slice_get
 pub use Rattle.checker.specs.Course.{IsClientMoment}
 pub use Rattle.checker.specs.Stretch.{begin_of, stretches_from}
 pub use Rattle.claim_file.specs.Address.{address_of, addresses_of, are_different}
-pub use Rattle.claim_file.specs.Reading.{NamedData, claim_with, is_in_range, named_of}
+pub use Rattle.claim_file.specs.Reading.{NamedData, is_in_range, named_of}
 pub use Rattle.claim_file.specs.Time.{time_of}
 pub use Rattle.feasibility.specs.DriftSettlement.{SettlesWithDrift}
 unfoldable pub use Rattle.era_unfold.specs.Nanoseconds.{ticks_down, ticks_up}
@@ -46,9 +45,8 @@ pub use Rattle.pairing.specs.Exchange.{most_exchanges}
 pub use Rattle.pairing.specs.Message.{Reply, Request, reply_from, reply_in, request_in, request_to}
 unfoldable pub use Rattle.pairing.specs.Message.{reply_of, request_of}
 pub use Rattle.pairing.specs.Pair.{IsExchangeOf, IsPair, NameEachOther}
-pub use Rattle.pairing.specs.Pairing.{answers, counts_of, distance_of, exchange_of, high_of, low_of}
+pub use Rattle.pairing.specs.Pairing.{answers, distance_of, exchange_of, high_of, low_of}
 unfoldable pub use Rattle.pairing.specs.Pairing.{collection_of, replies_of, requests_of}
-pub use Rattle.pairing.specs.Refusal.{has_zero_stamp, is_synchronized_stratum}
 unfoldable pub use Rattle.pairing.specs.Refusal.{refusal_of}
 pub use Rattle.pcap_reader.specs.Capture.{AreRecordsFrom, IsRecordAt, record_spelling, spelling}
 pub use Rattle.pcap_reader.specs.Source.{AllRemains, TakesFrom-at_most, TakesFrom-trans}
@@ -62,50 +60,46 @@ pub use Rattle.report.specs.Runs.{IsUnwrittenAt}
 pub use Rattle.sample_interval.specs.Moment.{Moment}
 pub use Rattle.serde_json.specs.Data.{Items, Num, item, no_items}
 pub use Rattle.serde_json.specs.Find.{as_array, as_str, as_u64}
-pub use Rattle.audit.specs.Common.{IsRequestTo, ceiling_of, floor_of, replying_server, requested_server, AllZip}
-pub use Rattle.audit.specs.Common.{AreLawful, CaptureFault, CertificateData, ClaimData, Collection, Coming, Course}
-pub use Rattle.audit.specs.Common.{Data, Empty, Endian, Exchange, FeedState, FindFault, FindsEnvelope, Fits}
-pub use Rattle.audit.specs.Common.{FitsInWindows, FitsPiece, Format, GetsText, HasClaim, HasCourse, HasLawfulHeader}
-pub use Rattle.audit.specs.Common.{HasTooManyPieces, HoldsError, Hull, Input, IsAgainst, IsBeforeCapture}
-pub use Rattle.audit.specs.Common.{IsBeforeSecond, IsBytes, IsCapture, IsCeiling, IsContradicted, IsDotted, IsFloor}
-pub use Rattle.audit.specs.Common.{IsFromOutside, IsInWindow, IsLawful, IsMadeFor, IsNearestRefutation, IsRefuted}
-pub use Rattle.audit.specs.Common.{IsTime, IsUnfolded, IsUnwritten, IsVerdictOn, LeastCarried, No, NoneIsRefuted}
-pub use Rattle.audit.specs.Common.{Outcome, Packet, PairFault, PieceData, Plain, Publishes, Reads, Ready, Record}
-pub use Rattle.audit.specs.Common.{RefutationData, Report, RunFault, RunState, Runs, SameRequest, Sample, SettledData}
-pub use Rattle.audit.specs.Common.{Settles, SettlesFit, SharesRequests, SinkState, SomeCourse, Stretch, Style}
-pub use Rattle.audit.specs.Common.{TakesAtMost, TooBig, Unit, Verdict, Yes, about_told, array, big_bytes, capture_of}
-pub use Rattle.audit.specs.Common.{certificate_data, certificate_read, claim_of, claim_read, compact_data, count_of}
-pub use Rattle.audit.specs.Common.{error_of, exchanges_of, flat_map, get, is_capture, is_claim, is_device, is_second}
-pub use Rattle.audit.specs.Common.{items_of, leap_of, magic_of, max_certificate, max_claim, max_pieces, max_refutation}
-pub use Rattle.audit.specs.Common.{mode_of, most_read, nanoseconds_per_second, ntp_port, number, option_map, origin_of}
-pub use Rattle.audit.specs.Common.{output_state, parsed, per_second, precision_of, precision_ticks_of, range_with_len}
-pub use Rattle.audit.specs.Common.{receive_of, refused, refutation_read, result_map_both, root_delay_of}
-pub use Rattle.audit.specs.Common.{root_dispersion_of, run_fault_of, samples_of, settled_data, sink_name, spelled}
-pub use Rattle.audit.specs.Common.{status_of, stratum_of, stretch_of, string, ticks_per_second, transmit_of, unsigned}
-pub use Rattle.audit.specs.Common.{verdict_of, version_of, whole_text}
+pub use Rattle.audit.specs.Common.{IsReplyOf, IsRequestTo, ceiling_of, floor_of, replying_server, requested_server}
+pub use Rattle.audit.specs.Common.{AllZip, CaptureFault, CertificateData, ClaimData, Collection, Coming, Course, Data}
+pub use Rattle.audit.specs.Common.{Endian, Exchange, FeedState, FindFault, FindsEnvelope, Fits, FitsInWindows, Format}
+pub use Rattle.audit.specs.Common.{GetsText, HasClaim, HasCourse, HasLawfulHeader, HasTooManyPieces, HoldsError, Input}
+pub use Rattle.audit.specs.Common.{IsAgainst, IsBytes, IsCapture, IsCeiling, IsDotted, IsFloor, IsFromOutside}
+pub use Rattle.audit.specs.Common.{IsInWindow, IsLawful, IsMadeFor, IsNearestRefutation, IsRefuted, IsTime, IsUnfolded}
+pub use Rattle.audit.specs.Common.{IsUnwritten, IsVerdictOn, LeastCarried, No, NoneIsRefuted, Outcome, Packet}
+pub use Rattle.audit.specs.Common.{PairFault, PieceData, Plain, Publishes, Reads, Ready, Record, RefutationData, Report}
+pub use Rattle.audit.specs.Common.{RunFault, RunState, Runs, SameRequest, Sample, SettledData, Settles, SharesRequests}
+pub use Rattle.audit.specs.Common.{SinkState, SomeCourse, Stretch, Style, TakesAtMost, TooBig, Unit, Verdict, Yes}
+pub use Rattle.audit.specs.Common.{about_told, array, capture_of, certificate_data, certificate_read, claim_of}
+pub use Rattle.audit.specs.Common.{claim_read, compact_data, count_of, error_of, exchanges_of, flat_map, get, is_device}
+pub use Rattle.audit.specs.Common.{items_of, magic_of, max_claim, max_pieces, most_read, nanoseconds_per_second}
+pub use Rattle.audit.specs.Common.{ntp_port, number, option_map, origin_of, output_state, parsed, per_second}
+pub use Rattle.audit.specs.Common.{precision_of, precision_ticks_of, range_with_len, receive_of, refused}
+pub use Rattle.audit.specs.Common.{refutation_read, result_map_both, root_delay_of, root_dispersion_of, run_fault_of}
+pub use Rattle.audit.specs.Common.{samples_of, settled_data, sink_name, spelled, status_of, stretch_of, string}
+pub use Rattle.audit.specs.Common.{ticks_per_second, transmit_of, unsigned, whole_text}
 pub use Rattle.audit.specs.CaptureInput.{collection_read, pair_run_fault_of}
 unfoldable pub use Rattle.audit.specs.CaptureInput.{capture_read}
 pub use Rattle.audit.specs.Captured.{CapturedFrame, IsCaptureOf, IsLawfulFrame, frame_of, record_bytes}
-pub use Rattle.audit.specs.Check.{ArePiecesTraced, HasVerdict, HasVerdictYes, IsDenied, IsTracedByPieces, IsTracedTo}
-pub use Rattle.audit.specs.Check.{check, outcome_of, verdict_on, IsEnoughFor}
+pub use Rattle.audit.specs.Check.{ArePiecesTraced, HasVerdict, HasVerdictYes, IsTracedTo, check, outcome_of, verdict_on}
+pub use Rattle.audit.specs.Check.{IsEnoughFor}
 pub use Rattle.audit.specs.Claimed.{IsClaimText, IsTimeAt, IsWithinLimits, numbers_value}
-pub use Rattle.audit.specs.Contested.{CourseContests, HasCourseBeyond, IsBeyond, IsBeyondNanoseconds, IsContestedShown}
+pub use Rattle.audit.specs.Contested.{CourseContests, HasCourseBeyond, IsBeyondNanoseconds, AreRead, ReadingLaw}
 pub use Rattle.audit.specs.Contested.{ShowsContested, BytesLaws}
 pub use Rattle.audit.specs.Envelope.{IsEnvelopeOf, bound_outcome}
 pub use Rattle.audit.specs.Evidence.{EvidenceData, GiveEvidence, IsEvidenceOf, OfClaimAndCapture, evidence_data}
-pub use Rattle.audit.specs.Evidence.{evidence_of, samples_in}
-pub use Rattle.audit.specs.Exchanged.{FrameLaws, HoldsRequest, IsAmong, IsExchangeIn, IsUsable, IsWindowOf}
+pub use Rattle.audit.specs.Evidence.{samples_in}
+pub use Rattle.audit.specs.Exchanged.{FrameLaws, HoldsPacket, HoldsRequest, IsAmong, IsExchangeIn, IsUsable, IsWindowOf}
 pub use Rattle.audit.specs.Exchanged.{SameExchange}
 pub use Rattle.audit.specs.Find.{IsSearchOf, find_run_fault_of, found_outcome, found_report}
 pub use Rattle.audit.specs.Finding.{IsFindingFrom, IsFindingOf, IsSettlementFrom, IsSettlementOf, ShowsFinding}
-pub use Rattle.audit.specs.FramedPacket.{DatagramLaw, HoldsPacket, HoldsShown, packet_with}
-pub use Rattle.audit.specs.Headline.{Admit, IsShown, MayChangeBy}
+pub use Rattle.audit.specs.Headline.{Admit, MayChangeBy}
 pub use Rattle.audit.specs.Least.{IsLeastBoundOf, least_line_of}
 pub use Rattle.audit.specs.Question.{AreInputsOf, AskedData, Finding, QuestionData, ShowsOf, for_a_program, no_finding}
 pub use Rattle.audit.specs.Refute.{GiveRefutation, IsContestedOf, IsSettledFor, IsUncontestedOf, refute}
 pub use Rattle.audit.specs.Refute.{refuted_outcome}
-pub use Rattle.audit.specs.Report.{InputsData, IsOfMaking, IsUnfound, Tells, TellsFinding, TellsTwice, inputs_data}
-pub use Rattle.audit.specs.Report.{inputs_read, report_on, run_report, with_second, TellsOf}
+pub use Rattle.audit.specs.Report.{InputsData, IsOfMaking, IsUnfound, Tells, inputs_data, inputs_read, report_on}
+pub use Rattle.audit.specs.Report.{run_report, TellsOf}
 pub use Rattle.audit.specs.Second.{HasSecond, SecondData, SecondKind, certificate_said, certificate_second, most_second}
 pub use Rattle.audit.specs.Second.{no_second, nothing_said, refutation_said, refutation_second, second_read}
 pub use Rattle.audit.specs.Settle.{IsSettledBy, IsSettledFrom, IsSettledOf, IsShownOf, is_on_least, names_least}

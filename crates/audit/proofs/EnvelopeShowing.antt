@@ -1,5 +1,5 @@
 -- What an envelope shows.
-use Rattle.audit.proofs.Common.{◌≡◌, ◌∙◌, ◌≤◌, ℕ, List, length, Ok, refl, sym, ap, subst, arith, ⊎_elim, cases_lt, length-map, All-map, All, range_with_len, max_pieces, ClaimData, Sample, HoldsError, IsContradicted, Stretch, FindsEnvelope, IsEnvelopeOf, bound_outcome, EvidenceData, samples_in, map, Hull, Empty, count_of}
+use Rattle.audit.proofs.Common.{◌≡◌, ◌∙◌, ◌≤◌, ℕ, List, length, Ok, refl, sym, ap, subst, arith, ⊎_elim, cases_lt, length-map, All-map, All, range_with_len, max_pieces, ClaimData, Sample, HoldsError, Stretch, FindsEnvelope, IsEnvelopeOf, bound_outcome, EvidenceData, samples_in, count_of}
 use Rattle.std.proofs.lemmas.List.FromFn.{length-map-range_with_len}
 use Rattle.finder.proofs.EnvelopePieces.{envelope_of_few, envelope_of_many}
 use Rattle.finder.specs.declared.envelope.Envelope.{Envelope as FoundEnvelope}
@@ -29,20 +29,9 @@ module _ (samples : List Sample) (claim : ClaimData) (step : ℕ) where
       length envelope.pieces.items ≤ max_pieces
   few_pieces envelope e =
       let is = whole (data_of envelope) e in
-      let n = count_of claim step in
-      let count : length (map piece_data envelope.pieces.items) ≡ n =
-      ap (λ (d : EnvelopeData). length d.pieces) is.same
-      ∙ length-map-range_with_len (piece_hull_at samples claim step) 0 n in
+      let count = ap (λ (d : EnvelopeData). length d.pieces) is.same
+      ∙ length-map-range_with_len (piece_hull_at samples claim step) 0 (count_of claim step) in
       omega (arith, is.few, length-map envelope.pieces.items piece_data, count)
-
--- ---- what their hulls hold
-
-module _ (P : PieceHullData → Type 0) (at : ℕ → PieceHullData) (each : (k : ℕ) → P (at k)) where
-  all_numbers : (ks : List ℕ) → All (λ k. P (at k)) ks
-  all_numbers ks = λ k d within. each _
-
-  all_pieces : (n : ℕ) → All P (map at (range_with_len 0 n))
-  all_pieces n = All-map P at (range_with_len 0 n) (all_numbers (range_with_len 0 n))
 
 -- ---- the whole
 
@@ -54,17 +43,16 @@ pub envelope_shows : (step : ℕ) (e : EvidenceData)
 envelope_shows step e law envelope finds =
     let samples = samples_in e in
     let is = whole samples e.claim step (data_of envelope) finds.exact in
-    let n = count_of e.claim step in
-    let at = piece_hull_at samples e.claim step in
     let Holds = λ (piece : PieceHullData). HoldsError e.claim samples piece.stretch piece.hull in
-    let Void = λ (piece : PieceHullData). piece.hull ≡ Empty → IsContradicted e.claim samples piece.stretch in
+    let holds = subst (λ (d : EnvelopeData). All Holds d.pieces) (sym is.same) (All-map Holds
+    (piece_hull_at samples e.claim step) (range_with_len 0 (count_of e.claim step)) (λ k d within. law _)) in
     record {
       envelope = data_of envelope;
       envelope_is = finds.exact;
-      holds_error = subst (λ (d : EnvelopeData). All Holds d.pieces) (sym is.same)
-          (all_pieces Holds at (λ k. law (at k).stretch) n);
-      empty = subst (λ (d : EnvelopeData). All Void d.pieces) (sym is.same) (all_pieces Void at
-          (λ k is. subst (λ (h : Hull). HoldsError e.claim samples (at k).stretch h) is (law (at k).stretch)) n);
+      holds_error = holds;
+      empty = λ k d within empty. rw empty at (holds k d within);
       bound = finds.least;
       outcome_is = refl;
     }
+
+pub ruleset few_enough = (count_is_few, few_pieces)

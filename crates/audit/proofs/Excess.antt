@@ -1,5 +1,5 @@
--- An error beyond the bound: in parts of a tick, in nanoseconds, and of an accepted refutation.
-use Rattle.audit.proofs.Common.{◌≡◌, ℕ, suc, ◌*◌, ◌<◌, ℤ, pos, ◌*ℤ◌, unsigned_abs, unsigned_abs-mul, Bool, true, false, inl, ⊎_elim, List, length, get_or, Some, ap, ◌∙◌, arith, slice_get, mul-le-mul_right, cases_lt, ints, length-map, slice_get-get_or, IsBytes, nanoseconds_per_second, IsFloor, ticks_per_second, Format, Record, IsCapture, RefutationData, ClaimData, AreGiven, Exchange, error_of, Course, FitsInWindows, IsAgainst, HasCourse, SharesRequests, frame_of, IsClaimText, HasCourseBeyond, IsBeyond, IsBeyondNanoseconds, EvidenceData, IsEvidenceOf, CourseContests, ShowsContested, IsContestedOf}
+-- An error beyond the bound: in nanoseconds, and of an accepted refutation.
+use Rattle.audit.proofs.Common.{◌≡◌, ℕ, suc, ◌*◌, ◌<◌, pos, ◌*ℤ◌, unsigned_abs, unsigned_abs-mul, Bool, inl, ⊎_elim, List, length, get_or, Some, ap, ◌∙◌, arith, slice_get, mul-le-mul_right, cases_lt, length-map, slice_get-get_or, IsBytes, nanoseconds_per_second, IsFloor, ticks_per_second, Format, Record, IsCapture, RefutationData, ClaimData, AreGiven, Exchange, error_of, Course, FitsInWindows, IsAgainst, HasCourse, SharesRequests, frame_of, IsClaimText, HasCourseBeyond, IsBeyondNanoseconds, EvidenceData, IsEvidenceOf, CourseContests, ShowsContested, IsContestedOf, ReadingLaw}
 use Rattle.intersection.specs.Fineness.{times_le}
 use Rattle.audit.proofs.RecordFrames.{captured, each_record}
 use Rattle.audit.proofs.ExchangeRecords.{in_place}
@@ -17,32 +17,29 @@ above_floor bound_ns bound size floor beyond = ⊎_elim (λ above. above)
     (λ within. absurd (let least = floor.greatest size within in omega (arith, least, beyond)))
     (cases_lt (bound_ns * ticks_per_second) (size * nanoseconds_per_second))
 
-module _ (text : List ℕ) (claim : ClaimData) (said : IsClaimText text claim) (xs : List Exchange)
-    (has : HasCourseBeyond claim xs) where
-  size : ℕ
-  size = unsigned_abs has.error
+beyond_in_nanoseconds : (text : List ℕ) (claim : ClaimData) → IsClaimText text claim → (xs : List Exchange)
+    → (beyond : HasCourseBeyond claim xs) → IsBeyondNanoseconds beyond.course claim.bound_ns
+beyond_in_nanoseconds text claim said xs beyond =
+    let n = beyond.course.fineness in
+    let size = unsigned_abs beyond.error in
+    let size_is = ap unsigned_abs beyond.error_is ∙ unsigned_abs-mul beyond.error (pos n) in
+    let more : said.bound < size = grind (arith) in
+    let less = times_lt (claim.bound_ns * ticks_per_second) (size * nanoseconds_per_second) n
+    beyond.fits.fits.some_fineness (above_floor claim.bound_ns said.bound size said.bound_is more) in
+    rw size_is (omega (arith, less))
 
-  size_is : unsigned_abs (error_of has.course.observation) ≡ size * has.course.fineness
-  unfolding size
-  size_is = ap unsigned_abs has.error_is ∙ unsigned_abs-mul has.error (pos has.course.fineness)
-
-  beyond_ticks : said.bound < size
-  unfolding size
-  beyond_ticks = grind (arith)
-
-  pub beyond_in_ticks : IsBeyond has.course claim.bound
-  beyond_in_ticks =
-      let n = has.course.fineness in
-      let less : said.bound * n < size * n = times_lt said.bound size n has.fits.fits.some_fineness beyond_ticks in
-      rw (said.bound_in_ticks, size_is) (omega (arith, ints))
-
-  pub beyond_in_nanoseconds : IsBeyondNanoseconds has.course claim.bound_ns
-  beyond_in_nanoseconds =
-      let n = has.course.fineness in
-      let above = above_floor claim.bound_ns said.bound size said.bound_is beyond_ticks in
-      let less = times_lt (claim.bound_ns * ticks_per_second) (size * nanoseconds_per_second) n
-      has.fits.fits.some_fineness above in
-      rw size_is (omega (arith, less))
+-- what is read with a course like that is contested
+pub contested : ReadingLaw → CourseContests
+contested reading text bytes e all is beyond =
+    let read = reading text bytes e all is in
+    record {
+      claim = e.claim;
+      exchanges = e.collection.exchanges;
+      said = read.said;
+      none_is_missing = read.none_is_missing;
+      beyond = beyond;
+      beyond_nanoseconds = beyond_in_nanoseconds text e.claim read.said.claim_is e.collection.exchanges beyond;
+    }
 
 -- ---- refutations
 
@@ -75,12 +72,7 @@ course_beyond claim xs r against (course, of) = grind (arith, observed_beyond, i
 -- one that stands has a course beyond the bound
 standing_beyond : (drift : Bool) (r : RefutationData) (e : EvidenceData) → IsContestedOf drift r e
     → HasCourseBeyond e.claim e.collection.exchanges
-standing_beyond true r e stands =
-    let of = stands.course in
-    observed_beyond e.claim e.collection.exchanges r stands.accepted.against of.course of.fits of.shares_requests
-    of.observed.reading of.observed.error
-standing_beyond false r e stands =
-    course_beyond e.claim e.collection.exchanges r stands.accepted.against stands.course
+standing_beyond x0 r e stands = grind (arith, course_beyond, observed_beyond)
 
 -- which the bytes show that give the evidence
 pub contests : CourseContests → (drift : Bool) (r : RefutationData) (e : EvidenceData) → IsContestedOf drift r e

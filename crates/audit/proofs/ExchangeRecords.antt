@@ -1,8 +1,8 @@
 -- The exchanges of records are exchanges in them.
 use Rattle.std.proofs.Common.{rules}
-use Rattle.audit.proofs.Common.{by_test, ◌≡◌, ◌≢◌, ℕ, zero, suc, ◌+◌, ◌*◌, ◌<◌, pos, int_lt, Bool, true, ◌&&◌, ◌==◌, inr, List, [], ◌∷◌, ◌++◌, length, map, Option, Some, None, refl, sym, ap, ◌∙◌, subst, arith, All, AllPairs, Contains, slice_get, filter, filter_map, unwrap_or, cons_option, option_and_then, option_map, cond-false, nat_tests, take-append_seam, drop-append_seam, All-nil, All-contains, All-filter, All-take, All-drop, IsBytes, Unit as TimeUnit, per_second, window_low, window_high, Endian, Format, Record, IsCapture, spelling, record_spelling, mode_of, precision_of, precision_ticks_of, root_delay_of, root_dispersion_of, origin_of, receive_of, transmit_of, root_distance_of, Packet, ntp_port, packet_of, ClaimData, Exchange, Request, Reply, IsRequestTo, request_of, reply_of, requested_server, replying_server, request_in, reply_in, request_to, reply_from, IsExchangeOf, IsPair, requests_of, replies_of, answers, exchange_of, exchanges_of, low_of, high_of, distance_of, CapturedFrame, frame_of, HoldsPacket, HoldsShown, packet_with, HoldsRequest, IsUsable, IsWindowOf, IsExchangeIn, FrameLaws, All-cons_option, All-slice_get, NameEachOther, ints}
+use Rattle.audit.proofs.Common.{by_test, ◌≡◌, ◌≢◌, ℕ, zero, suc, ◌+◌, ◌*◌, ◌<◌, pos, int_lt, Bool, true, ◌&&◌, ◌==◌, List, [], ◌∷◌, ◌++◌, length, map, Option, Some, None, refl, sym, ap, ◌∙◌, subst, arith, All, AllPairs, Contains, slice_get, filter, filter_map, unwrap_or, cons_option, cond-false, nat_tests, take-append_seam, drop-append_seam, All-nil, All-contains, All-filter, All-take, All-drop, IsBytes, Unit as TimeUnit, per_second, window_low, window_high, Endian, Format, Record, IsCapture, spelling, record_spelling, precision_of, precision_ticks_of, root_delay_of, root_dispersion_of, origin_of, receive_of, transmit_of, root_distance_of, Packet, packet_of, ClaimData, Exchange, Request, Reply, IsReplyOf, IsRequestTo, request_of, reply_of, requested_server, replying_server, request_in, reply_in, request_to, reply_from, IsExchangeOf, IsPair, requests_of, replies_of, answers, exchange_of, exchanges_of, low_of, high_of, distance_of, frame_of, HoldsPacket, HoldsRequest, IsUsable, IsWindowOf, IsExchangeIn, FrameLaws, All-cons_option, All-slice_get, NameEachOther, ints}
 use Rattle.pcap_reader.specs.declared.format.RecordHead.{RecordHead}
-use Rattle.audit.proofs.PacketParts.{packet_given, packet_held, usable_from}
+use Rattle.audit.proofs.PacketParts.{usable}
 use Rattle.audit.proofs.RecordFrames.{each_record, frame_at, mapped, passed, said_by}
 
 -- ---- lists
@@ -40,104 +40,48 @@ kept p (z ∷ ys) y (suc k, below, is) passes =
     let found = kept p ys y (k, omega (arith, below), is) passes in
     by_test (p z) (λ test. rw test (suc found.0, omega (arith, found.1), found.2)) (λ test. rw test found)
 
-pub three_pass : (a b c : ℕ) → (a == a && (b == b && c == c)) ≡ true
-three_pass a b c = grind (arith, nat_tests)
+pub three_pass : (a b c d e f : ℕ) → a ≡ b → c ≡ d → e ≡ f → (a == b && (c == d && e == f)) ≡ true
+three_pass a b c d e f x y z = grind (arith, nat_tests)
 
 lone : {Y : Type 0} (q y : Y) → Contains (q ∷ []) y → q ≡ y
-lone q y (zero, below, is) = is
-lone q y (suc k, below, is) = absurd (omega arith)
+lone q y (k, below, is) = grind (arith, ints, nat_tests)
 
 -- ---- requests and replies
 
--- the same packet, with addresses and ports said in other words
-moved : {s s₂ : List ℕ} {p p₂ : ℕ} {d d₂ : List ℕ} {q q₂ : ℕ} (frame header : List ℕ) → s ≡ s₂ → p ≡ p₂ → d ≡ d₂
-    → q ≡ q₂ → HoldsPacket frame s p d q header → HoldsPacket frame s₂ p₂ d₂ q₂ header
-moved frame header a b c e held = rw (a, b, c, e) at held
-
-restamped : {p p₂ t t₂ : ℕ} (frame client server : List ℕ) → p ≡ p₂ → t ≡ t₂ → HoldsRequest frame client p server t
-    → HoldsRequest frame client p₂ server t₂
-restamped frame client server a b held = rw (a, b) at held
-
-module _ (laws : FrameLaws) (claim : ClaimData) (apart : AllPairs (λ a b. a ≢ b) claim.servers) where
-  -- the packet of a record that gives a reply
-  pub record IsReplyAt (r : Record) (reply : Reply) : Type 0 where
-    pub head_is : reply.head ≡ r.head
-    pub server : List ℕ
-    pub listed : slice_get claim.servers reply.server ≡ Some server
-    pub held : HoldsPacket r.bytes server ntp_port claim.client reply.port reply.header
-    pub mode : mode_of reply.header ≡ 4
-
-  pub reply_at : (r : Record) (reply : Reply) → IsBytes r.bytes → reply_of claim r ≡ Some reply → IsReplyAt r reply
+module _ (laws : FrameLaws) (claim : ClaimData) (apart : AllPairs (λ a b. a ≢ b) claim.servers) (r : Record)
+    (bytes : IsBytes r.bytes) where
+  -- a record that gives a reply holds its packet
+  reply_at : (reply : Reply) → reply_of claim r ≡ Some reply → (p : Packet) × (server : ℕ)
+      × HoldsPacket r.bytes p × IsReplyOf claim server p × (reply_from r.head p server ≡ reply)
   unfolding reply_of
-  reply_at r reply bytes e =
-      let read = passed (reply_in claim r.head) (packet_of r.bytes) reply e in
-      let from = mapped (reply_from r.head read.0) (replying_server claim read.0) reply read.2 in
-      let is = (laws.reply claim read.0 from.0 apart).0 from.1 in
-      subst (IsReplyAt r) from.2 (record {
-        head_is = refl;
-        server = read.0.datagram.source;
-        listed = is.from_server;
-        held = moved r.bytes read.0.header refl is.from_port is.to_client refl
-            (packet_given laws.datagram r.bytes bytes read.0 read.1);
-        mode = is.mode;
-      })
+  reply_at reply e =
+      let (p, given, then) = passed (reply_in claim r.head) (packet_of r.bytes) reply e in
+      let (server, found, is) = mapped (reply_from r.head p) (replying_server claim p) reply then in
+      (p, server, (laws.packet r.bytes p bytes).0 given, (laws.reply claim p server apart).0 found, is)
 
-  -- and of one that gives a request
-  pub record IsRequestAt (r : Record) (q : Request) : Type 0 where
-    pub packet : Packet
-    pub held : HoldsShown r.bytes packet
-    pub asks : IsRequestTo claim q.server packet
-    pub is : q ≡ request_to r.head packet q.server
+  pub gives_reply : (server : ℕ) (p : Packet) → HoldsPacket r.bytes p → IsReplyOf claim server p
+      → reply_of claim r ≡ Some (reply_from r.head p server)
+  unfolding reply_of
+  gives_reply server p held is = grind (arith, laws.packet r.bytes p bytes, laws.reply claim p server apart)
 
-  pub request_at : (r : Record) (q : Request) → IsBytes r.bytes → request_of claim r ≡ Some q → IsRequestAt r q
+  -- and so does one that gives a request
+  request_at : (q : Request) → request_of claim r ≡ Some q → (p : Packet) × (server : ℕ)
+      × HoldsPacket r.bytes p × IsRequestTo claim server p × (request_to r.head p server ≡ q)
   unfolding request_of
-  request_at r q bytes e =
-      let read = passed (request_in claim r.head) (packet_of r.bytes) q e in
-      let to = mapped (request_to r.head read.0) (requested_server claim read.0) q read.2 in
-      subst (IsRequestAt r) to.2 (record {
-        packet = read.0;
-        held = packet_given laws.datagram r.bytes bytes read.0 read.1;
-        asks = (laws.request claim read.0 to.0 apart).0 to.1;
-        is = refl;
-      })
+  request_at q e =
+      let (p, given, then) = passed (request_in claim r.head) (packet_of r.bytes) q e in
+      let (server, found, is) = mapped (request_to r.head p) (requested_server claim p) q then in
+      (p, server, (laws.packet r.bytes p bytes).0 given, (laws.request claim p server apart).0 found, is)
 
-  -- such a record holds the request
-  pub holds_request : (r : Record) (q : Request) (address : List ℕ) → IsBytes r.bytes → request_of claim r ≡ Some q
-      → slice_get claim.servers q.server ≡ Some address
-      → HoldsRequest r.bytes claim.client q.port address q.stamp
-  holds_request r q address bytes gives listed =
-      let at = request_at r q bytes gives in
-      let port : q.port ≡ at.packet.datagram.source_port = ap (λ (x : Request). x.port) at.is in
-      let stamp : q.stamp ≡ transmit_of at.packet.header = ap (λ (x : Request). x.stamp) at.is in
-      let to_server : at.packet.datagram.destination ≡ address = (let there = at.asks.to_server in cc) in
-      record {
-        header = at.packet.header;
-        held = moved r.bytes at.packet.header at.asks.from_client (sym port) to_server at.asks.to_port at.held;
-        version = at.asks.version;
-        mode = at.asks.mode;
-        stamped = sym stamp;
-      }
+  -- it holds the request that a reply names
+  pub holds_request : (q : Request) (head : RecordHead) (p : Packet) (server : ℕ) → request_of claim r ≡ Some q
+      → NameEachOther q (reply_from head p server) → HoldsRequest claim server p r.bytes
+  holds_request q head p server e named = grind (arith, ints, nat_tests, request_at, request_to, reply_from)
 
-  -- a record that holds a request gives it
-  pub gives_request : (r : Record) (server : ℕ) (address : List ℕ) (port stamp : ℕ)
-      → slice_get claim.servers server ≡ Some address → IsBytes r.bytes
-      → HoldsRequest r.bytes claim.client port address stamp
-      → request_of claim r ≡ Some (record { server = server; port = port; stamp = stamp; head = r.head })
+  pub gives_request : (server : ℕ) (p : Packet) → HoldsPacket r.bytes p → IsRequestTo claim server p
+      → request_of claim r ≡ Some (request_to r.head p server)
   unfolding request_of
-  gives_request r server address port stamp listed bytes holds =
-      let found = packet_held laws.datagram r.bytes bytes claim.client port address ntp_port holds.header (inr refl)
-      holds.held in
-      let p = packet_with claim.client port address ntp_port holds.header found.0 in
-      let asked = (laws.request claim p server apart).1 (record {
-        from_client = refl;
-        to_server = listed;
-        to_port = refl;
-        mode = holds.mode;
-        version = holds.version;
-      }) in
-      ap (option_and_then (request_in claim r.head)) found.1
-      ∙ ap (option_map (request_to r.head p)) asked
-      ∙ ap (λ (n : ℕ). Some (record { server = server; port = port; stamp = n; head = r.head })) holds.stamped
+  gives_request server p held is = grind (arith, laws.packet r.bytes p bytes, laws.request claim p server apart)
 
 -- ---- times
 
@@ -147,14 +91,7 @@ some_units x0 = grind (arith)
 module _ (laws : FrameLaws) where
   window_of : (r : Record) → IsWindowOf r.head.unit (frame_of r) (low_of r.head) (high_of r.head)
   unfolding window_low window_high
-  window_of r = record {
-    low_tick = window_low r.head.unit r.head.sec r.head.sub;
-    high_tick = window_high r.head.unit r.head.sec r.head.sub;
-    low_is = refl;
-    high_is = refl;
-    floor = laws.down _ _ (some_units r.head.unit);
-    ceiling = laws.up _ _ (some_units r.head.unit);
-  }
+  window_of r = search (rules, laws, some_units)
 
   pub distance_is : (header : List ℕ) → IsUsable header → distance_of header ≡ pos (root_delay_of header * 32768
       + root_dispersion_of header * 65536 + precision_ticks_of (precision_of header))
@@ -171,75 +108,61 @@ pub record AreInPlace (unit : TimeUnit) (records : List Record) : Type 0 where
 
 module _ (laws : FrameLaws) (claim : ClaimData) (apart : AllPairs (λ a b. a ≢ b) claim.servers) (unit : TimeUnit)
     (records : List Record) (given : AreInPlace unit records) where
-  -- the record with the number of a head
-  number_at : (k : ℕ) (r : Record) (head : RecordHead) → head ≡ r.head → slice_get records k ≡ Some r
-      → slice_get (map frame_of records) head.number ≡ Some (frame_of r)
-  number_at k r head is at = rw (is, given.numbered k r at) (frame_at records k r at)
+  frame_stands : (k : ℕ) (r : Record) → slice_get records k ≡ Some r
+      → slice_get (map frame_of records) r.head.number ≡ Some (frame_of r)
+  frame_stands k r at = rw (given.numbered k r at) (frame_at records k r at)
 
-  pub window_at : (k : ℕ) (r : Record) (head : RecordHead) → head ≡ r.head → slice_get records k ≡ Some r
-      → IsWindowOf unit (frame_of r) (low_of head) (high_of head)
-  window_at k r head is at = search (rules, given, window_of)
+  pub window_at : (k : ℕ) (r : Record) → slice_get records k ≡ Some r
+      → IsWindowOf unit (frame_of r) (low_of r.head) (high_of r.head)
+  window_at k r at = search (rules, given, window_of)
 
   exchange_in : (q : Request) (reply : Reply) → IsPair claim records q reply → NameEachOther q reply
       → IsExchangeIn claim unit (map frame_of records) (exchange_of q reply)
   unfolding requests_of replies_of
   exchange_in q reply pair named =
-      let replied = All-contains (GivesAt (reply_of claim) records) (replies_of claim records) reply
+      let (i, r, at_r, gives_r) = All-contains (GivesAt (reply_of claim) records) (replies_of claim records) reply
       (all_given (reply_of claim) records) pair.given in
-      let asked = subst (λ (qs : List Request). All (GivesAt (request_of claim) records) qs) pair.only
+      let (j, s, at_s, gives_s) = subst (λ (qs : List Request). All (GivesAt (request_of claim) records) qs) pair.only
       (All-filter (answers reply) (GivesAt (request_of claim) records) (requests_of claim records)
       (all_given (request_of claim) records)) 0 q (omega arith) in
-      let r = replied.1 in
-      let s = asked.1 in
-      let at_r = reply_at laws claim apart r reply (given.bytes replied.0 r replied.2) replied.3 in
-      let at_s = request_at laws claim apart s q (given.bytes asked.0 s asked.2) asked.3 in
-      let head_s : q.head ≡ s.head = ap (λ (x : Request). x.head) at_s.is in
-      record {
+      let (p, server, held_r, of_server, is_r) = reply_at laws claim apart r (given.bytes i r at_r) reply gives_r in
+      let (u, to, held_s, to_server, is_s) = request_at laws claim apart s (given.bytes j s at_s) q gives_s in
+      let pair' : IsPair claim records (request_to s.head u to) (reply_from r.head p server) = rw (is_s, is_r) pair in
+      let accepted = (usable p.header).0 pair'.accepted in
+      rw (← is_r, ← is_s) (record {
         request = frame_of s;
         reply = frame_of r;
-        request_stands = number_at asked.0 s q.head head_s asked.2;
-        reply_stands = number_at replied.0 r reply.head at_r.head_is replied.2;
-        server = at_r.server;
-        port = reply.port;
-        header = reply.header;
-        server_listed = at_r.listed;
-        answers = at_r.held;
-        mode = at_r.mode;
-        usable = usable_from reply.header pair.accepted;
-        asks = restamped s.bytes claim.client at_r.server (sym named.port) (sym named.stamp)
-            (holds_request laws claim apart s q at_r.server (given.bytes asked.0 s asked.2) asked.3
-            (ap (slice_get claim.servers) (sym named.server) ∙ at_r.listed));
+        request_stands = frame_stands j s at_s;
+        reply_stands = frame_stands i r at_r;
+        packet = p;
+        answers = held_r;
+        of_server = of_server;
+        usable = accepted;
+        asks = holds_request laws claim apart s (given.bytes j s at_s) q r.head p server gives_s (rw is_r named);
         only = λ k frame at holds.
             let said = said_by records k frame at in
             let other = said.by in
-            let found : Request = record {
-              server = reply.server;
-              port = reply.port;
-              stamp = origin_of reply.header;
-              head = other.head;
-            } in
-            let holds_other = subst
-            (λ (f : CapturedFrame). HoldsRequest f.bytes claim.client reply.port at_r.server (origin_of reply.header))
-            (sym said.is) holds in
-            let gives = gives_request laws claim apart other reply.server at_r.server reply.port
-            (origin_of reply.header) at_r.listed (given.bytes k other said.stands) holds_other in
-            let passes = three_pass reply.server reply.port (origin_of reply.header) in
-            let same = lone q found (rw pair.only at (kept (answers reply) (filter_map (request_of claim) records) found
+            let held : HoldsPacket other.bytes holds.request = rw (← said.is) at holds.held in
+            let found = request_to other.head holds.request server in
+            let gives = gives_request laws claim apart other (given.bytes k other said.stands) server holds.request held
+            holds.to_server in
+            let passes = three_pass server server p.datagram.destination_port holds.request.datagram.source_port
+            (origin_of p.header) (transmit_of holds.request.header) refl (sym holds.port) (sym holds.stamp) in
+            let same = lone (request_to s.head u to) found (rw pair'.only at
+            (kept (answers (reply_from r.head p server)) (filter_map (request_of claim) records) found
             (given_among (request_of claim) records k other found said.stands gives) passes)) in
             sym (ap (λ (x : Request). x.head.number) same ∙ given.numbered k other said.stands);
-        t1 = window_at asked.0 s q.head head_s asked.2;
-        t2 = laws.stamp (receive_of reply.header) (low_of q.head);
-        t3 = laws.stamp (transmit_of reply.header) (low_of q.head);
-        t4 = window_at replied.0 r reply.head at_r.head_is replied.2;
-        distance = distance_is laws reply.header (usable_from reply.header pair.accepted);
-      }
+        t1 = window_at j s at_s;
+        t2 = laws.stamp (receive_of p.header) (low_of s.head);
+        t3 = laws.stamp (transmit_of p.header) (low_of s.head);
+        t4 = window_at i r at_r;
+        distance = distance_is laws p.header accepted;
+      })
 
   pub all_exchanges : All (IsExchangeOf claim records) (exchanges_of claim records) → (k : ℕ) (x : Exchange)
       → slice_get (exchanges_of claim records) k ≡ Some x → IsExchangeIn claim unit (map frame_of records) x
   all_exchanges sound k x at =
-      let of = All-slice_get (IsExchangeOf claim records) (exchanges_of claim records) k x sound at in
-      subst (IsExchangeIn claim unit (map frame_of records)) (sym of.made)
-      (exchange_in of.request of.reply of.pair of.named)
+      grind (arith, All-slice_get (IsExchangeOf claim records) (exchanges_of claim records) k x sound at, exchange_in)
 
 -- ---- the records of a capture
 
@@ -254,17 +177,24 @@ bytes_of_each : (order : Endian) (records : List Record) → IsBytes (spelling o
     → slice_get records k ≡ Some r → IsBytes r.bytes
 bytes_of_each order [] h k r at = absurd cc
 bytes_of_each order (first ∷ records) h zero r at =
-    let same : first ≡ r = cc in
-    subst (λ (x : Record). IsBytes x.bytes) same
-    (bytes_after _ first.bytes (bytes_before (record_spelling order first) (spelling order records) h))
+    grind (
+      arith,
+      ints,
+      nat_tests,
+      bytes_after _ first.bytes (bytes_before (record_spelling order first) (spelling order
+          records) h),
+    )
 bytes_of_each order (first ∷ records) h (suc k) r at =
     bytes_of_each order records (bytes_after (record_spelling order first) (spelling order records) h) k r at
 
 pub in_place : (bytes : List ℕ) (format : Format) (records : List Record) → IsBytes bytes
     → IsCapture bytes format records → AreInPlace format.unit records
-in_place bytes format records all capture = record {
-  numbered = λ k r at. (each_record format.unit records capture.are_records k r at).1.number_is;
-  in_unit = λ k r at. (each_record format.unit records capture.are_records k r at).1.unit_is;
-  bytes = bytes_of_each format.order records
-      (bytes_after capture.header (spelling format.order records) (subst IsBytes capture.joined all));
-}
+in_place bytes format records all capture =
+    grind (
+      arith,
+      ints,
+      nat_tests,
+      each_record format.unit records capture.are_records,
+      bytes_of_each format.order records,
+      bytes_after capture.header (spelling format.order records),
+    )

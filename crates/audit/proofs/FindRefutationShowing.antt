@@ -1,9 +1,10 @@
 -- What the outcome of a search for a refutation shows.
-use Rattle.audit.proofs.Common.{◌≡◌, Option, Some, None, refl, sym, false, IfSome, IsNone, RefutationData, data_of as refutation_data, IsRefuted, Outcome, Yes, No, CourseContests, ShowsContested, EvidenceData, ShowsOf, IsContestedOf, no_second, nothing_said, option_map, IsNearestRefutation, NoneIsRefuted}
+use Rattle.audit.proofs.Common.{◌≡◌, Option, Some, None, refl, sym, false, IfSome, IsNone, RefutationData, data_of as refutation_data, IsRefuted, Outcome, Yes, No, CourseContests, EvidenceData, GiveEvidence, ShowsOf, IsContestedOf, no_second, nothing_said, option_map, IsNearestRefutation, NoneIsRefuted}
 use Rattle.certificate.specs.declared.refutation.Refutation.{Refutation}
 use Rattle.audit.specs.FindRefutation.{IsIrrefutableOf, IsRefutableOf, IsFindRefutationOf, find_refutation, refutation_found_in, found_refutation_outcome}
 use Rattle.audit.proofs.Excess.{contests}
 use Rattle.audit.proofs.Showing.{of_evidence, of_inputs}
+use Rattle.audit.specs.Refute.{AreContested}
 
 -- what the outcome of what was found shows
 pub search_shows : (e : EvidenceData) → ((refutation : RefutationData) →
@@ -23,8 +24,9 @@ search_shows e standing None exact nearest none = record { found_is = sym exact;
 -- the bytes of any inputs that give the evidence show the same
 pub search_shown : CourseContests → (e : EvidenceData) (outcome : Outcome) → IsFindRefutationOf e outcome →
     ShowsOf find_refutation no_second nothing_said e outcome
-search_shown contested e Yes h claim second capture are = record {
-  found = of_evidence IsRefutableOf e h claim second capture are;
-  shown = of_inputs e ShowsContested (contests contested false h.refutation e h.stands) claim second capture are;
-}
+search_shown contested e Yes h claim second capture are =
+    of_inputs e (AreContested (GiveEvidence IsRefutableOf)) (λ b f is. record {
+      stands = record { evidence = e; evidence_is = is; holds = h };
+      shown = contests contested false h.refutation e h.stands b f is;
+    }) claim second capture are
 search_shown contested e No h claim second capture are = of_evidence IsIrrefutableOf e h claim second capture are

@@ -1,5 +1,5 @@
 -- What was read of a claim and of a capture, and the pieces of a span.
-use Rattle.audit.proofs.Common.{pair_run_fault_of, ◌≡◌, ◌∙◌, ℕ, zero, suc, ◌≤◌, ℤ, pos, List, [], ◌∷◌, Bool, true, false, length, Option, Some, None, Result, Ok, Err, refl, sym, ap, IsSomeAnd, slice_get, nat_lt, if◌then◌else◌, ltb-false, PieceData, ClaimData, PairFault, answer_of, unless_broken, most_exchanges, Collection, collection_of, counts_of, exchanges_of, CaptureFault, Record, Coming, capture_of, begin_of, stretches_from, Stretch, capture_read, collection_read, result_map_both, claim_of, or_fault, claim_read, max_claim, whole_read, TooBig, ◌≢◌, IsLawful, IsWithinLimits, arith, ints, nat_tests}
+use Rattle.audit.proofs.Common.{pair_run_fault_of, ◌≡◌, ◌∙◌, ℕ, zero, suc, ◌≤◌, ℤ, pos, List, [], ◌∷◌, Bool, false, length, Option, Some, None, Result, Ok, Err, refl, sym, ap, IsSomeAnd, slice_get, nat_lt, if◌then◌else◌, PieceData, ClaimData, PairFault, answer_of, unless_broken, most_exchanges, Collection, collection_of, exchanges_of, CaptureFault, Record, Coming, capture_of, begin_of, stretches_from, Stretch, capture_read, collection_read, result_map_both, claim_of, or_fault, claim_read, max_claim, whole_read, TooBig, ◌≢◌, IsLawful, IsWithinLimits, arith, nat_tests}
 use Rattle.claim_file.specs.declared.fault.ClaimFault.{ClaimFault}
 use Rattle.report.specs.declared.fault.Input.TheVariants as inputs
 use Rattle.report.specs.declared.fault.RunFault.TheVariants as faults
@@ -10,9 +10,7 @@ use Rattle.pairing.specs.declared.fault.PairFault.TheVariants.{TooManyExchanges}
 
 whole : (over : Bool) (read : Result ClaimData ClaimFault) (claim : ClaimData) →
     (if over then Err (TooBig inputs.Claim) else or_fault faults.Claim read) ≡ Ok claim → read ≡ Ok claim
-whole true read claim is = cc
-whole false (Ok other) claim is = cc
-whole false (Err fault) claim is = cc
+whole over read claim is = grind (arith)
 
 pub claim_of_read : (bytes : List ℕ) (claim : ClaimData) → claim_read bytes ≡ Ok claim → claim_of bytes ≡ Ok claim
 unfolding whole_read
@@ -20,15 +18,10 @@ claim_of_read bytes claim is = whole (nat_lt max_claim (length bytes)) (claim_of
 
 -- a lawful claim keeps the limits of a claim's text
 pub within_limits : (claim : ClaimData) → IsLawful claim → IsWithinLimits claim
-within_limits claim lawful = record {
-  servers = (lawful.some_server, lawful.few_servers);
-  addresses_differ = AllPairs-cons (λ a b. a ≢ b) claim.client claim.servers
-      (λ k d below same. lawful.client_is_no_server k d below (sym same)) lawful.addresses_differ;
-  groups_in_range = lawful.groups_in_range;
-  span_forward = lawful.span_forward;
-  bound = lawful.bound_ns_in_range;
-  grants = (lawful.few_false, lawful.drift_in_range, lawful.reading_ns_in_range);
-}
+within_limits claim lawful =
+    let differ = AllPairs-cons (λ a b. a ≢ b) claim.client claim.servers
+    (λ k d below same. lawful.client_is_no_server k d below (sym same)) lawful.addresses_differ in
+    grind (arith)
 
 -- ---- what was read of a capture
 
@@ -41,51 +34,30 @@ Collected claim bytes collection = (records : List Record)
 
 of_pairs : (r : Result Collection PairFault) (c : Collection) →
     result_map_both (λ collection. collection) pair_run_fault_of r ≡ Ok c → r ≡ Ok c
-of_pairs (Ok d) c is = cc
-of_pairs (Err fault) c is = cc
+of_pairs r c is = grind (arith)
 
 unbroken : (fault : Option CaptureFault) (r : Result Collection PairFault) (c : Collection) →
     unless_broken fault r ≡ Ok c → (fault ≡ None) × (r ≡ Ok c)
-unbroken None r c is = (refl, is)
-unbroken (Some fault) r c is = absurd cc
+unbroken fault r c is = grind (arith)
 
 few : (many : Bool) (made c : Collection) → (if many then Err TooManyExchanges else Ok made) ≡ Ok c →
     (c.exchanges ≡ made.exchanges) × (many ≡ false)
-few true made c is = absurd cc
-few false made c is = let same : made ≡ c = cc in (sym (ap (λ (d : Collection). d.exchanges) same), refl)
+few many made c is = grind (arith)
 
 module _ (claim : ClaimData) (bytes : List ℕ) (collection : Collection) where
-  few_collected : (records : List Record) → collection_of claim records ≡ Ok collection →
-      (collection.exchanges ≡ exchanges_of claim records)
-      × (length (exchanges_of claim records) ≤ most_exchanges)
-  unfolding collection_of
-  few_collected records is =
-      grind (
-        arith,
-        ints,
-        nat_tests,
-        few (nat_lt most_exchanges (length (exchanges_of claim records))) (record {
-          exchanges = exchanges_of claim records;
-          counts = counts_of claim records;
-        }) collection is,
-      )
-
-  of_coming : (coming : Coming) → answer_of claim coming ≡ Ok collection → capture_of bytes ≡ Ok coming →
-      Collected claim bytes collection
-  unfolding answer_of
-  of_coming coming answered is =
-      grind (
-        arith,
-        ints,
-        nat_tests,
-        unbroken coming.fault (collection_of claim coming.records) collection answered,
-        few_collected coming.records (unbroken coming.fault (collection_of claim coming.records) collection answered).1,
-      )
-
   of_read : (c : Result Coming CaptureFault) → collection_read claim c ≡ Ok collection → capture_of bytes ≡ c →
       Collected claim bytes collection
-  of_read (Ok coming) read is = of_coming coming (of_pairs (answer_of claim coming) collection read) is
+  unfolding answer_of collection_of
   of_read (Err fault) read is = absurd cc
+  of_read (Ok coming) read is =
+      let answered = of_pairs (answer_of claim coming) collection read in
+      let (none, made) = unbroken coming.fault (collection_of claim coming.records) collection answered in
+      let (same, test) = few (nat_lt most_exchanges (length (exchanges_of claim coming.records))) _ collection made in (
+        coming.records,
+        is ∙ ap (λ (f : Option CaptureFault). Ok (record { records = coming.records; fault = f })) none,
+        same,
+        grind (arith, nat_tests, test),
+      )
 
   pub collected_of : capture_read claim bytes ≡ Ok collection → Collected claim bytes collection
   unfolding capture_read

@@ -1,9 +1,10 @@
 -- What it shows whether a refutation stands.
 use Rattle.std.proofs.Common.{rules}
-use Rattle.audit.proofs.Common.{◌≡◌, Bool, Result, Ok, Err, IfOk, AreInputsOf, FeedState, OfClaimAndCapture, refutation_read, List, ℕ, true, false, refl, sym, true≢false, AllPairs, RefutationData, SameRequest, SettlesWithDrift, Outcome, Yes, No, CourseContests, ShowsContested, EvidenceData, ShowsOf, GiveRefutation, IsContestedOf, IsSettledFor, IsUncontestedOf, refute, refuted_outcome, refutation_said, refutation_second, Settles}
+use Rattle.audit.proofs.Common.{Bool, Result, IfOk, IfOk-weaker, refutation_read, List, ℕ, true, false, AllPairs, RefutationData, SameRequest, SettlesWithDrift, Outcome, Yes, No, CourseContests, EvidenceData, ShowsOf, GiveRefutation, IsContestedOf, IsSettledFor, IsUncontestedOf, refute, refuted_outcome, refutation_said, refutation_second, Settles}
 use Rattle.std.specs.declared.alloc.AllocError.{AllocError}
 use Rattle.audit.proofs.Excess.{contests}
-use Rattle.audit.proofs.Showing.{of_inputs, said_is}
+use Rattle.audit.proofs.Showing.{of_inputs, of_second}
+use Rattle.audit.specs.Refute.{AreContested}
 
 module _ (refutation : RefutationData) (e : EvidenceData) (agree : AllPairs SameRequest e.collection.exchanges) where
   -- of one whose error never changes
@@ -21,27 +22,20 @@ module _ (refutation : RefutationData) (e : EvidenceData) (agree : AllPairs Same
   pub drift_shows : (answer : Result Bool AllocError) →
       IfOk answer (SettlesWithDrift e.claim e.collection.exchanges refutation) →
       IfOk answer (λ stands. IsSettledFor true refutation e (refuted_outcome stands))
-  drift_shows (Ok stands) judged = drift_judgement_shows stands judged
-  drift_shows (Err fault) judged = tt
+  drift_shows answer = IfOk-weaker answer _ _ drift_judgement_shows
 
 -- the bytes of any inputs that say the refutation and give the evidence show the same
-given : (P : RefutationData → EvidenceData → Type 0) (refutation : RefutationData) (e : EvidenceData) → P refutation e →
-    (claim second capture : FeedState) →
-    AreInputsOf refutation_second (refutation_said refutation) e claim second capture →
-    OfClaimAndCapture claim capture (GiveRefutation P second.remaining)
-given P refutation e holds claim second capture are =
-    of_inputs e (GiveRefutation P second.remaining) (λ b f is. record {
-      refutation = refutation;
-      refutation_is = said_is refutation_said (λ t u same. cc) refutation_read refutation
-          (λ s. refutation_read s ≡ Ok refutation) (λ s read. read) second.remaining are.second_is;
-      evidence = record { evidence = e; evidence_is = is; holds = holds };
-    }) claim second capture are
-
 pub refutation_shown : CourseContests → (drift : Bool) (about : List ℕ) (refutation : RefutationData) (e : EvidenceData)
     (outcome : Outcome) → IsSettledFor drift refutation e outcome →
     ShowsOf (refute drift about) refutation_second (refutation_said refutation) e outcome
-refutation_shown contested drift about refutation e Yes h claim second capture are = record {
-  stands = given (IsContestedOf drift) refutation e h claim second capture are;
-  shown = of_inputs e ShowsContested (contests contested drift refutation e h) claim second capture are;
-}
-refutation_shown contested drift about refutation e No h claim second capture are = search rules
+refutation_shown contested drift about refutation e Yes h claim second capture are =
+    of_inputs e (AreContested (GiveRefutation (IsContestedOf drift) second.remaining)) (λ b f is. record {
+      stands = of_second refutation_said (λ t u same. cc) refutation refutation_read (IsContestedOf drift) e h
+          second.remaining are.second_is b f is;
+      shown = contests contested drift refutation e h b f is;
+    }) claim second capture are
+refutation_shown contested drift about refutation e No h claim second capture are =
+    of_inputs e (GiveRefutation (IsUncontestedOf drift) second.remaining) (of_second refutation_said (λ t u same. cc)
+    refutation refutation_read (IsUncontestedOf drift) e h second.remaining are.second_is) claim second capture are
+
+pub ruleset refutation_settled = (judgement_shows, drift_shows)

@@ -1,11 +1,12 @@
 -- What an outcome shows, from the bytes of the inputs.
 use Rattle.std.proofs.lemmas.Grind.{common_steps}
 use Rattle.std.proofs.Common.{rules}
-use Rattle.audit.proofs.Common.{IfOk-weaker, subst, ap, ◌∙◌, CertificateData, ◌⊎◌, ◌≡◌, ℕ, true, List, Option, Some, None, Result, Ok, Err, refl, sym, inl, inr, IfSome, IfOk, option_map, MatchResult, FeedState, SinkState, SettledData, FindFault, find_run_fault_of, Outcome, RunFault, IsMadeFor, Publishes, Ready, Report, refused, whole_text, ArePiecesTraced, HasVerdictYes, IsTracedTo, EvidenceData, GiveEvidence, IsEvidenceOf, OfClaimAndCapture, AreInputsOf, Finding, QuestionData, no_finding, SecondData, SecondKind, IsContestedOf, InputsData, IsOfMaking, IsUnfound, IsFindingFrom, IsFindingOf, IsSettlementFrom, IsSettlementOf, ShowsFinding, IsLeastBoundOf, SettlesFit, IsSettledFrom, IsSettledOf, IsShownOf, IfSome_then, result_map_both, BytesLaws, TellsOf, arith, ints, nat_tests}
+use Rattle.audit.proofs.Common.{IfOk-weaker, ap, CertificateData, ◌⊎◌, ◌≡◌, ℕ, true, List, Option, Some, None, Result, Ok, Err, refl, sym, inl, inr, IfSome, IfOk, option_map, MatchResult, FeedState, SinkState, SettledData, FindFault, find_run_fault_of, Outcome, RunFault, Style, IsMadeFor, Publishes, Ready, Report, refused, whole_text, ArePiecesTraced, HasVerdictYes, IsTracedTo, EvidenceData, GiveEvidence, IsEvidenceOf, OfClaimAndCapture, AreInputsOf, Finding, QuestionData, no_finding, SecondData, SecondKind, InputsData, IsOfMaking, IsUnfound, IsFindingFrom, IsFindingOf, IsSettlementFrom, IsSettlementOf, ShowsFinding, IsSettledFrom, IsSettledOf, IsShownOf, IfSome_then, result_map_both, BytesLaws, TellsOf, arith, ints, nat_tests}
 use Rattle.finder.specs.Settlement as settles
 use Rattle.finder.specs.declared.fault.FindFault.TheVariants as finds
 use Rattle.report.specs.declared.fault.RunFault.TheVariants as faults
 use Rattle.audit.proofs.Excess.{contests}
+use Rattle.audit.specs.Check.{GiveSecond}
 
 -- ---- what evidence shows, the bytes that give it show
 
@@ -22,18 +23,22 @@ of_evidence P e holds claim second capture are = search (rules, of_inputs)
 
 -- ---- what a second input says, its bytes say
 
--- a value that was made of another, and no fault
-pub mapped_ok : {T U E D : Type 0} (f : T → U) (g : E → D) (r : Result T E) (u : U) → result_map_both f g r ≡ Ok u →
-    (t : T) × (r ≡ Ok t) × (f t ≡ u)
-mapped_ok f g (Ok t) u is = (t, refl, cc)
-mapped_ok f g (Err fault) u is = absurd cc
+module _ {T : Type 0} (said : T → SecondData) (one : (t u : T) → said t ≡ said u → t ≡ u) (t : T) where
+  read_is : (r : Result T RunFault) → result_map_both said (λ fault. fault) r ≡ Ok (said t) → r ≡ Ok t
+  read_is (Ok u) is = ap Ok (one u t cc)
+  read_is (Err fault) is = absurd cc
 
-pub said_is : {T : Type 0} (said : T → SecondData) → ((t u : T) → said t ≡ said u → t ≡ u) →
-    (read : List ℕ → Result T RunFault) (t : T) (R : List ℕ → Type 0) → ((s : List ℕ) → read s ≡ Ok t → R s) →
-    (known : Option (List ℕ)) → IfSome (option_map (λ s. result_map_both said (λ fault. fault) (read s)) known)
-    (λ r. r ≡ Ok (said t)) → IfSome known R
-said_is said one read t R shows None is = tt
-said_is said one read t R shows (Some s) is = grind (arith, ints, nat_tests, mapped_ok)
+  said_is : (read : List ℕ → Result T RunFault) (known : Option (List ℕ)) →
+      IfSome (option_map (λ s. result_map_both said (λ fault. fault) (read s)) known) (λ r. r ≡ Ok (said t)) →
+      IfSome known (λ s. read s ≡ Ok t)
+  said_is read None is = tt
+  said_is read (Some s) is = read_is (read s) is
+
+  pub of_second : (read : List ℕ → Result T RunFault) (P : T → EvidenceData → Type 0) (e : EvidenceData) → P t e →
+      (known : Option (List ℕ)) →
+      IfSome (option_map (λ s. result_map_both said (λ fault. fault) (read s)) known) (λ r. r ≡ Ok (said t)) →
+      (b f : List ℕ) → IsEvidenceOf b f e → GiveSecond read P known b f
+  of_second read P e holds known second_is b f is = let says = said_is read known second_is in search rules
 
 -- ---- a yes, and what was found
 
@@ -52,9 +57,11 @@ module _ (laws : BytesLaws) (b f : List ℕ) (e : EvidenceData) (is : IsEvidence
   }
 
   pub pieces_traced : ArePiecesTraced certificate e
-  pieces_traced = λ k piece course stands fits observed.
-      laws.nanoseconds b e.claim course is.claim_is
-      (h.by_pieces e.collection.exchanges k piece course refl stands fits observed)
+  pieces_traced = record {
+    accepted = h.verdict_is;
+    within = λ k piece course stands fits observed. laws.nanoseconds b e.claim course is.claim_is
+        (h.by_pieces e.collection.exchanges k piece course refl stands fits observed);
+  }
 
 module _ (laws : BytesLaws) (b f : List ℕ) (e : EvidenceData) (is : IsEvidenceOf b f e) where
   give_of : (P : EvidenceData → Type 0) → P e → GiveEvidence P b f
@@ -69,23 +76,16 @@ module _ (laws : BytesLaws) (b f : List ℕ) (e : EvidenceData) (is : IsEvidence
         laws.headline b f e.claim e.collection certificate bytes is.claim_is is.collection_is h.yes.verdict_is;
     by_pieces = give_of (ArePiecesTraced certificate) (pieces_traced laws b f e is certificate h.yes);
   }
-  settled_from (settles.refuted refutation) h = record {
-    evidence = give_of (IsContestedOf true refutation) h;
-    in_relations = contests laws.contested true refutation e h b f is;
-  }
+  settled_from (settles.refuted refutation) h =
+      let shown = contests laws.contested true refutation e h b f is in search rules
   settled_from settled h = give_of (λ evidence. IsSettledOf evidence settled) h
 
   settlement_of : (settled : Result SettledData FindFault) → IsSettlementOf e settled → IsSettlementFrom settled b f
   settlement_of (Ok settled) h = settled_from settled h
-  settlement_of (Err fault) h = inr (give_of (λ evidence. IsSettlementOf evidence (Err fault)) h)
+  settlement_of (Err fault) h = search rules
 
   finding_of : (finding : Finding) → IsFindingOf e finding → IsFindingFrom finding b f
-  finding_of finding h = record {
-    settled = settlement_of finding.settled h.settled;
-    least = IfSome_then finding.least h.least (λ found. give_of (λ evidence. IsLeastBoundOf evidence found));
-    fits = IfSome_then finding.fits h.fits
-        (λ fits. give_of (λ evidence. SettlesFit evidence.claim evidence.collection.exchanges fits));
-  }
+  finding_of finding h = search (rules, IfSome_then, settlement_of)
 
 -- ---- a run
 
@@ -141,17 +141,21 @@ pub told_fault : {report : Report} {Shows : Outcome → Type 0} {fault : RunFaul
 told_fault {fault = fault} making is publishes =
     record { made = Err fault; is_made = is; of_making = making; shows = tt; publishes = publishes }
 
-pub making_fault : (fault : FindFault) (told : RunFault) → told ≡ find_run_fault_of fault → IsOfMaking told
-making_fault finds.TooManyPieces told is = rw is tt
-making_fault finds.Memory told is = rw is tt
-
 -- why nothing could be looked for is the report on what is found
-pub refused_as : {D : Type 0} (report : Result D FindFault → Report) (found : Result D FindFault) (fault : FindFault)
-    (told : RunFault) → report (Err fault) ≡ refused (find_run_fault_of fault) → told ≡ find_run_fault_of fault →
-    (fault ≡ finds.Memory) ⊎ (found ≡ Err fault) → IsMadeFor (report found) (Err told)
-refused_as report found finds.Memory told refuses is why = rw is tt
-refused_as report found finds.TooManyPieces told refuses is (inl memory) = absurd cc
-refused_as report found finds.TooManyPieces told refuses is (inr same) = grind (arith, ints, nat_tests)
+pub unfound_as : {D : Type 0} (question : QuestionData) (inputs : InputsData) (finding : Finding)
+    (report : Style → Result D FindFault → Report) (found : Result D FindFault) (fault : FindFault) →
+    (fault ≡ finds.Memory) ⊎ (found ≡ Err fault) → IsFindingOf inputs.evidence finding →
+    ((style : Style) → question.report style finding inputs.said inputs.evidence ≡ report style found) →
+    ((style : Style) → report style (Err fault) ≡ refused (find_run_fault_of fault)) →
+    IsUnfound question inputs (find_run_fault_of fault)
+unfound_as question inputs finding report found finds.Memory why holds is refuses = memory_unfound question inputs
+unfound_as question inputs finding report found finds.TooManyPieces (inl memory) holds is refuses = absurd cc
+unfound_as question inputs finding report found finds.TooManyPieces (inr same) holds is refuses = record {
+  finding = finding;
+  found = holds;
+  of_making = tt;
+  is_made = λ style. rw (is style, same, refuses style) (refl, refl);
+}
 
 -- a fault is told, and nothing behind it
 pub refused_twice : (P : Outcome → Type 0) (X : Type 0) (fault : RunFault) (answer : Result Outcome RunFault) →

@@ -1,6 +1,6 @@
 -- The status of an outcome.
 use Rattle.std.proofs.Common.{rules}
-use Rattle.audit.proofs.Common.{◌≡◌, ◌∙◌, ℕ, Result, Ok, sym, subst, arith, IfOk, Outcome, RunFault, status_of}
+use Rattle.audit.proofs.Common.{◌≡◌, ℕ, Result, Ok, arith, IfOk, Outcome, RunFault, status_of}
 
 -- an answer with the status of an outcome is that outcome
 outcome_is : (answer : Result Outcome RunFault) (outcome : Outcome) →

@@ -1,10 +1,5 @@
 -- A text says one claim at most.
-use Rattle.audit.proofs.Common.{◌≡◌, ℕ, suc, ◌*◌, ℤ, pos, ◌↔◌, List, [], ◌∷◌, length, map, codes, Option, Some, refl, sym, ap, ◌∙◌, arith, slice_get, AllZip, option_map, IsDotted, nanoseconds_per_second, IsFloor, IsCeiling, ticks_per_second, Data, number, string, unsigned, array, get, items_of, address_of, ClaimData, IsTime, time_of, IsClaimText, IsTimeAt, numbers_value, ints, nat_tests}
-
--- the laws of the layers below
-pub record Laws : Type 0 where
-  pub time : (text : List ℕ) (second : ℕ) → (time_of text ≡ Some second) ↔ IsTime text second
-  pub address : (text address : List ℕ) → (address_of text ≡ Some address) ↔ IsDotted text address
+use Rattle.audit.proofs.Common.{◌≡◌, ℕ, suc, ◌*◌, ℤ, ◌↔◌, List, [], ◌∷◌, length, map, codes, Option, Some, refl, sym, ap, ◌∙◌, arith, slice_get, AllZip, option_map, IsDotted, nanoseconds_per_second, IsFloor, IsCeiling, ticks_per_second, Data, number, string, unsigned, array, get, items_of, address_of, ClaimData, IsTime, time_of, IsClaimText, IsTimeAt, numbers_value}
 
 -- ---- members
 
@@ -45,25 +40,15 @@ same_list (x ∷ a) (y ∷ b) sized each =
     cc (each 0 x refl, same_list a b (omega (arith, sized)) (λ k z at. each (suc k) z at))
 same_list a b sized each = absurd (omega (arith, sized))
 
-module _ (laws : Laws) where
+module _ (times : (text : List ℕ) (second : ℕ) → (time_of text ≡ Some second) ↔ IsTime text second)
+    (addresses : (text address : List ℕ) → (address_of text ≡ Some address) ↔ IsDotted text address) where
   dotted_same : (text a b : List ℕ) → IsDotted text a → IsDotted text b → a ≡ b
-  dotted_same text a b x y = cc ((laws.address text a).1 x, (laws.address text b).1 y)
+  dotted_same text a b x y = cc ((addresses text a).1 x, (addresses text b).1 y)
 
   all_dotted_same : (texts a b : List (List ℕ)) → AllZip IsDotted texts a → AllZip IsDotted texts b → a ≡ b
-  all_dotted_same [] [] [] x y = refl
-  all_dotted_same [] [] (q ∷ b) x y = absurd y
-  all_dotted_same [] (p ∷ a) b x y = absurd x
-  all_dotted_same (text ∷ texts) [] b x y = absurd x
-  all_dotted_same (text ∷ texts) (p ∷ a) [] x y = absurd y
   all_dotted_same (text ∷ texts) (p ∷ a) (q ∷ b) x y =
       cc (dotted_same text p q x.0 y.0, all_dotted_same texts a b x.1 y.1)
-
-  time_same : (value : Data) (name : List ℕ) (s t : ℤ) → IsTimeAt value name s → IsTimeAt value name t → s ≡ t
-  time_same value name s t x y =
-      let text : x.text ≡ y.text = cc (x.stands, y.stands) in
-      let second : x.unix_second ≡ y.unix_second =
-      cc (text, (laws.time x.text x.unix_second).1 x.is_time, (laws.time y.text y.unix_second).1 y.is_time) in
-      x.in_ticks ∙ ap (λ (n : ℕ). pos (n * ticks_per_second)) second ∙ sym y.in_ticks
+  all_dotted_same texts a b x y = grind (arith)
 
   -- two claims that one value says
   module _ (text : List ℕ) (c d : ClaimData) (x : IsClaimText text c) (y : IsClaimText text d) where
@@ -76,7 +61,11 @@ module _ (laws : Laws) where
     number_at name m n in_x in_y = cc value_same
 
     time_at : (name : List ℕ) (s t : ℤ) → IsTimeAt x.value name s → IsTimeAt y.value name t → s ≡ t
-    time_at name s t in_x in_y = grind (arith, time_same, value_same)
+    time_at name s t a b =
+        let text : a.text ≡ b.text = cc (value_same, a.stands, b.stands) in
+        let second : a.unix_second ≡ b.unix_second =
+        cc (text, (times a.text a.unix_second).1 a.is_time, (times b.text b.unix_second).1 b.is_time) in
+        cc (second, a.in_ticks, b.in_ticks)
 
     client_same : c.client ≡ d.client
     client_same =
@@ -91,26 +80,18 @@ module _ (laws : Laws) where
 
     bound_same : c.bound ≡ d.bound
     bound_same =
-        grind (
-          arith,
-          ints,
-          nat_tests,
-          floor_same (d.bound_ns * ticks_per_second) nanoseconds_per_second x.bound
-              y.bound (rw bound_ns_same at x.bound_is) y.bound_is,
-        )
+        let same = floor_same (d.bound_ns * ticks_per_second) nanoseconds_per_second x.bound y.bound
+        (rw bound_ns_same at x.bound_is) y.bound_is in
+        cc (same, x.bound_in_ticks, y.bound_in_ticks)
 
     reading_ns_same : c.reading_ns ≡ d.reading_ns
     reading_ns_same = number_at (codes "reading_ns") c.reading_ns d.reading_ns x.reading_ns y.reading_ns
 
     reading_same : c.reading ≡ d.reading
     reading_same =
-        grind (
-          arith,
-          ints,
-          nat_tests,
-          ceiling_same (d.reading_ns * ticks_per_second) nanoseconds_per_second x.reading
-              y.reading (rw reading_ns_same at x.reading_is) y.reading_is,
-        )
+        let same = ceiling_same (d.reading_ns * ticks_per_second) nanoseconds_per_second x.reading y.reading
+        (rw reading_ns_same at x.reading_is) y.reading_is in
+        cc (same, x.reading_in_ticks, y.reading_in_ticks)
 
     listed_same : x.listed ≡ y.listed
     listed_same = grind (arith, groups_same, get, codes, value_same)

@@ -1,10 +1,10 @@
 -- The report of `check`, and what its outcome says about every course of events.
-use Rattle.std.specs.Prelude.{◌≡◌, ℕ, Bool, List, length, Option, Some, None, Ok, slice_get, IfSome, IsSome, IsSomeAnd}
-use Rattle.audit.specs.Common.{IsBytes, FeedState, PieceData, CertificateData, ClaimData, group_count, Collection, common_reference, source_count, Course, Fits, FitsPiece, stretch_of, stretches_of, IsContradicted, IsObservedIn, IsOfHull, IsRefusedByHull, IsTraceable, IsTraceableByPieces, IsWithin, IsWithinNanoseconds, verdict_of, Verdict, Why, Contradiction, certificate_read, claim_read, Outcome, Memory, Report, refused, whole_text, Style, Plain, Findings, check_text}
+use Rattle.std.specs.Prelude.{◌≡◌, ℕ, Bool, List, length, Option, Some, None, Result, Ok, slice_get, IfSome, IsSome, IsSomeAnd}
+use Rattle.audit.specs.Common.{IsBytes, FeedState, PieceData, CertificateData, ClaimData, group_count, Collection, common_reference, source_count, Course, Fits, FitsPiece, stretch_of, stretches_of, IsContradicted, IsObservedIn, IsOfHull, IsRefusedByHull, IsTraceable, IsTraceableByPieces, IsWithin, IsWithinNanoseconds, verdict_of, Verdict, Why, Contradiction, certificate_read, claim_read, Outcome, RunFault, Memory, Report, refused, whole_text, Style, Plain, Findings, check_text}
 use Rattle.checker.specs.declared.verdict.Verdict.TheVariants as verdicts
 use Rattle.report.specs.declared.fault.Outcome.TheVariants as outcomes
 use Rattle.audit.specs.CaptureInput.{capture_read}
-use Rattle.audit.specs.Evidence.{EvidenceData, IsEvidenceOf, OfClaimAndCapture, samples_in}
+use Rattle.audit.specs.Evidence.{EvidenceData, GiveEvidence, OfClaimAndCapture, samples_in}
 use Rattle.audit.specs.Headline.{IsShown}
 use Rattle.audit.specs.Question.{ByOutcome, Finding, QuestionData, no_finding}
 use Rattle.audit.specs.Second.{SecondData, certificate_said}
@@ -38,13 +38,12 @@ fits_told style None = None
 fits_told style (Some fits) = Some (Some fits)
 
 -- the report of `check` on a certificate, a claim and the exchanges of a capture, with what stands
--- about the inputs
-abbrev pub check_report :
-    Style → List ℕ → CertificateData → EvidenceData → Option (Option Bool) → Report
-check_report style about certificate e (Some fits) =
+-- about the inputs; nothing else is checked
+abbrev pub report_on : Style → List ℕ → Option (Option Bool) → SecondData → EvidenceData → Report
+report_on style about (Some fits) (certificate_said certificate) e =
     whole_text (check_text style e.claim e.collection (findings_on certificate e fits) about)
     (outcome_of (verdict_on certificate e))
-check_report style about certificate e None = refused Memory
+report_on style about fits said e = refused Memory
 
 -- what was found of whether any course fits
 abbrev pub fit_finding : Option Bool → Finding
@@ -86,61 +85,60 @@ pub record IsTracedTo (claim_bytes capture_bytes : List ℕ) : Type 0 where
   pub in_nanoseconds : (course : Course) → Fits claim collection.exchanges course
       → IsObservedIn course claim.first claim.last → IsWithinNanoseconds course claim.bound_ns
 
--- The same piece by piece: in every course that fits what a piece names of these exchanges, the
--- error is within the bound at every moment whose reading lies in the piece.
-abbrev pub ArePiecesTraced : CertificateData → EvidenceData → Type 0
-ArePiecesTraced certificate e = (k : ℕ) (piece : PieceData) (course : Course)
-    → slice_get certificate.pieces k ≡ Some piece
-    → FitsPiece e.claim e.collection.exchanges piece.entries course
-    → let stretch = stretch_of e.claim certificate k piece in
-    IsObservedIn course stretch.begin stretch.end
-    → IsWithinNanoseconds course e.claim.bound_ns
+-- The same piece by piece, of a certificate that is accepted: in every course that fits what a
+-- piece names of these exchanges, the error is within the bound at every moment whose reading lies
+-- in the piece.
+pub record ArePiecesTraced (certificate : CertificateData) (e : EvidenceData) : Type 0 where
+  pub accepted : verdict_on certificate e ≡ verdicts.Yes
+  pub within : (k : ℕ) (piece : PieceData) (course : Course)
+      → slice_get certificate.pieces k ≡ Some piece
+      → FitsPiece e.claim e.collection.exchanges piece.entries course
+      → let stretch = stretch_of e.claim certificate k piece in
+      IsObservedIn course stretch.begin stretch.end
+      → IsWithinNanoseconds course e.claim.bound_ns
 
--- The certificate of a certificate's bytes is accepted, and this holds of each of its pieces.
-pub record IsTracedByPieces (claim_bytes certificate_bytes capture_bytes : List ℕ) : Type 0 where
-  pub certificate : CertificateData
-  pub evidence : EvidenceData
-  pub certificate_is : certificate_read certificate_bytes ≡ Ok certificate
-  pub evidence_is : IsEvidenceOf claim_bytes capture_bytes evidence
-  pub accepted : verdict_on certificate evidence ≡ verdicts.Yes
-  pub within : ArePiecesTraced certificate evidence
+-- A second input, the one that its bytes say if they are known, and the evidence that the bytes of
+-- claim and capture give are such that this holds of them.
+pub record GiveSecond {T : Type 0} (read : List ℕ → Result T RunFault)
+    (P : T → EvidenceData → Type 0) (second : Option (List ℕ)) (claim capture : List ℕ)
+    : Type 0 where
+  pub said : T
+  pub said_is : IfSome second (λ bytes. read bytes ≡ Ok said)
+  pub evidence : GiveEvidence (P said) claim capture
 
--- The bytes of claim, certificate and capture give a verdict of no.
-pub record IsDenied (claim_bytes certificate_bytes capture_bytes : List ℕ) : Type 0 where
-  pub certificate : CertificateData
-  pub evidence : EvidenceData
-  pub certificate_is : certificate_read certificate_bytes ≡ Ok certificate
-  pub evidence_is : IsEvidenceOf claim_bytes capture_bytes evidence
-  pub verdict : HasVerdictNo certificate evidence
+-- The bytes of claim, certificate and capture give pieces of which this holds.
+abbrev pub IsTracedByPieces : List ℕ → List ℕ → List ℕ → Type 0
+IsTracedByPieces claim certificate =
+    GiveSecond certificate_read ArePiecesTraced (Some certificate) claim
 
--- At a yes the clock is traced to UTC by claim and capture, if their bytes are known, and if those
--- of the certificate are too, piece by piece. And it is said in relations alone, of a capture that
--- is bytes: numbers below 256.
-pub record IsTraced (claim second capture : FeedState) : Type 0 where
-  pub whole : OfClaimAndCapture claim capture IsTracedTo
-  pub shown : OfClaimAndCapture claim capture (λ c f. IsBytes f → IsShown c f)
-  pub by_pieces : IfSome second.remaining
-      (λ s. OfClaimAndCapture claim capture (λ c. IsTracedByPieces c s))
+-- They give a verdict of no.
+abbrev pub IsDenied : List ℕ → List ℕ → List ℕ → Type 0
+IsDenied claim certificate = GiveSecond certificate_read HasVerdictNo (Some certificate) claim
 
--- At a no the verdict is no, if the bytes of all three are known.
+-- The clock is traced to UTC by the bytes of claim and capture, and piece by piece by those of the
+-- certificate. And it is said in relations alone, of a capture that is bytes: numbers below 256.
+pub record IsTracedFrom (second : Option (List ℕ)) (claim capture : List ℕ) : Type 0 where
+  pub whole : IsTracedTo claim capture
+  pub shown : IsBytes capture → IsShown claim capture
+  pub by_pieces : GiveSecond certificate_read ArePiecesTraced second claim capture
+
+-- So it is at a yes, if the bytes of claim and capture are known.
+abbrev pub IsTraced : FeedState → FeedState → FeedState → Type 0
+IsTraced claim second capture = OfClaimAndCapture claim capture (IsTracedFrom second.remaining)
+
+-- At a no the verdict is no, if these bytes are known.
 abbrev pub IsNotTraced : FeedState → FeedState → FeedState → Type 0
 IsNotTraced claim second capture =
-    IfSome second.remaining (λ s. OfClaimAndCapture claim capture (λ c. IsDenied c s))
+    OfClaimAndCapture claim capture (GiveSecond certificate_read HasVerdictNo second.remaining)
 
 -- what the outcome of a verdict shows of evidence
 abbrev pub HasVerdict : CertificateData → EvidenceData → Outcome → Type 0
 HasVerdict certificate e = ByOutcome (HasVerdictYes certificate e) (HasVerdictNo certificate e)
 
--- the report on a certificate; nothing else is checked
-abbrev pub report_on : Style → List ℕ → Finding → SecondData → EvidenceData → Report
-report_on style about finding (certificate_said certificate) e =
-    check_report style about certificate e (fits_told style finding.fits)
-report_on style about finding said e = refused Memory
-
 -- does a certificate show the claim? A person is told this about the inputs.
 abbrev pub check : List ℕ → QuestionData
 check about = record {
-  report = λ style finding said e. report_on style about finding said e;
+  report = λ style finding. report_on style about (fits_told style finding.fits);
   Shows = λ claim second capture.
       ByOutcome (IsTraced claim second capture) (IsNotTraced claim second capture);
 }

@@ -1,18 +1,11 @@
 -- What is shown against a claim from bytes, in relations alone.
-use Rattle.std.specs.Prelude.{◌≡◌, ℕ, ◌*◌, ◌<◌, ℤ, pos, ◌*ℤ◌, ◌<ℤ◌, unsigned_abs, true, List, Some, Ok, slice_get}
-use Rattle.audit.specs.Common.{IsBytes, Unit as TimeUnit, nanoseconds_per_second, ticks_per_second, Endian, RefutationData, ClaimData, Collection, Exchange, claim_read, error_of, IsInWindow, Course, FitsInWindows, IsWithin, IsWithinNanoseconds, SharesRequests, is_refuted}
-use Rattle.audit.specs.CaptureInput.{capture_read}
-use Rattle.audit.specs.Captured.{CapturedFrame, IsCaptureOf}
-use Rattle.audit.specs.Claimed.{IsClaimText, IsWithinLimits}
+use Rattle.std.specs.Prelude.{◌≡◌, ℕ, ◌*◌, ◌<◌, ℤ, pos, ◌*ℤ◌, ◌<ℤ◌, unsigned_abs, true, List, length, Ok}
+use Rattle.audit.specs.Common.{IsBytes, nanoseconds_per_second, ticks_per_second, RefutationData, AreLawful, ClaimData, IsLawful, Exchange, claim_read, error_of, IsInWindow, Course, FitsInWindows, IsWithin, IsWithinNanoseconds, SharesRequests, is_refuted}
+use Rattle.audit.specs.Evidence.{EvidenceData, IsEvidenceOf}
 use Rattle.audit.specs.Exchanged.{IsExchangeIn, IsAmong}
-use Rattle.audit.specs.Headline.{IsShown, ShowsHeadline}
+use Rattle.audit.specs.Headline.{AreSaid, IsShown, ShowsHeadline}
 
--- the clock's error, when it is observed, is more than a bound to one side
-abbrev pub IsBeyond : Course → ℤ → Type 0
-IsBeyond course bound =
-    (bound *ℤ pos course.fineness) <ℤ pos (unsigned_abs (error_of course.observation))
-
--- the same of a bound in nanoseconds
+-- the clock's error, when it is observed, is more than a bound in nanoseconds to one side
 abbrev pub IsBeyondNanoseconds : Course → ℕ → Type 0
 IsBeyondNanoseconds course bound_ns =
     (course.fineness * (bound_ns * ticks_per_second))
@@ -30,50 +23,36 @@ pub record HasCourseBeyond (claim : ClaimData) (xs : List Exchange) : Type 0 whe
   pub error_is : error_of course.observation ≡ (error *ℤ pos course.fineness)
   pub beyond : claim.bound <ℤ pos (unsigned_abs error)
 
--- The claim's bytes are the text of a claim that keeps its limits, and the capture's bytes are a
--- capture of frames. These are the exchanges in the frames, and none is missing. Some course of
--- events fits the claim and all of them, in which each request packet leaves at one moment. The
--- client's clock is observed in it at a reading of the span, and its error there is beyond the
--- bound, in ticks and in nanoseconds.
+-- The bytes say a claim and exchanges, and none in the frames is missing. Some course of events
+-- fits the claim and all of them, in which each request packet leaves at one moment. The client's
+-- clock is observed in it at a reading of the span, and its error there is beyond the bound, in
+-- ticks and in nanoseconds.
 pub record IsContestedShown (claim_bytes capture_bytes : List ℕ) : Type 0 where
   pub claim : ClaimData
-  pub order : Endian
-  pub unit : TimeUnit
-  pub frames : List CapturedFrame
   pub exchanges : List Exchange
-  pub claim_is : IsClaimText claim_bytes claim
-  pub in_limits : IsWithinLimits claim
-  pub capture_is : IsCaptureOf capture_bytes order unit frames
-  pub exchanges_are : (k : ℕ) (x : Exchange) → slice_get exchanges k ≡ Some x
-      → IsExchangeIn claim unit frames x
-  pub none_is_missing : (x : Exchange) → IsExchangeIn claim unit frames x → IsAmong exchanges x
-  pub course : Course
-  pub fits : FitsInWindows claim exchanges course
-  pub shares_requests : SharesRequests exchanges course
-  pub in_span : IsInWindow course.fineness claim.first claim.last course.observation.reading
-  pub beyond : IsBeyond course claim.bound
-  pub beyond_nanoseconds : IsBeyondNanoseconds course claim.bound_ns
+  pub said : AreSaid claim_bytes capture_bytes claim exchanges
+  pub none_is_missing : (x : Exchange) → IsExchangeIn claim said.unit said.frames x
+      → IsAmong exchanges x
+  pub beyond : HasCourseBeyond claim exchanges
+  pub beyond_nanoseconds : IsBeyondNanoseconds beyond.course claim.bound_ns
 
 -- the same of bytes that are below 256
 abbrev pub ShowsContested : List ℕ → List ℕ → Type 0
 ShowsContested claim_bytes capture_bytes =
     IsBytes capture_bytes → IsContestedShown claim_bytes capture_bytes
 
--- if the bytes of a claim and of a capture are read, and there is a course like that for what they
--- give, it is shown for them; a byte is below 256
+-- if the bytes of a claim and of a capture give evidence, and there is a course like that for it,
+-- it is shown for them; a byte is below 256
 abbrev pub CourseContests : Type 0
-CourseContests = (claim_bytes capture_bytes : List ℕ) (claim : ClaimData) (collection : Collection)
-    → IsBytes capture_bytes → claim_read claim_bytes ≡ Ok claim
-    → capture_read claim capture_bytes ≡ Ok collection
-    → HasCourseBeyond claim collection.exchanges → IsContestedShown claim_bytes capture_bytes
+CourseContests = (claim capture : List ℕ) (e : EvidenceData) → IsBytes capture
+    → IsEvidenceOf claim capture e → HasCourseBeyond e.claim e.collection.exchanges
+    → IsContestedShown claim capture
 
 -- the same if some refutation is accepted
 abbrev pub RefutationContests : Type 0
-RefutationContests = (claim_bytes capture_bytes : List ℕ) (claim : ClaimData)
-    (collection : Collection) (refutation : RefutationData) → IsBytes capture_bytes
-    → claim_read claim_bytes ≡ Ok claim → capture_read claim capture_bytes ≡ Ok collection
-    → is_refuted claim collection.exchanges refutation ≡ true
-    → IsContestedShown claim_bytes capture_bytes
+RefutationContests = (claim capture : List ℕ) (e : EvidenceData) (refutation : RefutationData)
+    → IsBytes capture → IsEvidenceOf claim capture e
+    → is_refuted e.claim e.collection.exchanges refutation ≡ true → IsContestedShown claim capture
 
 -- no claim and no capture are both shown and contested
 abbrev pub NeverBoth : Type 0
@@ -85,6 +64,18 @@ abbrev pub GivesNanoseconds : Type 0
 GivesNanoseconds = (bytes : List ℕ) (claim : ClaimData) (course : Course)
     → claim_read bytes ≡ Ok claim → IsWithin course claim.bound
     → IsWithinNanoseconds course claim.bound_ns
+
+-- What is read of the bytes of a claim and of a capture is what they say, with all exchanges in the
+-- frames, and keeps its limits.
+pub record AreRead (text capture : List ℕ) (claim : ClaimData) (xs : List Exchange) : Type 0 where
+  pub said : AreSaid text capture claim xs
+  pub none_is_missing : (x : Exchange) → IsExchangeIn claim said.unit said.frames x → IsAmong xs x
+  pub lawful : IsLawful claim
+  pub kept : AreLawful (length claim.servers) xs
+
+abbrev pub ReadingLaw : Type 0
+ReadingLaw = (claim capture : List ℕ) (e : EvidenceData) → IsBytes capture
+    → IsEvidenceOf claim capture e → AreRead claim capture e.claim e.collection.exchanges
 
 -- the laws on bytes that tell what an answer shows of them
 pub record BytesLaws : Type 0 where

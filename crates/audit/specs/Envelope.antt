@@ -1,7 +1,7 @@
 -- The report of `envelope`: the hull of each piece, and the least bound that holds; and what it
 -- says about every course of events.
 use Rattle.std.specs.Prelude.{◌≡◌, ℕ, All, Option, Some, None, is_some, Result, Ok, Err}
-use Rattle.audit.specs.Common.{HoldsError, IsContradicted, Empty, LeastCarried, FindFault, LeastBound, EnvelopeData, IsLeast, envelope_of, FindsEnvelope, hull_at, count_of, Outcome, Yes, No, Memory, Report, refused, whole_text, Style, envelope_text, EnvelopeOptions, LeastLine}
+use Rattle.audit.specs.Common.{HoldsError, IsContradicted, Empty, FindFault, LeastBound, EnvelopeData, IsLeast, envelope_of, FindsEnvelope, hull_at, count_of, Outcome, Yes, No, Memory, Report, refused, whole_text, Style, envelope_text, EnvelopeOptions, LeastLine}
 use Rattle.finder.specs.declared.least.LeastBound.TheVariants.{Holds, NoneHolds}
 use Rattle.audit.specs.Evidence.{EvidenceData, GiveEvidence, OfClaimAndCapture, samples_in}
 use Rattle.audit.specs.Find.{find_run_fault_of}
@@ -16,19 +16,13 @@ bound_outcome (NoneHolds piece) = No
 
 -- the report on an envelope, as it is asked for, with this line of the least bound that a
 -- certificate carries; none if no bound was looked for
-abbrev pub text_of : Style → EnvelopeOptions → EvidenceData → EnvelopeData → Option LeastLine
-    → Report
-text_of style asked e envelope None = refused Memory
-text_of style asked e envelope (Some line) =
+abbrev pub report_of : Style → EnvelopeOptions → EvidenceData → Result EnvelopeData FindFault
+    → Option LeastLine → Report
+report_of style asked e (Ok envelope) (Some line) =
     whole_text (envelope_text style asked (samples_in e) e.claim envelope line)
     (bound_outcome envelope.least)
-
--- the same on the least bound that was found, if it is asked for
-abbrev pub report_of : Style → EnvelopeOptions → Option (Option LeastCarried) →
-    EvidenceData → Result EnvelopeData FindFault → Report
-report_of style asked found e (Ok envelope) = text_of style asked e envelope
-    (least_line_of e.claim asked.step.seconds asked.least found)
-report_of style asked found e (Err fault) = refused (find_run_fault_of fault)
+report_of style asked e (Ok envelope) None = refused Memory
+report_of style asked e (Err fault) line = refused (find_run_fault_of fault)
 
 -- the envelope of the samples of a capture, in pieces of this many seconds
 abbrev pub envelope_in : ℕ → EvidenceData → Result EnvelopeData FindFault
@@ -64,7 +58,8 @@ pub record IsEnvelopeFor (asked : EnvelopeOptions) (e : EvidenceData) (found : E
 abbrev pub envelope : EnvelopeOptions → QuestionData
 envelope asked = record {
   report = λ style finding said e.
-      report_of style asked finding.least e (envelope_in asked.step.seconds e);
+      report_of style asked e (envelope_in asked.step.seconds e)
+      (least_line_of e.claim asked.step.seconds asked.least finding.least);
   Shows = λ claim second capture outcome.
       OfClaimAndCapture claim capture (GiveEvidence (IsEnvelopeOf asked.step.seconds outcome));
 }

@@ -3,20 +3,28 @@
 -- A reply of a server that is usable, and the one and only request of the whole capture that it
 -- names by server, port and timestamp. T1 and T4 are the windows of the times at which the two were
 -- captured, T2 and T3 the reply's timestamps.
-use Rattle.std.specs.Prelude.{◌≡◌, ◌≢◌, ℕ, ◌+◌, ◌*◌, ◌<◌, ◌≤◌, ℤ, pos, ◌≤ℤ◌, ◌↔◌, List, AllPairs, Some, slice_get}
-use Rattle.audit.specs.Common.{IsFloor, IsCeiling, IsUnfolded, per_second, ticks_per_second, Unit as TimeUnit, version_of, leap_of, mode_of, stratum_of, precision_of, precision_ticks_of, root_delay_of, root_dispersion_of, origin_of, receive_of, transmit_of, ntp_port, ClaimData, Exchange, IsReplyOf, IsRequestTo, Packet, ceiling_of, floor_of, replying_server, requested_server, unfolded}
+use Rattle.std.specs.Prelude.{◌≡◌, ◌≢◌, ℕ, ◌+◌, ◌*◌, ◌<◌, ◌≤◌, ℤ, pos, ◌≤ℤ◌, ◌↔◌, ◌⊎◌, List, ◌++◌, length, AllPairs, Some, slice_get}
+use Rattle.audit.specs.Common.{HoldsDatagram, IsBytes, IsFloor, IsCeiling, IsUnfolded, per_second, ticks_per_second, Unit as TimeUnit, version_of, leap_of, stratum_of, precision_of, precision_ticks_of, root_delay_of, root_dispersion_of, origin_of, receive_of, transmit_of, ntp_port, ClaimData, Exchange, IsReplyOf, IsRequestTo, Packet, ceiling_of, floor_of, packet_of, replying_server, requested_server, unfolded}
 use Rattle.audit.specs.Captured.{CapturedFrame}
-use Rattle.audit.specs.FramedPacket.{DatagramLaw, HoldsPacket}
 
--- the frame holds a request, which is in mode 3, from this client and port to this server, with
--- this transmit timestamp
-pub record HoldsRequest (frame client : List ℕ) (port : ℕ) (server : List ℕ) (stamp : ℕ) :
+-- The frame holds an NTP packet: a datagram from or to its port, with a payload that begins with
+-- the header, which has 48 bytes (RFC 5905, section 7.3). There may be more after it.
+pub record HoldsPacket (frame : List ℕ) (p : Packet) : Type 0 where
+  pub rest : List ℕ
+  pub datagram : HoldsDatagram frame p.datagram
+  pub port : (p.datagram.source_port ≡ ntp_port) ⊎ (p.datagram.destination_port ≡ ntp_port)
+  pub payload : p.datagram.payload ≡ p.header ++ rest
+  pub whole : length p.header ≡ 48
+
+-- The frame holds a request to this server, and the reply names it: it is from the port to which
+-- the reply goes, and its transmit timestamp is the reply's origin timestamp.
+pub record HoldsRequest (claim : ClaimData) (server : ℕ) (reply : Packet) (frame : List ℕ) :
     Type 0 where
-  pub header : List ℕ
-  pub held : HoldsPacket frame client port server ntp_port header
-  pub version : version_of header ≡ 4
-  pub mode : mode_of header ≡ 3
-  pub stamped : transmit_of header ≡ stamp
+  pub request : Packet
+  pub held : HoldsPacket frame request
+  pub to_server : IsRequestTo claim server request
+  pub port : request.datagram.source_port ≡ reply.datagram.destination_port
+  pub stamp : transmit_of request.header ≡ origin_of reply.header
 
 -- a reply's header says that the server is synchronized, and leaves no timestamp unknown
 pub record IsUsable (header : List ℕ) : Type 0 where
@@ -47,30 +55,28 @@ pub record IsExchangeIn (claim : ClaimData) (unit : TimeUnit) (frames : List Cap
   pub reply : CapturedFrame
   pub request_stands : slice_get frames x.request ≡ Some request
   pub reply_stands : slice_get frames x.reply ≡ Some reply
-  -- the reply is one of the server to the client, in mode 4, and usable
-  pub server : List ℕ
-  pub port : ℕ
-  pub header : List ℕ
-  pub server_listed : slice_get claim.servers x.server ≡ Some server
-  pub answers : HoldsPacket reply.bytes server ntp_port claim.client port header
-  pub mode : mode_of header ≡ 4
-  pub usable : IsUsable header
+  -- the reply's packet is one of the server to the client, and usable
+  pub packet : Packet
+  pub answers : HoldsPacket reply.bytes packet
+  pub of_server : IsReplyOf claim x.server packet
+  pub usable : IsUsable packet.header
   -- the request is the one that it names, and no other frame holds such a one
-  pub asks : HoldsRequest request.bytes claim.client port server (origin_of header)
+  pub asks : HoldsRequest claim x.server packet request.bytes
   pub only : (k : ℕ) (frame : CapturedFrame) → slice_get frames k ≡ Some frame
-      → HoldsRequest frame.bytes claim.client port server (origin_of header) → k ≡ x.request
+      → HoldsRequest claim x.server packet frame.bytes → k ≡ x.request
   -- the four times, and the root distance that the reply announces: half the root delay, the root
   -- dispersion and the precision (RFC 5905, section 11.2)
   pub t1 : IsWindowOf unit request x.t1_low x.t1_high
-  pub t2 : IsUnfolded (receive_of header) x.t1_low x.t2
-  pub t3 : IsUnfolded (transmit_of header) x.t1_low x.t3
+  pub t2 : IsUnfolded (receive_of packet.header) x.t1_low x.t2
+  pub t3 : IsUnfolded (transmit_of packet.header) x.t1_low x.t3
   pub t4 : IsWindowOf unit reply x.t4_low x.t4_high
-  pub distance : x.distance ≡ pos (root_delay_of header * 32768
-      + root_dispersion_of header * 65536 + precision_ticks_of (precision_of header))
+  pub distance : x.distance ≡ pos (root_delay_of packet.header * 32768
+      + root_dispersion_of packet.header * 65536 + precision_ticks_of (precision_of packet.header))
 
 -- the laws of the layers below by which exchanges are found in frames
 pub record FrameLaws : Type 0 where
-  pub datagram : DatagramLaw
+  pub packet : (frame : List ℕ) (p : Packet) → IsBytes frame
+      → (packet_of frame ≡ Some p) ↔ HoldsPacket frame p
   pub request : (claim : ClaimData) (packet : Packet) (server : ℕ)
       → AllPairs (λ a b. a ≢ b) claim.servers
       → (requested_server claim packet ≡ Some server) ↔ IsRequestTo claim server packet

@@ -9,16 +9,13 @@ use Rattle.audit.specs.Check.{verdict_on}
 use Rattle.audit.specs.Evidence.{EvidenceData, GiveEvidence, OfClaimAndCapture, samples_in}
 use Rattle.audit.specs.Question.{ByOutcome, QuestionData}
 
--- a certificate of pieces of this many seconds: for a program its compact text and a line feed, and
--- for a person that it is found
-abbrev pub certificate_for : Style → ℕ → ClaimData → CertificateData → List ℕ
-certificate_for Plain step claim c = certificate_text c ++ codes "\n"
-certificate_for style step claim c = found_answer claim step (length c.pieces)
-
--- what is found, in words: a certificate, or the number of the piece that fails and its hull
-unfoldable pub found_text : Style → ℕ → ClaimData → FoundData → List ℕ
-found_text style step claim (certificate c) = certificate_for style step claim c
-found_text style step claim (nothing piece hull) = nothing_text style piece hull
+-- what is found, in words: a certificate of pieces of this many seconds, for a program its compact
+-- text and a line feed, and for a person that it is found; or the number of the piece that fails
+-- and its hull
+unfoldable pub found_text : FoundData → Style → ℕ → ClaimData → List ℕ
+found_text (certificate c) Plain step claim = certificate_text c ++ codes "\n"
+found_text (certificate c) style step claim = found_answer claim step (length c.pieces)
+found_text (nothing piece hull) style step claim = nothing_text style piece hull
 
 -- the outcome: yes if there is a certificate
 abbrev pub found_outcome : FoundData → Outcome
@@ -33,7 +30,7 @@ find_run_fault_of finds.Memory = Memory
 -- the report on what is found
 abbrev pub found_report : Style → ℕ → ClaimData → Result FoundData FindFault → Report
 found_report style step claim (Ok found) =
-    whole_text (found_text style step claim found) (found_outcome found)
+    whole_text (found_text found style step claim) (found_outcome found)
 found_report style step claim (Err fault) = refused (find_run_fault_of fault)
 
 -- what is found in the samples of a capture, for pieces of this many seconds

@@ -2,21 +2,17 @@
 -- says.
 use Rattle.std.specs.Prelude.{◌≡◌, ℕ, false, List, ◌++◌, codes, Option, Some, None}
 use Rattle.audit.specs.Common.{FeedState, RefutationData, refutation_text, ClaimData, IsNearestRefutation, NoneIsRefuted, nearest_refutation, Outcome, Yes, No, whole_text, Style, Plain, refutation_answer, no_refutation_text}
-use Rattle.audit.specs.Contested.{ShowsContested}
 use Rattle.audit.specs.Evidence.{EvidenceData, GiveEvidence, OfClaimAndCapture}
-use Rattle.audit.specs.Refute.{IsContestedOf}
+use Rattle.audit.specs.Refute.{AreContested, IsContestedOf}
 use Rattle.audit.specs.Question.{ByOutcome, QuestionData}
 
--- a refutation: for a program its compact text and a line feed, and for a person what it says
-abbrev pub refutation_for : Style → ClaimData → RefutationData → List ℕ
-refutation_for Plain claim refutation = refutation_text refutation ++ codes "\n"
-refutation_for style claim refutation =
+-- what is found, in words: a refutation, for a program its compact text and a line feed, and for a
+-- person what it says; or that there is none
+unfoldable pub found_refutation_text : Option RefutationData → Style → ClaimData → List ℕ
+found_refutation_text (Some refutation) Plain claim = refutation_text refutation ++ codes "\n"
+found_refutation_text (Some refutation) style claim =
     refutation_answer (codes "refutation found") claim refutation
-
--- what is found, in words: a refutation, or that there is none
-unfoldable pub found_refutation_text : Style → ClaimData → Option RefutationData → List ℕ
-found_refutation_text style claim (Some refutation) = refutation_for style claim refutation
-found_refutation_text style claim None = no_refutation_text style
+found_refutation_text None style claim = no_refutation_text style
 
 -- the outcome: yes if there is a refutation
 abbrev pub found_refutation_outcome : Option RefutationData → Outcome
@@ -42,9 +38,9 @@ pub record IsIrrefutableOf (e : EvidenceData) : Type 0 where
 
 -- At a yes a refutation is found, which stands, and that a course breaks the claim is shown in
 -- relations alone, if the bytes of claim and capture are known.
-pub record IsRefutable (claim capture : FeedState) : Type 0 where
-  pub found : OfClaimAndCapture claim capture (GiveEvidence IsRefutableOf)
-  pub shown : OfClaimAndCapture claim capture ShowsContested
+abbrev pub IsRefutable : FeedState → FeedState → Type 0
+IsRefutable claim capture =
+    OfClaimAndCapture claim capture (AreContested (GiveEvidence IsRefutableOf))
 
 -- At a no none is accepted, if these bytes are known.
 abbrev pub IsIrrefutable : FeedState → FeedState → Type 0
@@ -58,7 +54,7 @@ IsFindRefutationOf e = ByOutcome (IsRefutableOf e) (IsIrrefutableOf e)
 abbrev pub find_refutation : QuestionData
 find_refutation = record {
   report = λ style finding said e.
-      whole_text (found_refutation_text style e.claim (refutation_found_in e))
+      whole_text (found_refutation_text (refutation_found_in e) style e.claim)
       (found_refutation_outcome (refutation_found_in e));
   Shows = λ claim second capture.
       ByOutcome (IsRefutable claim capture) (IsIrrefutable claim capture);

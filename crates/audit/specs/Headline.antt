@@ -26,23 +26,26 @@ pub record Admit (claim : ClaimData) (xs : List Exchange) (entries : List (ℕ �
       × MayChangeBy claim (y.t4_low -ℤ claim.reading) (y.t4_high +ℤ claim.reading) begin end
       (error -ℤ (y.t4_high +ℤ claim.reading -ℤ y.t3 +ℤ y.distance)))
 
--- The claim's bytes are the text of a claim that keeps its limits, and the capture's bytes are a
--- capture of frames. There are exchanges in these frames for which this holds: for each reading of
--- the span, a whole number of 1/n tick, there are entries, and a stretch that holds the reading,
--- over which they admit some error and none beyond the bound. In every course of events that fits
--- what they name of the exchanges, and in which the client's clock reads that, its error is within
--- the bound.
-pub record IsShown (claim_bytes capture_bytes : List ℕ) : Type 0 where
-  pub claim : ClaimData
+-- The claim's bytes are the text of this claim, which keeps its limits, and the capture's bytes are
+-- a capture of frames. These are exchanges in the frames.
+pub record AreSaid (text capture : List ℕ) (claim : ClaimData) (xs : List Exchange) : Type 0 where
   pub order : Endian
   pub unit : TimeUnit
   pub frames : List CapturedFrame
-  pub exchanges : List Exchange
-  pub claim_is : IsClaimText claim_bytes claim
+  pub claim_is : IsClaimText text claim
   pub in_limits : IsWithinLimits claim
-  pub capture_is : IsCaptureOf capture_bytes order unit frames
-  pub exchanges_are : (k : ℕ) (x : Exchange) → slice_get exchanges k ≡ Some x
+  pub capture_is : IsCaptureOf capture order unit frames
+  pub exchanges_are : (k : ℕ) (x : Exchange) → slice_get xs k ≡ Some x
       → IsExchangeIn claim unit frames x
+
+-- The bytes say a claim and exchanges for which this holds: for each reading of the span, a whole
+-- number of 1/n tick, there are entries, and a stretch that holds the reading, over which they
+-- admit some error and none beyond the bound. In every course of events that fits what they name of
+-- the exchanges, and in which the client's clock reads that, its error is within the bound.
+pub record IsShown (claim_bytes capture_bytes : List ℕ) : Type 0 where
+  pub claim : ClaimData
+  pub exchanges : List Exchange
+  pub said : AreSaid claim_bytes capture_bytes claim exchanges
   pub within : (n : ℕ) (reading : ℤ) → IsInWindow n claim.first claim.last reading
       → (entries : List (ℕ × ℕ)) × (begin : ℤ) × (end : ℤ) × IsInWindow n begin end reading
       × ((error : ℤ) × Admit claim exchanges entries begin end error)

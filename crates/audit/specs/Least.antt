@@ -7,23 +7,15 @@ use Rattle.std.specs.Prelude.{ℕ, pos, ◌<◌, ◌≤◌, Bool, true, false, O
 use Rattle.audit.specs.Common.{ClaimData, max_bound_ns, SomeCourse, FindsLeastBound, IsCarried, piece_holding, with_bound, NoneOfFewIsAccepted, LeastCarried, LeastLine, NotAsked, NoneHolds, Holds}
 use Rattle.audit.specs.Evidence.{EvidenceData, samples_in}
 
--- the bound that was found, and the piece of this many seconds that holds the tick at which the
--- search stops with a nanosecond less
-abbrev pub line_of : ClaimData → ℕ → Option LeastCarried → LeastLine
-line_of claim step None = NoneHolds
-line_of claim step (Some least) =
-    Holds least.bound_ns (piece_holding claim step (pos least.tick))
-
--- the bound that was found, in nanoseconds
-abbrev pub nanoseconds_of : Option LeastCarried → Option ℕ
-nanoseconds_of None = None
-nanoseconds_of (Some least) = Some least.bound_ns
-
--- the line, if it is asked for; there is none if it is, and no bound was looked for
+-- the line, if it is asked for: the bound that was found, and the piece of this many seconds that
+-- holds the tick at which the search stops with a nanosecond less; there is none if it is, and no
+-- bound was looked for
 abbrev pub least_line_of : ClaimData → ℕ → Bool → Option (Option LeastCarried) → Option LeastLine
 least_line_of claim step false found = Some NotAsked
 least_line_of claim step true None = None
-least_line_of claim step true (Some found) = Some (line_of claim step found)
+least_line_of claim step true (Some None) = Some NoneHolds
+least_line_of claim step true (Some (Some least)) =
+    Some (Holds least.bound_ns (piece_holding claim step (pos least.tick)))
 
 -- What the bound shows of evidence: it is what the search answers. If some course of events fits
 -- the exchanges, then under a lesser bound no certificate is accepted that may be written, and with

@@ -16,7 +16,6 @@ pub mod Finding
 pub mod Question
 pub mod Report
 pub mod Run
-pub mod FramedPacket
 pub mod Exchanged
 pub mod Captured
 pub mod Claimed

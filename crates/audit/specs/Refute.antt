@@ -1,10 +1,10 @@
 -- The report of `refute`, and what its outcome says.
-use Rattle.std.specs.Prelude.{◌≡◌, ℕ, List, ◌++◌, codes, Bool, true, false, Option, IfSome, Ok}
+use Rattle.std.specs.Prelude.{◌≡◌, ℕ, List, ◌++◌, codes, Bool, true, false, Option}
 use Rattle.audit.specs.Common.{FeedState, CertificateData, RefutationData, ClaimData, Course, HasCourse, IsAgainst, IsRefuted, is_refuted, HasDriftCourse, IsRefutedWithDrift, Shows, is_refuted_with_drift, refutation_read, Outcome, Yes, No, Memory, Report, refused, whole_text, Style, Plain, refutation_answer, about_told, refuted_text}
 use Rattle.checker.specs.declared.verdict.Verdict.TheVariants as verdicts
-use Rattle.audit.specs.Check.{verdict_on}
+use Rattle.audit.specs.Check.{GiveSecond, verdict_on}
 use Rattle.audit.specs.Contested.{ShowsContested}
-use Rattle.audit.specs.Evidence.{EvidenceData, GiveEvidence, OfClaimAndCapture}
+use Rattle.audit.specs.Evidence.{EvidenceData, OfClaimAndCapture}
 use Rattle.audit.specs.Question.{ByOutcome, QuestionData}
 use Rattle.audit.specs.Second.{SecondData, refutation_said}
 
@@ -62,20 +62,22 @@ pub record IsUncontestedOf (drift : Bool) (refutation : RefutationData) (e : Evi
   pub refused : ¬ (IsOfRefuted drift refutation e)
   pub shown_by_none : IsShownByNone drift refutation e
 
--- A refutation, the one that its bytes say if they are known, and the evidence that the bytes of
--- claim and capture give are such that this holds of them.
-pub record GiveRefutation (P : RefutationData → EvidenceData → Type 0)
-    (refutation_bytes : Option (List ℕ)) (claim capture : List ℕ) : Type 0 where
-  pub refutation : RefutationData
-  pub refutation_is : IfSome refutation_bytes (λ bytes. refutation_read bytes ≡ Ok refutation)
-  pub evidence : GiveEvidence (P refutation) claim capture
+-- A refutation and evidence are such that this holds of them.
+abbrev pub GiveRefutation : (RefutationData → EvidenceData → Type 0) → Option (List ℕ)
+    → List ℕ → List ℕ → Type 0
+GiveRefutation = GiveSecond refutation_read
 
--- At a yes the refutation stands, and that a course breaks the claim is shown in relations alone,
--- if the bytes of claim and capture are known.
-pub record IsContested (drift : Bool) (claim second capture : FeedState) : Type 0 where
-  pub stands : OfClaimAndCapture claim capture
-      (GiveRefutation (IsContestedOf drift) second.remaining)
-  pub shown : OfClaimAndCapture claim capture ShowsContested
+-- The bytes give a refutation that stands, and that a course breaks the claim is shown in relations
+-- alone.
+pub record AreContested (Stands : List ℕ → List ℕ → Type 0) (claim capture : List ℕ)
+    : Type 0 where
+  pub stands : Stands claim capture
+  pub shown : ShowsContested claim capture
+
+-- So it is at a yes, if the bytes of claim and capture are known.
+abbrev pub IsContested : Bool → FeedState → FeedState → FeedState → Type 0
+IsContested drift claim second capture = OfClaimAndCapture claim capture
+    (AreContested (GiveRefutation (IsContestedOf drift) second.remaining))
 
 -- At a no it falls, if these bytes are known.
 abbrev pub IsUncontested : Bool → FeedState → FeedState → FeedState → Type 0

@@ -1,11 +1,11 @@
 -- What a run writes and answers for the bytes of its inputs: the first refusal in the order claim,
 -- second input, capture, or the report on what they say.
-use Rattle.std.specs.Prelude.{◌≡◌, ℕ, List, Option, Some, None, Result, Ok, Err, IfErr, IfOk, MatchResult, option_map}
+use Rattle.std.specs.Prelude.{ℕ, List, Option, Some, None, Result, Ok, Err, IfErr, IfOk, option_map}
 use Rattle.audit.specs.Common.{SinkState, ClaimData, Collection, claim_read, Outcome, RunFault, Pieces, Memory, IsMadeFor, Publishes, Ready, Report, refused, RunState, Style}
 use Rattle.audit.specs.CaptureInput.{capture_read}
 use Rattle.audit.specs.Evidence.{EvidenceData, evidence_of}
 use Rattle.audit.specs.Finding.{IsFindingOf}
-use Rattle.audit.specs.Question.{AskedData, Finding, QuestionData, ShowsOf, asked_of, for_a_program, no_finding}
+use Rattle.audit.specs.Question.{AskedData, Finding, QuestionData, ShowsOf, asked_of, no_finding}
 use Rattle.audit.specs.Second.{SecondData, SecondKind, no_second, nothing_said, second_read}
 
 -- ---- what the inputs say
@@ -106,23 +106,3 @@ abbrev pub TellsAlone : QuestionData → Style → EvidenceData → SinkState �
 TellsAlone question style e before after answer =
     Tells (asked_of question no_second style) (question.report style no_finding nothing_said e)
     (inputs_data nothing_said e) before after answer
-
--- The report on a finding, which shows what it says, is told.
-pub record TellsFinding (asked : AskedData) (inputs : InputsData) (before after : SinkState)
-    (answer : Result Outcome RunFault) : Type 0 where
-  pub finding : Finding
-  pub found : IsFindingOf inputs.evidence finding
-  pub tells : Tells asked (report_on asked finding (Ok inputs)) inputs before after answer
-
--- One finding is told twice: for a program in a draft, and if that is whole, as it is asked for on
--- the output.
-pub record TellsTwice (asked : AskedData) (inputs : InputsData) (draft draft' out out' : SinkState)
-    (answer : Result Outcome RunFault) : Type 0 where
-  pub finding : Finding
-  pub found : IsFindingOf inputs.evidence finding
-  pub drafted : Result Outcome RunFault
-  pub drafts : Tells (for_a_program asked) (report_on (for_a_program asked) finding (Ok inputs))
-      inputs draft draft' drafted
-  pub then_tells : MatchResult drafted
-      (λ outcome. Tells asked (report_on asked finding (Ok inputs)) inputs out out' answer)
-      (λ fault. (answer ≡ Err fault) × (out' ≡ out))

@@ -1,12 +1,10 @@
 -- What a run needs and what it promises.
 use Rattle.std.specs.Prelude.{◌≡◌, ◌⊎◌, ℕ, Bool, false, Result, Ok, Err, IfErr, IfOk, IfSome, MatchResult}
-use Rattle.audit.specs.Common.{CountsFault, TakesAtMost, FeedState, IsReadable, IsWritable, SinkState, most_taken, max_claim, status_of, Conclusion, most_read, IsUnwritten, IsFromOutside, Input, Claim, Outcome, RunFault, Memory, CountsSink, GetsText, is_capture, is_claim, is_device, is_second, RunState, HasClaim, HasLawfulHeader, IsBeforeCapture, IsBeforeSecond, Runs, IsConcluded}
-use Rattle.audit.specs.Evidence.{evidence_data}
+use Rattle.audit.specs.Common.{run_state, no_feed, CountsFault, TakesAtMost, FeedState, IsReadable, IsWritable, SinkState, most_taken, max_claim, status_of, Conclusion, most_read, Input, Claim, Outcome, RunFault, Memory, CountsSink, GetsText, is_capture, is_claim, is_device, is_second, RunState, HasClaim, HasLawfulHeader, IsBeforeCapture, IsBeforeSecond, Runs, IsConcluded}
 use Rattle.audit.specs.Question.{AreInputsOf, AskedData, Finding, QuestionData, for_a_program, plainly}
-use Rattle.audit.specs.Second.{HasSecond, SecondData, SecondKind, most_second, no_second}
-use Rattle.audit.specs.Report.{InputsData, inputs_read, report_on, run_report}
+use Rattle.audit.specs.Second.{HasSecond, SecondKind, most_second, no_second}
+use Rattle.audit.specs.Report.{InputsData, report_on, run_report}
 use Rattle.audit.specs.Finding.{IsFindingOf, ShowsFinding}
-use Rattle.audit.specs.declared.engine.Inputs.{Inputs}
 
 -- A run may begin: each input may be pulled from, and its sink may be written to.
 pub record MayRun (before : RunState) : Type 0 where
@@ -15,16 +13,9 @@ pub record MayRun (before : RunState) : Type 0 where
   pub capture : IsReadable before.capture
   pub sink : IsWritable before.sink
 
--- What is known of a run once its inputs are read, or one is refused.
-pub record HasRead {T F V : Type 0} (kind : SecondKind) (said : V → SecondData)
-    (before after : RunState) (second second' : T) (capture capture' : F)
-    (read : Result (Inputs V) RunFault) : Type 0 where
-  pub of_bytes : IfOk read (λ i. AreInputsOf kind (said i.second) (evidence_data i.evidence)
-      before.claim before.second before.capture)
-  pub refused : IfErr read (λ fault. IfSome
-      (inputs_read kind before.claim.remaining before.second.remaining before.capture.remaining)
-      (λ known. IsFromOutside fault ⊎ (known ≡ Err fault)))
-  pub unwritten : IfErr read (λ fault. IsUnwritten (Err fault))
+-- What is known of the inputs of a run once they are read, or one is refused.
+pub record HasRead {T F A : Type 0} (kind : SecondKind) (before after : RunState)
+    (second second' : T) (capture capture' : F) (read : Result A RunFault) : Type 0 where
   pub claim_faults : CountsFault (is_device is_claim read) before.claim.faults after.claim.faults
   pub second_faults : CountsFault (is_device is_second read)
       before.second.faults after.second.faults
@@ -88,11 +79,11 @@ pub record RunsTwice {T F : Type 0} (asked : AskedData) (before after : RunState
   pub shows : IfOk answer (asked.question.Shows before.claim before.second before.capture)
 
 -- what a run promises of a question without a second input, whose answer is for a program
-abbrev pub RunsAlone : {F : Type 0} → QuestionData → RunState → RunState → F → F →
-    Result Outcome RunFault → Type 0
-RunsAlone question before after capture capture' answer =
-    RunsFor {T = Unit {0}} (plainly question no_second) before after (tt {0}) (tt {0})
-    capture capture' answer
+abbrev pub RunsAlone : {F : Type 0} → QuestionData → FeedState → FeedState → SinkState →
+    FeedState → FeedState → SinkState → F → F → Result Outcome RunFault → Type 0
+RunsAlone question claim capture out claim' capture' out' feed feed' answer =
+    RunsFor {T = Unit {0}} (plainly question no_second) (run_state claim no_feed capture out)
+    (run_state claim' no_feed capture' out') (tt {0}) (tt {0}) feed feed' answer
 
 -- What a caller of a whole command sees: all that a run promises, and its answer, reported by a
 -- line and a conclusion.

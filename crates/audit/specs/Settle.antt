@@ -1,16 +1,14 @@
 -- The report of `settle`, and what it shows: that the claim is shown, refuted, fitted by no course
 -- or without evidence, or that it stays open. Which refutation and which least bound are found has
 -- no definition of its own, so the report is one on what was found.
-use Rattle.std.specs.Prelude.{◌≡◌, ℕ, Bool, true, false, List, length, AllPairs, ◌++◌, codes, Option, Some, None, IsSome, is_some, unwrap_or, ◌&&◌, not, if◌then◌else◌, Result, Ok, Err}
-use Rattle.audit.specs.Common.{IsBytes, FeedState, CertificateData, refutation_text, RefutationData, certificate_text, SettledData, settled_data, shown, refuted, fitted_by_none, no_evidence, left_open, IsFittedByNone, IsLeftOpen, IsShownBy, IsUnheard, LeastCarried, FindFault, SameRequest, Outcome, Yes, No, Report, refused, whole_text, Style, Plain, Human, evidence_answer, open_answer, refutation_answer, shown_answer, about_told, conflicts_text, evidence_text, open_text}
+use Rattle.std.specs.Prelude.{◌≡◌, ℕ, Bool, true, false, List, length, AllPairs, ◌++◌, codes, Option, Some, None, IsSome, is_some, unwrap_or, option_map, ◌&&◌, not, if◌then◌else◌, Result, Ok, Err}
+use Rattle.audit.specs.Common.{IsBytes, FeedState, CertificateData, refutation_text, certificate_text, SettledData, settled_data, shown, refuted, fitted_by_none, no_evidence, left_open, IsFittedByNone, IsLeftOpen, IsShownBy, IsUnheard, LeastCarried, FindFault, SameRequest, Outcome, Yes, No, Report, refused, whole_text, Style, Plain, Human, evidence_answer, open_answer, refutation_answer, shown_answer, about_told, conflicts_text, evidence_text, open_text}
 use Rattle.finder.specs.declared.fault.FindFault.TheVariants.{Memory}
 use Rattle.audit.specs.Check.{ArePiecesTraced, HasVerdictYes, IsTracedTo}
-use Rattle.audit.specs.Contested.{ShowsContested}
 use Rattle.audit.specs.Evidence.{EvidenceData, GiveEvidence, OfClaimAndCapture}
 use Rattle.audit.specs.Find.{find_run_fault_of}
 use Rattle.audit.specs.Headline.{IsShown}
-use Rattle.audit.specs.Refute.{IsContestedOf}
-use Rattle.audit.specs.Least.{nanoseconds_of}
+use Rattle.audit.specs.Refute.{AreContested, IsContestedOf}
 use Rattle.audit.specs.Question.{Finding, QuestionData}
 use Rattle.audit.specs.declared.question.settle.Settlement.{Settlement}
 
@@ -48,7 +46,8 @@ abbrev pub text_for : Style → EvidenceData → Option (Option LeastCarried) �
 text_for Plain e found settled = Some (settled_text e settled)
 text_for style e found settled =
     if names_least settled && not (is_some found) then None
-    else Some (settled_answer e (nanoseconds_of (unwrap_or found None)) settled)
+    else Some (settled_answer e (option_map (λ least. least.bound_ns) (unwrap_or found None))
+    settled)
 
 -- a text in this style is on the least bound
 abbrev pub is_on_least : Style → SettledData → Bool
@@ -111,14 +110,12 @@ pub record IsShownFrom (certificate : CertificateData) (claim capture : List ℕ
   pub in_relations : IsBytes capture → IsShown claim capture
   pub by_pieces : GiveEvidence (ArePiecesTraced certificate) claim capture
 
--- The refutation stands, and that a course breaks the claim is shown in relations alone.
-pub record IsRefutedFrom (refutation : RefutationData) (claim capture : List ℕ) : Type 0 where
-  pub evidence : GiveEvidence (IsContestedOf true refutation) claim capture
-  pub in_relations : ShowsContested claim capture
-
+-- What settles the claim does so by evidence that the bytes give; a certificate and a refutation
+-- show it in relations alone too.
 abbrev pub IsSettledFrom : SettledData → List ℕ → List ℕ → Type 0
 IsSettledFrom (shown certificate) claim capture = IsShownFrom certificate claim capture
-IsSettledFrom (refuted refutation) claim capture = IsRefutedFrom refutation claim capture
+IsSettledFrom (refuted refutation) claim capture =
+    AreContested (GiveEvidence (IsContestedOf true refutation)) claim capture
 IsSettledFrom settled claim capture = GiveEvidence (λ e. IsSettledOf e settled) claim capture
 
 -- what an outcome shows of them

@@ -70,10 +70,8 @@ pub fn run_samples<C: Feed, F: Feed, S: Sink>(
     out: &mut S,
 ) -> (F, Result<Outcome, RunFault>)
     requires { MayRun (run_state (C.state claim.old) no_feed (F.state capture) (S.state out.old)) }
-    ensures { RunsAlone samples
-        (run_state (C.state claim.old) no_feed (F.state capture) (S.state out.old))
-        (run_state (C.state claim.new) no_feed (F.state result.0) (S.state out.new))
-        capture result.0 result.1 }
+    ensures { RunsAlone samples (C.state claim.old) (F.state capture) (S.state out.old)
+        (C.state claim.new) (F.state result.0) (S.state out.new) capture result.0 result.1 }
 {
     let (asked, style, fixed) = (Request::Samples, Style::Plain, fixed_hasher());
     run(alloc, asked, style, claim, &mut (), capture, out, fixed)
@@ -92,9 +90,8 @@ pub fn run_at<C: Feed, F: Feed, S: Sink>(
 ) -> (F, Result<Outcome, RunFault>)
     requires { MayRun (run_state (C.state claim.old) no_feed (F.state capture) (S.state out.old)) }
     ensures runs { RunsAlone (at unix_second)
-        (run_state (C.state claim.old) no_feed (F.state capture) (S.state out.old))
-        (run_state (C.state claim.new) no_feed (F.state result.0) (S.state out.new))
-        capture result.0 result.1 }
+        (C.state claim.old) (F.state capture) (S.state out.old)
+        (C.state claim.new) (F.state result.0) (S.state out.new) capture result.0 result.1 }
     ensures in_hull { IfOk result.1 (λ outcome.
         HullHoldsError unix_second (C.state claim.old) (F.state capture)) }
 {
@@ -175,10 +172,8 @@ pub fn run_find<C: Feed, F: Feed, S: Sink>(
     requires run { MayRun
         (run_state (C.state claim.old) no_feed (F.state capture) (S.state out.old)) }
     requires step { IsStep step_s }
-    ensures runs { RunsAlone (find step_s)
-        (run_state (C.state claim.old) no_feed (F.state capture) (S.state out.old))
-        (run_state (C.state claim.new) no_feed (F.state result.0) (S.state out.new))
-        capture result.0 result.1 }
+    ensures runs { RunsAlone (find step_s) (C.state claim.old) (F.state capture) (S.state out.old)
+        (C.state claim.new) (F.state result.0) (S.state out.new) capture result.0 result.1 }
     ensures accepted { result.1 ≡ Ok Outcome.Yes →
         IsFound step_s (C.state claim.old) (F.state capture) }
     ensures not_found { result.1 ≡ Ok Outcome.No →
@@ -199,10 +194,8 @@ pub fn run_seek<C: Feed, F: Feed, S: Sink>(
     out: &mut S,
 ) -> (F, Result<Outcome, RunFault>)
     requires { MayRun (run_state (C.state claim.old) no_feed (F.state capture) (S.state out.old)) }
-    ensures runs { RunsAlone find_refutation
-        (run_state (C.state claim.old) no_feed (F.state capture) (S.state out.old))
-        (run_state (C.state claim.new) no_feed (F.state result.0) (S.state out.new))
-        capture result.0 result.1 }
+    ensures runs { RunsAlone find_refutation (C.state claim.old) (F.state capture) (S.state out.old)
+        (C.state claim.new) (F.state result.0) (S.state out.new) capture result.0 result.1 }
     ensures stands { result.1 ≡ Ok Outcome.Yes →
         IsRefutable (C.state claim.old) (F.state capture) }
     ensures none { result.1 ≡ Ok Outcome.No →

@@ -5,11 +5,11 @@
 //! each function here is one promise, `RunsFor`: the text and the answer are those that the bytes
 //! of the inputs call for; with it stands what an outcome shows.
 
-ghost use Rattle.std.specs.Prelude.{Err, IfErr, IfOk};
-ghost use Rattle.audit.specs.Common.{IsReadable, IsUnwritten, IsWritable, SinkState, run_state};
+ghost use Rattle.std.specs.Prelude.{◌≡◌, ◌⊎◌, Err, IfErr, IfOk, IfSome};
+ghost use Rattle.audit.specs.Common.{IsFromOutside, IsReadable, IsUnwritten, IsWritable, SinkState, run_state};
 ghost use Rattle.audit.specs.Evidence.{IsLawfulEvidence, evidence_data};
-ghost use Rattle.audit.specs.Question.{asked_of};
-ghost use Rattle.audit.specs.Report.{TellsFinding, TellsTwice, inputs_data};
+ghost use Rattle.audit.specs.Question.{AreInputsOf, asked_of};
+ghost use Rattle.audit.specs.Report.{inputs_read};
 ghost use Rattle.audit.specs.Run.{AnswersFor, HasRead, MayRun, RunsFor, RunsTwice, ShowsAt};
 
 use crate::capture_input::read_capture_from;
@@ -32,33 +32,28 @@ pub struct Outputs<S, E> {
     pub err: E,
 }
 
-/// What the inputs of a question say.
-#[derive(Drop)]
-struct Inputs<V> {
-    /// The second input.
-    second: V,
-    /// Claim and capture.
-    evidence: Evidence,
-}
-
 /// Reads the claim, the second input and the capture. The capture's feed is handed back beside what
-/// they say.
+/// the second input says, and the evidence of claim and capture.
 fn read_inputs<V: SecondInput, C: Feed, T: SecondSource<V>, F: Feed, H: BuildHasher + Drop>(
     alloc: Global,
     claim: &mut C,
     second: &mut T,
     capture: F,
     hasher: H,
-) -> (F, Result<Inputs<V>, RunFault>)
+) -> (F, Result<(V, Evidence), RunFault>)
     requires claim { IsReadable (C.state claim.old) }
     requires second { IsReadable (T.state second.old) }
     requires capture { IsReadable (F.state capture) }
-    ensures has_read { (sink sink' : SinkState) → HasRead V.kind V.said
+    ensures has_read { (sink sink' : SinkState) → HasRead V.kind
         (run_state (C.state claim.old) (T.state second.old) (F.state capture) sink)
         (run_state (C.state claim.new) (T.state second.new) (F.state result.0) sink')
         second.old second.new capture result.0 result.1 }
-    ensures lawful { IfOk result.1 (λ inputs. V.IsLawful inputs.second
-        × IsLawfulEvidence inputs.evidence) }
+    ensures of_bytes { IfOk result.1 (λ read. AreInputsOf V.kind (V.said read.0)
+        (evidence_data read.1) (C.state claim.old) (T.state second.old) (F.state capture)) }
+    ensures lawful { IfOk result.1 (λ read. V.IsLawful read.0 × IsLawfulEvidence read.1) }
+    ensures refused { IfErr result.1 (λ fault. IfSome (inputs_read V.kind
+        (C.state claim.old).remaining (T.state second.old).remaining (F.state capture).remaining)
+        (λ known. IsFromOutside fault ⊎ (known ≡ Err fault))) }
     ensures unwritten { IfErr result.1 (λ fault. IsUnwritten (Err fault)) }
 {
     let claim = match read_claim_from(alloc, claim) {
@@ -71,62 +66,8 @@ fn read_inputs<V: SecondInput, C: Feed, T: SecondSource<V>, F: Feed, H: BuildHas
     };
     let (capture, collected) = read_capture_from(alloc, capture, &claim, hasher);
     match collected {
-        Ok(held) => {
-            let evidence = Evidence { claim, held };
-            (capture, Ok(Inputs { second, evidence }))
-        }
+        Ok(held) => (capture, Ok((second, Evidence { claim, held }))),
         Err(fault) => (capture, Err(fault)),
-    }
-}
-
-/// Tells what a question finds of inputs that were read.
-fn tell_finding<Q: Question, S: Sink>(
-    alloc: Global,
-    question: Q,
-    style: Style,
-    inputs: &Inputs<Q::Second>,
-    out: &mut S,
-) -> Result<Outcome, RunFault>
-    requires second { Q.Second.IsLawful inputs.now.second }
-    requires evidence { IsLawfulEvidence inputs.now.evidence }
-    requires out { IsWritable (S.state out.old) }
-    ensures { TellsFinding (asked_of (Q.asks question) Q.Second.kind style)
-        (inputs_data (Q.Second.said inputs.now.second) (evidence_data inputs.now.evidence))
-        (S.state out.old) (S.state out.new) result }
-{
-    let (second, evidence) = (&inputs.second, &inputs.evidence);
-    match question.find(alloc, style, second, evidence) {
-        Ok(found) => question.tell(alloc, style, second, evidence, &found, out),
-        Err(fault) => publish(out, &Err(fault)),
-    }
-}
-
-/// Tells it twice: for a program in `draft`, and if that is whole in this style on `out`.
-fn tell_finding_twice<Q: Question, D: Sink, S: Sink>(
-    alloc: Global,
-    question: Q,
-    style: Style,
-    inputs: &Inputs<Q::Second>,
-    draft: &mut D,
-    out: &mut S,
-) -> Result<Outcome, RunFault>
-    requires second { Q.Second.IsLawful inputs.now.second }
-    requires evidence { IsLawfulEvidence inputs.now.evidence }
-    requires draft { IsWritable (D.state draft.old) }
-    requires out { IsWritable (S.state out.old) }
-    ensures { TellsTwice (asked_of (Q.asks question) Q.Second.kind style)
-        (inputs_data (Q.Second.said inputs.now.second) (evidence_data inputs.now.evidence))
-        (D.state draft.old) (D.state draft.new) (S.state out.old) (S.state out.new) result }
-{
-    let (second, evidence) = (&inputs.second, &inputs.evidence);
-    match question.find(alloc, style, second, evidence) {
-        Ok(found) => {
-            match question.tell(alloc, Style::Plain, second, evidence, &found, draft) {
-                Ok(_) => question.tell(alloc, style, second, evidence, &found, out),
-                Err(fault) => Err(fault),
-            }
-        }
-        Err(fault) => publish(draft, &Err(fault)),
     }
 }
 
@@ -168,7 +109,13 @@ pub fn run<
     let (capture, inputs) = read_inputs(alloc, claim, second, capture, hasher);
     bytes_tell_what_they_show();
     match inputs {
-        Ok(inputs) => (capture, tell_finding(alloc, question, style, &inputs, out)),
+        Ok((second, evidence)) => match question.find(alloc, style, &second, &evidence) {
+            Ok(found) => (
+                capture,
+                question.tell(alloc, style, &second, &evidence, &found, out),
+            ),
+            Err(fault) => (capture, publish(out, &Err(fault))),
+        },
         Err(fault) => (capture, publish(out, &Err(fault))),
     }
 }
@@ -208,10 +155,18 @@ pub fn run_twice<
     let (capture, inputs) = read_inputs(alloc, claim, second, capture, hasher);
     bytes_tell_what_they_show();
     match inputs {
-        Ok(inputs) => {
-            let answer = tell_finding_twice(alloc, question, style, &inputs, draft, out);
-            (capture, answer)
-        }
+        Ok((second, evidence)) => match question.find(alloc, style, &second, &evidence) {
+            Ok(found) => {
+                match question.tell(alloc, Style::Plain, &second, &evidence, &found, draft) {
+                    Ok(_) => {
+                        let told = question.tell(alloc, style, &second, &evidence, &found, out);
+                        (capture, told)
+                    }
+                    Err(fault) => (capture, Err(fault)),
+                }
+            }
+            Err(fault) => (capture, publish(draft, &Err(fault))),
+        },
         Err(fault) => (capture, publish(draft, &Err(fault))),
     }
 }

@@ -5,11 +5,10 @@
 ghost use Rattle.std.specs.Prelude.{◌≡◌, ℕ, ◌↔◌, ◌≢◌, ◌⊎◌, List, map, None, Some, Ok, AllPairs, slice_get};
 ghost use Rattle.audit.specs.Common.{IsBytes, Unit as TimeUnit, ClaimData, claim_of, Packet, ntp_port, packet_of, exchanges_of, refusal_of, Exchange, Endian, Format, Record, IsCapture};
 ghost use Rattle.audit.specs.Headline.{ShowsHeadline};
-ghost use Rattle.audit.specs.Contested.{BytesLaws, CourseContests, GivesNanoseconds, NeverBoth, RefutationContests};
+ghost use Rattle.audit.specs.Contested.{BytesLaws, CourseContests, GivesNanoseconds, NeverBoth, ReadingLaw, RefutationContests};
 ghost use Rattle.audit.specs.Claimed.{IsClaimText};
-ghost use Rattle.audit.specs.Exchanged.{FrameLaws, IsUsable, IsExchangeIn, IsAmong};
+ghost use Rattle.audit.specs.Exchanged.{FrameLaws, HoldsPacket, IsUsable, IsExchangeIn, IsAmong};
 ghost use Rattle.audit.specs.Captured.{CapturedFrame, IsCaptureOf, frame_of};
-ghost use Rattle.audit.specs.FramedPacket.{HoldsPacket, HoldsShown, packet_with};
 
 use checker::laws::{
     accepted_refutations_have_a_course, bounds_hold_in_nanoseconds, capture_fits_each_piece,
@@ -41,16 +40,9 @@ pub fn bounds_of_bytes_hold_in_nanoseconds()
 }
 
 /// A frame gives an NTP packet exactly if it holds it, its layers joined from Ethernet to NTP.
-#[tactic(auto, using(crate::proofs::PacketParts::packet_given, crate::proofs::PacketParts::packet_held))]
 pub fn packet_is_given_where_held()
-    ensures given { (frame : List ℕ) (p : Packet) → IsBytes frame → packet_of frame ≡ Some p →
-        HoldsShown frame p }
-    ensures held { (frame source : List ℕ) (source_port : ℕ) (destination : List ℕ)
-        (destination_port : ℕ) (header : List ℕ) → IsBytes frame →
-        (source_port ≡ ntp_port) ⊎ (destination_port ≡ ntp_port) →
-        HoldsPacket frame source source_port destination destination_port header →
-        (rest : List ℕ) × (packet_of frame ≡
-        Some (packet_with source source_port destination destination_port header rest)) }
+    ensures { (frame : List ℕ) (p : Packet) → IsBytes frame →
+        (packet_of frame ≡ Some p) ↔ HoldsPacket frame p }
 {
     given_where_held();
 }
@@ -93,7 +85,7 @@ pub fn captures_say_one_list_of_frames()
 fn layers_say_what_frames_hold()
     ensures { FrameLaws }
 {
-    given_where_held();
+    packet_is_given_where_held();
     request_is_to_one_server();
     reply_is_of_one_server();
     ratios_are_rounded_as_little_as_can_be();
@@ -147,17 +139,25 @@ pub fn texts_say_one_claim()
     addresses_are_dotted();
 }
 
-/// If a claim and a capture are read, and the verdict on some certificate is yes, the theorem holds
-/// of their bytes, said in relations alone.
-pub fn yes_shows_the_headline()
-    ensures { ShowsHeadline }
+/// What is read of the bytes of a claim and of a capture is what they say.
+fn what_is_read_is_said()
+    ensures { ReadingLaw }
 {
     claims_are_what_their_text_says();
     claims_are_lawful();
     what_is_read_is_a_capture();
     records_are_frames();
     exchanges_are_in_the_frames();
+    exchanges_in_the_frames_are_collected();
     exchanges_keep_their_limits();
+}
+
+/// If a claim and a capture are read, and the verdict on some certificate is yes, the theorem holds
+/// of their bytes, said in relations alone.
+pub fn yes_shows_the_headline()
+    ensures { ShowsHeadline }
+{
+    what_is_read_is_said();
     verdicts_are_traceable();
     yes_is_acceptance();
     pieces_hold_every_reading();
@@ -168,15 +168,11 @@ pub fn yes_shows_the_headline()
 /// If a claim and a capture are read, and in some course of events that fits them the clock is off
 /// by more than the bound at a reading of the span, that is shown of their bytes, said in relations
 /// alone: of all exchanges in the frames, none of which is missing.
+#[tactic(auto, using(crate::proofs::Excess::contested))]
 pub fn course_beyond_the_bound_contests_the_claim()
     ensures { CourseContests }
 {
-    claims_are_what_their_text_says();
-    claims_are_lawful();
-    what_is_read_is_a_capture();
-    records_are_frames();
-    exchanges_are_in_the_frames();
-    exchanges_in_the_frames_are_collected();
+    what_is_read_is_said();
 }
 
 /// What these three tell of the bytes of a claim and of a capture.
@@ -192,9 +188,7 @@ pub(crate) fn bytes_tell_what_they_show()
 pub fn accepted_refutation_contests_the_claim()
     ensures { RefutationContests }
 {
-    claims_are_lawful();
-    what_is_read_is_a_capture();
-    exchanges_keep_their_limits();
+    what_is_read_is_said();
     test_is_passed_where_refuted();
     accepted_refutations_have_a_course();
     course_beyond_the_bound_contests_the_claim();

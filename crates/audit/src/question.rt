@@ -173,28 +173,20 @@ impl Question for Request {
         out: &mut S,
     ) -> Result<Outcome, RunFault> {
         let unnamed = Settle { about: &[] };
-        match self {
-            Request::Samples => samples::tell(alloc, style, evidence, out),
-            Request::At(asked) => at::tell(alloc, asked, style, evidence, out),
-            Request::Settle => match found {
-                RequestFinding::Settlement(found) => {
-                    unnamed.tell(alloc, style, second, evidence, found, out)
-                }
-                _ => unreachable!(),
-            },
-            Request::Find(find) => match found {
-                RequestFinding::Search(found) => {
-                    find.tell(alloc, style, second, evidence, found, out)
-                }
-                _ => unreachable!(),
-            },
-            Request::FindRefutation => find_refutation::tell(alloc, style, evidence, out),
-            Request::Envelope(envelope) => match found {
-                RequestFinding::Envelope(found) => {
-                    envelope.tell(alloc, style, second, evidence, found, out)
-                }
-                _ => unreachable!(),
-            },
+        match (self, found) {
+            (Request::Samples, _) => samples::tell(alloc, style, evidence, out),
+            (Request::At(asked), _) => at::tell(alloc, asked, style, evidence, out),
+            (Request::FindRefutation, _) => find_refutation::tell(alloc, style, evidence, out),
+            (Request::Settle, RequestFinding::Settlement(found)) => {
+                unnamed.tell(alloc, style, second, evidence, found, out)
+            }
+            (Request::Find(find), RequestFinding::Search(found)) => {
+                find.tell(alloc, style, second, evidence, found, out)
+            }
+            (Request::Envelope(envelope), RequestFinding::Envelope(found)) => {
+                envelope.tell(alloc, style, second, evidence, found, out)
+            }
+            _ => unreachable!(),
         }
     }
 }

@@ -84,7 +84,7 @@ impl<'a> Question for Check<'a> {
 
     ghost IsFound = { λ _ style _ found. spec.IsEnoughFor style found };
 
-    #[tactic(auto, using(crate::proofs::Showing::memory_unfound, crate::proofs::VerdictShowing::fits_known))]
+    #[tactic(auto, using(crate::proofs::VerdictShowing::fits_found))]
     fn find(
         self,
         alloc: Global,

@@ -65,7 +65,7 @@ impl Question for EnvelopeOptions {
         }
     }
 
-    #[tactic(auto, using(crate::proofs::EnvelopeShowing::count_is_few, crate::proofs::EnvelopeShowing::few_pieces))]
+    #[tactic(auto, using(crate::proofs::EnvelopeShowing::few_enough))]
     fn tell<S: Sink>(
         self,
         alloc: Global,

@@ -1,7 +1,7 @@
 //! What is made for `find`.
 
-ghost use Rattle.std.specs.Prelude.{◌≡◌, ◌++◌, IfOk, codes};
-ghost use Rattle.audit.specs.Common.{certificate_data, certificate_text, data_of, found_data};
+ghost use Rattle.std.specs.Prelude.{◌≡◌, ◌++◌, IfOk, codes, string_bytes};
+ghost use Rattle.audit.specs.Common.{data_of, found_data};
 ghost use Rattle.audit.specs.Find as spec;
 ghost use Rattle.audit.specs.Question.{no_finding};
 
@@ -11,7 +11,7 @@ use crate::sample_list::samples_of;
 use crate::whole_text::publish_text;
 use audit_text::{Step, found_answer, nothing_text};
 use byte_stream::Sink;
-use certificate::{Certificate, write_certificate};
+use certificate::write_certificate;
 use claim_file::Claim;
 use finder::{FindFault, Found, find_over};
 use line_writer::Style;
@@ -45,15 +45,11 @@ fn outcome_of(found: &Found) -> Outcome
     }
 }
 
-/// The text of a certificate, with a line feed.
-pub(crate) fn certificate_line(
-    alloc: Global,
-    certificate: &Certificate,
-) -> Result<Vec<u8>, AllocError>
-    ensures { IfOk result (λ text.
-        text.items ≡ certificate_text (certificate_data certificate.now) ++ codes "\n") }
+/// A text with a line feed.
+pub(crate) fn with_line_feed(text: String) -> Result<Vec<u8>, AllocError>
+    ensures { IfOk result (λ line. line.items ≡ string_bytes text ++ codes "\n") }
 {
-    let mut text = write_certificate(alloc, certificate)?;
+    let mut text = text;
     text.push_str("\n")?;
     Ok(text.into_bytes())
 }
@@ -68,11 +64,11 @@ fn found_text(
     found: &Found,
 ) -> Result<Vec<u8>, AllocError>
     ensures { IfOk result (λ text. text.items
-        ≡ spec.found_text style step.seconds (data_of claim.now) (found_data found.now)) }
+        ≡ spec.found_text (found_data found.now) style step.seconds (data_of claim.now)) }
 {
     match found {
         Found::Certificate(certificate) => match style {
-            Style::Plain => certificate_line(alloc, certificate),
+            Style::Plain => with_line_feed(write_certificate(alloc, certificate)?),
             _ => found_answer(alloc, claim, step.seconds, certificate.pieces.len() as u64),
         },
         Found::Nothing { piece, hull } => nothing_text(alloc, style, *piece, *hull),
@@ -90,7 +86,7 @@ impl Question for Find {
 
     ghost IsFound = { λ asked _ e found. spec.IsFoundBy asked.step.seconds e (found_data found) };
 
-    #[tactic(auto, using(crate::proofs::SearchShowing::found_shows, crate::proofs::Showing::nothing_found))]
+    #[tactic(auto, using(crate::proofs::SearchShowing::search_found))]
     fn find(
         self,
         alloc: Global,

@@ -1,13 +1,14 @@
 //! What is made for `find --refutation`.
 
-ghost use Rattle.std.specs.Prelude.{◌≡◌, ◌++◌, IfOk, codes, option_map};
-ghost use Rattle.audit.specs.Common.{IsWritable, refutation_data, refutation_text, data_of};
+ghost use Rattle.std.specs.Prelude.{◌≡◌, IfOk, option_map};
+ghost use Rattle.audit.specs.Common.{IsWritable, refutation_data, data_of};
 ghost use Rattle.audit.specs.FindRefutation as spec;
 ghost use Rattle.audit.specs.Evidence.{IsLawfulEvidence, evidence_data};
 ghost use Rattle.audit.specs.Report.{TellsAlone};
 
 use crate::evidence::Evidence;
 use crate::laws::course_beyond_the_bound_contests_the_claim;
+use crate::question::find::with_line_feed;
 use crate::whole_text::publish_text;
 use audit_text::{no_refutation_text, refutation_answer};
 use byte_stream::Sink;
@@ -29,16 +30,6 @@ fn outcome_of(found: &Option<Refutation>) -> Outcome
     }
 }
 
-/// The text of a refutation, with a line feed.
-pub(crate) fn refutation_line(alloc: Global, refutation: &Refutation) -> Result<Vec<u8>, AllocError>
-    ensures { IfOk result (λ text.
-        text.items ≡ refutation_text (refutation_data refutation.now) ++ codes "\n") }
-{
-    let mut text = write_refutation(alloc, refutation)?;
-    text.push_str("\n")?;
-    Ok(text.into_bytes())
-}
-
 /// The whole text.
 #[tactic(auto, unfolding(crate::specs::FindRefutation::found_refutation_text))]
 fn found_refutation_text(
@@ -48,12 +39,12 @@ fn found_refutation_text(
     found: &Option<Refutation>,
 ) -> Result<Vec<u8>, AllocError>
     ensures { IfOk result (λ text. text.items
-        ≡ spec.found_refutation_text style (data_of claim.now)
-        (option_map refutation_data found.now)) }
+        ≡ spec.found_refutation_text (option_map refutation_data found.now) style
+        (data_of claim.now)) }
 {
     match found {
         Some(refutation) => match style {
-            Style::Plain => refutation_line(alloc, refutation),
+            Style::Plain => with_line_feed(write_refutation(alloc, refutation)?),
             _ => refutation_answer(alloc, "refutation found", claim, refutation),
         },
         None => no_refutation_text(alloc, style),

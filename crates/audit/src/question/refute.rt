@@ -37,7 +37,7 @@ fn refuted_outcome(stands: bool) -> Outcome
 }
 
 /// Whether a refutation stands. Memory is taken only if its error may drift.
-#[tactic(auto, using(crate::proofs::RefutationShowing::drift_shows, crate::proofs::RefutationShowing::judgement_shows))]
+#[tactic(auto, using(crate::proofs::RefutationShowing::refutation_settled))]
 fn does_stand(
     alloc: Global,
     drift: bool,

@@ -8,16 +8,16 @@ ghost use Rattle.audit.specs.Settle.{IsEnoughFor, IsSettledOf, finding_of, settl
 
 use crate::evidence::Evidence;
 use crate::laws::bytes_tell_what_they_show;
-use crate::least_line::{least_if, nanoseconds_of};
+use crate::least_line::least_if;
 use crate::question::Question;
-use crate::question::find::{certificate_line, run_fault_of};
-use crate::question::find_refutation::refutation_line;
+use crate::question::find::{run_fault_of, with_line_feed};
 use crate::whole_text::{publish_text, with_about};
 use audit_text::{
     conflicts_text, evidence_answer, evidence_text, open_answer, open_text, refutation_answer,
     shown_answer,
 };
 use byte_stream::Sink;
+use certificate::{write_certificate, write_refutation};
 use checker::laws::verdicts_are_traceable;
 use finder::laws::samples_of_exchanges_keep_limits;
 use finder::{LeastCarried, Settled};
@@ -67,8 +67,8 @@ fn settled_text(
         ≡ spec.settled_text (evidence_data evidence.now) (settled_data settled.now)) }
 {
     match settled {
-        Settled::Shown(certificate) => certificate_line(alloc, certificate),
-        Settled::Refuted(refutation) => refutation_line(alloc, refutation),
+        Settled::Shown(certificate) => with_line_feed(write_certificate(alloc, certificate)?),
+        Settled::Refuted(refutation) => with_line_feed(write_refutation(alloc, refutation)?),
         Settled::NothingFits(conflicts) => {
             let exchanges = &evidence.held.exchanges;
             conflicts_text(alloc, Style::Plain, &evidence.claim, exchanges, conflicts)
@@ -146,7 +146,7 @@ fn text_for(
     match style {
         Style::Plain => settled_text(alloc, evidence, &found.settled),
         _ => {
-            let least = nanoseconds_of(found.least.unwrap_or(None));
+            let least = found.least.unwrap_or(None).map(|least| least.bound_ns);
             settled_answer(alloc, evidence, least, &found.settled)
         }
     }
@@ -163,7 +163,7 @@ impl<'a> Question for Settle<'a> {
 
     ghost IsFound = { λ _ style e found. IsEnoughFor style e found };
 
-    #[tactic(auto, using(crate::proofs::SettlementText::enough_with, crate::proofs::Showing::memory_unfound))]
+    #[tactic(auto, using(crate::proofs::SettlementShowing::settlement_found))]
     fn find(
         self,
         alloc: Global,

@@ -2,4 +2,4 @@ use Rattle.audit.proofs.Uniqueness.{one_claim}
 use Rattle.audit.proofs.laws.texts_say_one_claim.Goals as goal
 
 pub returns : goal.returns
-returns c = one_claim (record { time = c.times_are_spelled.ensures; address = c.addresses_are_dotted.ensures })
+returns c = one_claim c.times_are_spelled.ensures c.addresses_are_dotted.ensures

@@ -9,6 +9,6 @@ invariant-loop-number g l =
     record {
       same_sink : sink_name l.out ≡ sink_name l.fn.out;
       few : put_count (state l.out) ≤ 512 * l.number;
-      going : IsGoing (samples_text Plain e.claim e.collection) (left_after e.claim e.collection l.number)
+      going : IsGoing (samples_text Plain e.claim e.collection) (left_after e.claim l.evidence.held l.number)
           (state l.fn.out).sink (state l.out);
     }

@@ -1,6 +1,6 @@
 use Rattle.audit.proofs.Common.{Err, Finding, None, inr, refl, settled_data, evidence_data, samples_in, IsSettledOf, settle_report}
 use Rattle.audit.proofs.SettlementShowing.{fault_found, settled_of}
-use Rattle.audit.proofs.Showing.{making_fault, refused_as}
+use Rattle.audit.proofs.Showing.{unfound_as}
 use Rattle.audit.proofs.question.settle.SettleQuestion.find.Goals as goal
 
 pub returns-in-Ok-least_if-clause-found : goal.returns-in-Ok-least_if-clause-found
@@ -20,10 +20,6 @@ returns-in-Err-clause-fault c =
     let fault = c.in-Err.fault in
     let finding : Finding = record { settled = Err fault; least = None; fits = None } in
     let settles = rw c.deref.ensures.value at c.in-Err.ensures in
-    record {
-      finding = finding;
-      found = record { settled = fault_found e fault settles.refused; least = tt; fits = tt };
-      of_making = making_fault fault c.run_fault_of.result c.run_fault_of.ensures;
-      is_made = λ style. refused_as (settle_report style c.args.self.about.now finding e) (Err fault) fault
-          c.run_fault_of.result refl c.run_fault_of.ensures (inr refl);
-    }
+    rw c.run_fault_of.ensures (unfound_as _ _ finding (λ style. settle_report style c.args.self.about.now finding e) _
+    fault (inr refl) (record { settled = fault_found e fault settles.refused; least = tt; fits = tt }) (λ style. refl)
+    (λ style. refl))
