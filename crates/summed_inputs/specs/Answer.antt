@@ -1,6 +1,6 @@
 -- What is said of a run whose inputs are held to their sums, with no premise that their bytes are
 -- known beforehand.
-use Rattle.std.specs.Prelude.{◌≡◌, ◌⊎◌, ◌≤◌, ℕ, false, List, Some, Err}
+use Rattle.std.specs.Prelude.{◌≡◌, ◌⊎◌, ◌≤◌, ℕ, false, List, Some, Ok, Err}
 use Rattle.summed_inputs.specs.Common.{Keeps, SinkState, RunState, run_state, Answers, Concludes, conclusion_of, Conclusion, Outcome, RunFault, ShowsFinding, report_of_bytes, ShowsAt, AskedData, Finding, QuestionData, SecondKind}
 use Rattle.summed_inputs.specs.Holding.{AreSummed, CountFaults, Feeds, IsUnjudgedFor, TakeAtMost, feed_of, feeds}
 use Rattle.summed_inputs.specs.InputBytes.{InputBytesData}
@@ -10,11 +10,9 @@ use Rattle.summed_inputs.specs.Sums.{SumsData}
 abbrev pub feeds_of : RunState → Feeds
 feeds_of run = feeds run.claim run.second run.capture
 
--- none of a run's inputs has failed
-pub record HaveNotFailed (run : RunState) : Type 0 where
-  pub claim : run.claim.faults ≡ 0
-  pub second : run.second.faults ≡ 0
-  pub capture : run.capture.faults ≡ 0
+-- no device of an input has failed between these moments
+abbrev pub HaveNotFailed : Feeds → Feeds → Type 0
+HaveNotFailed before after = CountFaults {A = Unit {0}} (Ok tt) before after
 
 -- what an exit status shows of these bytes of claim, second input and capture
 abbrev pub ShowsOfBytes : ℕ → QuestionData → List ℕ → List ℕ → List ℕ → Type 0
@@ -29,7 +27,8 @@ pub record IsAnsweredFor (asked : AskedData) (claim second capture : List ℕ)
     (sink sink' err err' : SinkState) (conclusion : Conclusion) : Type 0 where
   pub ended : RunState
   pub sink_is : ended.sink ≡ sink'
-  pub unfailed : HaveNotFailed ended
+  pub unfailed : HaveNotFailed (feeds (feed_of claim) (feed_of second) (feed_of capture))
+      (feeds_of ended)
   pub finding : Finding
   pub found : ShowsFinding finding (feed_of claim) (feed_of capture)
   pub answers : Answers
@@ -44,9 +43,7 @@ pub record IsJudged (asked : AskedData) (sums : SumsData) (before after : RunSta
   pub summed : AreSummed asked.second sums (feeds_of before) read
   pub answered : IsAnsweredFor asked read.claim read.second read.capture before.sink after.sink
       err err' conclusion
-  pub claim_unfailed : after.claim.faults ≡ before.claim.faults
-  pub second_unfailed : after.second.faults ≡ before.second.faults
-  pub capture_unfailed : after.capture.faults ≡ before.capture.faults
+  pub unfailed : HaveNotFailed (feeds_of before) (feeds_of after)
 
 -- A run is given up before anything is judged: the fault is reported, and nothing is written.
 pub record IsUnjudged (kind : SecondKind) (sums : SumsData) (before after : RunState)

@@ -7,8 +7,7 @@ pub use Rattle.audit.specs.Question.{AskedData, Finding, QuestionData, asked_of}
 pub use Rattle.audit.specs.Refute.{GiveRefutation, IsContestedOf, IsUncontestedOf, refute}
 pub use Rattle.audit.specs.Report.{report_of_bytes}
 pub use Rattle.audit.specs.Run.{MayRun, ShowsAt}
-pub use Rattle.audit.specs.Second.{IsOfSecond, SecondKind, certificate_second, most_second, no_second}
-pub use Rattle.audit.specs.Second.{refutation_second, second_read}
+pub use Rattle.audit.specs.Second.{IsOfSecond, SecondKind, certificate_second, most_second, no_second, refutation_second, second_read}
 pub use Rattle.audit.specs.Settle.{IsSettledBy, IsShownFrom, settle}
 pub use Rattle.byte_stream.specs.Bytes.{IsBytes}
 pub use Rattle.byte_stream.specs.Fault.{CountsFault}
@@ -32,5 +31,6 @@ pub use Rattle.report.specs.declared.fault.RunFault.TheVariants.{Device, Memory,
 pub use Rattle.report.specs.declared.fault.SumsFault.TheVariants.{Differ, Form, Missing}
 pub use Rattle.sha2.specs.Sha256.{sha256}
 pub use Rattle.std.specs.Io.KnownBytes.{Keeps}
+pub use Rattle.std.specs.Option.{option_map_or}
 pub use Rattle.sum_file.specs.Reading.{sum_given, sums_of}
 pub use Rattle.sum_file.specs.Sum.{data_of, digest_named}

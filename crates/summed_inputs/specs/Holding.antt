@@ -1,9 +1,9 @@
 -- Inputs that are read whole and held to their sums.
-use Rattle.std.specs.Prelude.{◌≡◌, ◌≢◌, ◌⊎◌, ℕ, ◌+◌, ◌<◌, false, List, [], length, Option, Some, IfSome, Result}
-use Rattle.summed_inputs.specs.Common.{IsBytes, CountsFault, TakesAtMost, FeedState, max_certificate, max_claim, max_refutation, is_capture, is_claim, is_device, is_second, is_sums, Input, RunFault, TooBig, Device, Memory, Sums as Refused, Differ, sha256, sum_given, SecondKind, no_second, certificate_second, refutation_second}
+use Rattle.std.specs.Prelude.{◌≡◌, ◌≢◌, ◌⊎◌, ℕ, ◌+◌, ◌<◌, false, List, [], length, Option, Some, IfSome, IsSomeAnd, Result}
+use Rattle.summed_inputs.specs.Common.{IsBytes, CountsFault, TakesAtMost, FeedState, max_certificate, max_claim, max_refutation, is_capture, is_claim, is_device, is_second, is_sums, Input, RunFault, TooBig, Device, Memory, Sums as Refused, Differ, sha256, sum_given, SecondKind, no_second, option_map_or}
 use Rattle.report.specs.declared.fault.Input.TheVariants as inputs
 use Rattle.summed_inputs.specs.InputBytes.{InputBytesData}
-use Rattle.summed_inputs.specs.Sums.{AreGiven, Digests, IsOfSums, SumsData}
+use Rattle.summed_inputs.specs.Sums.{AreGiven, Digests, IsOfSums, SumsData, second_input}
 
 -- a feed of these bytes, of which none was taken and which has never failed
 abbrev pub feed_of : List ℕ → FeedState
@@ -17,17 +17,14 @@ limit_of inputs.Refutation = max_refutation
 limit_of inputs.Capture = 17179869184
 limit_of inputs.Sums = 65536
 
--- An input was read: bytes that have this digest, and all that its feed had, if that is known.
-pub record IsHeld (digest : List ℕ) (known : Option (List ℕ)) (read : List ℕ) : Type 0 where
-  pub bytes : IsBytes read
-  pub digest_is : sha256 read ≡ digest
+-- An input was read: bytes, and all that its feed had, if that is known.
+pub record IsRead (known : Option (List ℕ)) (read : List ℕ) : Type 0 where
+  pub are_bytes : IsBytes read
   pub whole : IfSome known (λ bytes. read ≡ bytes)
 
--- An input was read: bytes that have another digest, and all that its feed had, if that is known.
-pub record IsOther (digest : List ℕ) (known : Option (List ℕ)) (read : List ℕ) : Type 0 where
-  pub bytes : IsBytes read
-  pub digest_differs : sha256 read ≢ digest
-  pub whole : IfSome known (λ bytes. read ≡ bytes)
+-- an input was read, and has this digest
+abbrev pub IsHeld : List ℕ → Option (List ℕ) → List ℕ → Type 0
+IsHeld digest known read = IsRead known read × (sha256 read ≡ digest)
 
 -- Why an input isn't held to this digest: its length, its digest, its device, or memory. If it's
 -- one of the first two, what was read is too long, or has another digest.
@@ -36,7 +33,7 @@ IsUnheld which digest known read (TooBig input) =
     (input ≡ which) × (limit_of which < length read)
     × IfSome known (λ bytes. limit_of which < length bytes)
 IsUnheld which digest known read (Refused (Differ input)) =
-    (input ≡ which) × IsOther digest known read
+    (input ≡ which) × IsRead known read × (sha256 read ≢ digest)
 IsUnheld which digest known read (Device input) = input ≡ which
 IsUnheld which digest known read Memory = Unit {0}
 IsUnheld which digest known read fault = ⊥
@@ -50,19 +47,16 @@ pub record Feeds : Type 0 where
 abbrev pub feeds : FeedState → FeedState → FeedState → Feeds
 feeds claim second capture = record { claim = claim; second = second; capture = capture }
 
--- bytes of a second input that has this digest were read; none, if the question has none
-abbrev pub IsSecondHeld : SecondKind → List ℕ → Option (List ℕ) → List ℕ → Type 0
-IsSecondHeld no_second digest known read = read ≡ []
-IsSecondHeld kind digest known read = IsHeld digest known read
+-- What holds of the bytes that were read of a second input: none were, if the question has none.
+abbrev pub OfSecond : SecondKind → List ℕ → Type 0 → Type 0
+OfSecond no_second read Holds = read ≡ []
+OfSecond kind read Holds = Holds
 
 -- why a second input isn't held to this digest
 abbrev pub IsSecondUnheld :
     SecondKind → List ℕ → Option (List ℕ) → List ℕ → RunFault → Type 0
-IsSecondUnheld no_second digest known read fault = ⊥
-IsSecondUnheld certificate_second digest known read fault =
-    IsUnheld inputs.Certificate digest known read fault
-IsSecondUnheld refutation_second digest known read fault =
-    IsUnheld inputs.Refutation digest known read fault
+IsSecondUnheld kind digest known read fault =
+    IsSomeAnd (second_input kind) (λ which. IsUnheld which digest known read fault)
 
 -- Why the inputs aren't held: the fault is that of the first, in the order claim, second input,
 -- capture, that isn't. Those before it were read and held, and those after it weren't read.
@@ -74,27 +68,20 @@ AreUnheld kind digests before after read fault =
     × IsSecondUnheld kind digests.second before.second.remaining read.second fault
     × (after.capture ≡ before.capture))
     ⊎ (IsHeld digests.claim before.claim.remaining read.claim
-    × IsSecondHeld kind digests.second before.second.remaining read.second
+    × OfSecond kind read.second (IsHeld digests.second before.second.remaining read.second)
     × IsUnheld inputs.Capture digests.capture before.capture.remaining read.capture fault))
 
 -- Bytes with the SHA-256 that a file of sums gives to this name; those that a feed had, if they are
 -- known.
-pub record IsSummed (text name : List ℕ) (known : Option (List ℕ)) (bytes : List ℕ) : Type 0 where
-  pub are_bytes : IsBytes bytes
-  pub sum_is : sum_given text name ≡ Some (sha256 bytes)
-  pub whole : IfSome known (λ k. bytes ≡ k)
-
--- the same of a second input; if the question has none, it has no byte
-abbrev pub IsSecondSummed :
-    SecondKind → List ℕ → List ℕ → Option (List ℕ) → List ℕ → Type 0
-IsSecondSummed no_second text name known bytes = bytes ≡ []
-IsSecondSummed kind text name known bytes = IsSummed text name known bytes
+abbrev pub IsSummed : List ℕ → List ℕ → Option (List ℕ) → List ℕ → Type 0
+IsSummed text name known bytes = IsRead known bytes × (sum_given text name ≡ Some (sha256 bytes))
 
 -- All three were read, and have their sums.
 pub record AreSummed (kind : SecondKind) (sums : SumsData) (before : Feeds)
     (read : InputBytesData) : Type 0 where
   pub claim : IsSummed sums.text sums.claim before.claim.remaining read.claim
-  pub second : IsSecondSummed kind sums.text sums.second before.second.remaining read.second
+  pub second : OfSecond kind read.second
+      (IsSummed sums.text sums.second before.second.remaining read.second)
   pub capture : IsSummed sums.text sums.capture before.capture.remaining read.capture
 
 -- how the failures of the inputs' devices are counted; no other device failed
@@ -107,9 +94,7 @@ pub record CountFaults {A : Type 0} (answer : Result A RunFault)
 
 -- how many bytes are taken of a second input at most
 abbrev pub most_second : SecondKind → ℕ
-most_second no_second = 0
-most_second certificate_second = limit_of inputs.Certificate + 1
-most_second refutation_second = limit_of inputs.Refutation + 1
+most_second kind = option_map_or (λ which. limit_of which + 1) (second_input kind) 0
 
 -- at most its limit and one byte more is taken of each input
 pub record TakeAtMost (kind : SecondKind) (before after : Feeds) : Type 0 where

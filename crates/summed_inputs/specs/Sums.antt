@@ -23,9 +23,6 @@ pub record Digests : Type 0 where
   pub second : List ℕ
   pub capture : List ℕ
 
-abbrev pub digests : List ℕ → List ℕ → List ℕ → Digests
-digests claim second capture = record { claim = claim; second = second; capture = capture }
-
 -- the digest of a second input, if this is the one that was found: a question without a second
 -- input needs none
 abbrev pub needed : SecondKind → Option (List ℕ) → Option (List ℕ)
@@ -38,11 +35,11 @@ pub record AreGiven (kind : SecondKind) (sums : SumsData) (digests : Digests) : 
   pub second : needed kind (sum_given sums.text sums.second) ≡ Some digests.second
   pub capture : sum_given sums.text sums.capture ≡ Some digests.capture
 
--- which input the second one is
-abbrev pub IsSecond : SecondKind → Input → Type 0
-IsSecond no_second input = ⊥
-IsSecond certificate_second input = input ≡ inputs.Certificate
-IsSecond refutation_second input = input ≡ inputs.Refutation
+-- which input the second one is, if there is one
+abbrev pub second_input : SecondKind → Option Input
+second_input no_second = None
+second_input certificate_second = Some inputs.Certificate
+second_input refutation_second = Some inputs.Refutation
 
 -- each line of the text is lawful, and what was looked for in it isn't there
 abbrev pub IsMissing : List ℕ → Option (List ℕ) → Type 0
@@ -52,7 +49,7 @@ IsMissing text found = IsOk (sums_of text) × (found ≡ None)
 abbrev pub IsFirstMissing : SecondKind → SumsData → Input → Type 0
 IsFirstMissing kind sums input =
     ((input ≡ inputs.Claim) × IsMissing sums.text (sum_given sums.text sums.claim))
-    ⊎ ((IsSecond kind input × IsSome (sum_given sums.text sums.claim)
+    ⊎ (((second_input kind ≡ Some input) × IsSome (sum_given sums.text sums.claim)
     × IsMissing sums.text (needed kind (sum_given sums.text sums.second)))
     ⊎ ((input ≡ inputs.Capture) × IsSome (sum_given sums.text sums.claim)
     × IsSome (needed kind (sum_given sums.text sums.second))
@@ -67,5 +64,5 @@ IsOfSums kind sums fault = ⊥
 
 -- the second input is missing
 abbrev pub IsSecondMissing : SecondKind → RunFault → Type 0
-IsSecondMissing kind (Refused (Missing input)) = IsSecond kind input
+IsSecondMissing kind (Refused (Missing input)) = second_input kind ≡ Some input
 IsSecondMissing kind fault = ⊥

@@ -63,7 +63,7 @@ where
     match hold_inputs(alloc, sums, claim, second, capture, &mut read) {
         Ok(()) => {
             let mut claim = LentFeed::new(read.claim.as_slice());
-            let mut second = LentSecond::new(read.second.as_slice());
+            let mut second = LentSecond(LentFeed::new(read.second.as_slice()));
             let capture = LentFeed::new(read.capture.as_slice());
             let (claim, second) = (&mut claim, &mut second);
             let (_, conclusion) = answer(

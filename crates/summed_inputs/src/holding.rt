@@ -26,27 +26,6 @@ pub(crate) fn limit(which: Input) -> u64
     }
 }
 
-/// The SHA-256 of bytes.
-fn digest(bytes: &[u8]) -> [u8; 32]
-    ensures digest { result ≡ sha256 bytes.now }
-    ensures bytes { IsBytes bytes.now }
-{
-    Sha256::digest(bytes)
-}
-
-/// Holds the bytes of an input to a digest, their SHA-256. The fault is that they have another.
-fn hold(which: Input, read: &[u8], sum: &[u8; 32]) -> Result<(), RunFault>
-    ensures held { IsOk result ↔ (sha256 read.now ≡ sum.now) }
-    ensures fault { IfErr result (λ fault. fault ≡ Refused (Differ which)) }
-    ensures bytes { IsBytes read.now }
-{
-    if digest(read) == *sum {
-        Ok(())
-    } else {
-        Err(RunFault::Sums(SumsFault::Differ(which)))
-    }
-}
-
 /// Reads an input whole, and holds it to a digest, its SHA-256. `read` gets what was read.
 ///
 /// `Sums` comes if its bytes have another digest, `TooBig` if it has more than its limit, after one
@@ -68,5 +47,9 @@ pub(crate) fn read_held<F: Feed>(
     ensures at_most { TakesAtMost (limit_of which + 1) (F.state feed.old) (F.state feed.new) }
 {
     read_onto(alloc, feed, which, limit(which), read)?;
-    hold(which, read.as_slice(), sum)
+    if Sha256::digest(read.as_slice()) == *sum {
+        Ok(())
+    } else {
+        Err(RunFault::Sums(SumsFault::Differ(which)))
+    }
 }

@@ -1,6 +1,7 @@
 //! The bytes of a run's inputs, which it hands back.
 
 ghost use Rattle.std.specs.Prelude.{◌≡◌, []};
+ghost use Rattle.summed_inputs.specs.InputBytes.{data_of};
 
 use std::alloc::Global;
 
@@ -17,7 +18,9 @@ pub struct InputBytes {
 
 impl InputBytes {
     /// Nothing is read yet.
-    pub fn new(alloc: Global) -> InputBytes {
+    pub fn new(alloc: Global) -> InputBytes
+        ensures { data_of result ≡ record { claim = []; second = []; capture = [] } }
+    {
         InputBytes {
             claim: Vec::new(alloc),
             second: Vec::new(alloc),

@@ -49,11 +49,6 @@ pub fn hold_inputs<V: SecondInput, C: NamedFeed, T: SummedSource<V>, F: NamedFee
     let sums = input_sums(alloc, sums, claim, second, capture)?;
     read_held(alloc, claim, Input::Claim, &sums.claim, &mut read.claim)?;
     second.hold(alloc, &sums.second, &mut read.second)?;
-    read_held(
-        alloc,
-        capture,
-        Input::Capture,
-        &sums.capture,
-        &mut read.capture,
-    )
+    let read = &mut read.capture;
+    read_held(alloc, capture, Input::Capture, &sums.capture, read)
 }

@@ -47,25 +47,12 @@ impl<'a> Feed for LentFeed<'a> {
 
 /// The bytes of a second input: none, if the question has no such input.
 #[derive(Debug, Drop)]
-pub(crate) struct LentSecond<'a> {
-    feed: LentFeed<'a>,
-}
-
-impl<'a> LentSecond<'a> {
-    /// These bytes.
-    pub(crate) fn new(bytes: &'a [u8]) -> LentSecond<'a>
-        ensures { ⟦<LentFeed<'a> as Feed>⟧.state result.feed ≡ feed_of bytes.now }
-    {
-        LentSecond {
-            feed: LentFeed::new(bytes),
-        }
-    }
-}
+pub(crate) struct LentSecond<'a>(pub(crate) LentFeed<'a>);
 
 impl<'a, V: SummedInput> SecondSource<V> for LentSecond<'a> {
-    ghost state = { λ second. ⟦<LentFeed<'a> as Feed>⟧.state second.feed };
+    ghost state = { λ second. ⟦<LentFeed<'a> as Feed>⟧.state second.0 };
 
     fn read_second(&mut self, alloc: Global) -> Result<V, RunFault> {
-        V::read_from(alloc, &mut self.feed)
+        V::read_from(alloc, &mut self.0)
     }
 }

@@ -7,12 +7,12 @@
 //! sums, and that the answer is the definitions' for it (`specs/Answer`); [`laws`] say what that
 //! shows.
 //!
-//! Once the inputs are held to their sums by [`hold_inputs`], their bytes are lent to the engine, as
-//! in `summed_inputs/src/engine.rt`:
+//! Once the inputs are held to their sums by [`hold_inputs`], their bytes are lent to the engine
+//! (`summed_inputs/src/engine.rt`):
 //!
 //! ```text
 //! let mut claim = LentFeed::new(read.claim.as_slice());
-//! let mut second = LentSecond::new(read.second.as_slice());
+//! let mut second = LentSecond(LentFeed::new(read.second.as_slice()));
 //! let capture = LentFeed::new(read.capture.as_slice());
 //! let (claim, second) = (&mut claim, &mut second);
 //! let (_, conclusion) = answer(

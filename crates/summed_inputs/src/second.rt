@@ -2,7 +2,7 @@
 
 ghost use Rattle.std.specs.Prelude.{◌≡◌, ℕ, List, [], Some, None, IfOk, IfErr, IfSome, map};
 ghost use Rattle.summed_inputs.specs.Common.{CountsFault, TakesAtMost, IsReadable, Reads, is_device, is_second, data_of as sum_data, digest_named, IsOfSecond, most_second as most_taken, second_read};
-ghost use Rattle.summed_inputs.specs.Holding.{IsSecondHeld, IsSecondUnheld, most_second};
+ghost use Rattle.summed_inputs.specs.Holding.{IsHeld, IsSecondUnheld, OfSecond, most_second};
 ghost use Rattle.summed_inputs.specs.Sums.{IsSecondMissing, needed};
 
 use crate::holding::read_held;
@@ -76,8 +76,8 @@ pub trait SummedSource<V: SecondInput>: SecondSource<V> {
         read: &mut Vec<u8>,
     ) -> Result<(), RunFault>
         requires { IsReadable (Self.state self.old) }
-        ensures held { IfOk result (λ done. IsSecondHeld V.kind (digest sum.now)
-            (Self.state self.old).remaining read.new.items) }
+        ensures held { IfOk result (λ done. OfSecond V.kind read.new.items
+            (IsHeld (digest sum.now) (Self.state self.old).remaining read.new.items)) }
         ensures fault { IfErr result (IsSecondUnheld V.kind (digest sum.now)
             (Self.state self.old).remaining read.new.items) }
         ensures counts_fault { CountsFault (is_device is_second result)

@@ -2,7 +2,7 @@
 
 ghost use Rattle.std.specs.Prelude.{◌≡◌, Some, None, Ok, IfOk, IfErr, map};
 ghost use Rattle.summed_inputs.specs.Common.{sums_of, data_of as sum_data, digest_named, Sums as Refused, Missing};
-ghost use Rattle.summed_inputs.specs.Sums.{AreGiven, IsOfSums, digests, sums_data};
+ghost use Rattle.summed_inputs.specs.Sums.{AreGiven, IsOfSums, sums_data};
 
 use crate::named_feed::NamedFeed;
 use crate::second::SummedSource;
@@ -51,7 +51,7 @@ pub(crate) fn input_sums<V: SecondInput, C: NamedFeed, T: SummedSource<V>, F: Na
 ) -> Result<InputSums<T::Digest>, RunFault>
     ensures given { IfOk result (λ given. AreGiven V.kind
         (sums_data sums.now (C.named claim.now) (T.named second.now) (F.named capture.now))
-        (digests given.claim (T.digest given.second) given.capture)) }
+        (record { claim = given.claim; second = T.digest given.second; capture = given.capture })) }
     ensures fault { IfErr result (IsOfSums V.kind
         (sums_data sums.now (C.named claim.now) (T.named second.now) (F.named capture.now))) }
 {
