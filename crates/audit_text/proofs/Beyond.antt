@@ -1,6 +1,5 @@
 -- An error beyond a bound in ticks is one beyond it in whole nanoseconds, rounded up.
 use Rattle.std.proofs.Common.{◌<◌, ◌*◌, ◌↔◌, ℕ, ℤ, IsTrue, unsigned_abs, arith}
-use Rattle.std.proofs.lemmas.Bool.{lt-ltb, ltb-true}
 use Rattle.era_unfold.specs.Ratio.{IsCeiling, IsFloor}
 use Rattle.era_unfold.specs.Nanoseconds.{ticks_down, nanoseconds_per_second}
 use Rattle.era_unfold.specs.Window.{ticks_per_second}

@@ -5,13 +5,13 @@ pub use Rattle.std.proofs.Common.{ℕ, ℤ, ◌++◌, ◌+◌, ◌<◌, ◌^◌,
 pub use Rattle.std.proofs.lemmas.Grind.{flat_map-append}
 pub use Rattle.std.proofs.lemmas.Int.{ints, to_z-of_z}
 pub use Rattle.std.proofs.lemmas.List.{drop_all, get_or-map, length-map, take_all, take_more}
-pub use Rattle.std.specs.Prelude.{flat_map, option_map, slice_get, ◌==◌, ◌||◌}
+pub use Rattle.std.specs.Prelude.{flat_map, slice_get, ◌==◌, ◌||◌}
 pub use Rattle.std.specs.Result.{IfOk}
 pub use Rattle.claim_file.specs.Claim.{ClaimData, data_of}
 pub use Rattle.feasibility.specs.PairMarks.{conflict_data}
 pub use Rattle.finder.specs.Envelope.{IsLawfulPiece, piece_data}
 pub use Rattle.line_writer.specs.Field.{Address, FieldData, High, Label, Low, Named, Number, TimeAbove, Word}
-pub use Rattle.line_writer.specs.Field.{field_data, line_of, next_text, rest_text, text_of}
+pub use Rattle.line_writer.specs.Field.{field_data, line_of, rest_text, text_of}
 pub use Rattle.line_writer.specs.declared.field.Style.TheVariants.{Plain}
 pub use Rattle.pairing.specs.Compact.{exchange_shown}
 pub use Rattle.pairing.specs.Exchange.{IsLawful}

@@ -1,5 +1,5 @@
 -- What is shown of a thing at its place in a list, as the exchange of a held one.
-use Rattle.audit_text.proofs.Common.{◌≡◌, ◌∙◌, ◌<◌, ℕ, List, length, map, get_or, All, Some, ap, sym, subst, option_map, slice_get, get_or-map, length-map, Exchange, IsLawful, arith}
+use Rattle.audit_text.proofs.Common.{◌≡◌, ◌∙◌, ◌<◌, ℕ, List, length, map, get_or, All, Some, sym, subst, slice_get, get_or-map, length-map, Exchange, IsLawful, arith}
 use Rattle.std.proofs.lemmas.Option.{slice_get-get_or, slice_get-map}
 
 module _ {X Y : Type 0} (shown : X → Y) (held : List X) (i : ℕ) (d : X) (within : i < length held)

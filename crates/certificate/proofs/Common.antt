@@ -2,10 +2,10 @@
 pub use Rattle.std.proofs.Common.{Bool, Equal, Err, Greater, Less, List, None, Ok, Option, Ordering, Result, Some, []}
 pub use Rattle.std.proofs.Common.{ap, append-nil, append_assoc, ap₂, arith, bytes_eq, cond, decimal, drop, false}
 pub use Rattle.std.proofs.Common.{get_or, if◌then◌else◌, inl, inr, is_eq, is_some, length, length-append, lt-ltb, map}
-pub use Rattle.std.proofs.Common.{nat_cmp, nat_le, nat_lt, negsuc, option_and_then, option_map, pos, refl, rules}
-pub use Rattle.std.proofs.Common.{string_bytes, subst, suc, sym, take, true, ℕ, ℤ, ◌&&◌, ◌*◌, ◌++◌, ◌+◌, ◌-◌, ◌<ℤ◌, ◌<◌}
-pub use Rattle.std.proofs.Common.{◌^◌, ◌∙◌, ◌∷◌, ◌≡◌, ◌≢◌, ◌≤ℤ◌, ◌≤◌}
-pub use Rattle.std.proofs.lemmas.Bool.{le-leb, leb-true, lt-leb}
+pub use Rattle.std.proofs.Common.{nat_cmp, nat_le, negsuc, option_and_then, option_map, pos, refl, rules, string_bytes}
+pub use Rattle.std.proofs.Common.{subst, suc, sym, take, true, ℕ, ℤ, ◌&&◌, ◌*◌, ◌++◌, ◌+◌, ◌-◌, ◌<ℤ◌, ◌<◌, ◌^◌, ◌∙◌}
+pub use Rattle.std.proofs.Common.{◌∷◌, ◌≡◌, ◌≢◌, ◌≤ℤ◌, ◌≤◌}
+pub use Rattle.std.proofs.lemmas.Bool.{le-leb, leb-true}
 pub use Rattle.std.proofs.lemmas.Bool.Decides.{Decides-eqb, nat_tests}
 pub use Rattle.std.proofs.lemmas.Fmt.{IsAscii-signed, decimal_digit, decimal_step, length-decimal-le, length_signed_le}
 pub use Rattle.std.proofs.lemmas.Grind.{common_steps}
@@ -40,7 +40,7 @@ pub use Rattle.serde_json.proofs.Texts.{print-outline}
 pub use Rattle.serde_json.proofs.Views.{get_member-put, get_member-put_other, items_len-items_view}
 pub use Rattle.serde_json.specs.Data.{Data, Items, Members, item, member, no_items, no_members, number, object, put}
 pub use Rattle.serde_json.specs.Events.{items_len}
-pub use Rattle.serde_json.specs.Find.{as_array, as_i64, get_member, is_float, of_integer}
+pub use Rattle.serde_json.specs.Find.{as_array, as_i64, is_float, of_integer}
 pub use Rattle.serde_json.specs.Read.{max_depth, read}
 pub use Rattle.serde_json.specs.View.{items_of, items_view, view}
 pub use Rattle.serde_json.specs.Written.{compact_text, has_float, items_have_float, items_text, number_text}

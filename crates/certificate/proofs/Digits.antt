@@ -1,8 +1,7 @@
 -- A number in decimal, a digit more at a time.
 use Rattle.std.proofs.lemmas.Int.{ints}
-use Rattle.certificate.proofs.Common.{◌≡◌, ℕ, ◌+◌, ◌*◌, ◌^◌, ◌<◌, List, [], ◌∷◌, ◌++◌, arith, sym, ap, ap₂, ◌∙◌, append_assoc, decimal_digit, decimal_step, nat_tests}
+use Rattle.certificate.proofs.Common.{◌≡◌, ℕ, ◌+◌, ◌*◌, ◌^◌, ◌<◌, List, [], ◌∷◌, ◌++◌, arith, sym, ap, ◌∙◌, append_assoc, decimal_digit, decimal_step, nat_tests}
 use Rattle.std.proofs.lemmas.Nat.{div-mul-add}
-use Rattle.std.proofs.Math.Nat.{mul-add-mod_self_right, mod-eq_of_lt}
 use Rattle.std.specs.Fmt.{decimal}
 
 -- the first digit is read

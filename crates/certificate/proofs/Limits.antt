@@ -1,6 +1,6 @@
 -- What is read of a certificate keeps its limits.
 use Rattle.std.proofs.lemmas.Int.{ints}
-use Rattle.certificate.proofs.Common.{◌≡◌, ℕ, suc, ◌+◌, ◌<◌, ◌≤◌, ◌^◌, List, [], ◌∷◌, length, nat_lt, nat_le, Option, Some, None, Ok, if◌then◌else◌, option_map, option_and_then, refl, ap, subst, arith, leb-true, nat_tests, All, codes, Data, Items, no_items, item, items_len, as_array, members_among, items_at, parsed, unsigned_at, unsigned_of, CertificateData, PieceData, NamesSamples, IsReadable, max_pieces, sample_of, pair_of, entry_of, entries_of, piece_of, pieces_from, top_of, certificate_of}
+use Rattle.certificate.proofs.Common.{◌≡◌, ℕ, suc, ◌+◌, ◌≤◌, List, [], ◌∷◌, length, nat_le, Option, Some, None, Ok, option_map, refl, ap, subst, arith, leb-true, nat_tests, All, codes, Data, Items, no_items, item, items_len, members_among, items_at, parsed, unsigned_at, CertificateData, PieceData, NamesSamples, IsReadable, max_pieces, entry_of, entries_of, piece_of, pieces_from, top_of, certificate_of}
 use Rattle.std.proofs.lemmas.List.Elements.{All-cons, All-nil}
 use Rattle.std.proofs.lemmas.Option.{option_and_then_some}
 use Rattle.json_text.proofs.Steps.{after_by, asked_by, given_by}

@@ -1,6 +1,6 @@
 -- The members of an object, read one after another: what the last member of each name says.
 use Rattle.std.proofs.lemmas.Int.{ints}
-use Rattle.certificate.proofs.Common.{◌<◌, length, Token, read_key, next_value, read_key-shorter, value-shorter, ◌≡◌, ◌≢◌, ℕ, List, [], ◌∷◌, Bool, true, false, ◌&&◌, Option, Some, None, if◌then◌else◌, option_map, option_and_then, Result, Ok, nat_le, Ordering, Less, Equal, Greater, nat_cmp, is_eq, bytes_eq, refl, sym, ap, ◌∙◌, bytes_eq-Decides, list_any, codes, get_member-put, get_member-put_other, Data, Items, Members, no_members, member, put, object, as_array, get_member, items_len, given, asked, after, has_only, unsigned_of, CertificateFault, Shape, TooManyEntries, max_entries, entries_of, piece_of, PieceParts, entries_in, parts_of, piece_from, arith, nat_tests}
+use Rattle.certificate.proofs.Common.{◌<◌, length, Token, read_key, next_value, read_key-shorter, value-shorter, ◌≡◌, ◌≢◌, ℕ, List, Bool, true, false, ◌&&◌, Option, Some, None, if◌then◌else◌, option_map, Result, Ok, nat_le, Ordering, Less, Equal, Greater, nat_cmp, is_eq, bytes_eq, refl, sym, ap, ◌∙◌, bytes_eq-Decides, list_any, codes, get_member-put, get_member-put_other, Data, Items, Members, no_members, member, put, object, as_array, items_len, given, asked, after, has_only, unsigned_of, CertificateFault, Shape, TooManyEntries, max_entries, entries_of, piece_of, PieceParts, entries_in, parts_of, piece_from, arith, nat_tests}
 use Rattle.std.proofs.lemmas.Map.Text.{is_eq-slice_cmp}
 use Rattle.std.specs.Cmp.Lexicographic.{slice_cmp}
 use Rattle.std.specs.Ordering.{match_ordering}

@@ -1,6 +1,6 @@
 -- The pieces of a certificate, read one after another.
 use Rattle.std.proofs.lemmas.Int.{ints}
-use Rattle.certificate.proofs.Common.{◌≡◌, ℕ, suc, ◌+◌, ◌≤◌, List, [], ◌∷◌, ◌++◌, nat_le, Some, None, Result, Ok, Err, refl, ap, ap₂, ◌∙◌, arith, append-nil, append_assoc, le-leb, lt-leb, Data, Items, no_items, item, items_len, parse_map, after_end_array, Token, mapped_same, element_read, goes_on, next_value, next_items, rest_after, asked, after, CertificateFault, TooManyPieces, PieceData, max_pieces, pieces_and, piece_of, pieces_from, nat_tests}
+use Rattle.certificate.proofs.Common.{◌≡◌, ℕ, suc, ◌+◌, ◌≤◌, List, [], ◌∷◌, ◌++◌, nat_le, Some, None, Result, Ok, Err, ap, ap₂, ◌∙◌, arith, append-nil, append_assoc, Data, Items, no_items, item, items_len, parse_map, after_end_array, Token, mapped_same, element_read, goes_on, next_value, next_items, rest_after, asked, after, CertificateFault, TooManyPieces, PieceData, max_pieces, pieces_and, piece_of, pieces_from, nat_tests}
 
 abbrev Pieces : Type 0
 Pieces = Result (List PieceData) CertificateFault

@@ -1,6 +1,6 @@
 -- What was written is read again.
 use Rattle.std.proofs.lemmas.Int.{ints}
-use Rattle.certificate.proofs.Common.{◌≡◌, ℕ, suc, ◌+◌, ◌<◌, ◌≤◌, ◌^◌, List, [], ◌∷◌, length, map, Some, Ok, refl, ap, ◌∙◌, arith, lt-ltb, le-leb, All, Data, items_len, items_of, given, Json, parsed, PieceData, CertificateData, NamesSamples, IsReadable, IsHeld, max_pieces, sample_of, entry_of, entries_of, piece_of, pieces_from, certificate_from, certificate_of, number_value, entry_value, piece_value, certificate_value, nat_tests}
+use Rattle.certificate.proofs.Common.{◌≡◌, ℕ, suc, ◌+◌, ◌<◌, ◌≤◌, ◌^◌, List, [], ◌∷◌, length, map, Some, Ok, refl, ap, arith, lt-ltb, le-leb, All, Data, items_len, items_of, given, parsed, PieceData, CertificateData, NamesSamples, IsReadable, IsHeld, max_pieces, sample_of, entry_of, entries_of, piece_of, pieces_from, certificate_from, certificate_of, number_value, entry_value, piece_value, certificate_value, nat_tests}
 use Rattle.std.proofs.lemmas.List.Elements.{All-tail}
 
 sample_of-value : (n : ℕ) → n < 2 ^ 32 → sample_of (number_value n) ≡ Some n

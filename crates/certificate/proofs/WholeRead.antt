@@ -1,6 +1,6 @@
 -- The members of the whole, read one after another.
 use Rattle.std.proofs.lemmas.Int.{ints}
-use Rattle.certificate.proofs.Common.{◌≡◌, ℕ, List, [], ◌∷◌, Bool, false, Option, option_map, Result, refl, sym, codes, get_member-put, get_member-put_other, Data, Members, put, as_array, CertificateFault, PieceData, TopParts, pieces_in, top_parts_of, arith, nat_tests}
+use Rattle.certificate.proofs.Common.{◌≡◌, ℕ, List, Bool, false, Option, option_map, Result, codes, get_member-put, get_member-put_other, Data, Members, put, as_array, CertificateFault, PieceData, TopParts, pieces_in, top_parts_of, arith, nat_tests}
 use Rattle.certificate.proofs.PartsRead.{has_only-put, not_same}
 
 abbrev pub whole : Bool → Option (Result (List PieceData) CertificateFault) → TopParts

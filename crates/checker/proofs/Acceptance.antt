@@ -1,8 +1,8 @@
 -- A verdict is yes exactly if the certificate is accepted.
-use Rattle.checker.proofs.Common.{◌≡◌, ℕ, ◌<◌, ℤ, pos, ◌≤ℤ◌, int_lt, ◌||◌, ◌↔◌, List, [], length, Some, None, refl, ap, ◌∙◌, subst, arith, cond-false, ints, slice_get_within, PieceData, CertificateData, ClaimData, IsHull, hull_of, Interval, Hull, Unbounded, Empty, Bounded, Sample, ShowBound, IsAccepted, group_intervals, piece_hull, begin_of, last_end, parts_after, hull_fault, parts_fault, piece_fault, verdict_of, PassBelow, Stretch, Yes, Cut, nat_tests}
+use Rattle.checker.proofs.Common.{◌≡◌, ℕ, ℤ, pos, ◌≤ℤ◌, int_lt, ◌||◌, ◌↔◌, List, [], Some, None, refl, ap, ◌∙◌, arith, cond-false, ints, PieceData, CertificateData, ClaimData, IsHull, hull_of, Interval, Hull, Unbounded, Empty, Bounded, Sample, ShowBound, IsAccepted, group_intervals, piece_hull, begin_of, parts_after, hull_fault, parts_fault, piece_fault, verdict_of, Stretch, Yes, Cut}
 use Rattle.checker.proofs.EntryStatement.{said_from, taken_from}
 use Rattle.checker.proofs.PieceVerdict.{all_pass, each_passes}
-use Rattle.checker.proofs.VerdictPieces.{yes_end, HullGives, tested, inside_from, none_from_inside}
+use Rattle.checker.proofs.VerdictPieces.{yes_end, HullGives, tested, none_from_inside}
 
 -- the laws that the argument stands on
 pub record Laws : Type 0 where

@@ -1,5 +1,5 @@
 -- What a server's best samples say is said by samples of that server.
-use Rattle.checker.proofs.Common.{◌≡◌, ℕ, List, [], ◌∷◌, length, Option, Some, None, sym, ap, ◌∙◌, All, slice_get, filter_map, option_map, option_and_then, All-nil, All-cons_option, ClaimData, Interval, Sample, piece_interval_of, numbers_below, IsOfSamples, best_part, best_parts, said_by, Part, Stretch, rules}
+use Rattle.checker.proofs.Common.{◌≡◌, ℕ, List, [], ◌∷◌, length, Option, Some, None, All, slice_get, filter_map, option_map, option_and_then, All-nil, All-cons_option, ClaimData, Sample, numbers_below, IsOfSamples, best_part, best_parts, said_by, Part, Stretch, rules}
 use Rattle.std.specs.Prelude.{MatchOption}
 use Rattle.span_cover.specs.Best.{HasNoSample}
 use Rattle.span_cover.specs.Gathering.{interval_between}

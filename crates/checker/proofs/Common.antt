@@ -1,18 +1,17 @@
 -- What the proofs of this crate name from elsewhere.
-pub use Rattle.std.proofs.Common.{Bool, Err, IfSome, List, None, Ok, Option, Result, Some, [], add-one, ap, ap₂, arith}
-pub use Rattle.std.proofs.Common.{cond, count_by, drop, false, get_or, if◌then◌else◌, inl, inr, int_le, int_lt, length}
-pub use Rattle.std.proofs.Common.{map, nat_eq, nat_lt, neg_ℤ, negsuc, not, of_z, pos, refl, rules, subst, suc, sym}
-pub use Rattle.std.proofs.Common.{take, to_z, true, true≢false, unsigned_abs, zero, ℕ, ℤ, ⊎_elim, ◌&&◌, ◌*ℤ◌, ◌*◌, ◌++◌}
-pub use Rattle.std.proofs.Common.{◌+ℤ◌, ◌+◌, ◌-ℤ◌, ◌-◌, ◌<ℤ◌, ◌<◌, ◌^◌, ◌||◌, ◌↔◌, ◌∙◌, ◌∷◌, ◌≡◌, ◌≢◌, ◌≤ℤ◌, ◌≤◌, ◌⊎◌}
+pub use Rattle.std.proofs.Common.{Bool, Err, IfSome, List, None, Ok, Option, Result, Some, [], ap, ap₂, arith, cond}
+pub use Rattle.std.proofs.Common.{count_by, drop, false, get_or, if◌then◌else◌, inl, inr, int_le, int_lt, length, map}
+pub use Rattle.std.proofs.Common.{nat_lt, neg_ℤ, not, of_z, pos, refl, rules, subst, suc, sym, take, to_z, true}
+pub use Rattle.std.proofs.Common.{true≢false, unsigned_abs, zero, ℕ, ℤ, ⊎_elim, ◌&&◌, ◌*ℤ◌, ◌*◌, ◌++◌, ◌+ℤ◌, ◌+◌, ◌-ℤ◌}
+pub use Rattle.std.proofs.Common.{◌-◌, ◌<ℤ◌, ◌<◌, ◌^◌, ◌||◌, ◌↔◌, ◌∙◌, ◌∷◌, ◌≡◌, ◌≢◌, ◌≤ℤ◌, ◌≤◌, ◌⊎◌}
 pub use Rattle.std.proofs.Math.Bool.{or-false, or_assoc}
 pub use Rattle.std.proofs.lemmas.Bool.{and_from, and_left, and_parts, and_right, cond-false, cond-true, not-true}
-pub use Rattle.std.proofs.lemmas.Bool.{eqb-true, ne_eqb, or_from, or_left, or_parts, or_right, true_from_ne_false}
-pub use Rattle.std.proofs.lemmas.Bool.{le-leb, leb-true, lt-ltb, ltb-true}
+pub use Rattle.std.proofs.lemmas.Bool.{ne_eqb, or_parts, true_from_ne_false, le-leb, leb-true, lt-ltb, ltb-true}
 pub use Rattle.std.proofs.lemmas.Bool.Decides.{nat_tests}
 pub use Rattle.std.proofs.lemmas.Int.{by_lt_z, clamps, ints, to_z-of_z, unsigned_abs-mul}
 pub use Rattle.std.proofs.lemmas.List.{append-nil, append_assoc, get_or-map, get_or_default, length-map}
-pub use Rattle.std.proofs.lemmas.List.Elements.{All-cons, All-get_or, All-map, All-nil, All-push, AllZip-get_or}
-pub use Rattle.std.proofs.lemmas.List.Elements.{AllZip-push, filter-append, length_all_zip, recursion_from_All}
+pub use Rattle.std.proofs.lemmas.List.Elements.{All-cons, All-get_or, All-map, All-nil, AllZip-get_or, AllZip-push}
+pub use Rattle.std.proofs.lemmas.List.Elements.{filter-append, length_all_zip, recursion_from_All}
 pub use Rattle.std.proofs.lemmas.List.Folds.{Any-from_list_any, list_any-append, list_any_at, list_any_none}
 pub use Rattle.std.proofs.lemmas.List.Sums.{AllPass-from_list_all, fold-append, list_all-from_AllPass, sum_by-append}
 pub use Rattle.std.proofs.lemmas.List.Sums.{sum_by-cons, sum_by-le-sum_by}
@@ -34,7 +33,7 @@ pub use Rattle.era_unfold.specs.Window.{ticks_per_second}
 unfoldable pub use Rattle.era_unfold.specs.Window.{window_high, window_low}
 pub use Rattle.intersection.specs.Fineness.{times-add, times_le}
 pub use Rattle.intersection.specs.Fraction.{HoldsFraction, HullHoldsFraction, IsAdmissibleFraction, leaves_fraction_out}
-pub use Rattle.intersection.specs.Hull.{IsAdmissible, IsHull, count_leaving_out, hull_of}
+pub use Rattle.intersection.specs.Hull.{IsAdmissible, IsHull, hull_of}
 pub use Rattle.intersection.specs.Interval.{leaves_out}
 pub use Rattle.intersection.specs.declared.kinds.Hull.{Hull}
 pub use Rattle.intersection.specs.declared.kinds.Hull.TheVariants.{Bounded, Empty, Unbounded}
@@ -42,7 +41,7 @@ pub use Rattle.intersection.specs.declared.kinds.Interval.{Interval}
 pub use Rattle.pairing.specs.Exchange.{SameRequest}
 pub use Rattle.pairing.specs.declared.exchange.Exchange.{Exchange}
 pub use Rattle.sample_interval.specs.Moment.{DriftsWithin, DriftsWithinByReading, IsInWindow, IsOffAtLeast, IsOffAtMost}
-pub use Rattle.sample_interval.specs.Moment.{IsWithinDistance, Moment, error_change, error_of}
+pub use Rattle.sample_interval.specs.Moment.{IsWithinDistance, Moment, error_of}
 pub use Rattle.sample_interval.specs.Sample.{IsLawfulSample, greatest_error, least_error, sample_of}
 pub use Rattle.sample_interval.specs.Widening.{IsRate, billion}
 pub use Rattle.sample_interval.specs.Window.{reply_end, request_start}
@@ -58,8 +57,8 @@ pub use Rattle.checker.specs.Acceptance.{AreSaidBy, IsAccepted, IsSaidBy, ShowBo
 pub use Rattle.checker.specs.BestParts.{best_part, best_parts, said_by}
 pub use Rattle.checker.specs.Comparison.{AreNarrower, HasEntriesSwapped, HasOneMoreEntry, IsContradiction, IsNarrower}
 pub use Rattle.checker.specs.Comparison.{IsOfSamples, IsRefusedEntry, IsTakenApart, IsYesOr}
-pub use Rattle.checker.specs.Course.{ArrivesBeforeStamp, ComesInOrder, Course, Fits, FitsInWindows, IsClientMoment}
-pub use Rattle.checker.specs.Course.{KeepsRootDistance, LeavesAfterStamp, OfEach, ReadsInWindows}
+pub use Rattle.checker.specs.Course.{ComesInOrder, Course, Fits, FitsInWindows, IsClientMoment, KeepsRootDistance}
+pub use Rattle.checker.specs.Course.{ReadsInWindows}
 pub use Rattle.checker.specs.Groups.{false_group_count, holds_false}
 pub use Rattle.checker.specs.PieceFit.{FitsPiece, HasFewFalse, OfEachEntry}
 pub use Rattle.checker.specs.Refutation.{Admits, AdmitsError, HasCourse, IsAgainst, IsCourseOf, IsRefuted}
@@ -70,11 +69,10 @@ pub use Rattle.checker.specs.Stretch.{SomeHoldsReading, begin_of, last_end, stre
 pub use Rattle.checker.specs.Traceability.{HasHull, HoldsError, HoldsErrorOfPiece, IsContradicted, IsInHull}
 pub use Rattle.checker.specs.Traceability.{IsObservedIn, IsOfHull, IsRefusedByHull, IsTraceable, IsTraceableByPieces}
 pub use Rattle.checker.specs.Traceability.{IsVerdictOn, IsWithin, IsWithinNanoseconds, samples_of}
-pub use Rattle.checker.specs.Verdict.{PassBelow, hull_fault, part_from, parts_after, parts_fault, piece_fault}
-pub use Rattle.checker.specs.Verdict.{unless_refused, verdict_after, verdict_from, verdict_of}
+pub use Rattle.checker.specs.Verdict.{hull_fault, part_from, parts_after, parts_fault, piece_fault, unless_refused}
+pub use Rattle.checker.specs.Verdict.{verdict_after, verdict_from, verdict_of}
 pub use Rattle.checker.specs.WorkedCourse.{earlier_exchange, lone_course, moment_with, served_course, slow_claim}
-pub use Rattle.checker.specs.WorkedCourse.{slow_course, slow_reply, stamped_course, stepped_course, worked_exchange}
-pub use Rattle.checker.specs.WorkedRefutation.{claim_with, refutation_with}
+pub use Rattle.checker.specs.WorkedCourse.{slow_course, stamped_course, stepped_course, worked_exchange}
 pub use Rattle.checker.specs.declared.verdict.Verdict.{Verdict}
 pub use Rattle.checker.specs.declared.verdict.Verdict.TheVariants.{No, Yes}
 pub use Rattle.checker.specs.declared.verdict.Why.{Why}
@@ -83,6 +81,6 @@ pub use Rattle.checker.specs.declared.verdict.Why.TheVariants.{RepeatedServer, U
 pub use Rattle.intersection.proofs.Fractions.{le_from_times}
 pub use Rattle.lemma_base.proofs.Bool.{by_test, cond-le_one, or_rest}
 pub use Rattle.lemma_base.proofs.Int.{int_le-true, int_max-least, le-int_le, ≤ℤ-sub, ≤ℤ_trans, ≤ℤ_trans_twice}
-pub use Rattle.lemma_base.proofs.Int.{int_lt-false, int_lt-true, w128_keeps, ≤ℤ-<ℤ_trans, ≤ℤ-from_lt}
+pub use Rattle.lemma_base.proofs.Int.{int_lt-true, ≤ℤ-from_lt}
 pub use Rattle.lemma_base.proofs.List.{All-cons_option, All-slice_get}
 pub use Rattle.lemma_base.proofs.Nat.{and-from_equal}

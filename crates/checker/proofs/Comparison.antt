@@ -1,6 +1,6 @@
 -- How verdicts compare if fewer points are admissible.
-use Rattle.checker.proofs.Common.{◌≡◌, ℕ, ◌+◌, ◌<◌, ◌≤◌, ℤ, pos, ◌≤ℤ◌, Bool, true, false, cond, ◌&&◌, ◌||◌, int_lt, nat_lt, ◌⊎◌, inl, inr, ⊎_elim, List, [], ◌∷◌, length, Option, Some, None, Result, Ok, Err, refl, sym, ap, ◌∙◌, subst, arith, AllZip, int_eq, ints, PieceData, CertificateData, ClaimData, IsAdmissible, IsHull, hull_of, Interval, Hull, Unbounded, Empty, Bounded, Sample, IsYesOr, IsContradiction, group_intervals, piece_hull, parts_after, hull_fault, parts_fault, piece_fault, verdict_after, verdict_from, verdict_of, Part, Stretch, Verdict, Yes, No, Why, Cut, Contradiction, Uncovered, ◌++◌, rules, nat_tests}
-use Rattle.checker.proofs.VerdictPieces.{yes_step, inside_from, none_from_inside}
+use Rattle.checker.proofs.Common.{◌≡◌, ℕ, ◌+◌, ◌<◌, ◌≤◌, ℤ, pos, ◌≤ℤ◌, ◌⊎◌, inl, inr, ⊎_elim, List, [], ◌∷◌, length, Option, Some, None, Result, Ok, Err, refl, subst, arith, AllZip, ints, PieceData, CertificateData, ClaimData, IsAdmissible, IsHull, hull_of, Interval, Hull, Unbounded, Empty, Bounded, Sample, IsYesOr, IsContradiction, parts_after, hull_fault, parts_fault, piece_fault, verdict_after, verdict_from, verdict_of, Part, Stretch, Verdict, Yes, Why, Contradiction, ◌++◌, rules, nat_tests}
+use Rattle.checker.proofs.VerdictPieces.{yes_step}
 
 -- no fault, or such a one
 abbrev pub FaultIs : (Why → Type 0) → Option Why → Type 0

@@ -1,5 +1,5 @@
 -- Of the groups that have an entry, only those that hold a false server can leave the error out.
-use Rattle.checker.proofs.Common.{◌≡◌, ℕ, zero, suc, ◌+◌, ◌<◌, ◌≤◌, ℤ, pos, ◌*ℤ◌, ◌≤ℤ◌, Bool, true, false, cond, ◌&&◌, int_lt, List, [], ◌∷◌, ◌++◌, length, Option, Some, None, IfSome, count_by, refl, subst, arith, All, slice_index, ◌==◌, fold, filter, filter_map, list_any, cons_option, AllByRecursion, ints, cond-true, cond-false, nat_tests, sum_by-cons, recursion_from_All, HoldsFraction, leaves_fraction_out, IsAdmissibleFraction, Interval, holds_false, false_group_count, numbers_below, meet_of, narrowed, group_interval, group_intervals, Part, by_test, or_parts, true_from_ne_false, ◌∙◌}
+use Rattle.checker.proofs.Common.{◌≡◌, ℕ, zero, suc, ◌+◌, ◌<◌, ◌≤◌, ℤ, Bool, true, false, cond, ◌&&◌, List, [], ◌∷◌, ◌++◌, length, Option, Some, None, IfSome, count_by, refl, subst, arith, All, slice_index, ◌==◌, fold, filter, filter_map, list_any, cons_option, AllByRecursion, ints, cond-true, cond-false, nat_tests, sum_by-cons, recursion_from_All, HoldsFraction, leaves_fraction_out, IsAdmissibleFraction, Interval, holds_false, false_group_count, numbers_below, meet_of, narrowed, group_interval, group_intervals, Part, by_test, or_parts, true_from_ne_false, ◌∙◌}
 
 -- ---- tests that fail
 

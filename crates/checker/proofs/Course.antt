@@ -1,5 +1,5 @@
 -- Courses that fit.
-use Rattle.checker.proofs.Common.{◌≡◌, ℕ, zero, suc, ◌+◌, ◌-◌, ◌<◌, ℤ, pos, ◌-ℤ◌, ◌+ℤ◌, ◌*ℤ◌, ◌≤ℤ◌, unsigned_abs, Bool, false, ◌&&◌, ◌⊎◌, inl, inr, ⊎_elim, List, [], ◌∷◌, length, Some, count_by, refl, sym, ap, ◌∙◌, subst, arith, slice_get, slice_index, ◌==◌, ints, sum_by-cons, ClaimData, IsLawful, Exchange, Moment, error_of, error_change, DriftsWithin, IsInWindow, IsWithinDistance, Fits, FitsInWindows, IsClientMoment, OfEach, ReadsInWindows, KeepsRootDistance, LeavesAfterStamp, ArrivesBeforeStamp, holds_false, false_group_count, numbers_below, OfEachEntry, FitsPiece, IsTraceable, worked_second, worked_claim, worked_exchange, moment_with, served_course, slow_reply, slow_course, slow_claim, stamped_course, earlier_exchange, stepped_course, lone_course, ◌<ℤ◌, get_or, and_right, list_any_none, nat_tests, rules}
+use Rattle.checker.proofs.Common.{◌≡◌, ℕ, zero, suc, ◌+◌, ◌-◌, ◌<◌, ℤ, pos, ◌-ℤ◌, ◌+ℤ◌, ◌*ℤ◌, ◌≤ℤ◌, unsigned_abs, Bool, false, inl, inr, ⊎_elim, List, [], ◌∷◌, Some, count_by, refl, ap, ◌∙◌, subst, arith, slice_get, ints, sum_by-cons, ClaimData, IsLawful, Exchange, Moment, error_of, DriftsWithin, IsInWindow, IsWithinDistance, Fits, FitsInWindows, IsClientMoment, ReadsInWindows, KeepsRootDistance, false_group_count, OfEachEntry, FitsPiece, IsTraceable, worked_second, worked_claim, worked_exchange, moment_with, served_course, slow_course, slow_claim, stamped_course, earlier_exchange, stepped_course, lone_course, ◌<ℤ◌, and_right, list_any_none, nat_tests, rules}
 use Rattle.checker.proofs.PieceFit.{few_from_count}
 
 -- ---- no false server
@@ -179,3 +179,5 @@ untraceable claim lawful traceable =
     (let some = lawful.bound_not_negative in omega (arith, ints))
     (traceable [] (lone_course 1 observation) refl (lone_fits claim 1 observation (omega arith)).fits
     (at_start claim.first claim.last lawful.span_forward))
+
+pub ruleset stamped_clock = (stamped_fits, stamped_out_of_windows)

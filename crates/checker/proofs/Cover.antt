@@ -1,5 +1,5 @@
 -- Pieces that share their ends hold every reading of the span, fractions of a tick too.
-use Rattle.checker.proofs.Common.{◌≡◌, ℕ, zero, suc, ◌<◌, ℤ, pos, ◌*ℤ◌, List, [], ◌∷◌, length, Some, refl, ap, arith, slice_get, IsSomeAnd, by_lt_z, PieceData, IsInWindow, stretches_from, begin_of, last_end, SomeHoldsReading, Stretch, ≤ℤ-from_lt, rules}
+use Rattle.checker.proofs.Common.{◌≡◌, ℕ, zero, suc, ◌<◌, ℤ, pos, ◌*ℤ◌, List, [], ◌∷◌, length, Some, refl, arith, slice_get, IsSomeAnd, by_lt_z, PieceData, IsInWindow, stretches_from, begin_of, last_end, SomeHoldsReading, Stretch, ≤ℤ-from_lt, rules}
 
 later : (n : ℕ) (reading : ℤ) (first : Stretch) (stretches : List Stretch) → SomeHoldsReading stretches n reading
     → SomeHoldsReading (first ∷ stretches) n reading

@@ -1,5 +1,5 @@
 -- What the entries of a piece say, all in their order, and that no server says it twice.
-use Rattle.checker.proofs.Common.{◌≡◌, ◌≢◌, ℕ, suc, ◌<◌, Bool, false, List, [], ◌∷◌, ◌++◌, Some, Result, Ok, length, get_or, refl, sym, ap, ◌∙◌, subst, arith, All, AllPairs, slice_get, ◌==◌, AllZip, list_any, nat_tests, append-nil, append_assoc, All-cons, All-nil, list_any_at, list_any_none, Sample, IsSaidBy, AreSaidBy, part_from, parts_after, unless_refused, Part, Stretch, Why, by_test, ne_eqb, All-slice_get, ints, rules}
+use Rattle.checker.proofs.Common.{◌≡◌, ◌≢◌, ℕ, suc, ◌<◌, false, List, [], ◌∷◌, ◌++◌, Some, Result, Ok, length, get_or, refl, sym, ap, ◌∙◌, subst, arith, All, AllPairs, slice_get, ◌==◌, AllZip, list_any, nat_tests, append-nil, append_assoc, All-cons, All-nil, list_any_at, list_any_none, Sample, IsSaidBy, AreSaidBy, part_from, parts_after, unless_refused, Part, Stretch, Why, by_test, ne_eqb, All-slice_get, ints, rules}
 use Rattle.std.proofs.lemmas.Grind.{common_steps}
 use Rattle.std.proofs.lemmas.List.Quantifiers.{all_pairs_push}
 use Rattle.checker.proofs.Part.{takes, accepted, begins}

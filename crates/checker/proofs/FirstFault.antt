@@ -1,6 +1,6 @@
 -- The first fault of a piece and of a certificate, step by step.
 use Rattle.std.proofs.lemmas.Grind.{common_steps}
-use Rattle.checker.proofs.Common.{◌≡◌, ◌≢◌, ℕ, suc, ◌+◌, ◌<◌, ◌≤◌, ◌^◌, ℤ, pos, ◌≤ℤ◌, ◌<ℤ◌, Bool, true, false, ◌&&◌, ◌||◌, int_lt, nat_lt, if◌then◌else◌, List, [], ◌∷◌, length, map, drop, get_or, Option, Some, None, Result, refl, sym, ap, ap₂, ◌∙◌, subst, add-one, arith, int_eq, cond-true, cond-false, nat_tests, ints, PieceData, piece_data, ClaimData, Sample, parts_after, parts_fault, piece_fault, verdict_after, verdict_from, IsPiece, Part, Verdict, Yes, No, Why, Cut, Uncovered, int_lt-false, rules}
+use Rattle.checker.proofs.Common.{◌≡◌, ◌≢◌, ℕ, ◌+◌, ◌<◌, ◌≤◌, ◌^◌, ℤ, pos, ◌≤ℤ◌, ◌<ℤ◌, Bool, true, false, ◌&&◌, int_lt, nat_lt, if◌then◌else◌, List, [], ◌∷◌, length, map, drop, get_or, Option, Some, None, Result, sym, ap, ◌∙◌, arith, int_eq, nat_tests, ints, PieceData, piece_data, ClaimData, Sample, parts_after, parts_fault, piece_fault, verdict_after, verdict_from, IsPiece, Part, Verdict, Yes, No, Why, Cut, Uncovered, rules}
 use Rattle.std.proofs.Math.ListN.{drop_of_length-le}
 use Rattle.std.proofs.Math.Seq.{drop-cons}
 use Rattle.certificate.specs.declared.certificate.Piece.{Piece}

@@ -1,5 +1,5 @@
 -- Narrower intervals of the same servers, and more of them, leave no more points admissible.
-use Rattle.checker.proofs.Common.{◌≡◌, ℕ, ◌≤◌, ℤ, Bool, true, cond, ◌&&◌, ◌⊎◌, inl, inr, ⊎_elim, List, [], length, Some, None, Ok, count_by, refl, sym, ap, ◌∙◌, subst, arith, All, slice_index, ◌==◌, Any, ints, and_parts, and_from, Any-from_list_any, sum_by-le-sum_by, All-get_or, any_passes_from_place, slice_get_read, leaves_out, Interval, Empty, Sample, IsContradiction, IsNarrower, AreNarrower, IsOfSamples, numbers_below, group_interval, group_intervals, piece_hull, parts_after, hull_fault, Part, Stretch, nat_tests, rules}
+use Rattle.checker.proofs.Common.{◌≡◌, ℕ, ◌≤◌, ℤ, Bool, true, ◌&&◌, ◌⊎◌, List, [], length, None, Ok, count_by, refl, sym, ap, ◌∙◌, subst, arith, All, slice_index, ◌==◌, Any, ints, and_parts, and_from, Any-from_list_any, sum_by-le-sum_by, All-get_or, any_passes_from_place, slice_get_read, leaves_out, Interval, Empty, Sample, IsContradiction, IsNarrower, AreNarrower, IsOfSamples, group_interval, group_intervals, piece_hull, parts_after, hull_fault, Part, Stretch, nat_tests, rules}
 use Rattle.checker.proofs.Counting.{implies_le}
 use Rattle.checker.proofs.EntryStatement.{all_said}
 use Rattle.checker.proofs.Comparison.{FaultIs, EveryHull, hull_follows}

@@ -1,5 +1,5 @@
 -- The numbers of a claim that keeps its limits, as 128 bits hold them.
-use Rattle.checker.proofs.Common.{◌≡◌, to_z, of_z, arith, ints, w128, ClaimData, IsLawful, w128_keeps, rules}
+use Rattle.checker.proofs.Common.{◌≡◌, to_z, of_z, w128, ClaimData, IsLawful, rules}
 
 module _ (claim : ClaimData) (lawful : IsLawful claim) where
   pub first_kept : to_z w128 (of_z w128 claim.first) ≡ claim.first

@@ -1,5 +1,5 @@
 -- The order in which the entries of a piece stand changes nothing of what they say together.
-use Rattle.checker.proofs.Common.{◌≡◌, ℕ, Bool, true, false, cond, ◌||◌, inl, ⊎_elim, List, [], ◌∷◌, ◌++◌, length, Option, Some, None, Result, Ok, Err, refl, sym, ap, ◌∙◌, subst, arith, slice_get, slice_index, ◌==◌, fold, filter, filter_map, cons_option, list_any, int_max, int_min, ints, clamps, nat_tests, list_any-append, fold-append, filter-append, PieceData, CertificateData, ClaimData, hull_of, Interval, Sample, HasEntriesSwapped, numbers_below, meet_of, narrowed, group_interval, part_from, parts_after, hull_fault, parts_fault, verdict_from, verdict_of, Part, Stretch, Yes, Why, rules}
+use Rattle.checker.proofs.Common.{◌≡◌, ℕ, Bool, true, false, cond, ◌||◌, inl, ⊎_elim, List, [], ◌∷◌, ◌++◌, length, Option, Some, None, Result, Ok, Err, refl, sym, ap, ◌∙◌, subst, arith, slice_get, slice_index, ◌==◌, fold, filter_map, list_any, int_max, int_min, ints, clamps, nat_tests, list_any-append, fold-append, filter-append, PieceData, CertificateData, ClaimData, hull_of, Interval, Sample, HasEntriesSwapped, numbers_below, meet_of, narrowed, group_interval, part_from, parts_after, hull_fault, parts_fault, verdict_from, verdict_of, Part, Stretch, Yes, Why, rules}
 use Rattle.checker.proofs.Part.{takes, accepted, says, begins, begin_with}
 use Rattle.checker.proofs.Comparison.{one_changed}
 

@@ -1,5 +1,5 @@
 -- What the entries of a piece say, each by itself.
-use Rattle.checker.proofs.Common.{◌≡◌, ◌≢◌, ℕ, ◌<◌, Bool, true, false, cond, not, List, [], ◌∷◌, ◌++◌, Option, Some, None, Result, Ok, Err, length, refl, sym, ◌∙◌, subst, arith, All, slice_get, ◌==◌, list_any, inl, inr, ap, IsRefusedEntry, BadSample, cond-true, cond-false, nat_tests, Sample, part_of, part_from, parts_after, unless_refused, Part, Stretch, Why, MixedServers, RepeatedServer, ints, rules}
+use Rattle.checker.proofs.Common.{◌≡◌, ◌≢◌, ℕ, ◌<◌, Bool, true, false, cond, not, List, [], ◌∷◌, ◌++◌, Option, Some, None, Result, Ok, Err, length, refl, arith, All, slice_get, ◌==◌, list_any, inl, inr, IsRefusedEntry, BadSample, cond-true, cond-false, nat_tests, Sample, part_of, part_from, parts_after, unless_refused, Part, Stretch, Why, MixedServers, RepeatedServer, ints, rules}
 
 -- the tests on two samples pass
 test_fails : (a b : ℕ) → a ≡ b → not (a == b) ≡ false

@@ -1,5 +1,5 @@
 -- A verdict by its pieces: all pass, or there is a first that fails.
-use Rattle.checker.proofs.Common.{◌≡◌, ℕ, zero, suc, ◌+◌, ◌<◌, ℤ, pos, ◌&&◌, nat_lt, List, [], ◌∷◌, length, Option, Some, None, refl, ap, ◌∙◌, subst, arith, slice_get, int_eq, ints, cond-true, nat_tests, PieceData, ClaimData, Sample, begin_of, last_end, piece_fault, verdict_after, verdict_from, Verdict, Yes, No, Why, Uncovered, rules}
+use Rattle.checker.proofs.Common.{◌≡◌, ℕ, zero, suc, ◌+◌, ◌<◌, ℤ, pos, List, [], ◌∷◌, length, Option, Some, None, refl, ap, ◌∙◌, arith, slice_get, ints, nat_tests, PieceData, ClaimData, Sample, begin_of, last_end, piece_fault, verdict_after, verdict_from, Verdict, Yes, No, Why, rules}
 use Rattle.checker.proofs.VerdictPieces.{yes_step}
 
 module _ (samples : List Sample) (claim : ClaimData) where

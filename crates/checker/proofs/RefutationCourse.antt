@@ -1,7 +1,7 @@
 -- The course that an accepted refutation stands for.
-use Rattle.checker.proofs.Common.{◌≡◌, ℕ, ◌<◌, ℤ, pos, ◌+ℤ◌, ◌-ℤ◌, ◌*ℤ◌, ◌≤ℤ◌, unsigned_abs, false, ⊎_elim, List, length, Option, Some, None, refl, sym, ap, ◌∙◌, subst, arith, All, AllPairs, slice_get, int_max, slice_index_or, ints, clamps, nat_tests, get_or_from_slice_get, slice_get_within, RefutationData, ClaimData, SameRequest, Exchange, Moment, error_of, IsInWindow, IsWithinDistance, request_start, reply_end, Course, Fits, FitsInWindows, IsClientMoment, ReadsInWindows, ComesInOrder, KeepsRootDistance, is_liar, AdmitsError, Admits, IsRefuted, SharesRequests, HasCourse, SomeCourseFits, IsObservedIn, IsTraceable, samples_of, moment_with, by_test, All-slice_get, int_max-least, ≤ℤ-sub, ≤ℤ-<ℤ_trans, rules}
+use Rattle.checker.proofs.Common.{◌≡◌, ℕ, ◌<◌, ℤ, pos, ◌+ℤ◌, ◌-ℤ◌, ◌*ℤ◌, ◌≤ℤ◌, false, ⊎_elim, List, length, Option, Some, None, refl, sym, ap, ◌∙◌, arith, All, AllPairs, slice_get, int_max, ints, clamps, nat_tests, get_or_from_slice_get, slice_get_within, RefutationData, ClaimData, SameRequest, Exchange, Moment, error_of, IsWithinDistance, request_start, reply_end, Course, Fits, FitsInWindows, IsClientMoment, ReadsInWindows, ComesInOrder, KeepsRootDistance, is_liar, AdmitsError, Admits, IsRefuted, SharesRequests, HasCourse, SomeCourseFits, IsObservedIn, IsTraceable, samples_of, moment_with, by_test, All-slice_get, int_max-least, ≤ℤ-sub, rules}
 use Rattle.std.specs.Prelude.{nat_lt}
-use Rattle.checker.proofs.Course.{one_error, reads_back, at_start, beyond}
+use Rattle.checker.proofs.Course.{one_error, reads_back}
 use Rattle.pairing.specs.Exchange.{IsLawful as IsLawfulExchange}
 
 -- ---- bounds

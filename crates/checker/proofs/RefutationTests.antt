@@ -1,5 +1,5 @@
 -- What a refutation says, and its tests.
-use Rattle.checker.proofs.Common.{◌≡◌, ◌≢◌, ℕ, zero, suc, ℤ, ◌-ℤ◌, ◌≤ℤ◌, ◌<ℤ◌, Bool, true, false, true≢false, ◌||◌, List, [], ◌∷◌, length, refl, sym, ◌∙◌, arith, ◌==◌, All, AllPairs, list_any, list_all, slice_index_or, ints, nat_tests, list_any_none, AllPass-from_list_all, list_all-from_AllPass, RefutationData, ClaimData, Exchange, request_start, reply_end, is_liar, Admits, IsAgainst, IsRefuted, admits, allows, are_different, is_against, is_refuted, or_parts, and_parts, or_rest, int_le-true, le-int_le, int_lt-true, ltb-true, lt-ltb, leb-true, le-leb, ≤ℤ-sub, not-true}
+use Rattle.checker.proofs.Common.{◌≡◌, ◌≢◌, ℕ, zero, suc, ℤ, ◌-ℤ◌, ◌≤ℤ◌, ◌<ℤ◌, Bool, true, false, true≢false, ◌||◌, List, [], ◌∷◌, length, refl, sym, ◌∙◌, arith, ◌==◌, All, AllPairs, list_any, list_all, slice_index_or, ints, nat_tests, list_any_none, AllPass-from_list_all, list_all-from_AllPass, RefutationData, ClaimData, Exchange, request_start, reply_end, is_liar, Admits, IsAgainst, IsRefuted, admits, allows, are_different, is_against, is_refuted, or_parts, and_parts, or_rest, int_le-true, le-int_le, int_lt-true, ltb-true, lt-ltb, leb-true, le-leb, not-true}
 use Rattle.std.specs.Prelude.{int_lt, nat_lt}
 
 -- ---- the tests of a refutation

@@ -2,7 +2,7 @@
 --
 -- A group leaves a point out if one of its parts does, and that part's finer group leaves it out too. Finer groups
 -- of different groups are different, so at least as many of them leave the point out.
-use Rattle.checker.proofs.Common.{◌≡◌, ℕ, zero, suc, ◌+◌, ◌<◌, ◌≤◌, ℤ, Bool, true, false, cond, not, ◌&&◌, ◌||◌, List, [], ◌∷◌, length, Option, Some, None, Result, Ok, Err, count_by, refl, sym, ap, ◌∙◌, subst, arith, All, slice_index, ◌==◌, fold, filter, filter_map, list_any, cons_option, ints, clamps, cond-true, cond-false, and_parts, and_from, and_left, and_right, not-true, or_left, or_right, or_from, nat_tests, Any-from_list_any, sum_by-cons, sum_by-append, All-get_or, any_passes_from_place, slice_get_read, CertificateData, ClaimData, leaves_out, Interval, Sample, IsYesOr, IsContradiction, IsTakenApart, numbers_below, meet_of, narrowed, group_interval, parts_after, parts_fault, verdict_of, Part, Stretch, Yes, Why, by_test, or_rest, cond-le_one, or-false, or_assoc, ◌≤ℤ◌, rules}
+use Rattle.checker.proofs.Common.{◌≡◌, ℕ, zero, suc, ◌+◌, ◌<◌, ◌≤◌, ℤ, Bool, true, false, cond, not, ◌&&◌, ◌||◌, List, [], ◌∷◌, length, Option, Some, None, Result, Ok, Err, count_by, refl, sym, ap, ◌∙◌, subst, arith, All, slice_index, ◌==◌, fold, filter, filter_map, list_any, cons_option, ints, cond-true, cond-false, and_parts, and_from, and_left, and_right, not-true, nat_tests, Any-from_list_any, sum_by-cons, sum_by-append, All-get_or, any_passes_from_place, slice_get_read, CertificateData, ClaimData, leaves_out, Interval, Sample, IsYesOr, IsContradiction, IsTakenApart, numbers_below, meet_of, narrowed, group_interval, parts_after, parts_fault, verdict_of, Part, Stretch, Yes, Why, by_test, or_rest, cond-le_one, or-false, or_assoc, ◌≤ℤ◌, rules}
 use Rattle.std.specs.Prelude.{nat_lt}
 use Rattle.checker.proofs.EntryStatement.{listed_parts}
 use Rattle.checker.proofs.Comparison.{FaultIs, verdict_follows, all_follow, piece_follows, EveryHull, hull_follows}

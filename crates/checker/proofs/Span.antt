@@ -1,5 +1,5 @@
 -- A shorter piece has narrower intervals, so what is left of a certificate in a span shows no less.
-use Rattle.checker.proofs.Common.{◌≡◌, ℕ, ◌+◌, ◌<◌, ◌≤◌, ℤ, pos, ◌≤ℤ◌, ◌<ℤ◌, Bool, true, false, cond, ◌&&◌, ◌||◌, int_lt, nat_lt, inl, List, [], ◌∷◌, ◌++◌, length, Option, Some, None, Result, Ok, Err, refl, sym, ap, ◌∙◌, subst, arith, get_or, All, slice_get, ◌==◌, nat_le, AllZip, int_eq, ints, cond-true, cond-false, nat_tests, get_or_default, AllZip-push, AllZip-get_or, length_all_zip, PieceData, CertificateData, ClaimData, IsLawfulSample, billion, Sample, moved_low, moved_high, IsYesOr, IsContradiction, IsNarrower, AreNarrower, part_of, part_from, parts_after, parts_fault, piece_fault, verdict_from, verdict_of, Part, Stretch, Yes, No, Why, Cut, Uncovered, by_test, All-slice_get, rules}
+use Rattle.checker.proofs.Common.{◌≡◌, ℕ, ◌+◌, ◌<◌, ◌≤◌, ℤ, pos, ◌≤ℤ◌, ◌<ℤ◌, Bool, true, false, cond, ◌||◌, int_lt, nat_lt, inl, List, [], ◌∷◌, ◌++◌, length, Option, Some, None, Result, Ok, Err, refl, sym, ◌∙◌, subst, arith, get_or, All, slice_get, nat_le, AllZip, ints, cond-true, cond-false, nat_tests, get_or_default, AllZip-push, AllZip-get_or, length_all_zip, PieceData, CertificateData, ClaimData, IsLawfulSample, billion, Sample, moved_low, moved_high, IsYesOr, IsContradiction, IsNarrower, AreNarrower, part_of, part_from, parts_after, parts_fault, piece_fault, verdict_from, verdict_of, Part, Stretch, Yes, Why, Cut, by_test, All-slice_get, rules}
 use Rattle.checker.specs.Span.{IsSpanWithin, claim_within, pieces_within, certificate_within}
 use Rattle.checker.proofs.VerdictPieces.{yes_step, yes_end}
 use Rattle.checker.proofs.Comparison.{FaultIs, fails_here, EveryHull}

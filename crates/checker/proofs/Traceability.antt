@@ -1,5 +1,5 @@
 -- Why a yes can be relied on: from the hulls of the pieces to the bound on the error over the span.
-use Rattle.checker.proofs.Common.{◌≡◌, ℕ, ◌*◌, ◌≤◌, ℤ, pos, neg_ℤ, ◌*ℤ◌, ◌≤ℤ◌, unsigned_abs, List, Option, Some, None, inl, refl, sym, subst, arith, slice_get, IsSomeAnd, ints, ticks_per_second, CertificateData, ClaimData, IsLawful, times_le, Hull, Unbounded, Empty, Bounded, Exchange, error_of, Sample, AreSaidBy, Course, Fits, piece_hull, FitsPiece, AreSamplesOf, begin_of, last_end, stretch_of, stretches_of, IsObservedIn, IsWithin, IsWithinNanoseconds, IsInHull, IsTraceable, IsTraceableByPieces, IsContradicted, HoldsErrorOfPiece, HasHull, IsOfHull, IsRefusedByHull, hull_fault, verdict_of, Part, Stretch, Yes, No, Why, Contradiction, times-add, nat_tests}
+use Rattle.checker.proofs.Common.{◌≡◌, ℕ, ◌*◌, ◌≤◌, ℤ, pos, neg_ℤ, ◌*ℤ◌, ◌≤ℤ◌, unsigned_abs, List, Option, Some, None, inl, refl, sym, subst, arith, slice_get, IsSomeAnd, ints, ticks_per_second, CertificateData, ClaimData, IsLawful, times_le, Hull, Unbounded, Empty, Bounded, error_of, Sample, AreSaidBy, Course, piece_hull, AreSamplesOf, begin_of, last_end, stretch_of, stretches_of, IsObservedIn, IsWithin, IsWithinNanoseconds, IsInHull, IsTraceable, IsTraceableByPieces, IsContradicted, HoldsErrorOfPiece, HasHull, IsOfHull, IsRefusedByHull, hull_fault, verdict_of, Part, Stretch, Yes, No, Why, Contradiction, times-add, nat_tests}
 use Rattle.checker.proofs.PieceFit.{fits_piece}
 use Rattle.std.proofs.Math.Nat.{mul-le-mul_right}
 use Rattle.era_unfold.specs.Nanoseconds.{nanoseconds_per_second, ticks_down}

@@ -1,5 +1,5 @@
 -- What a verdict says about the pieces.
-use Rattle.checker.proofs.Common.{◌≡◌, ℕ, suc, ◌+◌, ◌<◌, ℤ, pos, neg_ℤ, ◌≤ℤ◌, Bool, true, false, cond, ◌&&◌, ◌||◌, int_le, int_lt, nat_lt, List, [], ◌∷◌, ◌++◌, length, Option, Some, None, Result, Ok, Err, inl, inr, refl, sym, ap, ◌∙◌, subst, arith, slice_get, int_eq, ints, cond-true, nat_tests, PieceData, ClaimData, Hull, Unbounded, Empty, Bounded, Sample, piece_hull, begin_of, last_end, IsOfHull, parts_after, unless_refused, hull_fault, parts_fault, piece_fault, verdict_after, verdict_from, Part, Stretch, Verdict, Yes, No, Why, Cut, Contradiction, Exceeds, Uncovered, and_parts, IsRefusedEntry, int_le-true, rules}
+use Rattle.checker.proofs.Common.{◌≡◌, ℕ, suc, ◌+◌, ◌<◌, ℤ, pos, neg_ℤ, ◌≤ℤ◌, Bool, true, false, cond, ◌&&◌, ◌||◌, int_le, int_lt, nat_lt, List, [], ◌∷◌, ◌++◌, length, Option, Some, None, Result, Ok, Err, inl, inr, refl, sym, ap, ◌∙◌, subst, arith, slice_get, int_eq, ints, cond-true, nat_tests, PieceData, ClaimData, Hull, Unbounded, Empty, Bounded, Sample, piece_hull, begin_of, last_end, IsOfHull, parts_after, unless_refused, hull_fault, parts_fault, piece_fault, verdict_after, verdict_from, Part, Stretch, Verdict, Yes, No, Why, Cut, Contradiction, Exceeds, Uncovered, IsRefusedEntry, int_le-true, rules}
 use Rattle.checker.proofs.Part.{says, refused}
 
 exceeds_or_none : (t : Bool) → cond t None (Some Exceeds) ≡ Some Contradiction → ⊥

@@ -170,7 +170,7 @@ pub fn worked_courses_fit()
 /// window of its record. The other side of each counts. No course fits what an entry names if the
 /// request left a tick before its stamp, or if the reply arrived a tick after. Were a tick allowed,
 /// one would fit, with an error a tick beyond what the exchange leaves room for.
-#[tactic(auto, using(crate::proofs::Course::stamped_fits, crate::proofs::Course::stamped_out_of_windows))]
+#[tactic(auto, using(crate::proofs::Course::stamped_clock))]
 pub fn stamps_err_on_one_side()
     ensures early_and_late { Fits worked_claim (worked_exchange ∷ [])
         (stamped_course (pos 0) (pos (worked_second + 21474836)) (pos (worked_second + 60129542))

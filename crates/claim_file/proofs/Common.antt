@@ -1,11 +1,11 @@
 -- What the proofs of this crate name from elsewhere.
 pub use Rattle.std.proofs.Common.{Bool, Err, FitsSigned, Global, IsUtf8, List, None, Ok, Option, Result, Some, Vec, []}
-pub use Rattle.std.proofs.Common.{add-one, ap, append-nil, append_assoc, arith, cond, drop, drop-cons, false, get_or}
-pub use Rattle.std.proofs.Common.{if◌then◌else◌, inl, inr, length, length-append, lit≤, map, nat_le, nat_lt, negsuc}
-pub use Rattle.std.proofs.Common.{not, option_and_then, option_map, pos, refl, rules, subst, suc, sym, true, true≢false}
+pub use Rattle.std.proofs.Common.{ap, append-nil, append_assoc, arith, cond, drop, drop-cons, false, get_or}
+pub use Rattle.std.proofs.Common.{if◌then◌else◌, inl, inr, length, length-append, lit≤, map, nat_lt, negsuc, not}
+pub use Rattle.std.proofs.Common.{option_and_then, option_map, pos, refl, rules, subst, suc, sym, true, true≢false}
 pub use Rattle.std.proofs.Common.{unwrap_or, w64, zero, ℕ, ℤ, ◌%◌, ◌&&◌, ◌*◌, ◌++◌, ◌+◌, ◌-◌, ◌/◌, ◌<◌, ◌==◌, ◌^◌, ◌↔◌}
 pub use Rattle.std.proofs.Common.{◌∙◌, ◌∷◌, ◌≡◌, ◌≢◌, ◌≤◌}
-pub use Rattle.std.proofs.lemmas.Bool.{and_parts, le-leb, leb-true, lt-ltb, ltb-false, ltb-true, not-true}
+pub use Rattle.std.proofs.lemmas.Bool.{and_parts, leb-true, lt-ltb, ltb-false, ltb-true, not-true}
 pub use Rattle.std.proofs.lemmas.Bool.Decides.{Decides-eqb, nat_tests}
 pub use Rattle.std.proofs.lemmas.Int.{ints, to_z-of_z}
 pub use Rattle.std.proofs.lemmas.List.FromFn.{get_or-map-range_with_len, get_or-range_with_len}

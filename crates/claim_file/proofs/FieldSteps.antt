@@ -1,5 +1,5 @@
 -- A reading in steps, as the code takes them: each step is a call that finds a value or doesn't.
-use Rattle.claim_file.proofs.Common.{◌≡◌, Option, Some, None, Result, Ok, Err, option_map, refl, sym, ap, ◌∙◌, inl, inr, given, ClaimFault, Memory, Answers, rules}
+use Rattle.claim_file.proofs.Common.{◌≡◌, Option, Result, Ok, Err, option_map, sym, ap, ◌∙◌, inl, inr, given, ClaimFault, Memory, Answers, rules}
 use Rattle.std.specs.Option.{ok_or}
 use Rattle.std.specs.Result.{IsErr, IsErrAnd}
 

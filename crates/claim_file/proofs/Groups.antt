@@ -1,5 +1,5 @@
 -- Lists of server numbers, and groups as they are read.
-use Rattle.claim_file.proofs.Common.{◌≡◌, ℕ, zero, suc, ◌+◌, ◌-◌, ◌<◌, ◌≤◌, ◌==◌, nat_lt, true, not, cond, List, [], ◌∷◌, ◌++◌, length, map, Vec, Global, refl, sym, ap, ◌∙◌, arith, and_parts, length-append, append_assoc, Some, get_or, drop, drop-cons, add-one, nat_tests, get_or-range_with_len, length-range_with_len, AllPass-from_list_all, sum_by-cons, concat, list_all, list_any, position_from, range_with_len, servers_of, times_listed, ints}
+use Rattle.claim_file.proofs.Common.{◌≡◌, ℕ, zero, suc, ◌+◌, ◌-◌, ◌<◌, ◌≤◌, ◌==◌, nat_lt, true, not, cond, List, [], ◌∷◌, ◌++◌, length, map, Vec, Global, refl, sym, ap, ◌∙◌, arith, and_parts, length-append, append_assoc, Some, get_or, drop, drop-cons, nat_tests, get_or-range_with_len, length-range_with_len, AllPass-from_list_all, sum_by-cons, concat, list_all, list_any, position_from, range_with_len, servers_of, times_listed, ints}
 use Rattle.std.proofs.lemmas.List.{length-map}
 
 -- the numbers from a up to n, with the first apart

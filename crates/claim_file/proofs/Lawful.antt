@@ -1,5 +1,5 @@
 -- A claim that is read is lawful.
-use Rattle.claim_file.proofs.Common.{◌≡◌, ◌≢◌, ℕ, zero, suc, ◌^◌, ◌<◌, ◌≤◌, true, false, List, [], ◌∷◌, length, Option, Some, None, Result, Ok, Err, sym, ◌∙◌, subst, arith, true≢false, and_parts, leb-true, not-true, ints, bytes_eq-Decides, given_by, All, AllPairs, IfOk, list_any, bytes_eq, floor_of, ceiling_of, ticks_down, ticks_up, ClaimFault, Groups, address_of, addresses_of, are_different, ClaimData, IsLawful, IsWithoutGap, max_bound, given, Answers, FieldsData, groups_of, NamedData, named_of, is_in_range, claim_with, claim_from, claim_of, time_of}
+use Rattle.claim_file.proofs.Common.{◌≡◌, ◌≢◌, ℕ, zero, suc, ◌^◌, ◌<◌, ◌≤◌, true, false, List, [], ◌∷◌, length, Option, Some, Result, Ok, Err, sym, ◌∙◌, subst, arith, true≢false, and_parts, leb-true, not-true, ints, bytes_eq-Decides, given_by, All, AllPairs, IfOk, list_any, bytes_eq, floor_of, ceiling_of, ticks_down, ticks_up, ClaimFault, Groups, address_of, addresses_of, are_different, ClaimData, IsLawful, IsWithoutGap, max_bound, given, Answers, FieldsData, groups_of, NamedData, named_of, is_in_range, claim_with, claim_from, claim_of, time_of}
 use Rattle.std.proofs.lemmas.List.Folds.{list_any_at}
 use Rattle.claim_file.proofs.Groupings.{groups_of-range, groups_of-without_gap}
 use Rattle.claim_file.proofs.Made.{IsMade, claim_made, fields_made}

@@ -1,5 +1,5 @@
 -- The plain spelling of a claim is read as that claim.
-use Rattle.claim_file.proofs.Common.{◌≡◌, ◌≢◌, ◌∙◌, ℕ, zero, suc, pos, ◌+◌, ◌/◌, ◌%◌, ◌^◌, ◌<◌, ◌≤◌, ◌==◌, nat_lt, true, false, not, List, [], ◌∷◌, ◌++◌, length, map, Option, Some, None, Ok, IsUtf8, refl, sym, ap, subst, arith, length-append, length-range_with_len, get_or-range_with_len, All, AllPairs, codes, decimal, concat, list_any, IsDotted, bytes_eq, le-leb, lt-ltb, nat_tests, bytes_eq-Decides, ints, days_in_month_bounds, serde_json_on_literals, array, string, items_of, after, given, Json, addresses_of, are_different, FieldsData, fields_of, number_lists_of, numbers_of, texts_of, group_of, groups_of, is_grouping, servers_of, times_listed, NamedData, claim_from, claim_of, claim_with, is_in_range, named_of, within_limits, IsTime, two_digits, rules}
+use Rattle.claim_file.proofs.Common.{◌≡◌, ◌≢◌, ◌∙◌, ℕ, zero, suc, pos, ◌+◌, ◌/◌, ◌%◌, ◌^◌, ◌<◌, ◌≤◌, ◌==◌, nat_lt, true, false, not, List, [], ◌∷◌, ◌++◌, length, map, Option, Some, None, Ok, IsUtf8, refl, sym, ap, subst, arith, length-append, length-range_with_len, get_or-range_with_len, All, AllPairs, codes, decimal, concat, list_any, IsDotted, bytes_eq, lt-ltb, nat_tests, bytes_eq-Decides, ints, days_in_month_bounds, serde_json_on_literals, array, string, items_of, after, given, Json, addresses_of, are_different, FieldsData, fields_of, number_lists_of, numbers_of, texts_of, group_of, groups_of, is_grouping, servers_of, times_listed, NamedData, claim_from, claim_of, claim_with, is_in_range, named_of, within_limits, IsTime, two_digits, rules}
 use Rattle.std.proofs.lemmas.Bool.{eq-eqb, false_from_ne_true}
 use Rattle.std.proofs.lemmas.Fmt.{IsAscii-decimal}
 use Rattle.std.proofs.lemmas.Str.{IsUtf8-append, IsUtf8-from_ascii}

@@ -1,5 +1,5 @@
 -- The answers of the reader of times.
-use Rattle.claim_file.proofs.Common.{◌+◌, nat_lt, nat_le, negsuc, ◌*◌, ◌/◌, ◌%◌, ◌≤◌, ◌<◌, arith, ◌≡◌, ◌^◌, ℕ, ℤ, pos, List, Bool, true, false, ◌&&◌, Option, Some, None, if◌then◌else◌, option_and_then, refl, sym, ap, ◌∙◌, and_parts, le-leb, leb-true, lt-ltb, ltb-true, ints, days_in_month_bounds, bytes_eq-Decides, bytes_eq, IsCivilDate, days_in_month, IsTime, exists, spelling, unix_second, pair_value, date_time_at, in_u32, time_of, rules}
+use Rattle.claim_file.proofs.Common.{◌+◌, nat_lt, negsuc, ◌*◌, ◌/◌, ◌%◌, ◌≤◌, ◌<◌, arith, ◌≡◌, ◌^◌, ℕ, ℤ, pos, List, Bool, true, false, ◌&&◌, Option, Some, None, if◌then◌else◌, option_and_then, refl, sym, ap, ◌∙◌, and_parts, leb-true, ltb-true, ints, days_in_month_bounds, bytes_eq-Decides, bytes_eq, IsCivilDate, days_in_month, IsTime, exists, spelling, unix_second, pair_value, date_time_at, in_u32, time_of, rules}
 use Rattle.claim_file.specs.declared.time.DateTime.{DateTime}
 
 -- a date and time that exist: the text is compared with their spelling

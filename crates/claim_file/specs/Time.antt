@@ -3,7 +3,7 @@
 -- It is written `YYYY-MM-DDTHH:MM:SSZ`, the date-time of RFC 3339 (a profile of ISO 8601), with
 -- capital letters, without a fraction and always in UTC. Its Unix second is the number of its day,
 -- counted from 1970-01-01 in the Gregorian calendar, times 86400, and the time of day.
-use Rattle.std.specs.Prelude.{◌≡◌, ℕ, ◌+◌, ◌-◌, ◌*◌, ◌/◌, ◌%◌, ◌^◌, ◌<◌, ℤ, pos, negsuc, ◌+ℤ◌, ◌*ℤ◌, Bool, ◌&&◌, List, [], ◌∷◌, ◌++◌, slice_index, codes, nat_lt, nat_le, Option, Some, None, if◌then◌else◌}
+use Rattle.std.specs.Prelude.{◌≡◌, ℕ, ◌+◌, ◌-◌, ◌*◌, ◌^◌, ◌<◌, ℤ, pos, negsuc, ◌+ℤ◌, ◌*ℤ◌, Bool, ◌&&◌, List, ◌++◌, slice_index, codes, nat_lt, nat_le, Option, Some, None, if◌then◌else◌}
 use Rattle.std.specs.Str.{bytes_eq}
 use Rattle.jiff_core.specs.Calendar.{IsCivilDate, days_in_month, days_from_civil}
 use Rattle.claim_file.specs.declared.time.DateTime.{DateTime}

@@ -10,8 +10,8 @@
 //! Each is exact by its contract, and only [`first_conflict`] takes memory. [`laws`] has what holds
 //! of the definitions.
 //!
-//! The marks of an exchange that can have happened, as `add` of `feasibility/src/kept_marks.rt` keeps
-//! them, with its proof:
+//! The marks of an exchange that can have happened, as `add` of `feasibility/src/kept_marks.rt`
+//! keeps them, with its proof:
 //!
 //! ```text
 //! if !is_possible(exchange, claim.reading) {

@@ -1,15 +1,13 @@
 -- What the proofs of this crate name from elsewhere.
 pub use Rattle.std.proofs.Common.{Bool, Global, IsPermutation, List, None, Option, Some, Vec, [], ap, append_assoc, ap₂}
 pub use Rattle.std.proofs.Common.{arith, below_more, bit_and, bit_or, cond, count_by, drop, eq-eqb, false, get_or}
-pub use Rattle.std.proofs.Common.{get_or-set_other, get_or-set_same, inl, inr, int_lt, length, length-set, map, max}
-pub use Rattle.std.proofs.Common.{min, negsuc, not, of_z, pos, pow-suc, refl, rules, set, slice_get, subst, suc, sym}
-pub use Rattle.std.proofs.Common.{to_z, true, true≢false, unsigned_abs, w32, zero, ℕ, ℤ, ⊎_elim, ◌%◌, ◌&&◌, ◌*ℤ◌, ◌*◌}
-pub use Rattle.std.proofs.Common.{◌++◌, ◌+ℤ◌, ◌+◌, ◌-ℤ◌, ◌-◌, ◌/◌, ◌<ℤ◌, ◌<◌, ◌^◌, ◌||◌, ◌∙◌, ◌∷◌, ◌≡◌, ◌≢◌, ◌≤ℤ◌, ◌≤◌}
-pub use Rattle.std.proofs.Common.{◌⊎◌}
+pub use Rattle.std.proofs.Common.{get_or-set_other, get_or-set_same, inl, inr, int_lt, length, length-set, map, min}
+pub use Rattle.std.proofs.Common.{negsuc, not, of_z, pos, pow-suc, refl, rules, set, slice_get, subst, suc, sym, to_z}
+pub use Rattle.std.proofs.Common.{true, true≢false, unsigned_abs, w32, zero, ℕ, ℤ, ⊎_elim, ◌%◌, ◌&&◌, ◌*ℤ◌, ◌*◌, ◌++◌}
+pub use Rattle.std.proofs.Common.{◌+ℤ◌, ◌+◌, ◌-ℤ◌, ◌-◌, ◌/◌, ◌<ℤ◌, ◌<◌, ◌^◌, ◌||◌, ◌∙◌, ◌∷◌, ◌≡◌, ◌≢◌, ◌≤ℤ◌, ◌≤◌, ◌⊎◌}
 pub use Rattle.std.proofs.Math.Bool.{or-false, or_comm}
 pub use Rattle.std.proofs.Math.ListN.{drop_of_length-le, get_or-append, length-append}
 pub use Rattle.std.proofs.Math.Nat.{le_of_mul-le-mul_right, lt_of_mul-lt-mul_right, mul-le-mul_left, mul-le-mul_right}
-pub use Rattle.std.proofs.Math.Nat.{mul-pos}
 pub use Rattle.std.proofs.Math.Seq.{append_snoc, drop-cons, get_or-append_seam}
 pub use Rattle.std.proofs.lemmas.Bool.{and_parts, cases_lt, cond-false, cond-true, and_from, ne_eqb, not-true, or_cases}
 pub use Rattle.std.proofs.lemmas.Bool.{or_from, or_left, or_parts, eqb-true, false_from_ne_true}
@@ -22,8 +20,8 @@ pub use Rattle.std.proofs.lemmas.List.Elements.{All-append, All-cons, All-head, 
 pub use Rattle.std.proofs.lemmas.List.Elements.{All-tail, All-weaker}
 pub use Rattle.std.proofs.lemmas.List.Sums.{AllPass-from_list_all, list_all-from_AllPass}
 pub use Rattle.std.proofs.lemmas.Nat.Bits.{bit_at-lt, bit_at-pow_other, bit_at-pow_same, bit_at-suc, bit_at-zero}
-pub use Rattle.std.proofs.lemmas.Nat.Bits.{bit_at_above, bit_at_and, bit_at_lowest, bit_at_not, bit_at_ones}
-pub use Rattle.std.proofs.lemmas.Nat.Bits.{bit_at_ones_above, bit_at_or}
+pub use Rattle.std.proofs.lemmas.Nat.Bits.{bit_at_above, bit_at_and, bit_at_not, bit_at_ones, bit_at_ones_above}
+pub use Rattle.std.proofs.lemmas.Nat.Bits.{bit_at_or}
 pub use Rattle.std.proofs.lemmas.Option.{get_or_from_slice_get, slice_get-get_or, slice_get_within}
 pub use Rattle.std.proofs.lemmas.Result.{IfOk-weaker}
 pub use Rattle.std.specs.Int.{bit_at, bit_not, int_max, int_min}
@@ -88,8 +86,7 @@ pub use Rattle.feasibility.specs.declared.kept_marks.KeptMarks.{KeptMarks}
 pub use Rattle.feasibility.specs.declared.shown_conflicts.Conflict.{Conflict}
 pub use Rattle.intersection.proofs.Fractions.{le_from_times}
 pub use Rattle.lemma_base.proofs.Bool.{by_test}
-pub use Rattle.lemma_base.proofs.Int.{int_le-true, int_max-least, ≤ℤ-from_equal, ≤ℤ_antisymm, ≤ℤ_trans, ≤ℤ_trans_twice}
-pub use Rattle.lemma_base.proofs.Int.{le-int_le, ≤ℤ-<ℤ_trans}
+pub use Rattle.lemma_base.proofs.Int.{int_max-least, ≤ℤ_antisymm, ≤ℤ_trans, ≤ℤ_trans_twice, le-int_le, ≤ℤ-<ℤ_trans}
 pub use Rattle.lemma_base.proofs.List.{All-map_back, All-slice_get, slice_get-below}
 pub use Rattle.lemma_base.proofs.Nat.{lt_next_cases, not_lt_zero}
 pub use Rattle.error_marks.proofs.Compatibility.{compatible_in_order}

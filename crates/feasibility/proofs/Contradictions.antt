@@ -1,6 +1,5 @@
 -- Pairs of exchanges that contradict each other, and the groups that they are of.
-use Rattle.feasibility.proofs.Common.{rules, ◌≡◌, ◌≢◌, ℕ, ◌<◌, ◌≤◌, ◌⊎◌, inl, inr, ⊎_elim, List, Some, slice_get, refl, sym, ap, ◌∙◌, arith, ClaimData, Exchange, group_of, HasImpossible, Contradicts, IsBroken, DoConflict, Pair, IsContradiction, IsFirstContradiction, HasContradiction, ints, nat_tests}
-use Rattle.feasibility.proofs.PassingNumbers.{one_there}
+use Rattle.feasibility.proofs.Common.{rules, ◌≡◌, ◌≢◌, ℕ, ◌<◌, ◌≤◌, ◌⊎◌, inl, inr, ⊎_elim, List, refl, sym, ap, ◌∙◌, arith, ClaimData, Exchange, group_of, HasImpossible, Contradicts, IsBroken, DoConflict, Pair, IsContradiction, IsFirstContradiction, HasContradiction}
 
 -- ---- the first is one
 

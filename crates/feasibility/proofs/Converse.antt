@@ -1,6 +1,6 @@
 -- What a course that fits keeps: the marks of each exchange with a server that isn't false, and
 -- those of its observation. So they agree.
-use Rattle.feasibility.proofs.Common.{◌≡◌, ℕ, ◌≤◌, ℤ, pos, ◌-ℤ◌, ◌*ℤ◌, Bool, false, inl, inr, List, Some, length, refl, sym, arith, All, ints, slice_get_within, ClaimData, RefutationData, Exchange, Mark, low_mark, high_mark, IsPossible, AreCompatible, Moment, error_of, request_start, reply_end, Course, Fits, IsClientMoment, is_liar, IsAgainst, KeepsLow, KeepsHigh, low_marks, high_marks, DoAgree, mark_of, IsRefutedWithDrift, Shows, le_from_times, ≤ℤ_trans_twice, ≤ℤ-from_equal, nat_tests}
+use Rattle.feasibility.proofs.Common.{◌≡◌, ℕ, ◌≤◌, ℤ, pos, ◌-ℤ◌, ◌*ℤ◌, Bool, false, inl, inr, List, Some, length, refl, arith, All, ints, slice_get_within, ClaimData, RefutationData, Exchange, Mark, low_mark, high_mark, IsPossible, AreCompatible, Moment, error_of, request_start, reply_end, Course, Fits, IsClientMoment, is_liar, IsAgainst, KeepsLow, KeepsHigh, low_marks, high_marks, DoAgree, mark_of, IsRefutedWithDrift, Shows, le_from_times, ≤ℤ_trans_twice, nat_tests}
 use Rattle.std.specs.Prelude.{slice_get}
 use Rattle.feasibility.proofs.Scaling.{times-sub}
 use Rattle.feasibility.proofs.KeptMarks.{moments_in_order, kept_are_compatible}

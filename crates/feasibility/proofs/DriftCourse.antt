@@ -1,5 +1,5 @@
 -- The course that an accepted refutation stands for, and what it does to the claim.
-use Rattle.feasibility.proofs.Common.{◌≡◌, ℕ, ◌<◌, ◌*◌, ℤ, pos, ◌*ℤ◌, ◌≤ℤ◌, ◌<ℤ◌, unsigned_abs, List, length, refl, arith, All, AllPairs, ints, unsigned_abs-mul, RefutationData, ClaimData, times_le, IsLawful as IsLawfulExchange, SameRequest, Exchange, error_of, Course, Fits, FitsInWindows, is_liar, IsAgainst, IsObservedIn, IsWithin, IsTraceable, samples_of, low_marks, lowest_course, mark_of, IsRefutedWithDrift, IsObservedOff, Shows, HasDriftCourse, le_from_times, nat_tests}
+use Rattle.feasibility.proofs.Common.{◌≡◌, ℕ, ◌<◌, ◌*◌, ℤ, pos, ◌*ℤ◌, ◌≤ℤ◌, ◌<ℤ◌, unsigned_abs, List, length, refl, arith, All, AllPairs, ints, unsigned_abs-mul, RefutationData, ClaimData, times_le, IsLawful as IsLawfulExchange, SameRequest, Exchange, Course, Fits, FitsInWindows, is_liar, IsAgainst, IsObservedIn, IsWithin, IsTraceable, samples_of, low_marks, lowest_course, mark_of, IsRefutedWithDrift, IsObservedOff, Shows, HasDriftCourse, le_from_times}
 use Rattle.claim_file.specs.Claim.{IsLawful}
 use Rattle.feasibility.proofs.LowestMarks.{first_is_met}
 use Rattle.feasibility.proofs.LowestCourse.{Needs, lowest_fits, lowest_shares}
@@ -71,3 +71,5 @@ module _ (claim : ClaimData) (xs : List Exchange) (r : RefutationData) (lawful :
 
   pub shown : Shows claim xs r course
   shown = record { fits = course_fits.fits; others_true = λ server true'. true'; observed = observed_off }
+
+pub ruleset observed_course = (observed_in_span, observed_beyond)

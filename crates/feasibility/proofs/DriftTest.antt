@@ -1,5 +1,5 @@
 -- The test of a refutation with drift is true exactly if it is accepted.
-use Rattle.feasibility.proofs.Common.{◌≡◌, ℕ, ℤ, Bool, true, List, ◌∷◌, refl, sym, ◌∙◌, arith, IsTrue, ◌↔◌, list_all, ints, AllPass-from_list_all, list_all-from_AllPass, RefutationData, is_liar, IsAgainst, ClaimData, IsRefutedWithDrift, mark_of, is_possible, are_compatible, all_compatible, do_agree, is_refuted_with_drift, true_exchanges, low_marks, high_marks, AreAllCompatible, IsPossible, AreCompatible, Mark, Exchange, and_parts, int_le-true, le-int_le}
+use Rattle.feasibility.proofs.Common.{◌≡◌, ℕ, ℤ, Bool, true, List, ◌∷◌, refl, sym, ◌∙◌, arith, IsTrue, ◌↔◌, list_all, ints, AllPass-from_list_all, list_all-from_AllPass, RefutationData, is_liar, IsAgainst, ClaimData, IsRefutedWithDrift, mark_of, is_possible, are_compatible, all_compatible, do_agree, is_refuted_with_drift, true_exchanges, low_marks, high_marks, AreAllCompatible, IsPossible, AreCompatible, Mark, Exchange, and_parts, le-int_le}
 use Rattle.checker.specs.RefutationTest.{is_against}
 use Rattle.feasibility.proofs.OwnMark.{among_others, from_others}
 

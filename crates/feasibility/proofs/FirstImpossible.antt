@@ -1,5 +1,5 @@
 -- The first exchange of a group that is impossible by itself, as it is looked for.
-use Rattle.feasibility.proofs.Common.{rules, eqb-true, nat_tests, ◌≡◌, ℕ, ◌+◌, ◌<◌, ◌≤◌, ⊎_elim, true, false, List, Some, length, slice_get, refl, sym, ◌∙◌, subst, arith, ◌==◌, slice_get_within, ClaimData, IsPossible, Exchange, group_of, IsImpossibleAt, lt_next_cases, ints}
+use Rattle.feasibility.proofs.Common.{rules, nat_tests, ◌≡◌, ℕ, ◌+◌, ◌<◌, ◌≤◌, true, false, List, Some, length, slice_get, refl, arith, ◌==◌, slice_get_within, ClaimData, IsPossible, Exchange, group_of, IsImpossibleAt, ints}
 use Rattle.feasibility.proofs.PassingNumbers.{one_there}
 
 module _ (claim : ClaimData) (xs : List Exchange) (group : ℕ) where

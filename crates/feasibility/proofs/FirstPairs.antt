@@ -1,10 +1,9 @@
 -- The first marks of two groups that aren't compatible are of the first two exchanges that contradict each other.
-use Rattle.feasibility.proofs.Common.{rules, AreOfGroups, eqb-true, ◌≡◌, ◌≢◌, ℕ, ◌+◌, ◌<◌, ◌≤◌, ◌⊎◌, inl, inr, ⊎_elim, Bool, true, false, List, Option, None, Some, length, map, get_or, slice_get, pos, refl, sym, ap, ◌∙◌, subst, arith, ◌==◌, slice_index, MatchOption, cond-true, cond-false, cases_lt, nat_tests, get_or-map, length-map, get_or_from_slice_get, slice_get_within, ClaimData, low_mark, high_mark, AreCompatible, Mark, Exchange, Pair, IsContradiction, IsNoLater, group_of, group_exchanges, group_lows, group_highs, group_numbers, IsFirstApart, AreNumberedOf, IsFirstIfAny, IsImpossibleAt, IsFirstImpossible, pair_of, is_no_later, earlier, twice, by_test, eq-eqb, slice_get-below}
+use Rattle.feasibility.proofs.Common.{rules, AreOfGroups, eqb-true, ◌≡◌, ◌≢◌, ℕ, ◌+◌, ◌<◌, ◌≤◌, ◌⊎◌, inl, inr, ⊎_elim, Bool, true, false, List, Option, None, Some, length, map, get_or, slice_get, pos, refl, sym, ap, ◌∙◌, subst, arith, ◌==◌, slice_index, MatchOption, cases_lt, nat_tests, get_or-map, length-map, get_or_from_slice_get, slice_get_within, ClaimData, low_mark, high_mark, AreCompatible, Mark, Exchange, Pair, IsContradiction, IsNoLater, group_of, group_exchanges, group_lows, group_highs, group_numbers, IsFirstApart, AreNumberedOf, IsFirstIfAny, IsImpossibleAt, IsFirstImpossible, pair_of, is_no_later, earlier, twice, eq-eqb, slice_get-below}
 use Rattle.error_marks.specs.Compatible.{AllCompatible}
 use Rattle.error_marks.specs.Conflict.{IsFirstConflict}
 use Rattle.feasibility.specs.declared.contradiction.Contradiction.{Contradiction}
 use Rattle.feasibility.specs.declared.numbered_marks.NumberedMarks.{NumberedMarks}
-use Rattle.feasibility.proofs.Contradictions.{one_group}
 use Rattle.feasibility.proofs.GroupMarks.{never_both}
 use Rattle.feasibility.proofs.PassingNumbers.{Found, found, no_less, one_there, placed, rising}
 

@@ -1,6 +1,6 @@
 -- A refutation whose liars are the servers of some groups: it stands exactly if these are a cover, and its own
 -- mark is compatible with those of the other groups.
-use Rattle.feasibility.proofs.Common.{rules, eq-eqb, eqb-true, ◌≡◌, ℕ, ◌+◌, ◌<◌, ◌≤◌, Bool, false, cond, not, List, [], ◌∷◌, length, map, slice_get, Some, refl, sym, ap, ap₂, ◌∙◌, subst, arith, All, ◌==◌, ◌↔◌, IsTrue, nat_tests, All-head, All-tail, All-map, slice_get_within, RefutationData, is_liar, IsAgainst, ClaimData, IsConflictTable, ConflictData, IsCover, is_of, servers_of, IsCompatibleWith, IsRefutedWithDrift, mark_of, true_exchanges, AreAllCompatible, DoAgree, low_mark, high_mark, IsPossible, AreCompatible, Mark, IsLawful as IsLawfulExchange, Exchange, numbers_below, by_test, All-map_back}
+use Rattle.feasibility.proofs.Common.{rules, eq-eqb, eqb-true, ◌≡◌, ℕ, ◌+◌, ◌<◌, ◌≤◌, Bool, false, cond, not, List, [], ◌∷◌, length, slice_get, Some, refl, sym, ap, ap₂, ◌∙◌, subst, arith, All, ◌==◌, ◌↔◌, IsTrue, nat_tests, All-head, All-tail, All-map, slice_get_within, RefutationData, is_liar, IsAgainst, ClaimData, IsConflictTable, ConflictData, IsCover, is_of, servers_of, IsCompatibleWith, IsRefutedWithDrift, mark_of, true_exchanges, DoAgree, low_mark, high_mark, AreCompatible, Mark, IsLawful as IsLawfulExchange, Exchange, numbers_below, by_test, All-map_back}
 use Rattle.std.proofs.lemmas.Map.Views.{any-filter_same}
 use Rattle.checker.proofs.Counting.{found_below}
 use Rattle.claim_file.specs.Claim.{IsLawful}

@@ -1,5 +1,5 @@
 -- Two marks that moments of one clock keep are compatible, and each holds at its place.
-use Rattle.feasibility.proofs.Common.{rules, ◌≡◌, ℕ, ◌+◌, ◌-◌, ◌*◌, ◌<◌, ◌≤◌, ℤ, pos, ◌-ℤ◌, ◌*ℤ◌, ◌≤ℤ◌, ◌<ℤ◌, unsigned_abs, refl, subst, arith, ints, le_of_mul-le-mul_right, mul-le-mul_right, Mark, AreCompatible, Moment, error_of, error_change, DriftsWithin, billion, time_of, KeepsLow, KeepsHigh, ≤ℤ_trans}
+use Rattle.feasibility.proofs.Common.{rules, ◌≡◌, ℕ, ◌+◌, ◌-◌, ◌*◌, ◌<◌, ◌≤◌, ℤ, pos, ◌-ℤ◌, ◌*ℤ◌, ◌≤ℤ◌, ◌<ℤ◌, unsigned_abs, refl, subst, arith, ints, le_of_mul-le-mul_right, mul-le-mul_right, Mark, AreCompatible, Moment, error_of, DriftsWithin, billion, time_of, KeepsLow, KeepsHigh, ≤ℤ_trans}
 use Rattle.feasibility.proofs.Scaling.{times-sub, scaled_beyond, bounded}
 use Rattle.feasibility.proofs.Steps.{Drifts, Drifts-turned, rises_by, falls_by, readings_go_on, times_go_on}
 use Rattle.feasibility.proofs.Agreement.{TwoKept, ahead, behind}
@@ -130,3 +130,5 @@ kept_are_compatible ppb n low high a b some slow h keeps_low keeps_high =
       falls = no_fall ppb n low high some below (a, b, kept);
       rises = no_rise ppb n low high some below (a, b, kept);
     }
+
+pub ruleset in_order = (moments_in_order, times_in_order)

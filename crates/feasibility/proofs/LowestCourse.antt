@@ -1,5 +1,5 @@
 -- The lowest course fits: the servers that aren't false receive and answer in time.
-use Rattle.feasibility.proofs.Common.{◌≡◌, ℕ, ◌<◌, ◌≤◌, ℤ, pos, ◌+ℤ◌, ◌-ℤ◌, ◌*ℤ◌, ◌≤ℤ◌, Bool, false, ⊎_elim, List, Some, length, refl, ap, arith, All, AllPairs, int_max, int_min, ints, clamps, times_le, times-add, ClaimData, Exchange, Mark, IsLawful as IsLawfulExchange, SameRequest, low_mark, high_mark, IsPossible, AreCompatible, Moment, DriftsWithin, IsWithinDistance, request_start, request_end, reply_start, reply_end, Course, FitsInWindows, IsClientMoment, ReadsInWindows, ComesInOrder, KeepsRootDistance, false_group_count, SharesRequests, KeepsLow, KeepsHigh, low_marks, high_marks, DoAgree, fineness_of, lowest_moment, of_exchange, lowest_course, ≤ℤ_refl, All-slice_get, mul-pos, nat_tests}
+use Rattle.feasibility.proofs.Common.{◌≡◌, ℕ, ◌<◌, ◌≤◌, ℤ, pos, ◌+ℤ◌, ◌-ℤ◌, ◌*ℤ◌, ◌≤ℤ◌, Bool, false, ⊎_elim, List, Some, length, refl, ap, arith, All, AllPairs, int_max, int_min, ints, clamps, times_le, times-add, ClaimData, Exchange, Mark, IsLawful as IsLawfulExchange, SameRequest, low_mark, high_mark, IsPossible, AreCompatible, Moment, DriftsWithin, IsWithinDistance, request_start, request_end, reply_start, reply_end, Course, FitsInWindows, IsClientMoment, ReadsInWindows, ComesInOrder, KeepsRootDistance, false_group_count, SharesRequests, KeepsLow, KeepsHigh, low_marks, high_marks, DoAgree, fineness_of, lowest_moment, of_exchange, lowest_course, ≤ℤ_refl, All-slice_get, nat_tests}
 use Rattle.std.specs.Prelude.{slice_get}
 use Rattle.claim_file.specs.Claim.{IsLawful}
 use Rattle.checker.proofs.RefutationCourse.{around, widened, one_start}

@@ -1,7 +1,7 @@
 -- The numbers and marks of a group, as they are gathered.
 use Rattle.feasibility.proofs.Common.{rules, ◌≡◌, ℕ, ◌+◌, ◌<◌, ⊎_elim, List, [], ◌∷◌, ◌++◌, drop, length, map, Bool, true, false, refl, sym, ap, ◌∙◌, subst, get_or, arith, All, ◌==◌, filter, get_or-append, length-append, append_snoc, get_or-append_seam, ClaimData, low_mark, high_mark, IsWithinRange, Mark, Exchange, group_of, group_lows, group_highs, numbers_from, group_numbers, not_lt_zero}
 use Rattle.feasibility.proofs.KeptMarkLists.{with_last}
-use Rattle.feasibility.proofs.PassingNumbers.{kept, left_out, counted, not_counted}
+use Rattle.feasibility.proofs.PassingNumbers.{counted}
 
 -- the exchanges before the one with this number were gone through
 pub record IsNumbering (claim : ClaimData) (group : ℕ) (xs : List Exchange) (k : ℕ) (numbers : List ℕ)

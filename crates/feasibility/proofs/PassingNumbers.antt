@@ -1,5 +1,5 @@
 -- The numbers of the elements that pass a test, and the elements that stand under them.
-use Rattle.feasibility.proofs.Common.{rules, ◌≡◌, ℕ, zero, suc, ◌+◌, ◌<◌, ◌≤◌, ⊎_elim, Bool, true, false, List, [], ◌∷◌, Some, slice_get, sym, ap, ◌∙◌, subst, arith, filter, cond-true, cond-false, cases_lt, numbers_from, by_test, ints, nat_tests}
+use Rattle.feasibility.proofs.Common.{rules, ◌≡◌, ℕ, zero, suc, ◌+◌, ◌<◌, ◌≤◌, ⊎_elim, Bool, true, false, List, [], ◌∷◌, Some, slice_get, ap, ◌∙◌, arith, filter, cond-true, cond-false, cases_lt, numbers_from, by_test, ints, nat_tests}
 
 pub one_there : {X : Type 0} (xs : List X) (i j : ℕ) (x y : X) → slice_get xs i ≡ Some x → slice_get xs j ≡ Some y
     → i ≡ j → x ≡ y

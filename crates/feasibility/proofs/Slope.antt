@@ -2,7 +2,7 @@
 --
 -- Before its place it rises by k for each tick, and after it falls by m. Of several such numbers the
 -- greatest does so too.
-use Rattle.feasibility.proofs.Common.{◌≡◌, ℕ, ◌+◌, ◌*◌, ◌<◌, ◌≤◌, ℤ, pos, ◌+ℤ◌, ◌-ℤ◌, ◌≤ℤ◌, ◌<ℤ◌, unsigned_abs, true, false, cond, List, [], ◌∷◌, refl, arith, int_le, fold, int_max, ints, clamps, by_lt_z}
+use Rattle.feasibility.proofs.Common.{◌≡◌, ℕ, ◌+◌, ◌*◌, ◌<◌, ◌≤◌, ℤ, pos, ◌+ℤ◌, ◌-ℤ◌, ◌≤ℤ◌, ◌<ℤ◌, unsigned_abs, cond, List, [], ◌∷◌, refl, arith, int_le, fold, int_max, ints, by_lt_z}
 
 -- the second number is at most so far above the first, and at most so far below
 pub record Changes (rise fall : ℕ) (a b : ℤ) : Type 0 where

@@ -1,6 +1,6 @@
 -- Marks of groups, gathered and sorted.
 use Rattle.std.proofs.Common.{IsTrue, ◌↔◌}
-use Rattle.feasibility.proofs.Common.{◌≡◌, ℕ, ◌<◌, get_or, Vec, Global, Bool, true, false, true≢false, not, List, [], ◌∷◌, map, length, IsPermutation, refl, sym, ap, ◌∙◌, subst, arith, All, filter, slice_index, ◌==◌, list_all, AllPass-from_list_all, list_all-from_AllPass, with_items_is, IsWithinRange, ClaimData, Mark, Exchange, is_possible, is_outside, group_exchanges, group_lows, group_highs, IsSound, DoGroupsAgree, AreMarksOf, AreSorted, AreAllSorted, AreOfGroupsInOrder, true_exchanges, low_marks, high_marks, AreAllCompatible, low_mark, high_mark, get_or_default, KeptMarks, ints, nat_tests}
+use Rattle.feasibility.proofs.Common.{◌≡◌, ℕ, ◌<◌, get_or, Vec, Global, Bool, true, false, true≢false, List, [], ◌∷◌, map, length, IsPermutation, refl, sym, ap, ◌∙◌, subst, arith, All, filter, list_all, AllPass-from_list_all, list_all-from_AllPass, with_items_is, IsWithinRange, ClaimData, Mark, Exchange, is_possible, is_outside, group_exchanges, group_lows, group_highs, IsSound, DoGroupsAgree, AreMarksOf, AreSorted, AreAllSorted, AreOfGroupsInOrder, true_exchanges, low_marks, high_marks, AreAllCompatible, low_mark, high_mark, get_or_default, KeptMarks}
 use Rattle.std.specs.Vec.{with_items}
 use Rattle.std.proofs.lemmas.List.Sorted.{All-permutation, IsPermutation-sym, length_permutation}
 use Rattle.error_marks.specs.Direction.{IsInOrder}

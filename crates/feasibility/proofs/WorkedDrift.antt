@@ -1,5 +1,5 @@
 -- The two exchanges an hour apart.
-use Rattle.feasibility.proofs.Common.{◌≡◌, ℕ, ◌+◌, ◌-◌, ◌<◌, ◌≤◌, ℤ, pos, ◌+ℤ◌, ◌-ℤ◌, ◌*ℤ◌, ◌≤ℤ◌, ◌<ℤ◌, Bool, true, false, inr, [], ◌∷◌, count_by, refl, arith, All, int_le, ints, All-nil, All-cons, billion, IsRefuted, Mark, low_mark, high_mark, IsPossible, AreCompatible, mark_of, IsRefutedWithDrift, Contradicts, SomeCourse, int_le-true, not_both, nat_tests}
+use Rattle.feasibility.proofs.Common.{◌≡◌, ℕ, ◌+◌, ◌-◌, ◌<◌, ◌≤◌, ℤ, pos, ◌+ℤ◌, ◌-ℤ◌, ◌*ℤ◌, ◌≤ℤ◌, ◌<ℤ◌, Bool, true, false, inr, [], ◌∷◌, count_by, refl, arith, All, int_le, ints, All-nil, All-cons, billion, IsRefuted, Mark, low_mark, high_mark, AreCompatible, mark_of, IsRefutedWithDrift, Contradicts, SomeCourse, not_both, nat_tests}
 use Rattle.checker.specs.WorkedCourse.{worked_exchange}
 use Rattle.checker.specs.WorkedRefutation.{claim_with, refutation_with}
 use Rattle.feasibility.specs.WorkedDrift.{later_exchange, both_exchanges, drifting_claim}

@@ -42,7 +42,7 @@ pub fn error_changes_by_what_the_clock_advances()
 {}
 
 /// Readings are in the order of true times, and true times in the order of readings.
-#[tactic(auto, using(crate::proofs::KeptMarks::moments_in_order, crate::proofs::KeptMarks::times_in_order))]
+#[tactic(auto, using(crate::proofs::KeptMarks::in_order))]
 pub fn readings_are_in_the_order_of_times()
     ensures readings { (ppb : ℕ) (a b : Moment) → ppb < billion → DriftsWithin ppb a b →
         a.time ≤ℤ b.time → a.reading ≤ℤ b.reading }
@@ -172,7 +172,7 @@ pub fn early_and_late_stamps_change_nothing()
 /// What the false groups of a course are is a cover: a group that has an impossible exchange or
 /// contradicts itself holds a false server, and so does one of two groups that contradict each
 /// other.
-#[tactic(auto, using(crate::proofs::Covers::false_groups_cover, crate::proofs::Covers::listed_in_groups))]
+#[tactic(auto, using(crate::proofs::Covers::covering_groups))]
 pub fn false_groups_are_a_cover()
     ensures { (claim : ClaimData) (xs : List Exchange) (course : Course) → IsLawful claim →
         All (IsLawfulExchange (length claim.servers)) xs → Fits claim xs course →
@@ -195,7 +195,7 @@ pub fn covers_leave_agreement()
 
 /// A course fits the exchanges and the claim exactly if some cover has no more groups than may be
 /// false.
-#[tactic(auto, using(crate::proofs::Covers::course_gives_cover, crate::proofs::Covers::cover_gives_course))]
+#[tactic(auto, using(crate::proofs::Covers::course_by_cover))]
 pub fn some_course_fits_where_a_cover_is_small()
     ensures { (claim : ClaimData) (xs : List Exchange) → IsLawful claim →
         All (IsLawfulExchange (length claim.servers)) xs →
@@ -205,7 +205,7 @@ pub fn some_course_fits_where_a_cover_is_small()
 /// If some course fits, then at every reading one is observed that fits, with each reading in its
 /// record's window: a whole number of ticks that the clock shows. The exchanges of one request
 /// share its moment.
-#[tactic(auto, using(crate::proofs::Covers::course_gives_cover, crate::proofs::Covers::cover_gives_course_at))]
+#[tactic(auto, using(crate::proofs::Covers::course_by_cover_at))]
 pub fn some_course_is_observed_at_any_reading()
     ensures { (claim : ClaimData) (xs : List Exchange) (reading : ℤ) → IsLawful claim →
         All (IsLawfulExchange (length claim.servers)) xs → SomeCourse claim xs →

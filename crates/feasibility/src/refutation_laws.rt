@@ -41,7 +41,7 @@ pub fn refutations_are_exact()
 
 /// A course that shows a refutation breaks the claim: when the clock is observed, its reading lies
 /// in the span and its error is beyond the bound.
-#[tactic(auto, using(crate::proofs::DriftCourse::observed_in_span, crate::proofs::DriftCourse::observed_beyond))]
+#[tactic(auto, using(crate::proofs::DriftCourse::observed_course))]
 pub fn courses_of_refutations_break_the_claim()
     ensures in_span { (claim : ClaimData) (refutation : RefutationData) (course : Course) →
         IsAgainst claim refutation → IsObservedOff refutation course →

@@ -1,5 +1,5 @@
 -- The least bound of hulls.
-use Rattle.finder.proofs.Common.{◌≡◌, inl, inr, ℕ, zero, suc, ◌+◌, ◌-◌, ◌*◌, ◌/◌, ◌%◌, ◌<◌, ◌≤◌, max, ℤ, pos, neg_ℤ, int_le, true, ◌&&◌, refl, sym, ap, ◌∙◌, ⊎_elim, arith, add-one, mul-le-mul_right, cases_lt, div_ceil_times, ints, clamps, div-mul-add, div_ceil, nanoseconds_per_second, ticks_down, ceiling_of, ticks_per_second, Hull, Unbounded, Empty, Bounded, IsInside, HasNoEnds, AreInside, IsLeastBound, IsFirstInNeed, IsFirstWithout, IsLeast, reach_of, nanoseconds_of, with_need, with_piece, least_of, LeastBound, Holds, NoneHolds, lt-ltb, le-ltb, and_parts}
+use Rattle.finder.proofs.Common.{◌≡◌, inl, inr, ℕ, zero, suc, ◌+◌, ◌-◌, ◌*◌, ◌/◌, ◌%◌, ◌<◌, ◌≤◌, max, ℤ, pos, neg_ℤ, int_le, true, refl, sym, ap, ◌∙◌, ⊎_elim, arith, add-one, mul-le-mul_right, cases_lt, div_ceil_times, ints, clamps, div-mul-add, div_ceil, nanoseconds_per_second, ticks_down, ceiling_of, ticks_per_second, Hull, Unbounded, Empty, Bounded, IsInside, HasNoEnds, AreInside, IsLeastBound, IsFirstInNeed, IsFirstWithout, IsLeast, reach_of, nanoseconds_of, with_need, with_piece, least_of, LeastBound, Holds, NoneHolds, lt-ltb, le-ltb, and_parts}
 use Rattle.era_unfold.proofs.NanosecondTicks.{IsFloor-ticks_down}
 use Rattle.era_unfold.proofs.Rounding.{IsCeiling-ceiling_of}
 use Rattle.std.proofs.Common.{below_more}

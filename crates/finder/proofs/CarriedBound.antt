@@ -1,5 +1,5 @@
 -- The least bound that a certificate carries.
-use Rattle.finder.proofs.Common.{◌≡◌, ◌⊎◌, inl, inr, ⊎_elim, ℕ, ◌+◌, ◌*◌, ◌<◌, ◌≤◌, ◌^◌, ℤ, pos, ◌≤ℤ◌, ◌<ℤ◌, false, is_some, ◌||◌, List, [], ◌∷◌, ◌++◌, length, length-append, Option, Some, None, Ok, refl, sym, ap, ◌∙◌, arith, rules, ints, nat_tests, clamps, MatchOption, ticks_down, CertificateData, PieceData, max_pieces, ClaimData, IsLawful, max_bound, max_bound_ns, Sample, piece_fault, verdict_after, verdict_from, verdict_of, Verdict, Yes, Why, FindsLeastBound, IsCarried, IsFirst, IsNeverEmpty, IsTick, StopsAt, with_bound, AreLongest, IsOfLongest, NoneOfFewIsAccepted, end_after, hull_over, next_tick, pieces_over, stretch_over, AreEnds, AreTablesFor, IsReach, AreSamplesOf}
+use Rattle.finder.proofs.Common.{◌≡◌, inl, inr, ⊎_elim, ℕ, ◌+◌, ◌*◌, ◌<◌, ◌≤◌, ◌^◌, ℤ, pos, ◌≤ℤ◌, false, is_some, List, [], ◌∷◌, ◌++◌, length, length-append, Option, Some, None, Ok, refl, sym, ap, ◌∙◌, arith, rules, ints, nat_tests, clamps, MatchOption, ticks_down, CertificateData, PieceData, max_pieces, ClaimData, IsLawful, max_bound, max_bound_ns, Sample, piece_fault, verdict_after, verdict_from, verdict_of, Verdict, Yes, Why, FindsLeastBound, IsCarried, IsFirst, IsNeverEmpty, IsTick, StopsAt, with_bound, AreLongest, IsOfLongest, NoneOfFewIsAccepted, end_after, hull_over, next_tick, pieces_over, stretch_over, AreEnds, AreTablesFor, IsReach, AreSamplesOf}
 use Rattle.era_unfold.proofs.NanosecondTicks.{IsFloor-ticks_down, ticks_down-mono}
 use Rattle.checker.proofs.Comparison.{wider_bound}
 use Rattle.sweep.specs.declared.table.BestTable.{BestTable}

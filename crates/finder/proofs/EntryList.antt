@@ -1,5 +1,5 @@
 -- The entries of a piece, one after another.
-use Rattle.finder.proofs.Common.{◌≡◌, ℕ, ◌<◌, List, [], ◌∷◌, length, Option, Some, None, refl, sym, ap, All, slice_get, slice_get_within, ClaimData, servers_of, Sample, part_of, Part, Stretch, AreNamed, best_over, best_entries, part_between, part_named, parts_named, All-slice_get}
+use Rattle.finder.proofs.Common.{◌≡◌, ℕ, ◌<◌, List, length, Option, Some, None, refl, sym, ap, All, slice_get, slice_get_within, ClaimData, servers_of, Sample, part_of, Part, Stretch, AreNamed, best_over, best_entries, part_between, part_named, parts_named, All-slice_get}
 use Rattle.finder.proofs.Best.{best_of_is}
 use Rattle.finder.proofs.List.{All-filter_map}
 

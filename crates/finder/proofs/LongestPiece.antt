@@ -1,5 +1,5 @@
 -- Where the longest piece ends, by halving; and the longest pieces, one after another.
-use Rattle.finder.proofs.Common.{◌≡◌, ℕ, zero, suc, ◌+◌, ◌-◌, ◌<◌, ◌≤◌, ◌^◌, ℤ, pos, ◌+ℤ◌, ◌≤ℤ◌, ◌<ℤ◌, unsigned_abs, true, false, true≢false, List, [], ◌∷◌, ◌++◌, length, take, vec_len, length-append, Vec, Global, get_or, refl, sym, ap, ◌∙◌, subst, arith, to_z, of_z, Fits, w64, int_min, ints, clamps, w128, T, take_more, non_neg, yes_non_neg, PieceData, max_pieces, ClaimData, IsLawful, Sample, IsPiece, ArePieces, IsPieceAt, best_entries, AreEnds, AreLongest, IsLongest, end_after, next_tick, piece_over, pieces_over, shows, stretch_over, AreSamplesOf, by_test, w128_keeps, first_kept, last_kept}
+use Rattle.finder.proofs.Common.{◌≡◌, ℕ, zero, suc, ◌+◌, ◌-◌, ◌<◌, ◌≤◌, ℤ, pos, ◌+ℤ◌, ◌≤ℤ◌, ◌<ℤ◌, unsigned_abs, true, false, true≢false, List, [], ◌∷◌, ◌++◌, length, take, vec_len, length-append, Vec, Global, get_or, refl, sym, ap, ◌∙◌, subst, arith, to_z, of_z, Fits, w64, int_min, ints, clamps, w128, T, take_more, non_neg, yes_non_neg, PieceData, max_pieces, ClaimData, IsLawful, Sample, IsPiece, ArePieces, IsPieceAt, best_entries, AreEnds, AreLongest, IsLongest, end_after, next_tick, piece_over, pieces_over, shows, stretch_over, AreSamplesOf, by_test, w128_keeps, first_kept, last_kept}
 use Rattle.finder.proofs.FewestPieces.{InSpan, end_in_span, first_in_span, longest_forward, piece_to, shown_before}
 use Rattle.finder.proofs.SpanPieces.{one_piece}
 use Rattle.finder.proofs.Verdict.{from_zero_kept}

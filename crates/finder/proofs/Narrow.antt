@@ -1,5 +1,5 @@
 -- What the best entries of a piece show, if others show something of a stretch that has the whole of it.
-use Rattle.finder.proofs.Common.{◌≡◌, ◌∙◌, ℕ, ◌+◌, ◌<◌, ◌≤◌, true, ◌⊎◌, inl, inr, ⊎_elim, get_or, List, [], ◌∷◌, length, Option, Some, None, Result, Ok, Err, refl, sym, subst, arith, Any, slice_get, ints, ClaimData, max_drift_ppb, Empty, IsLawfulSample, Sample, is_inside, part_of, IsPiece, Part, Stretch, IsNarrower, AreNarrower, IsOfSamples, parts_after, parts_fault, Why, best_over, best_entries, best_hull, part_named, parts_named, HoldsWhole, AreSamplesOf, IsNoWider, All-slice_get}
+use Rattle.finder.proofs.Common.{◌≡◌, ◌∙◌, ℕ, ◌<◌, ◌≤◌, true, ◌⊎◌, inl, inr, ⊎_elim, get_or, List, [], length, Option, Some, None, Result, Ok, Err, refl, sym, subst, arith, Any, slice_get, ints, ClaimData, max_drift_ppb, Empty, IsLawfulSample, Sample, is_inside, part_of, IsPiece, Part, Stretch, IsNarrower, AreNarrower, IsOfSamples, parts_after, parts_fault, Why, best_over, best_entries, best_hull, part_named, parts_named, HoldsWhole, AreSamplesOf, IsNoWider, All-slice_get}
 use Rattle.intersection.proofs.EndPoints.{IsHull-hull_of}
 use Rattle.span_cover.proofs.PieceDistance.{moved_high-narrower, moved_low-narrower}
 use Rattle.checker.proofs.Narrow.{empty_or_inside, of_samples}

@@ -1,5 +1,5 @@
 -- The longest pieces end in one of three ways, and in no two of them.
-use Rattle.finder.proofs.Common.{◌≡◌, ◌⊎◌, inl, inr, ⊎_elim, ℕ, zero, suc, ◌<◌, ◌≤◌, ℤ, pos, ◌+ℤ◌, ◌-ℤ◌, ◌≤ℤ◌, ◌<ℤ◌, unsigned_abs, Bool, true, false, true≢false, List, [], ◌∷◌, ◌++◌, length, refl, sym, ap, ◌∙◌, subst, arith, ints, clamps, CertificateData, max_pieces, ClaimData, Hull, Sample, GetStuck, IsCarried, AreLongest, IsLongest, IsOfLongest, IsStuck, IsTooLong, end_after, hull_over, next_tick, pieces_over, shows, by_test, ≤ℤ_antisymm, nat_tests, Option, None, Some, find, range_with_len, ◌+◌}
+use Rattle.finder.proofs.Common.{◌≡◌, ◌⊎◌, inl, inr, ⊎_elim, ℕ, zero, suc, ◌<◌, ◌≤◌, ℤ, pos, ◌-ℤ◌, ◌<ℤ◌, unsigned_abs, Bool, true, false, true≢false, List, [], ◌∷◌, ◌++◌, length, refl, sym, ap, ◌∙◌, subst, arith, ints, clamps, CertificateData, max_pieces, ClaimData, Hull, Sample, GetStuck, IsCarried, AreLongest, IsLongest, IsOfLongest, IsStuck, IsTooLong, end_after, hull_over, next_tick, pieces_over, shows, by_test, ≤ℤ_antisymm, nat_tests, Option, None, Some, find, range_with_len, ◌+◌}
 use Rattle.finder.proofs.List.{find_is_first, find_is_none}
 use Rattle.finder.proofs.Nearest.{int_cases}
 

@@ -1,5 +1,5 @@
 -- The intervals of all servers, exchange by exchange.
-use Rattle.finder.proofs.Common.{◌≡◌, ◌≢◌, ℕ, ◌+◌, ◌<◌, ◌≤◌, ◌^◌, ℤ, pos, neg_ℤ, int_lt, unsigned_abs, false, not, ◌&&◌, ◌||◌, List, [], ◌∷◌, ◌++◌, length, set, replicate, refl, sym, ◌∙◌, arith, ◌==◌, ints, get_or-replicate, list_any-append, leaves_out, Interval, Exchange, admits, AreRooms, IsNear, IsRoom, refuses, room_at, eq-eqb, ne_eqb, or-false}
+use Rattle.finder.proofs.Common.{◌≡◌, ◌≢◌, ℕ, ◌<◌, ◌≤◌, ◌^◌, ℤ, pos, neg_ℤ, int_lt, unsigned_abs, false, not, ◌&&◌, ◌||◌, List, [], ◌∷◌, ◌++◌, length, set, replicate, refl, sym, ◌∙◌, arith, ◌==◌, ints, get_or-replicate, list_any-append, leaves_out, Interval, Exchange, admits, AreRooms, IsNear, IsRoom, refuses, room_at, eq-eqb, ne_eqb, or-false}
 use Rattle.finder.proofs.List.{holds_with_set}
 
 abbrev none : Interval

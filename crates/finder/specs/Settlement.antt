@@ -4,7 +4,7 @@
 -- capture, and no more is asked. If no more groups have a sample than may be false, the capture
 -- says nothing about the clock. Otherwise a certificate shows the claim, or a refutation contests
 -- it, or neither was found, and no certificate is accepted.
-use Rattle.std.specs.Prelude.{◌≡◌, ◌⊎◌, ◌<◌, ◌≤◌, ℕ, ℤ, pos, true, unsigned_abs, Option, None, IfSome, List, [], ◌∷◌, length, map, AllPairs, Result, IfOk, IfErr}
+use Rattle.std.specs.Prelude.{◌≡◌, ◌⊎◌, ◌<◌, ◌≤◌, ℕ, ℤ, true, unsigned_abs, Option, IfSome, List, [], ◌∷◌, length, map, AllPairs, Result, IfOk, IfErr}
 use Rattle.finder.specs.Common.{CertificateData, certificate_data, max_pieces, RefutationData, refutation_data, ClaimData, Hull, SameRequest, Exchange, Course, Fits, HoldsError, IsObservedIn, IsWithin, samples_of, verdict_of, Yes, ShownConflict, AreAllConflicts, NoFewHoldAnEnd, SomeCourse, SomeCourseAt, IsRefutedWithDrift, HasDriftCourse, SettlesWithDrift, IsNoEvidence, count_with_exchange, conflict_data}
 use Rattle.finder.specs.Fewest.{HasFewest, IsOfLongest, IsStuck, IsTooLong, NoneIsAccepted, NoneOfFewIsAccepted, stretch_over}
 use Rattle.finder.specs.Leeway.{AreHeld}

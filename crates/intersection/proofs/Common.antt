@@ -18,7 +18,6 @@ pub use Rattle.arrayvec.proofs.ArrayVecLemmas.{items-with_items}
 pub use Rattle.intersection.specs.Ends.{IsInOrder, MayPrecede, ends_of, enters, high_end, is_low, low_end}
 pub use Rattle.intersection.specs.Fineness.{times-add, times_le}
 pub use Rattle.intersection.specs.Fraction.{HoldsFraction, HullHoldsFraction, IsAdmissibleFraction, LeavesFractionOut}
-pub use Rattle.intersection.specs.Fraction.{leaves_fraction_out}
 pub use Rattle.intersection.specs.Hull.{DescribesHull, HullHolds, IfBounded, IsAdmissible, IsGreatestAdmissible, IsHull}
 pub use Rattle.intersection.specs.Hull.{IsLeastAdmissible, admissible_ends, count_leaving_out, end_points, range_of}
 unfoldable pub use Rattle.intersection.specs.Hull.{hull_of}

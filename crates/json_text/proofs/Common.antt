@@ -15,9 +15,8 @@ pub use Rattle.json.specs.Json.{Parse, after_end_array, items_step, members_step
 unfoldable pub use Rattle.json.specs.Json.{items, members, value}
 pub use Rattle.json.specs.Lex.{tokens}
 pub use Rattle.json.specs.Token.{Token}
-pub use Rattle.serde_json.specs.Data.{Data, Items, Members, Num, array, boolean, float, item}
-pub use Rattle.serde_json.specs.Data.{member, negative, no_items, no_members, null, number, object, put, string}
-pub use Rattle.serde_json.specs.Data.{unsigned}
+pub use Rattle.serde_json.specs.Data.{Data, Items, Members, Num, array, boolean, float, item, member, negative}
+pub use Rattle.serde_json.specs.Data.{no_items, no_members, null, number, object, put, string, unsigned}
 pub use Rattle.serde_json.specs.Find.{as_object, as_u64}
 pub use Rattle.serde_json.specs.Read.{converted, is_integer, max_depth, number_from, of_items, of_json, of_members}
 pub use Rattle.serde_json.specs.Read.{read}

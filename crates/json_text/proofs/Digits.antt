@@ -2,7 +2,6 @@
 use Rattle.std.proofs.lemmas.Bool.Decides.{nat_tests}
 use Rattle.std.proofs.lemmas.Int.{ints}
 use Rattle.json_text.proofs.Common.{◌≡◌, ℕ, ◌^◌, ◌<◌, List, [], ◌∷◌, ◌++◌, length, drop, get_or, true, false, Some, refl, sym, ap, ◌∙◌, arith, append-nil, lt-ltb, ne_eqb, AllDigits, IsNumeral, digits_value, digits_value_after, Parts, digits_of, IsWellFormed, unsigned, number_of, number_from, is_integer}
-use Rattle.std.specs.Char.{digit_value}
 use Rattle.fast_float.proofs.Writing.{scan-text_of}
 
 no_minus : (ds rest : List ℕ) → AllDigits 10 ds → 0 < length ds → get_or (ds ++ rest) 0 0 ≡ 45 → ⊥

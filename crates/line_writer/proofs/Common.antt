@@ -1,15 +1,15 @@
 -- What the proofs of this crate name from elsewhere.
-pub use Rattle.std.proofs.Common.{Bool, Fits, List, T, [], add-one, ap, append_assoc, arith, drop, drop-cons, drop-drop}
+pub use Rattle.std.proofs.Common.{Bool, List, T, [], add-one, ap, append_assoc, arith, drop, drop-cons, drop-drop}
 pub use Rattle.std.proofs.Common.{eq-zero-or-pos, eqb, eqb→eq, false, get_or, inl, inr, length, length-append}
-pub use Rattle.std.proofs.Common.{length-drop, length-set, map, nat_lt, neg_ℤ, negsuc, pos, refl, set, subst, suc, sym}
-pub use Rattle.std.proofs.Common.{take, true, unsigned_abs, w64, zero, ℕ, ℤ, ◌%◌, ◌&&◌, ◌*ℤ◌, ◌*◌, ◌++◌, ◌+ℤ◌, ◌+◌, ◌-◌}
-pub use Rattle.std.proofs.Common.{◌/◌, ◌<◌, ◌==◌, ◌^◌, ◌||◌, ◌∙◌, ◌∷◌, ◌≡◌, ◌≤ℤ◌, ◌≤◌}
+pub use Rattle.std.proofs.Common.{length-set, map, nat_lt, neg_ℤ, negsuc, pos, refl, set, subst, suc, sym, take, true}
+pub use Rattle.std.proofs.Common.{unsigned_abs, zero, ℕ, ℤ, ◌%◌, ◌&&◌, ◌*ℤ◌, ◌*◌, ◌++◌, ◌+ℤ◌, ◌+◌, ◌-◌, ◌/◌, ◌<◌, ◌==◌}
+pub use Rattle.std.proofs.Common.{◌^◌, ◌∙◌, ◌∷◌, ◌≡◌, ◌≤ℤ◌, ◌≤◌}
 pub use Rattle.std.proofs.Math.Seq.{drop-append-add, drop-append_seam, get_or-append_seam, take-append_seam}
 pub use Rattle.std.proofs.lemmas.Bool.{and_parts, cases_lt}
 pub use Rattle.std.proofs.lemmas.Bool.Decides.{nat_tests}
 pub use Rattle.std.proofs.lemmas.Fmt.{decimal_by_steps_wide, decimal_digit, decimal_is_IsNumeral_wide, decimal_step}
 pub use Rattle.std.proofs.lemmas.Fmt.{decimal_step_wide, length-decimal-le, length-decimal-le_wide}
-pub use Rattle.std.proofs.lemmas.Grind.{common_steps, drop-set_at}
+pub use Rattle.std.proofs.lemmas.Grind.{drop-set_at}
 pub use Rattle.std.proofs.lemmas.List.{drop-append-le, drop_all, get_or_append_left, length-replicate}
 pub use Rattle.std.proofs.lemmas.List.{replicate-append-replicate}
 pub use Rattle.std.specs.Fmt.{decimal}

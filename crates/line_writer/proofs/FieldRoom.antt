@@ -1,5 +1,5 @@
 -- How much room short fields take.
-use Rattle.line_writer.proofs.Common.{◌≡◌, ◌≤◌, ◌*◌, ◌&&◌, Bool, true, false, List, [], ◌∷◌, length, map, refl, arith, nat_tests, list_all, FieldData, Word, Label, Instead, Named, Heading, field_data, is_short, most_of, room_of}
+use Rattle.line_writer.proofs.Common.{◌≡◌, ◌≤◌, ◌*◌, Bool, true, List, [], ◌∷◌, length, map, arith, nat_tests, list_all, FieldData, Word, Label, Instead, Named, Heading, field_data, is_short, most_of, room_of}
 use Rattle.line_writer.specs.declared.field.Field.{Field}
 
 one_room : (field : FieldData) → is_short field ≡ true → most_of field ≤ 101

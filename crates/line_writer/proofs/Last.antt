@@ -1,5 +1,5 @@
 -- Pieces of text in the scratch array, each before those that stand there.
-use Rattle.line_writer.proofs.Common.{◌≡◌, ℕ, ◌+◌, ◌-◌, ◌<◌, ◌≤◌, List, [], ◌∷◌, ◌++◌, length, get_or, set, drop, arith, refl, ap, ◌∙◌, sym, length-append, length-drop, length-set, drop-drop, drop-append-le, drop-set_at}
+use Rattle.line_writer.proofs.Common.{◌≡◌, ℕ, ◌+◌, ◌-◌, ◌≤◌, List, [], ◌∷◌, ◌++◌, length, get_or, set, drop, arith, refl, ap, ◌∙◌, sym, length-set, drop-drop, drop-append-le, drop-set_at}
 
 -- four bytes as a list
 four_bytes : (bytes : List ℕ) → length bytes ≡ 4 →

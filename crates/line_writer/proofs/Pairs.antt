@@ -1,5 +1,5 @@
 -- The table of all bytes' digits.
-use Rattle.line_writer.proofs.Common.{◌≡◌, ℕ, ◌+◌, ◌-◌, ◌*◌, ◌/◌, ◌%◌, ◌^◌, ◌<◌, List, [], ◌∷◌, refl, length, get_or, drop, inl, inr, arith, eq-zero-or-pos, eqb→eq, drop-cons, add-one, and_l, and_r, encode_with, encode_lower, lower_digits}
+use Rattle.line_writer.proofs.Common.{◌≡◌, ℕ, ◌+◌, ◌-◌, ◌*◌, ◌/◌, ◌%◌, ◌^◌, ◌<◌, List, [], ◌∷◌, refl, length, get_or, drop, arith, drop-cons, add-one, encode_with, encode_lower, lower_digits}
 use Rattle.line_writer.proofs.Tables.{agrees_at}
 use Rattle.line_writer.specs.declared.hexadecimal.TheConstants.{PAIRS}
 

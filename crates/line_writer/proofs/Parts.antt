@@ -1,5 +1,5 @@
 -- Ticks as nanoseconds, by whole seconds and a part of a second.
-use Rattle.line_writer.proofs.Common.{◌≡◌, ◌∙◌, ℕ, ◌+◌, ◌*◌, ◌/◌, ◌%◌, sym, ap, arith, floor_of, ceiling_of, div-whole_and_part, div-whole_and_part_up, shorter, longer}
+use Rattle.line_writer.proofs.Common.{◌≡◌, ℕ, ◌+◌, ◌*◌, ◌/◌, ◌%◌, arith, floor_of, ceiling_of, div-whole_and_part, div-whole_and_part_up, shorter, longer}
 use Rattle.std.proofs.lemmas.Nat.{div-add-mod'}
 
 pub shorter_by_parts : (ticks : ℕ) →

@@ -1,5 +1,5 @@
 -- What is shown for a person reads back as the number.
-use Rattle.line_writer.proofs.Common.{◌≡◌, ◌∙◌, ℕ, zero, suc, ℤ, pos, negsuc, ◌+◌, ◌-◌, ◌*◌, ◌/◌, ◌%◌, ◌^◌, ◌<◌, ◌≤◌, Bool, true, false, ◌||◌, ◌==◌, List, [], ◌∷◌, ◌++◌, length, get_or, take, drop, refl, ap, subst, arith, nat_lt, neg_ℤ, unsigned_abs, append_assoc, length-append, codes, replicate, slice_index, Some, decimal, list_all, prefix_len, and_parts, nat_tests, decimal_digit, decimal_is_IsNumeral_wide, decimal_by_steps_wide, length-decimal-le_wide, length-replicate, get_or_append_left, take-append_seam, drop-append_seam, drop-append-add, get_or-append_seam, ceiling_of, floor_of, signed_arith, clock_text, two_digits, four_digits, day_number, year_of, month_of, day_of, hour_of, minute_of, second_of, time_text, longer, milliseconds, nanosecond_above, nanosecond_below, shorter, signed_milliseconds, are_digits, is_clock, is_whole, read_whole, read_decimal, read_part, read_signed, SaysMoment, SaysSecond, moment_text, part_text, are_zero, is_printable, millionths, zero_padded, reference_text}
+use Rattle.line_writer.proofs.Common.{◌≡◌, ◌∙◌, ℕ, zero, suc, ℤ, pos, negsuc, ◌+◌, ◌-◌, ◌*◌, ◌/◌, ◌%◌, ◌^◌, ◌<◌, ◌≤◌, Bool, true, false, ◌==◌, List, [], ◌∷◌, ◌++◌, length, get_or, take, drop, refl, ap, subst, arith, nat_lt, neg_ℤ, unsigned_abs, append_assoc, length-append, codes, replicate, slice_index, Some, decimal, list_all, prefix_len, and_parts, nat_tests, decimal_digit, decimal_is_IsNumeral_wide, decimal_by_steps_wide, length-decimal-le_wide, length-replicate, get_or_append_left, take-append_seam, drop-append_seam, drop-append-add, get_or-append_seam, ceiling_of, floor_of, signed_arith, clock_text, two_digits, four_digits, day_number, year_of, month_of, day_of, hour_of, minute_of, second_of, time_text, longer, milliseconds, nanosecond_above, nanosecond_below, shorter, signed_milliseconds, are_digits, is_clock, is_whole, read_whole, read_decimal, read_part, read_signed, SaysMoment, SaysSecond, moment_text, part_text, are_zero, is_printable, millionths, zero_padded, reference_text}
 use Rattle.std.specs.Char.{is_digit, digit_value}
 use Rattle.std.specs.Str.Parse.{AllDigits, digits_value, digits_value_after}
 use Rattle.std.proofs.lemmas.Str.{digit_value_digit}

@@ -1,5 +1,5 @@
 -- Digits three at a time, and the table of four.
-use Rattle.line_writer.proofs.Common.{◌≡◌, ℕ, zero, suc, ◌+◌, ◌-◌, ◌*◌, ◌/◌, ◌%◌, ◌^◌, ◌<◌, ◌≤◌, Bool, true, ◌&&◌, T, eqb, List, [], ◌∷◌, ◌++◌, refl, ap, ◌∙◌, sym, subst, length, get_or, drop, inl, inr, arith, eq-zero-or-pos, eqb→eq, append_assoc, length-append, replicate, decimal, decimal_digit, decimal_step, replicate-append-replicate, length-replicate, drop-append_seam, and_l, and_r, zero_padded}
+use Rattle.line_writer.proofs.Common.{◌≡◌, ℕ, ◌+◌, ◌-◌, ◌*◌, ◌/◌, ◌%◌, ◌^◌, ◌<◌, ◌≤◌, List, [], ◌∷◌, ◌++◌, refl, ap, ◌∙◌, sym, length, get_or, inl, inr, arith, eq-zero-or-pos, append_assoc, length-append, replicate, decimal, decimal_digit, decimal_step, replicate-append-replicate, zero_padded}
 use Rattle.line_writer.proofs.Tables.{agrees_at}
 use Rattle.line_writer.specs.declared.decimal.TheConstants.{FOUR_DIGITS}
 

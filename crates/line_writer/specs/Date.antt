@@ -3,7 +3,7 @@
 -- The calendar is that of Gregory. A year is taken to begin in March here, so that the day of a
 -- leap year is its last, and days are counted from the first of March of the year -10000. A law
 -- says that the text reads back as the second.
-use Rattle.std.specs.Prelude.{ℕ, ◌+◌, ◌-◌, ◌*◌, ◌/◌, ◌%◌, nat_lt, if◌then◌else◌, List, [], ◌∷◌, ◌++◌, codes}
+use Rattle.std.specs.Prelude.{ℕ, ◌+◌, ◌-◌, ◌*◌, ◌/◌, ◌%◌, nat_lt, if◌then◌else◌, List, ◌++◌, codes}
 use Rattle.era_unfold.specs.Digits.{two_digits, four_digits}
 
 -- the days from that first of March to a day that is counted from 1970 on

@@ -15,9 +15,8 @@ pub use Rattle.pcap_reader.specs.Source.{TakesFrom-trans, is_read}
 pub use Rattle.pcap_reader.specs.declared.fault.CaptureFault.{CaptureFault}
 pub use Rattle.pcap_reader.specs.declared.format.RecordHead.{RecordHead}
 pub use Rattle.report.specs.Fault.{run_fault_of}
-pub use Rattle.report.specs.Output.{HasPut, IsCut, IsReady, OutputState, Puts, fresh_output, put_count}
-pub use Rattle.report.specs.Reports.{GetsText, Report, Reports, is_capture, is_claim, is_device, is_second, is_sums}
-pub use Rattle.report.specs.Reports.{refused, text_of}
+pub use Rattle.report.specs.Output.{IsCut, IsReady, OutputState, Puts, fresh_output, put_count}
+pub use Rattle.report.specs.Reports.{GetsText, Report, Reports, is_device, refused, text_of}
 pub use Rattle.report.specs.declared.fault.Outcome.{Outcome}
 pub use Rattle.report.specs.declared.fault.RunFault.{RunFault}
 pub use Rattle.listing.specs.Listing.{closing_line, report_of, report_on}

@@ -1,6 +1,6 @@
 -- How often the device of a listing fails.
 use Rattle.std.proofs.Common.{rules}
-use Rattle.listing.proofs.Common.{◌≡◌, ◌∙◌, ℕ, Result, Bool, sym, subst, CountsFault, Outcome, RunFault, is_device, is_claim, is_second, is_capture, is_sums, CountsCapture}
+use Rattle.listing.proofs.Common.{◌≡◌, ℕ, Result, Bool, Outcome, RunFault, is_device, CountsCapture}
 use Rattle.report.specs.declared.fault.Input.{Input}
 
 -- ending a run asks no input's device

@@ -1,8 +1,7 @@
 -- How a listing goes on, call by call.
 use Rattle.std.proofs.Common.{rules}
-use Rattle.listing.proofs.Common.{◌≡◌, ◌∙◌, ◌++◌, ◌+◌, ◌<◌, ◌≤◌, ◌^◌, ℕ, List, [], length, Option, Some, None, Ok, refl, sym, ap, subst, arith, append-nil, length-append, RecordHead, SourceState, IsFresh, IsStep, TakesFrom-none, TakesFrom-trans, SinkState, OutputState, IsReady, Puts, fresh_output, put_count, line_of, HasPassed, IsUnderWay, PutsLine, progress, most_line, texts_of}
-use Rattle.std.proofs.KnownBytes.{Appends-nil}
-use Rattle.listing.proofs.Progress.{passed_start, passed_more}
+use Rattle.listing.proofs.Common.{◌≡◌, ◌∙◌, ◌++◌, ◌+◌, ◌<◌, ◌≤◌, ◌^◌, ℕ, List, [], length, Option, Some, None, Ok, sym, subst, arith, append-nil, length-append, RecordHead, SourceState, IsFresh, IsStep, TakesFrom-trans, SinkState, OutputState, IsReady, Puts, fresh_output, put_count, line_of, HasPassed, IsUnderWay, PutsLine, progress, most_line, texts_of}
+use Rattle.listing.proofs.Progress.{passed_more}
 
 -- an output that has just taken texts may take more
 pub ready_after : {o o' : OutputState} {added : List (List ℕ)} → IsReady o → Puts o o' added (Ok tt) →

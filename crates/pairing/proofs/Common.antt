@@ -11,15 +11,16 @@ pub use Rattle.std.proofs.lemmas.List.{take_all, take_more, take_more_set}
 pub use Rattle.std.proofs.lemmas.List.Elements.{All-cons, All-contains_itself, All-filter, All-map, All-nil, All-push}
 pub use Rattle.std.proofs.lemmas.List.Elements.{All-tail, All-weaker, filter-append, filter_map-append, filter_passes}
 pub use Rattle.std.proofs.lemmas.List.Quantifiers.{position-Some}
-pub use Rattle.std.proofs.lemmas.List.Sums.{count_by-le-length, length-filter, position_or_len_is, sum_by-append, sum_by-cons}
+pub use Rattle.std.proofs.lemmas.List.Sums.{count_by-le-length, length-filter, position_or_len_is, sum_by-append}
+pub use Rattle.std.proofs.lemmas.List.Sums.{sum_by-cons}
 pub use Rattle.std.proofs.lemmas.Nat.{and_mask, and_or_self, be_bytes_4}
 pub use Rattle.std.proofs.lemmas.Result.{err_from_is_err_and}
 pub use Rattle.std.proofs.lemmas.Slice.Eq.{bytes_eq-Decides}
-pub use Rattle.std.specs.List.{cons_option, filter_map, list_all, position_or_len}
+pub use Rattle.std.specs.List.{cons_option, filter_map, list_all}
 pub use Rattle.std.specs.Option.{option_and_then, option_map}
 pub use Rattle.std.specs.Prelude.{All, AllPairs, Contains, IfErr, IfOk, IfSome, IsOk, IsSome, MatchResult, count_by}
-pub use Rattle.std.specs.Prelude.{filter, if◌then◌else◌, int_lt, is_none, nat_lt, pos, position, slice_get}
-pub use Rattle.std.specs.Prelude.{unsigned_abs, unwrap_or, ℤ, ◌&&◌, ◌*◌, ◌<ℤ◌, ◌==◌, ◌↔◌, ◌≢◌, ◌≤ℤ◌, ◌⊎◌}
+pub use Rattle.std.specs.Prelude.{filter, if◌then◌else◌, is_none, nat_lt, pos, slice_get, unsigned_abs, unwrap_or, ℤ}
+pub use Rattle.std.specs.Prelude.{◌&&◌, ◌<ℤ◌, ◌==◌, ◌↔◌, ◌≢◌, ◌≤ℤ◌, ◌⊎◌}
 pub use Rattle.std.specs.Result.{result_ok}
 pub use Rattle.std.specs.Str.{bytes_eq}
 pub use Rattle.byte_stream.specs.Bytes.{IsBytes}
@@ -28,8 +29,7 @@ pub use Rattle.era_unfold.specs.Window.{per_second, ticks_per_second}
 unfoldable pub use Rattle.era_unfold.specs.Window.{window_high, window_low}
 pub use Rattle.era_unfold.specs.declared.unit.Unit.{Unit}
 pub use Rattle.indexmap.specs.IndexMap.{get}
-pub use Rattle.ntp_packet.specs.Header.{mode_of, origin_of, precision_of, precision_ticks_of, receive_of, root_delay_of}
-pub use Rattle.ntp_packet.specs.Header.{root_dispersion_of, transmit_of, version_of}
+pub use Rattle.ntp_packet.specs.Header.{mode_of, origin_of, version_of}
 unfoldable pub use Rattle.ntp_packet.specs.Header.{root_distance_of}
 pub use Rattle.ntp_packet.specs.Packet.{Packet, ntp_port, packet_of}
 pub use Rattle.pcap_reader.specs.Capture.{IsLawfulHead, Record, most_records}
@@ -42,7 +42,7 @@ unfoldable pub use Rattle.pairing.specs.Answer.{answer_of}
 pub use Rattle.pairing.specs.Compact.{compact_data, compact_of, shown_with}
 unfoldable pub use Rattle.pairing.specs.Compact.{exchange_shown}
 pub use Rattle.pairing.specs.Counts.{HasRoom, IsJoined, count_for, with_leap, with_outcome, with_refusal, zero_counts}
-pub use Rattle.pairing.specs.Exchange.{AreLawful, IsInRange, SameRequest, most_exchanges}
+pub use Rattle.pairing.specs.Exchange.{AreLawful, most_exchanges}
 pub use Rattle.pairing.specs.Gathering.{IsGathered, IsGatheredFrom, compact_in, counts_with, indexed_in, is_accepted}
 pub use Rattle.pairing.specs.Gathering.{is_early, is_for}
 pub use Rattle.pairing.specs.Index.{Finds, Indexes, found_in, having, indexed_of, indexed_with, key_of, place_at}
@@ -52,8 +52,7 @@ pub use Rattle.pairing.specs.Message.{IsReplyOf, IsRequestTo, Reply, Request, cl
 pub use Rattle.pairing.specs.Message.{reply_from, reply_in, request_in, request_to, server_at, server_mode}
 unfoldable pub use Rattle.pairing.specs.Message.{reply_of, replying_server, request_of, requested_server}
 pub use Rattle.pairing.specs.Pairing.{Collection, answers, distance_of, exchange_of, high_of, is_refused, is_warning}
-pub use Rattle.pairing.specs.Pairing.{low_of, outcome_of, outcomes_of, paired, refused_for, requests_for}
-pub use Rattle.pairing.specs.Pairing.{unless_refused}
+pub use Rattle.pairing.specs.Pairing.{outcome_of, outcomes_of, paired, refused_for, requests_for, unless_refused}
 unfoldable pub use Rattle.pairing.specs.Pairing.{collection_of, counts_of, exchanges_of, replies_of, requests_of}
 pub use Rattle.pairing.specs.Reading.{Continues, Gathers, IsRead, IsWhole}
 pub use Rattle.pairing.specs.Refusal.{refusal_of, same_refusal}

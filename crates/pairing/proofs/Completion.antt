@@ -1,6 +1,6 @@
 -- From what was gathered to the answer.
 use Rattle.std.proofs.lemmas.Int.{ints}
-use Rattle.pairing.proofs.Common.{◌≡◌, ℕ, ◌≤◌, List, Option, Some, None, Result, Ok, Err, refl, sym, ap, subst, inl, inr, length, arith, IfOk, IfSome, MatchResult, filter, nat_lt, ◌⊎◌, if◌then◌else◌, nat_tests, length-map, count_by-le-length, length-filter, Record, most_records, Coming, SourceState, ClaimData, Counts, Exchange, PairFault, Memory, TooManyExchanges, CompactExchange, IndexedRequest, IsAnswerTo, IsFromOutside, LeavesSource, MayAnswer, answer_of, capture_failed, device_failed, AreLawful, most_exchanges, IsGatheredFrom, is_accepted, HasRoom, compact_data, compact_of, reply_of, Collection, collection_of, counts_of, exchanges_of, replies_of, IsWhole, rules}
+use Rattle.pairing.proofs.Common.{◌≡◌, ℕ, ◌≤◌, List, Option, Some, None, Result, Ok, Err, ap, inl, inr, length, arith, IfOk, IfSome, MatchResult, filter, nat_lt, ◌⊎◌, if◌then◌else◌, nat_tests, length-map, count_by-le-length, length-filter, Record, most_records, Coming, SourceState, ClaimData, Counts, Exchange, PairFault, Memory, TooManyExchanges, CompactExchange, IndexedRequest, IsAnswerTo, LeavesSource, MayAnswer, answer_of, capture_failed, device_failed, AreLawful, most_exchanges, IsGatheredFrom, is_accepted, HasRoom, compact_data, compact_of, reply_of, Collection, collection_of, exchanges_of, replies_of, IsWhole, rules}
 use Rattle.std.specs.Prelude.{Bool, true, false}
 use Rattle.pairing.specs.declared.compact.CompactCollection.{CompactCollection}
 use Rattle.pairing.proofs.JoinSteps.{length-filter_map}

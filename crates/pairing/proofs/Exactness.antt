@@ -1,7 +1,7 @@
 -- What is collected is what the definition says.
 use Rattle.std.proofs.lemmas.Int.{ints}
-use Rattle.pairing.proofs.Common.{◌≡◌, ◌∙◌, ℕ, ◌+◌, List, [], ◌∷◌, Bool, true, false, Option, Some, None, Result, Ok, Err, refl, sym, ap, length, arith, ◌<◌, ◌≤◌, map, origin_of, precision_of, precision_ticks_of, root_delay_of, root_dispersion_of, root_distance_of, ◌*◌, pos, unsigned_abs, unwrap_or, int_lt, filter, count_by, is_none, nat_lt, if◌then◌else◌, cons_option, filter_map, result_ok, nat_tests, Record, ClaimData, Counts, Exchange, PairFault, TooManyExchanges, CompactExchange, IndexedRequest, Key, Place, Refusal, Version, Leap, Stratum, Precision, ZeroStamp, NoRequest, Ambiguous, count_for, IsJoined, most_exchanges, IsGatheredFrom, is_accepted, is_early, is_for, compact_of, Indexes, found_in, place_of, exchange_by, outcome_by, outcomes_by, request_at, Request, Reply, Collection, collection_of, requests_of, replies_of, requests_for, outcome_of, outcomes_of, paired, unless_refused, distance_of, exchange_of, is_refused, refused_for, is_warning, exchanges_of, counts_of, refusal_of, sum_by-cons}
-use Rattle.std.proofs.lemmas.Bool.{le-ltb, lt-ltb}
+use Rattle.pairing.proofs.Common.{◌≡◌, ◌∙◌, ℕ, ◌+◌, List, [], ◌∷◌, Bool, true, false, Option, Some, None, Result, Ok, Err, refl, sym, ap, length, arith, ◌<◌, ◌≤◌, map, origin_of, root_distance_of, pos, unsigned_abs, unwrap_or, filter, count_by, is_none, if◌then◌else◌, cons_option, filter_map, result_ok, nat_tests, Record, ClaimData, Counts, Exchange, TooManyExchanges, CompactExchange, IndexedRequest, Key, Place, Refusal, Version, Leap, Stratum, Precision, ZeroStamp, NoRequest, Ambiguous, count_for, IsJoined, most_exchanges, IsGatheredFrom, is_accepted, is_early, is_for, compact_of, Indexes, found_in, place_of, exchange_by, outcome_by, outcomes_by, request_at, Request, Reply, collection_of, requests_of, replies_of, requests_for, outcome_of, outcomes_of, paired, unless_refused, distance_of, exchange_of, is_refused, refused_for, is_warning, exchanges_of, counts_of, refusal_of, sum_by-cons}
+use Rattle.std.proofs.lemmas.Bool.{le-ltb}
 use Rattle.pairing.proofs.LookUps.{indexed_as_found}
 use Rattle.pairing.proofs.Windows.{last_tick}
 

@@ -1,5 +1,5 @@
 -- One more record gathered.
-use Rattle.pairing.proofs.Common.{◌≡◌, ◌∙◌, ℕ, ◌+◌, List, [], ◌∷◌, ◌++◌, Bool, true, false, Option, Some, None, refl, sym, ap, length-append, arith, append-nil, map, true≢false, filter, count_by, is_none, IsSome, ◌&&◌, ◌==◌, if◌then◌else◌, cons_option, option_and_then, option_map, bytes_eq, map-append, filter-append, filter_map-append, nat_tests, RecordHead, Record, mode_of, version_of, Packet, packet_of, ntp_port, ClaimData, Counts, CompactExchange, IndexedRequest, Key, Message, Refusal, Version, Leap, Stratum, Precision, ZeroStamp, NoRequest, Ambiguous, zero_counts, count_for, IsGathered, IsGatheredFrom, counts_with, is_accepted, is_early, is_for, indexed_in, compact_in, compact_of, key_of, indexed_of, Request, Reply, is_request, is_reply, server_at, requested_server, replying_server, request_to, reply_from, request_in, reply_in, request_of, reply_of, requests_of, replies_of, refusal_of, message_of_reply, message_in, message_of, rules}
+use Rattle.pairing.proofs.Common.{◌≡◌, ◌∙◌, ℕ, ◌+◌, List, [], ◌∷◌, ◌++◌, Option, Some, None, refl, sym, ap, length-append, arith, append-nil, map, filter, count_by, is_none, IsSome, if◌then◌else◌, cons_option, option_and_then, option_map, map-append, filter-append, filter_map-append, RecordHead, Record, Packet, packet_of, ClaimData, Counts, CompactExchange, IndexedRequest, Key, Message, Refusal, Version, zero_counts, count_for, IsGathered, IsGatheredFrom, counts_with, is_accepted, is_early, is_for, indexed_in, compact_in, compact_of, key_of, indexed_of, Request, Reply, requested_server, replying_server, request_to, reply_from, request_in, reply_in, request_of, reply_of, requests_of, replies_of, refusal_of, message_of_reply, message_in, message_of, rules}
 use Rattle.pairing.specs.declared.message.Message.TheVariants.{Request as Asks, Refused, Reply as Waits}
 use Rattle.pairing.specs.Index.{request_at}
 use Rattle.pairing.proofs.JoinSteps.{keeps_others, count_by-push, count_for-with_refusal}

@@ -1,6 +1,6 @@
 -- Every exchange keeps its limits.
 use Rattle.std.proofs.Common.{◌*◌}
-use Rattle.pairing.proofs.Common.{◌≡◌, ◌∙◌, ℕ, ◌+◌, ◌^◌, ◌≤◌, ◌<◌, List, [], ◌∷◌, Bool, true, false, Option, Some, None, Result, Ok, Err, refl, sym, ap, length, get_or, arith, map, All, ℤ, pos, ◌≤ℤ◌, ◌<ℤ◌, IfOk, IfSome, slice_get, unwrap_or, position, if◌then◌else◌, cons_option, filter_map, option_and_then, option_map, result_ok, bytes_eq, All-nil, All-cons, All-filter, All-map, position-Some, Unit as SubsecondUnit, per_second, ticks_per_second, window_low, window_high, RecordHead, Record, IsLawfulHead, IsBytes, receive_of, root_distance_of, transmit_of, Packet, packet_of, ClaimData, Exchange, Refusal, AreGiven, IsGiven, AreLawful, IsInRange, SameRequest, most_exchanges, Request, Reply, is_reply, server_at, requested_server, replying_server, request_to, reply_from, request_in, reply_in, request_of, reply_of, requests_of, replies_of, answers, requests_for, low_of, high_of, distance_of, exchange_of, paired, unless_refused, outcome_of, exchanges_of, refusal_of, subst, All-tail, nat_tests, rules}
+use Rattle.pairing.proofs.Common.{◌≡◌, ℕ, ◌+◌, ◌^◌, ◌≤◌, ◌<◌, List, [], ◌∷◌, Option, Some, None, Result, Ok, Err, refl, length, get_or, arith, map, All, ℤ, pos, ◌≤ℤ◌, ◌<ℤ◌, IfOk, IfSome, slice_get, cons_option, filter_map, option_and_then, option_map, result_ok, All-nil, All-cons, All-filter, All-map, Unit as SubsecondUnit, per_second, ticks_per_second, window_low, window_high, Record, IsLawfulHead, IsBytes, root_distance_of, Packet, packet_of, ClaimData, Exchange, Refusal, AreGiven, IsGiven, AreLawful, most_exchanges, Request, Reply, replying_server, reply_from, reply_in, request_of, reply_of, requests_of, replies_of, answers, requests_for, exchange_of, paired, unless_refused, outcome_of, exchanges_of, refusal_of, subst, All-tail, nat_tests, rules}
 use Rattle.std.proofs.lemmas.Int.{ints}
 use Rattle.era_unfold.specs.Stamp.{IsUnfolded, unfolded}
 use Rattle.pairing.specs.Provenance.{IsExchangeAmong, IsListedReply, IsRequestAmong}

@@ -1,6 +1,6 @@
 -- A look-up among what is kept of requests is one among them.
 use Rattle.std.proofs.lemmas.Int.{ints}
-use Rattle.pairing.proofs.Common.{◌≡◌, ◌∙◌, List, [], ◌∷◌, Bool, true, false, refl, ap, map, if◌then◌else◌, Key, IndexedRequest, Indexes, found_in, having, indexed_of, indexed_with, key_of, place_at, place_of, same_key, Request, arith, nat_tests}
+use Rattle.pairing.proofs.Common.{◌≡◌, List, [], ◌∷◌, Bool, true, false, refl, ap, map, if◌then◌else◌, Key, IndexedRequest, Indexes, found_in, having, indexed_of, indexed_with, place_at, place_of, same_key, Request, arith, nat_tests}
 
 indexed_with-head : (same : Bool) (q : Request) (ks : List IndexedRequest) (qs : List Request) →
     ks ≡ map indexed_of qs →

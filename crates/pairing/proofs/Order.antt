@@ -1,7 +1,7 @@
 -- What the order of records, and one more request, change.
 use Rattle.std.proofs.lemmas.Int.{ints}
-use Rattle.pairing.proofs.Common.{◌≡◌, ◌∙◌, ◌+◌, ◌≤◌, ◌<◌, List, [], ◌∷◌, ◌++◌, Bool, true, Option, Some, None, Err, refl, sym, ap, length, length-append, arith, if◌then◌else◌, cons_option, filter_map, filter-append, filter_map-append, Record, RecordHead, ClaimData, Message, Refusal, Ambiguous, Request, Reply, request_of, reply_of, requests_of, replies_of, answers, requests_for, outcome_of, paired, unless_refused, collection_of, counts_of, exchanges_of, refusal_of, message_of, nat_tests, common_steps}
-use Rattle.pairing.proofs.GatheringSteps.{Says, silent, asks, refused, accepted, says}
+use Rattle.pairing.proofs.Common.{◌≡◌, ◌∙◌, ◌+◌, ◌≤◌, ◌<◌, List, [], ◌∷◌, ◌++◌, Bool, true, Option, Some, None, Err, refl, ap, length, arith, if◌then◌else◌, cons_option, filter_map, filter-append, filter_map-append, Record, RecordHead, ClaimData, Message, Refusal, Ambiguous, Request, Reply, request_of, reply_of, requests_of, replies_of, answers, requests_for, outcome_of, paired, unless_refused, collection_of, counts_of, exchanges_of, refusal_of, message_of, nat_tests, common_steps}
+use Rattle.pairing.proofs.GatheringSteps.{Says, silent, says}
 
 -- neighbours of which one gives nothing may change places
 one_silent : {X : Type 0} (a b : Option X) (xs : List X) → a ≡ None →

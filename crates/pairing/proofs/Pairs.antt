@@ -1,9 +1,9 @@
 -- Exchanges are those of the pairs.
 use Rattle.std.proofs.Common.{◌==◌, ◌&&◌}
-use Rattle.pairing.proofs.Common.{◌≡◌, ◌∙◌, ℕ, zero, suc, ◌<◌, List, [], ◌∷◌, true, Option, Some, None, Ok, refl, sym, ap, subst, length, get_or, arith, map, All, AllPairs, Contains, IfSome, ◌≢◌, cons_option, filter_map, result_ok, nat_tests, All-contains_itself, filter_passes, RecordHead, Record, origin_of, packet_of, ClaimData, Exchange, Refusal, Request, Reply, reply_from, reply_in, reply_of, replying_server, requests_of, replies_of, answers, requests_for, exchange_of, outcome_of, paired, unless_refused, exchanges_of, refusal_of, rules}
+use Rattle.pairing.proofs.Common.{◌≡◌, ◌∙◌, ℕ, zero, suc, ◌<◌, List, [], ◌∷◌, true, Option, Some, None, Ok, refl, sym, ap, subst, length, get_or, arith, map, All, AllPairs, Contains, IfSome, ◌≢◌, cons_option, filter_map, result_ok, nat_tests, All-contains_itself, filter_passes, RecordHead, Record, origin_of, ClaimData, Exchange, Refusal, Request, Reply, reply_of, requests_of, replies_of, answers, requests_for, exchange_of, outcome_of, paired, unless_refused, exchanges_of, refusal_of, rules}
 use Rattle.std.proofs.lemmas.List.Kept.{AllPairs-cons}
 use Rattle.pairing.specs.Pair.{IsExchangeOf, IsPair, NameEachOther}
-use Rattle.pairing.proofs.Limits.{All-filter_map, IfSome-mapped, IfSome-and_then}
+use Rattle.pairing.proofs.Limits.{All-filter_map}
 
 filter_map-map : {X Y Z : Type 0} (g : Y → Option Z) (f : X → Y) (xs : List X) →
     filter_map g (map f xs) ≡ filter_map (λ x. g (f x)) xs
@@ -129,3 +129,5 @@ exchanges_distinct claim records numbered =
     (λ a b x y differ is_a is_b same. differ (sym (outcome-number requests a x is_a) ∙ same
     ∙ outcome-number requests b y is_b))
     (replies_of claim records) replies)
+
+pub ruleset exactly_the_pairs = (exchanges_sound, exchanges_complete)

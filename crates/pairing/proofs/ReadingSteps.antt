@@ -1,6 +1,6 @@
 -- One more record read.
 use Rattle.std.proofs.lemmas.Int.{ints}
-use Rattle.pairing.proofs.Common.{◌≡◌, ◌∙◌, ℕ, zero, suc, ◌≤◌, ◌<◌, List, [], ◌∷◌, ◌++◌, false, Option, Some, None, Result, Ok, Err, refl, sym, ap, subst, inl, inr, length, length-append, append_assoc, arith, true≢false, slice_get, IfSome, IfErr, ◌⊎◌, All-push, All-weaker, count_by-le-length, RecordHead, Record, most_records, Coming, SourceState, IsNext, IsStep, read_failed, TakesFrom-trans, IsBytes, ClaimData, Counts, PairFault, Capture, CompactExchange, IndexedRequest, AreGiven, IsFromOutside, IsGiven, LeavesSource, MayAnswer, answer_of, capture_failed, device_failed, HasRoom, IsGatheredFrom, is_early, request_of, reply_of, requests_of, replies_of, Continues, IsRead, rules, nat_tests}
+use Rattle.pairing.proofs.Common.{◌≡◌, ◌∙◌, ℕ, zero, suc, ◌≤◌, ◌<◌, List, [], ◌∷◌, ◌++◌, false, Option, Some, None, Result, Ok, Err, refl, sym, ap, subst, inl, inr, length, length-append, append_assoc, arith, slice_get, IfSome, IfErr, ◌⊎◌, All-push, All-weaker, count_by-le-length, RecordHead, Record, most_records, Coming, SourceState, IsNext, IsStep, read_failed, TakesFrom-trans, IsBytes, ClaimData, Counts, PairFault, Capture, CompactExchange, IndexedRequest, AreGiven, IsFromOutside, IsGiven, LeavesSource, MayAnswer, answer_of, capture_failed, device_failed, HasRoom, IsGatheredFrom, is_early, request_of, reply_of, requests_of, replies_of, Continues, IsRead, rules, nat_tests}
 use Rattle.byte_stream.specs.Fault.{CountsFault}
 use Rattle.pcap_reader.specs.declared.fault.CaptureFault.{CaptureFault}
 use Rattle.pcap_reader.specs.declared.fault.CaptureFault.TheVariants.{Read, Failed}

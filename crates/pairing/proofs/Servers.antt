@@ -1,6 +1,5 @@
 -- To which server a packet is a request, and of which it is a reply.
-use Rattle.std.proofs.lemmas.Int.{ints}
-use Rattle.pairing.proofs.Common.{◌≡◌, ◌∙◌, ℕ, ◌<◌, List, [], Bool, true, false, Option, Some, None, refl, sym, ap, length, get_or, arith, cond, AllPairs, ◌≢◌, ◌↔◌, ◌&&◌, ◌==◌, nat_lt, slice_get, if◌then◌else◌, position_or_len, bytes_eq, nat_tests, position-Some, position_or_len_is, bytes_eq-Decides, mode_of, version_of, Packet, ntp_port, ClaimData, IsReplyOf, IsRequestTo, client_mode, server_mode, is_reply, is_request, replying_server, requested_server, server_at, rules}
+use Rattle.pairing.proofs.Common.{◌≡◌, ◌∙◌, ℕ, ◌<◌, List, [], Bool, true, false, Option, Some, None, refl, ap, get_or, arith, cond, AllPairs, ◌≢◌, ◌↔◌, ◌&&◌, ◌==◌, nat_lt, slice_get, if◌then◌else◌, bytes_eq, nat_tests, position-Some, position_or_len_is, bytes_eq-Decides, mode_of, version_of, Packet, ntp_port, ClaimData, IsReplyOf, IsRequestTo, client_mode, server_mode, is_reply, is_request, replying_server, requested_server, server_at, rules}
 use Rattle.std.proofs.lemmas.Bool.{and_parts, eqb-true}
 use Rattle.std.proofs.lemmas.Option.{get_or_from_slice_get, slice_get-get_or, slice_get_within}
 

@@ -1,6 +1,6 @@
 -- Sums of counts.
 use Rattle.std.proofs.lemmas.Int.{ints}
-use Rattle.pairing.proofs.Common.{◌≡◌, ◌∙◌, ℕ, ◌+◌, List, [], ◌∷◌, Result, Ok, Err, refl, sym, length, arith, if◌then◌else◌, cons_option, filter_map, result_ok, length-map, Record, ClaimData, Exchange, Refusal, Version, Leap, Stratum, Precision, ZeroStamp, NoRequest, Ambiguous, requests_of, replies_of, outcome_of, outcomes_of, is_refused, refused_for, exchanges_of, nat_tests, common_steps}
+use Rattle.pairing.proofs.Common.{◌≡◌, ℕ, ◌+◌, List, [], ◌∷◌, Result, Ok, Err, refl, length, arith, if◌then◌else◌, cons_option, filter_map, result_ok, Record, ClaimData, Exchange, Refusal, Version, Leap, Stratum, Precision, ZeroStamp, NoRequest, Ambiguous, replies_of, outcomes_of, is_refused, refused_for, exchanges_of, nat_tests, common_steps}
 use Rattle.pairing.proofs.Exactness.{count_by-cons}
 
 abbrev Outcome : Type 0

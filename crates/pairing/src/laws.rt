@@ -36,7 +36,7 @@ pub fn counts_are_at_most_the_records()
 
 /// An exchange is that of a reply and of the one and only request that it names by server, port and
 /// timestamp, and each such pair gives its exchange.
-#[tactic(auto, using(crate::proofs::Pairs::exchanges_sound, crate::proofs::Pairs::exchanges_complete))]
+#[tactic(auto, using(crate::proofs::Pairs::exactly_the_pairs))]
 pub fn exchanges_are_those_of_the_pairs()
     ensures sound { (claim : ClaimData) (records : List Record) →
         All (IsExchangeOf claim records) (exchanges_of claim records) }

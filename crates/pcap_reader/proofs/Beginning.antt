@@ -1,5 +1,5 @@
 -- What the header at the front of a feed's bytes tells of all of them.
-use Rattle.pcap_reader.proofs.Common.{◌≡◌, ◌-◌, ◌<◌, ◌≤◌, ℕ, List, [], ◌++◌, length, take, drop, Option, Some, None, Ok, Err, IfSome, refl, sym, ap, ◌∙◌, arith, Keeps, IsAtEnd, prepend_known, drop-append-le, CountsFault, TakesAtMost, FeedState, Buffered, Format, CaptureFault, Read, Memory, held_bytes, IsHeaderFault, header_of, buffer_size, capture_of, is_read}
+use Rattle.pcap_reader.proofs.Common.{◌≡◌, ◌<◌, ◌≤◌, ℕ, List, [], ◌++◌, length, drop, Option, Some, None, Ok, Err, IfSome, sym, ap, ◌∙◌, arith, Keeps, IsAtEnd, prepend_known, drop-append-le, CountsFault, TakesAtMost, FeedState, Buffered, Format, CaptureFault, Read, Memory, held_bytes, IsHeaderFault, header_of, buffer_size, capture_of, is_read}
 use Rattle.pcap_reader.specs.Refusal.{IsRefusal, most_refused}
 use Rattle.pcap_reader.proofs.Prefix.{header_front, header_fault}
 use Rattle.pcap_reader.proofs.Remaining.{capture_of_refused}

@@ -12,7 +12,7 @@ pub use Rattle.std.proofs.lemmas.List.{take-take}
 pub use Rattle.std.proofs.lemmas.Result.{MatchResult-weaker, err_from_is_err_and}
 pub use Rattle.std.specs.Io.KnownBytes.{Consumes, IsAtEnd, Keeps, prepend_known}
 pub use Rattle.std.specs.Option.{option_map}
-pub use Rattle.std.specs.Prelude.{IfOk, IsErrOf, IsTrue, MatchOption, MatchResult, OnOk, if◌then◌else◌, ◌==◌}
+pub use Rattle.std.specs.Prelude.{IfOk, IsErrOf, IsTrue, MatchOption, MatchResult, OnOk, if◌then◌else◌}
 pub use Rattle.byte_stream.specs.Bytes.{IsBytes, byte_at-lt}
 pub use Rattle.byte_stream.specs.Fault.{CountsFault}
 pub use Rattle.byte_stream.specs.Intake.{CountsBytes-front, TakesAtMost}
@@ -29,7 +29,7 @@ pub use Rattle.pcap_reader.specs.Fault.{IsHeaderFault, IsRecordFault, MayAnswer}
 pub use Rattle.pcap_reader.specs.Field.{number_in, spelled}
 pub use Rattle.pcap_reader.specs.Header.{format_of, version_and_link}
 unfoldable pub use Rattle.pcap_reader.specs.Header.{header_of}
-pub use Rattle.pcap_reader.specs.Limit.{buffer_size, most_taken}
+pub use Rattle.pcap_reader.specs.Limit.{buffer_size}
 pub use Rattle.pcap_reader.specs.Prefix.{ShowsFault, ShowsHead}
 pub use Rattle.pcap_reader.specs.Remaining.{Coming, broken_end, capture_of, captured_in, head_at, head_fault}
 pub use Rattle.pcap_reader.specs.Remaining.{original_in, record_at, sec_in, sub_in, then_coming, whole_end}

@@ -3,9 +3,9 @@
 use Rattle.std.proofs.lemmas.Grind.{common_steps}
 use Rattle.std.proofs.lemmas.Bool.Decides.{nat_tests}
 use Rattle.std.proofs.lemmas.Int.{ints}
-use Rattle.pcap_reader.proofs.Common.{◌≡◌, ◌<◌, ◌≤◌, ℕ, List, ◌++◌, length, take, drop, Option, Some, None, Result, Ok, Err, refl, sym, ap, subst, ◌∙◌, arith, inl, inr, append_assoc, length-append, length-take, length-drop, drop-drop, cases_lt, cases_eq, lt-ltb, le-ltb, eq-eqb, ne_eqb, take-append-drop, take-add, Unit as TimeUnit, Micro, Nano, CaptureFault, TornHeader, Magic, Version, Link, Endian, Big, Little, Format, IsBytes, HasMagic, HasVersion, HasLink, HasHeaderFault, IsHeader, magic_of, number_in, spelled, format_of, version_and_link, header_of, rules}
+use Rattle.pcap_reader.proofs.Common.{◌≡◌, ◌<◌, ◌≤◌, ℕ, List, ◌++◌, length, take, drop, Option, Some, None, Result, Ok, Err, refl, sym, ap, subst, ◌∙◌, arith, inl, inr, append_assoc, length-append, length-take, length-drop, cases_lt, cases_eq, lt-ltb, le-ltb, eq-eqb, ne_eqb, take-append-drop, Unit as TimeUnit, Micro, Nano, CaptureFault, TornHeader, Magic, Version, Link, Endian, Big, Little, Format, IsBytes, HasMagic, HasVersion, HasLink, HasHeaderFault, IsHeader, magic_of, number_in, spelled, format_of, version_and_link, header_of, rules}
 use Rattle.pcap_reader.proofs.Parts.{bytes_after, front, after, further, six_parts, taken_24}
-use Rattle.pcap_reader.proofs.Spelling.{number_in-spelled, length-spelled, spelled-number_in_2, spelled-number_in_4}
+use Rattle.pcap_reader.proofs.Spelling.{number_in-spelled, length-spelled, spelled-number_in_4}
 
 -- the four magic numbers differ, whatever follows
 pub format_of-magic : (order : Endian) (unit : TimeUnit) (rest : List ℕ) →

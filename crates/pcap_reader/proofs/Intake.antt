@@ -2,8 +2,8 @@
 use Rattle.std.proofs.lemmas.Grind.{common_steps}
 use Rattle.std.proofs.lemmas.Bool.Decides.{nat_tests}
 use Rattle.std.proofs.lemmas.Int.{ints}
-use Rattle.pcap_reader.proofs.Common.{◌≡◌, ◌+◌, ◌-◌, ◌≤◌, ℕ, List, Result, [], ◌++◌, length, Option, Some, None, sym, ap, ◌∙◌, arith, append_assoc, append-nil, length-append, take, drop, length-take, length-drop, Consumes, Keeps, prepend_known, FeedState, Buffered, Pulls, Refills, held_bytes, last_bytes, still_has, supply_of, most_taken, TakesFrom}
-use Rattle.std.proofs.KnownBytes.{Consumes-nil, Consumes-trans, Keeps-trans}
+use Rattle.pcap_reader.proofs.Common.{◌≡◌, ◌+◌, ◌-◌, ◌≤◌, ℕ, List, Result, [], ◌++◌, length, Option, Some, None, ap, ◌∙◌, arith, append_assoc, append-nil, length-append, length-take, length-drop, Consumes, Keeps, prepend_known, FeedState, Buffered, Pulls, Refills, held_bytes, last_bytes, still_has, supply_of, TakesFrom}
+use Rattle.std.proofs.KnownBytes.{Consumes-nil}
 use Rattle.byte_stream.specs.declared.feed.FeedFault.{FeedFault}
 
 pub Pulls-none : (a : FeedState) (held held' : List ℕ) → held' ≡ held → Pulls a a held held'

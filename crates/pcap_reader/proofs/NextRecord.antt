@@ -1,5 +1,5 @@
 -- What an answer says of the bytes that are known, by those held when it was given.
-use Rattle.pcap_reader.proofs.Common.{◌≡◌, ◌+◌, ◌<◌, ◌≤◌, ℕ, List, ◌++◌, length, take, drop, Option, Some, None, Result, Ok, Err, IfSome, refl, sym, ap, subst, ◌∙◌, arith, append_assoc, length-append, length-drop, option_map, Keeps, IsAtEnd, prepend_known, drop-append-le, take-append-le, Format, RecordHead, CaptureFault, TornRecord, most_records, ShowsHead, ShowsFault, Coming, coming_from, IsNext}
+use Rattle.pcap_reader.proofs.Common.{◌≡◌, ◌+◌, ◌<◌, ◌≤◌, ℕ, List, ◌++◌, length, take, drop, Option, Some, None, Result, Ok, Err, IfSome, refl, sym, ap, ◌∙◌, arith, append_assoc, length-append, length-drop, option_map, Keeps, IsAtEnd, prepend_known, drop-append-le, take-append-le, Format, RecordHead, CaptureFault, TornRecord, most_records, ShowsHead, ShowsFault, Coming, coming_from, IsNext}
 use Rattle.pcap_reader.proofs.Remaining.{coming_from-nil, coming_from_fault, coming_from_read, next_is_fault}
 use Rattle.pcap_reader.proofs.Prefix.{record_whole, record_torn}
 

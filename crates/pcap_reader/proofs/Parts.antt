@@ -1,5 +1,5 @@
 -- Lists joined of parts of known length.
-use Rattle.pcap_reader.proofs.Common.{arith, ◌≡◌, ℕ, ◌+◌, ◌<◌, List, ◌++◌, length, take, drop, refl, sym, ◌∙◌, append_assoc, drop-drop, take-append-drop, drop-append_seam, take-append_seam, take-add, IsBytes}
+use Rattle.pcap_reader.proofs.Common.{arith, ◌≡◌, ℕ, ◌+◌, ◌<◌, List, ◌++◌, length, take, drop, sym, ◌∙◌, append_assoc, drop-drop, take-append-drop, drop-append_seam, take-append_seam, take-add, IsBytes}
 use Rattle.std.proofs.lemmas.List.Elements.{All-drop}
 
 -- bytes stay bytes

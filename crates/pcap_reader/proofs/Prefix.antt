@@ -2,7 +2,7 @@
 use Rattle.std.proofs.lemmas.Grind.{common_steps}
 use Rattle.std.proofs.lemmas.Bool.Decides.{nat_tests}
 use Rattle.std.proofs.lemmas.Int.{ints}
-use Rattle.pcap_reader.proofs.Common.{◌≡◌, ◌+◌, ◌*◌, ◌^◌, ◌<◌, ◌≤◌, ℕ, zero, suc, List, [], ◌++◌, length, drop, Option, Some, None, Result, Ok, Err, Bool, true, false, refl, sym, ap, ap₂, subst, ◌∙◌, arith, length-append, append-nil, length-drop, ⊎_elim, ◌==◌, if◌then◌else◌, drop-append-le, get_or_append_left, lt-ltb, le-ltb, cases_lt, CaptureFault, TornHeader, Magic, Version, Link, TornRecord, Endian, Big, Little, Format, IsHeaderFault, number_in, RecordHead, most_records, ShowsHead, ShowsFault, format_of, version_and_link, header_of, head_at, fault_at, captured_in, sub_in, head_fault}
+use Rattle.pcap_reader.proofs.Common.{◌≡◌, ◌+◌, ◌*◌, ◌^◌, ◌<◌, ◌≤◌, ℕ, zero, suc, List, [], ◌++◌, length, drop, Option, Some, None, Result, Ok, Err, Bool, true, false, refl, sym, ap, ap₂, subst, ◌∙◌, arith, length-append, append-nil, length-drop, ⊎_elim, if◌then◌else◌, drop-append-le, get_or_append_left, le-ltb, cases_lt, CaptureFault, Magic, Version, Link, TornRecord, Endian, Big, Little, Format, IsHeaderFault, number_in, RecordHead, most_records, ShowsHead, ShowsFault, format_of, version_and_link, header_of, head_at, fault_at, head_fault}
 use Rattle.byteorder.specs.Endian.{big_from, little_from}
 use Rattle.pcap_reader.proofs.FileHeader.{header_short}
 use Rattle.pcap_reader.proofs.RecordFault.{fault_at_none, fault_at_torn}

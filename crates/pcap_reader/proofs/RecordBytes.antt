@@ -1,5 +1,5 @@
 -- One record: the bytes that spell it are read as it, and what is read is spelled by its bytes.
-use Rattle.pcap_reader.proofs.Common.{◌≡◌, ◌+◌, ◌^◌, ◌<◌, ◌≤◌, ℕ, List, ◌++◌, length, take, drop, Option, Some, None, refl, sym, ap, ◌∙◌, arith, inl, inr, length-append, length-take, length-drop, cases_lt, lt-ltb, le-ltb, le-leb, lt-leb, per_second, Unit as TimeUnit, Micro, Nano, CaptureFault, TornRecord, TooLong, BadFraction, TooMany, Endian, Format, RecordHead, IsBytes, Record, IsRecordAt, record_spelling, most_captured, most_records, number_in, spelled, fault_at, head_fault, head_at, record_at, sec_in, sub_in, captured_in, original_in}
+use Rattle.pcap_reader.proofs.Common.{◌≡◌, ◌+◌, ◌^◌, ◌<◌, ◌≤◌, ℕ, List, ◌++◌, length, take, drop, Option, Some, None, refl, sym, ◌∙◌, arith, inl, inr, length-append, length-take, length-drop, cases_lt, lt-ltb, le-ltb, le-leb, lt-leb, per_second, Unit as TimeUnit, Micro, Nano, CaptureFault, TornRecord, TooLong, BadFraction, TooMany, Endian, Format, RecordHead, IsBytes, Record, IsRecordAt, record_spelling, most_captured, most_records, fault_at, head_fault, head_at, record_at, sec_in, sub_in, captured_in, original_in}
 use Rattle.pcap_reader.proofs.RecordFault.{fault_at_most, fault_at_short, fault_at_head, fault_at_torn, fault_at_none}
 use Rattle.pcap_reader.proofs.Parts.{bytes_after, front, after, further, five_parts, taken_16}
 use Rattle.pcap_reader.proofs.Spelling.{number_in-spelled, length-spelled, number_in-lt, spelled-number_in_4}

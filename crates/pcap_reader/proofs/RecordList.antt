@@ -1,5 +1,5 @@
 -- What is to come of bytes that begin with records, and what the bytes are of which something is to come.
-use Rattle.pcap_reader.proofs.Common.{◌≡◌, ◌+◌, ◌-◌, ◌<◌, ◌≤◌, ℕ, zero, suc, List, [], ◌∷◌, ◌++◌, length, drop, Option, Some, None, refl, sym, ap, subst, ◌∙◌, arith, append_assoc, length-append, add-zero, MatchOption, CaptureFault, TooMany, Format, IsBytes, Record, IsRecordAt, AreRecordsFrom, record_spelling, spelling, most_records, Coming, coming_from, broken_end, whole_end, then_coming, fault_at, record_at, captured_in}
+use Rattle.pcap_reader.proofs.Common.{◌≡◌, ◌+◌, ◌-◌, ◌<◌, ℕ, zero, suc, List, [], ◌∷◌, ◌++◌, length, drop, Option, Some, None, refl, sym, ap, subst, ◌∙◌, arith, append_assoc, length-append, add-zero, MatchOption, CaptureFault, TooMany, Format, IsBytes, Record, IsRecordAt, AreRecordsFrom, record_spelling, spelling, most_records, Coming, coming_from, broken_end, whole_end, then_coming, fault_at, record_at, captured_in}
 use Rattle.pcap_reader.proofs.Remaining.{coming_from-nil, coming_from_fault, coming_from_record, coming_from_read}
 use Rattle.pcap_reader.proofs.RecordFault.{fault_at_most}
 use Rattle.pcap_reader.proofs.Parts.{bytes_after}

@@ -1,5 +1,5 @@
 -- What is to come, a step at a time.
-use Rattle.pcap_reader.proofs.Common.{◌≡◌, ◌+◌, ◌-◌, ◌<◌, ◌≤◌, ℕ, zero, suc, List, [], ◌∷◌, length, drop, Option, Some, None, Ok, Err, take, refl, sym, ◌∙◌, ap, arith, Format, CaptureFault, TooMany, Read, Failed, RecordHead, most_records, header_of, Coming, coming_within, coming_from, whole_end, broken_end, then_coming, record_at, fault_at, captured_in, head_at, capture_of, IsNext}
+use Rattle.pcap_reader.proofs.Common.{◌≡◌, ◌+◌, ◌-◌, ◌<◌, ℕ, zero, suc, List, [], ◌∷◌, length, drop, Option, Some, None, Ok, Err, take, refl, arith, Format, CaptureFault, Read, Failed, RecordHead, most_records, header_of, Coming, coming_within, coming_from, whole_end, broken_end, then_coming, record_at, fault_at, captured_in, head_at, capture_of, IsNext}
 use Rattle.pcap_reader.proofs.RecordFault.{fault_at_most}
 
 within_nil : (left : ℕ) (f : Format) (n p : ℕ) → coming_within left f n p [] ≡ whole_end

@@ -1,9 +1,9 @@
 -- Bytes that are too few to show the next answer.
 use Rattle.std.proofs.lemmas.Bool.Decides.{nat_tests}
 use Rattle.std.proofs.lemmas.Int.{ints}
-use Rattle.pcap_reader.proofs.Common.{◌≡◌, ◌+◌, ◌<◌, ◌≤◌, ℕ, List, [], ◌∷◌, length, Option, Some, None, Err, IfSome, refl, sym, ap, subst, ◌∙◌, arith, inl, inr, length-append, option_map, Keeps, prepend_known, cases_lt, per_second, Format, RecordHead, CaptureFault, TornRecord, TooLong, BadFraction, TooMany, Read, most_captured, most_records, IsRecordFault, ShowsHead, Coming, coming_from, fault_at, head_at, head_fault, captured_in, sub_in, IsUndecided, IsReadInTime, shown_by}
+use Rattle.pcap_reader.proofs.Common.{◌≡◌, ◌+◌, ◌<◌, ◌≤◌, ℕ, List, [], ◌∷◌, length, Option, Some, None, Err, IfSome, refl, sym, ap, subst, ◌∙◌, arith, inl, inr, length-append, option_map, Keeps, prepend_known, cases_lt, Format, RecordHead, CaptureFault, TornRecord, TooMany, Read, most_records, IsRecordFault, ShowsHead, Coming, coming_from, fault_at, head_at, head_fault, captured_in, IsUndecided, IsReadInTime, shown_by}
 use Rattle.pcap_reader.proofs.Prefix.{record_whole, record_torn}
-use Rattle.pcap_reader.proofs.RecordBytes.{head_fault-none, head_fault-long, head_fault-fraction, not_some}
+use Rattle.pcap_reader.proofs.RecordBytes.{not_some}
 use Rattle.pcap_reader.proofs.RecordFault.{fault_at_short, fault_at_head, fault_at_torn, fault_at_none}
 use Rattle.pcap_reader.proofs.Remaining.{coming_from-nil, coming_from_fault, coming_from_record}
 

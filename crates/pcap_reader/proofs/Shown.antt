@@ -1,5 +1,5 @@
 -- When the bytes that are held show the next answer.
-use Rattle.pcap_reader.proofs.Common.{◌≡◌, ◌+◌, ◌<◌, ◌≤◌, ℕ, List, ◌++◌, length, Bool, true, false, Option, Some, None, Result, Ok, Err, IfSome, refl, sym, subst, ◌∙◌, arith, IsTrue, IfOk, OnOk, MatchResult, option_map, prepend_known, Format, RecordHead, CaptureFault, most_records, ShowsHead, coming_from, IsUndecided}
+use Rattle.pcap_reader.proofs.Common.{◌≡◌, ◌+◌, ◌<◌, ◌≤◌, ℕ, List, ◌++◌, length, Bool, false, Option, Some, None, Result, Ok, Err, IfSome, refl, subst, arith, IsTrue, IfOk, OnOk, MatchResult, option_map, prepend_known, Format, RecordHead, CaptureFault, most_records, ShowsHead, coming_from, IsUndecided}
 use Rattle.pcap_reader.proofs.NextRecord.{next_whole}
 
 module _ (f : Format) (n p : ℕ) (held : List ℕ) (size : ℕ) (size_is : size ≡ length held) where

@@ -1,5 +1,5 @@
 -- Steps of a source.
-use Rattle.pcap_reader.proofs.Common.{arith, ◌≡◌, ◌∙◌, ◌↔◌, ℕ, Err, Option, Result, Bool, true, false, sym, IsTrue, IsErrOf, CountsFault, RecordHead, CaptureFault, Read, Failed, IsRecordFault, MayAnswer, read_failed}
+use Rattle.pcap_reader.proofs.Common.{arith, ◌≡◌, ◌↔◌, ℕ, Err, Option, Result, Bool, false, IsTrue, IsErrOf, CountsFault, RecordHead, CaptureFault, Read, Failed, IsRecordFault, MayAnswer, read_failed}
 
 -- a record's fault is one that may be answered
 pub record_fault_may : (e : CaptureFault) → IsRecordFault e → MayAnswer e

@@ -6,10 +6,9 @@ pub use Rattle.std.proofs.Common.{⊎_elim, ◌*ℤ◌, ◌*◌, ◌++◌, ◌+�
 pub use Rattle.std.proofs.Common.{◌≢◌, ◌≤ℤ◌, ◌≤◌, ◌⊎◌}
 pub use Rattle.std.proofs.lemmas.Bool.{cases_eq, cases_lt, eq-eqb, eqb-true, ne_eqb}
 pub use Rattle.std.proofs.lemmas.Bool.Decides.{nat_tests}
-pub use Rattle.std.proofs.lemmas.Int.{clamps, ints, to_z-of_z}
+pub use Rattle.std.proofs.lemmas.Int.{clamps, ints}
 pub use Rattle.std.proofs.lemmas.List.{append-nil, drop_all}
 pub use Rattle.std.specs.Int.{int_max, int_min}
-pub use Rattle.std.specs.List.{cons_option}
 pub use Rattle.std.specs.Option.{option_and_then, option_map, option_to_list}
 pub use Rattle.std.specs.Prelude.{filter, filter_map, fold, slice_get}
 pub use Rattle.intersection.specs.declared.kinds.Interval.{Interval}

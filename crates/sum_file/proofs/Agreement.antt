@@ -1,5 +1,5 @@
 -- Lines that are all good, and one more line below them.
-use Rattle.sum_file.proofs.Common.{arith, ◌≡◌, ℕ, length, map, Bool, true, false, cond, ◌&&◌, List, [], ◌∷◌, ◌++◌, Option, Some, None, option_map, option_and_then, refl, sym, ap, ◌∙◌, list_all, length-map, list_all-append, line_of, all_said, agreed, SumData, agree, all_agree}
+use Rattle.sum_file.proofs.Common.{arith, ◌≡◌, ℕ, length, map, Bool, true, false, cond, ◌&&◌, List, [], ◌∷◌, ◌++◌, Option, Some, None, option_map, option_and_then, refl, sym, ap, ◌∙◌, length-map, list_all-append, line_of, all_said, agreed, SumData, agree, all_agree}
 use Rattle.sum_file.proofs.Pairs.{each_agrees}
 
 -- sums, if they agree

@@ -1,5 +1,5 @@
 -- A shown name that is read from its front.
-use Rattle.sum_file.proofs.Common.{arith, ◌≡◌, ℕ, ◌==◌, false, List, [], ◌∷◌, ◌++◌, Option, Some, None, option_map, sym, ap, ◌∙◌, append_assoc, backslash, unescape, unescaped}
+use Rattle.sum_file.proofs.Common.{arith, ◌≡◌, ℕ, ◌==◌, false, List, [], ◌∷◌, ◌++◌, Option, Some, None, option_map, append_assoc, backslash, unescape, unescaped}
 
 -- a byte that is shown as it is
 pub unescaped-plain : (byte : ℕ) (rest : List ℕ) → (byte == backslash) ≡ false

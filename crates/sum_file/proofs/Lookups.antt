@@ -1,5 +1,5 @@
 -- Finding a name among sums.
-use Rattle.sum_file.proofs.Common.{arith, ◌≡◌, ℕ, Bool, true, false, cond, List, [], ◌∷◌, map, Option, Some, option_map, refl, sym, ap, ◌∙◌, Bor, find, bytes_eq, Sum, SumData, data_of, digest_named}
+use Rattle.sum_file.proofs.Common.{arith, ◌≡◌, ℕ, Bool, List, [], ◌∷◌, map, Option, option_map, refl, Bor, find, bytes_eq, Sum, data_of, digest_named}
 
 find-map : {A B : Type 0} (shown : A → B) (test : B → Bool) (xs : List A)
     → find test (map shown xs) ≡ option_map shown (find (λ x. test (shown x)) xs)

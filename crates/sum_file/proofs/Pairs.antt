@@ -1,5 +1,5 @@
 -- Sums of which no two disagree.
-use Rattle.sum_file.proofs.Common.{Bool, ◌≡◌, zero, suc, inl, inr, true, false, not, List, [], ◌∷◌, get_or, refl, sym, ap, ◌∙◌, arith, true≢false, AllPairs, Any, list_all, bytes_eq, and_cases, and_from, and_parts, cases_Bool, not_from_false, or_cases, or_left, or_parts, or_right, not-true, not-false, AllPass-from_list_all, list_all-from_AllPass, bytes_eq-Decides, Agree, Disagree, SumData, agree, all_agree}
+use Rattle.sum_file.proofs.Common.{Bool, ◌≡◌, zero, suc, inl, inr, true, false, not, List, [], ◌∷◌, get_or, refl, arith, true≢false, AllPairs, Any, list_all, and_cases, and_from, and_parts, cases_Bool, not_from_false, or_cases, or_left, or_parts, or_right, not-true, not-false, AllPass-from_list_all, list_all-from_AllPass, bytes_eq-Decides, Agree, Disagree, SumData, agree, all_agree}
 
 -- the test of two sums
 agree-from : (a b : SumData) → Agree a b → agree a b ≡ true

@@ -1,5 +1,5 @@
 -- What the sums of a text and its first bad line are, in relations.
-use Rattle.sum_file.proofs.Common.{arith, ◌≡◌, ◌≢◌, ℕ, ◌+◌, ◌⊎◌, ◌↔◌, inl, inr, cond, List, [], ◌∷◌, ◌++◌, length, map, Option, Some, None, option_and_then, Ok, Err, ok_or, refl, sym, ap, ◌∙◌, subst, AllPairs, Any, cases_Bool, cond-true, append-nil, append_snoc, SumFault, Form, Memory, line_of, IsFirstBad, agreed, first_bad, lines_of, sums_of, Agree, Disagree, SumData}
+use Rattle.sum_file.proofs.Common.{arith, ◌≡◌, ◌≢◌, ℕ, ◌+◌, ◌⊎◌, ◌↔◌, inl, inr, List, [], ◌∷◌, ◌++◌, length, map, Option, Some, None, option_and_then, Ok, Err, ok_or, refl, sym, ap, ◌∙◌, subst, AllPairs, Any, cases_Bool, cond-true, append-nil, append_snoc, SumFault, Form, Memory, line_of, IsFirstBad, agreed, first_bad, lines_of, sums_of, Agree, Disagree, SumData}
 use Rattle.sum_file.proofs.Agreement.{agreed-from, agreed-push, agreed-said, length-agreed, map-said, with_one}
 use Rattle.sum_file.proofs.FirstBad.{first_bad_line}
 use Rattle.sum_file.proofs.Pairs.{AllPairs-from, Any-disagrees, all_agree-from, each_agrees, fails-from_Any}

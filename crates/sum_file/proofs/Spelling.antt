@@ -1,5 +1,5 @@
 -- A line and its parts.
-use Rattle.sum_file.proofs.Common.{◌≡◌, ℕ, ◌+◌, ◌<◌, ◌==◌, inl, inr, ltb, Bool, true, false, cond, ◌&&◌, ◌||◌, suc, List, [], ◌∷◌, ◌++◌, length, take, drop, get_or, Option, Some, None, option_map, option_and_then, Result, Ok, Err, refl, sym, ap, ◌∙◌, subst, arith, length-append, drop-cons, length-drop, is_ok, true≢false, slice_index, and_from, and_parts, or_cases, or_left, or_right, cases_Bool, cond-true, cond-false, eq-eqb, eqb-true, ne_eqb, lt-ltb, ltb-true, get_or-append-add, get_or_append_left, take-append-drop, take-append_seam, drop-append-add, get_or-append_seam, decode_sized, is_hex_digit, IsOk-decode_sized, IsMark, Says, asterisk, is_escaped, line_of, name_of, parts_of, space, sum_with, without_backslash, backslash, followed, unescape, unescaped, SumData}
+use Rattle.sum_file.proofs.Common.{◌≡◌, ℕ, ◌+◌, ◌<◌, ◌==◌, inl, inr, ltb, Bool, true, false, cond, ◌&&◌, ◌||◌, List, [], ◌∷◌, ◌++◌, length, take, drop, get_or, Option, Some, None, option_map, option_and_then, Result, Ok, Err, refl, sym, ap, ◌∙◌, subst, arith, length-append, drop-cons, length-drop, is_ok, true≢false, slice_index, and_from, and_parts, or_cases, or_left, or_right, cases_Bool, cond-true, cond-false, eq-eqb, eqb-true, ne_eqb, lt-ltb, ltb-true, get_or-append-add, get_or_append_left, take-append-drop, take-append_seam, drop-append-add, get_or-append_seam, decode_sized, is_hex_digit, IsOk-decode_sized, IsMark, Says, asterisk, is_escaped, line_of, name_of, parts_of, space, sum_with, without_backslash, backslash, followed, unescape, unescaped, SumData}
 use Rattle.std.specs.Result.{result_ok}
 use Rattle.hex.specs.declared.error.FromHexError.{FromHexError}
 

@@ -1,5 +1,5 @@
 -- The text that `sha256sum` writes.
-use Rattle.sum_file.proofs.Common.{◌≡◌, ℕ, zero, suc, ◌==◌, inl, inr, true, not, cond, List, [], ◌∷◌, ◌++◌, map, get_or, Some, None, option_map, option_and_then, Ok, ok_or, refl, sym, ap, ◌∙◌, true≢false, arith, All, AllPairs, and_parts, not-true, or_parts, eq-eqb, All-head, All-tail, list_all-append, AllPass-from_list_all, Form, IsMark, written, carriage_return, line_feed, HasNoFeed, agreed, all_said, first_bad, lines_of, sums_of, text_of, without_last, Agree, IsWritable, SumData}
+use Rattle.sum_file.proofs.Common.{◌≡◌, ℕ, zero, suc, ◌==◌, inl, inr, true, not, List, [], ◌∷◌, ◌++◌, map, get_or, Some, option_map, option_and_then, Ok, ok_or, refl, sym, ap, ◌∙◌, true≢false, arith, All, AllPairs, and_parts, not-true, or_parts, eq-eqb, All-head, All-tail, list_all-append, AllPass-from_list_all, IsMark, written, carriage_return, line_feed, HasNoFeed, all_said, sums_of, text_of, without_last, Agree, IsWritable, SumData}
 use Rattle.sum_file.proofs.Agreement.{if_agree}
 use Rattle.sum_file.proofs.Cuts.{lines_of_ended, snoc_view, without_last-other}
 use Rattle.sum_file.proofs.Pairs.{all_agree-from}

@@ -1,5 +1,5 @@
 -- One turn of the reading of lines, and its end.
-use Rattle.sum_file.proofs.Common.{arith, ◌≡◌, ℕ, ◌+◌, ◌<◌, ◌==◌, Ok, Err, ok_or, Bool, true, false, cond, List, [], ◌∷◌, ◌++◌, length, take, drop, map, get_or, Some, None, option_and_then, sym, ap, ◌∙◌, Bor, length-map, map-append, take_more, take-append-drop, list_all-map, list_all, slice_split, Form, Sum, line_of, carriage_return, line_feed, agreed, first_bad, lines_of, sums_of, without_last, SumData, agree, data_of}
+use Rattle.sum_file.proofs.Common.{arith, ◌≡◌, ℕ, ◌+◌, ◌<◌, ◌==◌, Ok, Err, ok_or, Bool, true, false, List, [], ◌∷◌, ◌++◌, length, take, drop, map, get_or, Some, None, option_and_then, sym, ap, ◌∙◌, Bor, length-map, map-append, take_more, take-append-drop, list_all-map, list_all, slice_split, Form, Sum, line_of, carriage_return, line_feed, agreed, first_bad, lines_of, sums_of, without_last, SumData, agree, data_of}
 use Rattle.std.proofs.lemmas.Simd.{map-map}
 use Rattle.sum_file.proofs.Agreement.{agreed-push, with_one}
 use Rattle.sum_file.proofs.Cuts.{lines_of-some}

@@ -3,8 +3,8 @@
 //! `read_sums` gives the sums of a text, or its first bad line. `digest_of` finds the digest that
 //! they give to a name.
 //!
-//! The digest of an input under its name, as `digest_for` of `summed_inputs/src/sums.rt` looks for it,
-//! with its proof:
+//! The digest of an input under its name, as `digest_for` of `summed_inputs/src/sums.rt` looks for
+//! it, with its proof:
 //!
 //! ```text
 //! match digest_of(sums, name.as_bytes()) {

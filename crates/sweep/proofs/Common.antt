@@ -19,7 +19,7 @@ pub use Rattle.std.proofs.lemmas.List.Sorted.{IsPermutation-reverse, IsPermutati
 pub use Rattle.std.proofs.lemmas.Nat.{le-div}
 pub use Rattle.std.proofs.lemmas.Option.{get_or_from_slice_get, same_Some, slice_get-get_or, slice_get-map}
 pub use Rattle.std.proofs.lemmas.Option.{slice_get_read, slice_get_within}
-pub use Rattle.std.specs.List.{All, Contains, cons_option, filter, filter_map, range_with_len, slice_get}
+pub use Rattle.std.specs.List.{All, cons_option, filter, filter_map, range_with_len, slice_get}
 pub use Rattle.std.specs.Option.{option_map}
 pub use Rattle.intersection.specs.declared.ends.Side.{Side}
 pub use Rattle.intersection.specs.declared.ends.Side.TheVariants.{High, Low}

@@ -1,5 +1,5 @@
-use Rattle.feasibility.proofs.Common.{rules, ◌∙◌, length, map, ap, sym, subst, All, All-nil, All-push, data_of as claim_data, IsNumbered, AreNumberedOf}
-use Rattle.feasibility.proofs.Numbering.{none_in_order, one_longer, one_more_in_order}
+use Rattle.feasibility.proofs.Common.{rules, ◌∙◌, map, sym, subst, All, All-push, data_of as claim_data, IsNumbered, AreNumberedOf}
+use Rattle.feasibility.proofs.Numbering.{one_longer, one_more_in_order}
 use Rattle.feasibility.proofs.PartialTables.{up_to_end}
 use Rattle.feasibility.proofs.numbered_marks.numbered_by_group.Goals as goal
 

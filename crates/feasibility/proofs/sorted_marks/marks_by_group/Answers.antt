@@ -1,5 +1,5 @@
-use Rattle.feasibility.proofs.Common.{rules, ◌∙◌, length, map, ap, data_of as claim_data, AreMarksOf}
-use Rattle.feasibility.proofs.Numbering.{none_in_order, one_longer, one_more_in_order}
+use Rattle.feasibility.proofs.Common.{rules, ◌∙◌, map, data_of as claim_data, AreMarksOf}
+use Rattle.feasibility.proofs.Numbering.{one_longer, one_more_in_order}
 use Rattle.feasibility.proofs.PartialTables.{up_to_end}
 use Rattle.feasibility.proofs.sorted_marks.marks_by_group.Goals as goal
 

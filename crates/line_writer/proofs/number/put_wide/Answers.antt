@@ -1,4 +1,4 @@
-use Rattle.std.proofs.Common.{◌∙◌, arith}
+use Rattle.std.proofs.Common.{arith}
 use Rattle.line_writer.proofs.Digits.{last_digit, one_digit_more, digits_of_128_bits}
 use Rattle.line_writer.proofs.number.put_wide.Goals as goal
 

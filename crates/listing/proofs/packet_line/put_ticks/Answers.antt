@@ -1,6 +1,5 @@
-use Rattle.listing.proofs.Common.{◌∙◌, tick_fields, arith}
+use Rattle.listing.proofs.Common.{tick_fields, arith}
 use Rattle.std.proofs.lemmas.Int.{to_z-of_z}
-use mir.Syntax.{w128}
 use Rattle.listing.proofs.packet_line.put_ticks.Goals as goal
 
 pub returns-clause-text : goal.returns-clause-text

@@ -1,6 +1,6 @@
-use Rattle.pcap_reader.proofs.Common.{◌+◌, ◌-◌, ◌<◌, ◌≤◌, ◌∙◌, ap, sym, subst, length, arith, length-append, err_from_is_err_and, Keeps, prepend_known, held_bytes, supply_of, header_of, buffer_size, TakesFrom}
+use Rattle.pcap_reader.proofs.Common.{◌-◌, ◌<◌, ◌≤◌, ◌∙◌, ap, sym, subst, length, arith, length-append, err_from_is_err_and, Keeps, prepend_known, held_bytes, header_of, buffer_size}
 use Rattle.pcap_reader.proofs.Beginning.{held-none, Keeps-first, header_refused, header_begun, header_fault_counts, header_fault_most, not_memory}
-use Rattle.pcap_reader.proofs.Intake.{refilled, Refills-takes, length-held}
+use Rattle.pcap_reader.proofs.Intake.{refilled, length-held}
 use Rattle.pcap_reader.proofs.Prefix.{header_fault}
 use Rattle.pcap_reader.proofs.capture.read_header.Goals as goal
 

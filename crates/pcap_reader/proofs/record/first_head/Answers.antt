@@ -1,4 +1,4 @@
-use Rattle.pcap_reader.proofs.Common.{◌<◌, ◌≤◌, ◌++◌, length, ap, ◌∙◌, arith, length-append, MatchResult-weaker, most_records}
+use Rattle.pcap_reader.proofs.Common.{◌<◌, ◌≤◌, ◌++◌, length, ◌∙◌, arith, length-append, MatchResult-weaker, most_records}
 use Rattle.pcap_reader.proofs.RecordFault.{fault_at_most, fault_at_short, fault_at_head}
 use Rattle.pcap_reader.proofs.Prefix.{head_fault_front}
 use Rattle.pcap_reader.proofs.record.first_head.Goals as goal

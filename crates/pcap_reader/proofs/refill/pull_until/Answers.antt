@@ -1,5 +1,5 @@
-use Rattle.pcap_reader.proofs.Common.{◌≤◌, ◌∙◌, length, arith, refl, err_from_is_err_and, CountsBytes-front}
-use Rattle.pcap_reader.proofs.Intake.{Pulls-none, Pulls-more}
+use Rattle.pcap_reader.proofs.Common.{◌≤◌, ◌∙◌, length, arith, CountsBytes-front}
+use Rattle.pcap_reader.proofs.Intake.{Pulls-more}
 use Rattle.pcap_reader.proofs.Ranges.{front_pulled}
 use Rattle.pcap_reader.proofs.refill.pull_until.Goals as goal
 

@@ -1,4 +1,4 @@
-use Rattle.line_writer.proofs.Common.{◌≡◌, ◌+◌, ◌-◌, length, get_or, ◌∙◌, arith, refl, drop_all}
+use Rattle.line_writer.proofs.Common.{◌≡◌, ◌+◌, ◌-◌, get_or, ◌∙◌, arith, refl, drop_all}
 use Rattle.line_writer.proofs.Pairs.{pair_at, encode_at, encode_none}
 use Rattle.line_writer.proofs.line.Line.put_hexadecimal.Goals as goal
 

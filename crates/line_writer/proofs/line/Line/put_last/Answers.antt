@@ -1,4 +1,4 @@
-use Rattle.std.proofs.Common.{◌≡◌, length, arith}
+use Rattle.std.proofs.Common.{arith}
 use Rattle.line_writer.proofs.Last.{last_written}
 use Rattle.line_writer.proofs.line.Line.put_last.Goals as goal
 

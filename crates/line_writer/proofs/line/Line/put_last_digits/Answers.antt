@@ -1,4 +1,4 @@
-use Rattle.std.proofs.Common.{arith, ◌++◌, ◌-◌, drop, ap, ◌∙◌, sym}
+use Rattle.std.proofs.Common.{arith}
 use Rattle.line_writer.proofs.Threes.{four_at, padded_four}
 use Rattle.line_writer.proofs.line.Line.put_last_digits.Goals as goal
 

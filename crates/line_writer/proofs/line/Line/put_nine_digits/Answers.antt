@@ -1,4 +1,4 @@
-use Rattle.line_writer.proofs.Common.{◌∙◌, ◌++◌, ◌/◌, ◌%◌, ap, arith, sym, zero_padded}
+use Rattle.line_writer.proofs.Common.{arith}
 use Rattle.line_writer.proofs.Threes.{joined, padded_more, padded_three}
 use Rattle.line_writer.proofs.line.Line.put_nine_digits.Goals as goal
 

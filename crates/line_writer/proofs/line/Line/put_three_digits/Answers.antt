@@ -1,4 +1,4 @@
-use Rattle.std.proofs.Common.{arith, refl}
+use Rattle.std.proofs.Common.{arith}
 use Rattle.line_writer.proofs.Threes.{padded_three, padded_four}
 use Rattle.line_writer.proofs.line.Line.put_three_digits.Goals as goal
 

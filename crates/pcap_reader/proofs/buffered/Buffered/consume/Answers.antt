@@ -1,4 +1,4 @@
-use Rattle.std.proofs.Common.{◌≡◌, ◌+◌, ◌≤◌, refl, arith}
+use Rattle.std.proofs.Common.{◌+◌, ◌≤◌, refl, arith}
 use Rattle.pcap_reader.proofs.Ranges.{range_rest, range_lent}
 use Rattle.pcap_reader.proofs.buffered.Buffered.consume.Goals as goal
 

@@ -1,4 +1,4 @@
-use Rattle.pcap_reader.proofs.Common.{◌≡◌, ◌+◌, ◌<◌, ◌∙◌, ℕ, ap, Some, refl, sym, arith, length, length-take, length-drop, eqb-true, eqb-false, RecordHead, coming_from, TakesFrom-none}
+use Rattle.pcap_reader.proofs.Common.{◌≡◌, ◌+◌, ◌∙◌, ℕ, ap, Some, refl, sym, arith, length, length-take, length-drop, eqb-true, eqb-false, RecordHead, coming_from, TakesFrom-none}
 use Rattle.pcap_reader.proofs.Remaining.{coming_from-nil, coming_from_fault, coming_from_read, next_is_fault}
 use Rattle.pcap_reader.proofs.Step.{unfailed_iff, record_fault_may, record_fault_counts, record_fault_iff}
 use Rattle.pcap_reader.proofs.ShortBytes.{in_time_fault}
