@@ -20,7 +20,7 @@ from tests.dossier.audits import ENVIRONMENT, PROGRAM, check_page, dossier
 from tests.dossier.leaps import leap_list
 
 OLDER = DATA / "older"
-FORMS = {"0.7.0": 6, "0.8.0": 8, "0.9.0": 9, "0.9.1": 9, "0.10.0": 9, "0.11.0": 9, "0.11.1": 9}
+FORMS = {"0.7.0": 6, "0.8.0": 8, "0.9.0": 9, "0.9.1": 9, "0.10.0": 9, "0.11.0": 9, "0.11.1": 9, "1.0.0": 9}
 """The form of audit.json of each version."""
 VERDICTS = {"nothing-fits": "nothing fits", "refuted": "refuted", "yes": "yes"}
 

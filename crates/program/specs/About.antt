@@ -25,7 +25,7 @@ line_of sums input = line_with (sum_in sums input.path) input
 
 -- the line of the program
 abbrev pub program_line : List ℕ
-program_line = codes "ntpaudit 0.11.1 logic dac8208d650f15bf\n"
+program_line = codes "ntpaudit 1.0.0 logic dac8208d650f15bf\n"
 
 -- the lines about inputs in this order, which are held to the text of a file of sums, if there is
 -- one, and about the program

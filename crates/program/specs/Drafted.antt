@@ -1,5 +1,5 @@
 -- The answer to a question whose text for a program goes into a draft.
-use Rattle.std.specs.Prelude.{◌≡◌, ◌⊎◌, ◌==◌, ℕ, List, Bool, true, false, if◌then◌else◌, is_some, Option, Some, None, Result, Ok, Err, IfErr, IfOk, MatchResult}
+use Rattle.std.specs.Prelude.{◌≡◌, ◌⊎◌, ◌==◌, ℕ, List, true, false, if◌then◌else◌, is_some, Option, Some, None, Result, Ok, Err, IfErr, IfOk, MatchResult}
 use Rattle.program.specs.Common.{FeedState, SinkState, Full, no_feed, Concludes, conclusion_of, Conclusion, Outcome, RunFault, Memory, Write, AskedData, RunsFor, RunsTwice, AreSummed, CountFaults, Feeds, IsUnjudgedFor, TakeAtMost, feed_of, feeds, InputBytesData}
 use Rattle.program.specs.Files.{DraftsState, IsEmpty, IsHindered, IsPlaced}
 use Rattle.program.specs.Inputs.{SumNames, run_over, sums_of}

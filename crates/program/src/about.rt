@@ -13,10 +13,10 @@ use std::alloc::{AllocError, Global};
 use sum_file::{Sum, SumFault, digest_of, read_sums};
 
 /// The program's version, and the logic in which it is proved, as `--version` tells them.
-pub const VERSION: &str = "0.11.1 (logic dac8208d650f15bf)";
+pub const VERSION: &str = "1.0.0 (logic dac8208d650f15bf)";
 
 /// The same as a line of a report.
-const PROGRAM: &str = "ntpaudit 0.11.1 logic dac8208d650f15bf\n";
+const PROGRAM: &str = "ntpaudit 1.0.0 logic dac8208d650f15bf\n";
 
 /// An input of a run, and the operand that names it.
 #[derive(Clone, Copy, Debug)]

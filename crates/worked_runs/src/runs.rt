@@ -43,7 +43,7 @@ claim claim.json: SHA-256 cc74a6c536b38e315159a9e3ff872f3d38bc292d19b8b7e66de598
 capture -: SHA-256 c21997db04f56146ca9cc84475371e27d3699eff8e5d3b3d198a267e0c08aebb
 certificate certificate.json: \
 SHA-256 9261c36c34318db779244d761d07ec1f5070284af2b92b66108148af46400035
-ntpaudit 0.11.1 logic dac8208d650f15bf
+ntpaudit 1.0.0 logic dac8208d650f15bf
 verdict yes
 ";
 
@@ -54,7 +54,7 @@ pieces 1
 least 10.001001 ms
 claim claim.json: not held to a sum
 capture -: not held to a sum
-ntpaudit 0.11.1 logic dac8208d650f15bf
+ntpaudit 1.0.0 logic dac8208d650f15bf
 ";
 
 /// A value that has to be there.
