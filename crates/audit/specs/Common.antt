@@ -1,16 +1,16 @@
 -- What the definitions and contracts of this crate name of others.
 pub use Rattle.audit_text.specs.Answer.{evidence_answer, found_answer, open_answer, refutation_answer, shown_answer}
 pub use Rattle.audit_text.specs.CheckReport.{about_told, check_text}
-pub use Rattle.audit_text.specs.Envelope.{envelope_text}
+pub use Rattle.envelope_text.specs.Envelope.{envelope_text}
 pub use Rattle.audit_text.specs.Nothing.{nothing_text}
 pub use Rattle.audit_text.specs.Parts.{parts_text}
 pub use Rattle.audit_text.specs.Refutation.{no_refutation_text, refuted_text}
 pub use Rattle.audit_text.specs.Samples.{samples_text}
 pub use Rattle.audit_text.specs.Settlement.{conflicts_text, evidence_text, open_text}
 pub use Rattle.audit_text.specs.declared.check_report.Findings.{Findings}
-pub use Rattle.audit_text.specs.declared.envelope.EnvelopeOptions.{EnvelopeOptions}
-pub use Rattle.audit_text.specs.declared.least_line.LeastLine.{LeastLine}
-pub use Rattle.audit_text.specs.declared.least_line.LeastLine.TheVariants.{Holds, NoneHolds, NotAsked}
+pub use Rattle.envelope_text.specs.declared.envelope.EnvelopeOptions.{EnvelopeOptions}
+pub use Rattle.envelope_text.specs.declared.least_line.LeastLine.{LeastLine}
+pub use Rattle.envelope_text.specs.declared.least_line.LeastLine.TheVariants.{Holds, NoneHolds, NotAsked}
 pub use Rattle.byte_stream.specs.Bytes.{IsBytes}
 pub use Rattle.byte_stream.specs.Fault.{CountsFault}
 pub use Rattle.byte_stream.specs.Intake.{TakesAtMost}

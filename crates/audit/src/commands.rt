@@ -15,8 +15,8 @@ ghost use Rattle.audit.specs.FindRefutation.{IsIrrefutable, IsRefutable, find_re
 
 use crate::engine::{Outputs, answer, run};
 use crate::question::{At, Check, Find, Refute, Request};
-use audit_text::Step;
 use byte_stream::{Feed, Sink};
+use envelope_text::Step;
 use line_writer::Style;
 use report::{Conclusion, Outcome, RunFault};
 use std::alloc::Global;

@@ -7,7 +7,7 @@ ghost use Rattle.audit.specs.Least.{IsLeastBoundOf, least_line_of};
 
 use crate::evidence::Evidence;
 use crate::sample_list::samples_of;
-use audit_text::{LeastLine, Step};
+use envelope_text::{LeastLine, Step};
 use feasibility::conflicts_of;
 use finder::laws::{courses_leave_no_hull_empty, pieces_hold_their_ticks};
 use finder::{LeastCarried, least_bound, piece_holding};

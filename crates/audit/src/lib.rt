@@ -33,9 +33,9 @@ mod sample_output;
 mod second;
 mod whole_text;
 
-pub use audit_text::{EnvelopeOptions, PLAIN_ENVELOPE, Step};
 pub use commands::{answer_check, run_at, run_check, run_find, run_refute, run_samples, run_seek};
 pub use engine::{Outputs, answer, run, run_twice};
+pub use envelope_text::{EnvelopeOptions, PLAIN_ENVELOPE, Step};
 pub use evidence::Evidence;
 pub use line_writer::Style;
 pub use question::{At, Check, Find, Question, Refute, Request, RequestFinding, Settle};

@@ -9,7 +9,6 @@ pub use Rattle.std.specs.Prelude.{flat_map, slice_get, ◌==◌, ◌||◌}
 pub use Rattle.std.specs.Result.{IfOk}
 pub use Rattle.claim_file.specs.Claim.{ClaimData, data_of}
 pub use Rattle.feasibility.specs.PairMarks.{conflict_data}
-pub use Rattle.finder.specs.Envelope.{IsLawfulPiece, piece_data}
 pub use Rattle.line_writer.specs.Field.{Address, FieldData, High, Label, Low, Named, Number, TimeAbove, Word}
 pub use Rattle.line_writer.specs.Field.{field_data, line_of, rest_text, text_of}
 pub use Rattle.line_writer.specs.declared.field.Style.TheVariants.{Plain}
@@ -21,8 +20,6 @@ pub use Rattle.sample_interval.specs.Sample.{greatest_error, least_error, sample
 pub use Rattle.sample_interval.specs.declared.kinds.Sample.{Sample}
 pub use mir.Syntax.{w128}
 unfoldable pub use Rattle.audit_text.specs.CheckReport.{check_text, verdict_line}
-pub use Rattle.audit_text.specs.Envelope.{piece_lines, server_line}
-unfoldable pub use Rattle.audit_text.specs.Envelope.{envelope_text}
 pub use Rattle.audit_text.specs.Parts.{hull_fields, part_columns, part_row}
 unfoldable pub use Rattle.audit_text.specs.Parts.{parts_text}
 pub use Rattle.audit_text.specs.RefutationLines.{liar_line}

@@ -11,11 +11,6 @@ pub use Rattle.claim_file.specs.Claim.{ClaimData, data_of, group_count, max_serv
 pub use Rattle.era_unfold.specs.Nanoseconds.{ticks_down}
 pub use Rattle.feasibility.specs.Contradiction.{ShownConflict}
 pub use Rattle.feasibility.specs.PairMarks.{conflict_data}
-pub use Rattle.finder.specs.Entry.{parts_named}
-pub use Rattle.finder.specs.Envelope.{EnvelopeData, IsLawfulEnvelope, IsLawfulPiece, PieceHullData}
-pub use Rattle.finder.specs.Envelope.{data_of as envelope_data, piece_data}
-pub use Rattle.finder.specs.declared.least.LeastBound.{LeastBound}
-pub use Rattle.finder.specs.declared.least.LeastBound.TheVariants.{Holds, NoneHolds}
 pub use Rattle.intersection.specs.declared.kinds.Hull.{Hull}
 pub use Rattle.intersection.specs.declared.kinds.Hull.TheVariants.{Bounded, Empty, Unbounded}
 pub use Rattle.line_writer.specs.Field.{Address, Billionths, Blank, FieldData, Heading, High, Instead, Label, Low}

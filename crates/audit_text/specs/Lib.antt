@@ -5,11 +5,9 @@ pub mod Table
 pub mod SampleLine
 pub mod CountsLine
 pub mod Samples
-pub mod LeastLine
 pub mod Parts
 pub mod CheckReport
 pub mod Nothing
-pub mod Envelope
 pub mod Refutation
 pub mod Settlement
 pub mod Excess

@@ -1,14 +1,12 @@
 //! What holds of the definitions that the contracts cite. A law is a function that does nothing:
 //! its contract is the law.
 
-ghost use Rattle.std.specs.Prelude.{◌≡◌, ◌↔◌, ℕ, ◌<◌, ℤ, true, unsigned_abs, IsTrue};
-ghost use Rattle.audit_text.specs.Common.{ticks_down, ClaimData, Hull, Exchange, Part, PieceHullData};
-ghost use Rattle.audit_text.specs.Envelope.{piece_columns, piece_fields, server_columns};
+ghost use Rattle.std.specs.Prelude.{◌↔◌, ℕ, ◌<◌, ℤ, unsigned_abs, IsTrue};
+ghost use Rattle.audit_text.specs.Common.{ticks_down, ClaimData, Hull, Exchange, Part};
 ghost use Rattle.audit_text.specs.Excess.{is_beyond};
 ghost use Rattle.audit_text.specs.Parts.{hull_fields, part_columns, part_fields};
 ghost use Rattle.audit_text.specs.SampleLine.{sample_columns, sample_fields};
 ghost use Rattle.audit_text.specs.Table.{IsUnder};
-ghost use Rattle.audit_text.specs.declared.envelope.EnvelopeOptions.{EnvelopeOptions};
 
 /// An error is shown as beyond a bound in nanoseconds just if it is beyond the bound in ticks.
 pub fn errors_are_shown_beyond_just_if_they_are()
@@ -23,9 +21,4 @@ pub fn rows_stand_under_their_headings()
     ensures moments { (claim : ClaimData) (part : Part) →
         IsUnder part_columns (part_fields claim part) }
     ensures hulls { (hull : Hull) → IsUnder part_columns (hull_fields hull) }
-    ensures pieces { (asked : EnvelopeOptions) (number : ℕ) (piece : PieceHullData) →
-        IsUnder (piece_columns asked) (piece_fields number piece) }
-    ensures servers { (asked : EnvelopeOptions) → asked.servers ≡ true →
-        (claim : ClaimData) (number : ℕ) (piece : PieceHullData) (part : Part) →
-        IsUnder (piece_columns asked) (server_columns claim number piece part) }
 {}

@@ -2,8 +2,7 @@
 //!
 //! [`samples_text`] shows the samples of a capture, [`parts_text`] what each server says about the
 //! clock at one moment, [`check_text`] a verdict and what it stands on, [`nothing_text`] a piece
-//! for which no certificate was found, [`envelope_text`] what is known of the error in each piece
-//! and the least bound that holds, and [`refuted_text`] whether a refutation is accepted. Each
+//! for which no certificate was found, and [`refuted_text`] whether a refutation is accepted. Each
 //! makes a whole text, of lines that end with a line feed, or is out of memory; what the lines say
 //! was calculated before. The line of each notion stands in `specs/` under its name.
 //!
@@ -27,10 +26,8 @@ mod answer;
 mod bound_lines;
 mod check_report;
 mod counts_line;
-mod envelope;
 mod excess;
 pub mod laws;
-mod least_line;
 mod nothing;
 mod parts;
 mod refutation;
@@ -40,18 +37,16 @@ mod samples;
 mod second;
 mod settlement;
 mod silent_lines;
-mod step;
 mod table;
 
 pub use answer::{evidence_answer, found_answer, open_answer, refutation_answer, shown_answer};
 pub use check_report::{Findings, add_about, check_text};
 pub use counts_line::write_counts_line;
-pub use envelope::{EnvelopeOptions, PLAIN_ENVELOPE, envelope_text};
-pub use least_line::LeastLine;
 pub use nothing::nothing_text;
 pub use parts::parts_text;
 pub use refutation::{no_refutation_text, refuted_text};
-pub use sample_line::write_sample_line;
+pub use sample_line::{server_of, write_sample_line};
 pub use samples::samples_text;
+pub use second::second_of;
 pub use settlement::{conflicts_text, evidence_text, open_text};
-pub use step::Step;
+pub use table::{add_heading, add_row, hull_high, hull_low, is_plain, word_for};

@@ -28,7 +28,7 @@ pub(crate) const COLUMNS: [Field<'static>; 10] = [
 ];
 
 /// The address of a server, by its number.
-pub(crate) fn server_of(claim: &Claim, number: u8) -> [u8; 4]
+pub fn server_of(claim: &Claim, number: u8) -> [u8; 4]
     requires { number < length claim.now.servers.items }
     ensures { result ≡ server_of (data_of claim.now) number }
 {

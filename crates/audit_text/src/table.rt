@@ -10,14 +10,14 @@ use line_writer::{Field, Style, add_line};
 use std::alloc::AllocError;
 
 /// Whether it is for programs.
-pub(crate) fn is_plain(style: Style) -> bool
+pub fn is_plain(style: Style) -> bool
     ensures { result ≡ spec.is_plain style }
 {
     matches!(style, Style::Plain)
 }
 
 /// A word for programs, or another for a person.
-pub(crate) fn word_for(style: Style, program: &'static str, person: &'static str) -> Field<'static>
+pub fn word_for(style: Style, program: &'static str, person: &'static str) -> Field<'static>
     ensures { field_data result ≡ spec.word_for style program.now person.now }
 {
     Field::Word(if is_plain(style) { program } else { person })
@@ -36,7 +36,7 @@ pub(crate) fn for_person(style: Style, field: Field<'static>) -> Field<'static>
 
 /// Adds the headings of these columns, for a person.
 #[tactic(auto, unfolding(crate::specs::Table::heading))]
-pub(crate) fn add_heading(
+pub fn add_heading(
     text: &mut Vec<u8>,
     style: Style,
     columns: &[Field<'_>],
@@ -63,11 +63,7 @@ fn without_blanks<'a, 'b>(mut fields: &'a [Field<'b>]) -> &'a [Field<'b>]
 
 /// Adds a row of a table.
 #[tactic(auto, unfolding(crate::specs::Table::row_of))]
-pub(crate) fn add_row(
-    text: &mut Vec<u8>,
-    style: Style,
-    fields: &[Field<'_>],
-) -> Result<(), AllocError>
+pub fn add_row(text: &mut Vec<u8>, style: Style, fields: &[Field<'_>]) -> Result<(), AllocError>
     ensures { IfOk result (λ _. text.new.items ≡
         text.old.items ++ row_of style (map field_data fields.now)) }
 {
@@ -80,7 +76,7 @@ pub(crate) fn add_row(
 }
 
 /// The low end of what is known of the error, or a word.
-pub(crate) fn hull_low(hull: Hull) -> Field<'static>
+pub fn hull_low(hull: Hull) -> Field<'static>
     ensures { field_data result ≡ spec.hull_low hull }
 {
     match hull {
@@ -91,7 +87,7 @@ pub(crate) fn hull_low(hull: Hull) -> Field<'static>
 }
 
 /// The high end of what is known of the error, or a blank column.
-pub(crate) fn hull_high(hull: Hull) -> Field<'static>
+pub fn hull_high(hull: Hull) -> Field<'static>
     ensures { field_data result ≡ spec.hull_high hull }
 {
     match hull {

@@ -8,7 +8,7 @@ use Rattle.clap.specs.Simple.{App, is_simple, subcommand_of}
 use Rattle.clap.specs.Walk.{Row, Text}
 use Rattle.clap.specs.declared.error.kind.ErrorKind.{ErrorKind}
 use Rattle.clap.specs.declared.error.kind.ErrorKind.TheVariants.{OutOfMemory}
-use Rattle.command_line.specs.Commands.{ntpaudit}
+use Rattle.command_table.specs.Commands.{ntpaudit}
 use Rattle.command_line.specs.Invocation.{IsCalledBy}
 use Rattle.command_line.specs.Words.{IsReadOnce, IsTold, Means, MeansBy, counted}
 use Rattle.program.specs.declared.invocation.Invocation.{Invocation}

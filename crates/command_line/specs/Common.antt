@@ -3,14 +3,7 @@ pub use Rattle.audit.specs.declared.question.Request.{Request}
 pub use Rattle.byte_stream.specs.State.{IsWritable}
 pub use Rattle.claim_file.specs.Time.{time_of}
 pub use Rattle.clap.specs.Kinds.{IsAmong, Kinds}
-pub use Rattle.clap.specs.Simple.{new_shape}
-pub use Rattle.clap.specs.Walk.{is_empty}
-pub use Rattle.clap.specs.Words.{App, Row, Rule, Shape, Text, app_of, fault_of, first_of, found_of, kind_of, new_rule}
-pub use Rattle.clap.specs.Words.{one_of, rows_of, rule_of, subcommand_of}
-pub use Rattle.clap.specs.declared.builder.action.ArgAction.TheVariants.{SetTrue}
-pub use Rattle.clap.specs.declared.builder.command.Command.{Command}
-pub use Rattle.clap.specs.declared.builder.command.Command.TheViews.{out-Command}
-pub use Rattle.clap.specs.declared.builder.value_parser.ValueParser.TheVariants.{Signed}
+pub use Rattle.clap.specs.Words.{Row, Text, fault_of, first_of, found_of, kind_of, one_of, rows_of, subcommand_of}
 pub use Rattle.clap.specs.declared.error.kind.ErrorKind.{ErrorKind}
 pub use Rattle.clap.specs.declared.error.kind.ErrorKind.TheVariants.{DisplayHelp, DisplayVersion, OutOfMemory}
 pub use Rattle.clap.specs.declared.parser.matches.ArgMatches.{ArgMatches}

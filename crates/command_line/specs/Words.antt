@@ -1,7 +1,7 @@
 -- What the words of a command line call for.
 use Rattle.std.specs.Prelude.{◌≡◌, ◌&&◌, ◌||◌, Bool, true, false, List, [], ◌∷◌, Option, String, if◌then◌else◌, nat_lt, codes, count_by, map, option_map, slice_get, string_bytes, take, unwrap_or}
 use Rattle.command_line.specs.Common.{option_map_or, bytes_eq, Global, IsAmong, Kinds, Row, Text, fault_of, subcommand_of, ErrorKind, DisplayHelp, DisplayVersion, IsRefusal, Invocation, Paths}
-use Rattle.command_line.specs.Commands.{ntpaudit}
+use Rattle.command_table.specs.Commands.{ntpaudit}
 use Rattle.command_line.specs.Invocation.{IsCalledBy}
 use Rattle.program.specs.declared.invocation.Invocation.TheVariants as calls
 

@@ -1,9 +1,8 @@
-//! The program as it is called: the words of a command line, what they call for, and what is said
-//! of the answer to a person.
+//! The program as it is called: the words of a command line, and what they call for.
 //!
-//! The words are read by the table of commands, `specs/Commands`, and what they call for is done,
-//! over any files and outputs; `specs/Run` says what follows. [`run_process`] does so with the
-//! words and the outputs of the process, and [`say`] comes when the answer is out.
+//! The words are read by the table of commands, and what they call for is done, over any files and
+//! outputs; `specs/Run` says what follows. [`run_process`] does so with the words and the outputs
+//! of the process.
 //!
 //! `run`, in `command_line/src/run.rt`:
 //!
@@ -20,10 +19,7 @@ mod advice;
 mod command;
 mod misuse;
 mod run;
-mod second_look;
-mod warning;
 mod words;
 
 pub use run::run_process;
-pub use second_look::{path_of, say};
 pub use words::words_of;

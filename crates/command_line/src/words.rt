@@ -5,10 +5,11 @@ ghost use Rattle.command_line.specs.Common.{kind_of, OutOfMemory};
 ghost use Rattle.command_line.specs.Words.{IsTold, Means};
 
 use crate::advice::{advised, counted};
-use crate::command::{invocation_of, program};
+use crate::command::invocation_of;
 use crate::misuse::read_once;
 use clap::{Error, error};
-use program::Invocation;
+use command_table::ntpaudit;
+use program::{Invocation, VERSION};
 use std::alloc::{AllocError, Global};
 use std::env;
 use std::io::ErrorKind;
@@ -35,7 +36,7 @@ pub(crate) fn read_words(alloc: Global, words: &[String]) -> Result<Invocation, 
     ensures { IfOk result (Means words.now) }
 {
     let words = counted(words);
-    match program(alloc)?.try_get_matches_from(words) {
+    match ntpaudit(alloc, VERSION)?.try_get_matches_from(words) {
         Ok(matches) => read_once(alloc, invocation_of(alloc, &matches)?),
         Err(error) => explained(alloc, words, &error),
     }

@@ -1,7 +1,9 @@
 -- The numbers and marks of a group, as they are gathered.
-use Rattle.feasibility.proofs.Common.{rules, ◌≡◌, ℕ, ◌+◌, ◌<◌, ⊎_elim, List, [], ◌∷◌, ◌++◌, drop, length, map, Bool, true, false, refl, sym, ap, ◌∙◌, subst, get_or, arith, All, ◌==◌, filter, get_or-append, length-append, append_snoc, get_or-append_seam, ClaimData, low_mark, high_mark, IsWithinRange, Mark, Exchange, group_of, group_lows, group_highs, numbers_from, group_numbers, not_lt_zero}
+use Rattle.feasibility.proofs.Common.{rules, ◌≡◌, ℕ, ◌+◌, ◌<◌, ◌≤◌, ⊎_elim, List, [], ◌∷◌, ◌++◌, drop, length, map, Bool, true, false, refl, sym, ap, ◌∙◌, subst, get_or, arith, All, ◌==◌, filter, MatchOption, drop_of_length-le, get_or-append, length-append, append_snoc, get_or-append_seam, ClaimData, low_mark, high_mark, IsWithinRange, Mark, Exchange, group_of, group_lows, group_highs, numbers_from, group_numbers, AreNumberedOf, IsImpossibleAt, IsFirstImpossible, not_lt_zero}
+use Rattle.std.proofs.lemmas.List.{append-nil}
 use Rattle.feasibility.proofs.KeptMarkLists.{with_last}
 use Rattle.feasibility.proofs.PassingNumbers.{counted}
+use Rattle.feasibility.specs.declared.numbered_marks.NumberedMarks.{NumberedMarks}
 
 -- the exchanges before the one with this number were gone through
 pub record IsNumbering (claim : ClaimData) (group : ℕ) (xs : List Exchange) (k : ℕ) (numbers : List ℕ)
@@ -53,6 +55,20 @@ module _ (claim : ClaimData) (group : ℕ) (xs : List Exchange) where
         high_count = as_many highs highs' _ numbers numbers' k highs_grow numbers_grow before.high_count;
         low_range = with_last lows (low_mark claim.reading x) lows' lows_grow before.low_range low;
         high_range = with_last highs (high_mark claim.reading x) highs' highs_grow before.high_range high;
+      }
+
+  -- at the end they are all
+  pub all_numbered : (k : ℕ) (marks : NumberedMarks) → length xs ≤ k
+      → IsNumbering claim group xs k marks.numbers.items marks.lows.items marks.highs.items
+      → MatchOption marks.alone ((j : ℕ) → ¬ (IsImpossibleAt claim xs group j)) (IsFirstImpossible claim xs group)
+      → AreNumberedOf claim xs group marks
+  all_numbered k marks past gone alone =
+      let none : drop k xs ≡ [] = drop_of_length-le xs past in
+      record {
+        numbers = sym (gone.numbers_are ∙ rw none (append-nil marks.numbers.items));
+        lows = sym (gone.lows_are ∙ rw none (append-nil marks.lows.items));
+        highs = sym (gone.highs_are ∙ rw none (append-nil marks.highs.items));
+        alone = alone;
       }
 
 -- ---- a list for each group, one group after another

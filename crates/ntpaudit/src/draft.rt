@@ -3,9 +3,9 @@
 //! FILE.part is made anew, so that nobody else's file or link is followed or overwritten. What the
 //! system does with files is in no clause: `tests/system/test_outputs.py` tries it.
 
-use command_line::path_of;
 use fault_words::Obstacle;
 use program::{Hindrance, Paths, path_or_none};
+use second_look::path_of;
 use std::fs::{File, Files, Metadata, OpenOptions};
 use std::io::{Error, ErrorKind, Write};
 use std::os::unix::fs::MetadataExt;

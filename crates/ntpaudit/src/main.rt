@@ -9,7 +9,8 @@ mod draft;
 mod files;
 
 use crate::files::Host;
-use command_line::{run_process, say, words_of};
+use command_line::{run_process, words_of};
+use second_look::say;
 use std::hash::{BuildHasher, BuildHasherDefault, FoldHasher, RandomState};
 use std::process::ExitCode;
 

@@ -8,8 +8,9 @@
 #![tactic(auto)]
 
 use byte_stream::Cut;
-use command_line::{run_process, say, words_of};
+use command_line::{run_process, words_of};
 use program::{Place, STDIN, Table};
+use second_look::say;
 use std::alloc::AllocError;
 use std::fs;
 use std::fs::{File, Files};

@@ -1,44 +1,13 @@
-//! One operand or option of a command: how it's declared, and what is read of it.
+//! What is read of one operand or option.
 
-ghost use Rattle.std.specs.Prelude.{◌≡◌, IfOk, IfSome, Some, codes, false, option_map, string_bytes};
-ghost use Rattle.command_line.specs.Common.{first_of, rule_of, is_human};
-ghost use Rattle.command_line.specs.Commands as table;
+ghost use Rattle.std.specs.Prelude.{◌≡◌, IfOk, IfSome, Some, codes, option_map, string_bytes};
+ghost use Rattle.command_line.specs.Common.{first_of, is_human};
 ghost use Rattle.command_line.specs.Invocation as spec;
 ghost use Rattle.command_line.specs.Invocation.{IsFlag, found_rows, step_given};
 
 use audit::{Step, Style};
-use clap::{Arg, ArgAction, ArgMatches};
+use clap::ArgMatches;
 use std::alloc::{AllocError, Global};
-
-/// An operand that has to be found_rows, with these words about it.
-pub(crate) fn required<'a>(alloc: Global, name: &'a str, help: &'a str) -> Arg<'a>
-    ensures rule { rule_of result ≡ table.required name.now }
-    ensures local { result.global ≡ false }
-{
-    Arg::new(alloc, name).help(help).required(true)
-}
-
-/// An option with a value, which help calls so, with these words about it.
-pub(crate) fn valued<'a>(alloc: Global, name: &'a str, value: &'a str, help: &'a str) -> Arg<'a>
-    ensures rule { rule_of result ≡ table.valued name.now }
-    ensures local { result.global ≡ false }
-{
-    Arg::new(alloc, name)
-        .long(name)
-        .value_name(value)
-        .help(help)
-}
-
-/// An option without a value, with these words about it.
-pub(crate) fn flag<'a>(alloc: Global, name: &'a str, help: &'a str) -> Arg<'a>
-    ensures rule { rule_of result ≡ table.flag name.now }
-    ensures local { result.global ≡ false }
-{
-    Arg::new(alloc, name)
-        .long(name)
-        .help(help)
-        .action(ArgAction::SetTrue)
-}
 
 /// Whether an option without a value was given.
 pub(crate) fn is_given(words: &ArgMatches, name: &str) -> bool
@@ -79,14 +48,6 @@ pub(crate) fn text_of(
     }
 }
 
-/// The option `--human`, with these words about it.
-pub(crate) fn human_option<'a>(alloc: Global, help: &'a str) -> Arg<'a>
-    ensures rule { rule_of result ≡ table.human }
-    ensures local { result.global ≡ false }
-{
-    flag(alloc, "human", help).short('H')
-}
-
 /// For whom the answer is written.
 pub(crate) fn style(words: &ArgMatches) -> Style
     ensures human { IsFlag (codes "human") (found_rows words.now) (is_human result) }
@@ -97,16 +58,6 @@ pub(crate) fn style(words: &ArgMatches) -> Style
     } else {
         Style::Plain
     }
-}
-
-/// The option `--step`, with these words about it.
-pub(crate) fn step_option<'a>(alloc: Global, help: &'a str) -> Arg<'a>
-    ensures rule { rule_of result ≡ table.step }
-    ensures local { result.global ≡ false }
-{
-    valued(alloc, "step", "N", help)
-        .value_parser(clap::value_parser!(u32).range(1..=86_400))
-        .default_value("64")
 }
 
 /// The length of a piece that is asked for.

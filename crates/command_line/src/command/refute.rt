@@ -1,35 +1,13 @@
 //! The command `refute`.
 
 ghost use Rattle.std.specs.Prelude.{IfOk, codes};
-ghost use Rattle.command_line.specs.Commands as table;
 ghost use Rattle.command_line.specs.Invocation.{IsCalled, found_rows};
 
-use crate::command::argument::{flag, is_given, required};
-use crate::command::evidence::{evidence_command, judged_paths, sums_option};
-use clap::{ArgMatches, Command};
+use crate::command::argument::is_given;
+use crate::command::evidence::judged_paths;
+use clap::ArgMatches;
 use program::{Invocation, Judgement};
 use std::alloc::{AllocError, Global};
-
-const HELP: &str = "\
-Prints:   `refuted yes` or `refuted no`. With --human also what the refutation says: its error in
-          milliseconds, when, how far beyond the bound, and which servers would be wrong
-Status:   0 yes; 1 no; 2 an input is refused; 3 out of memory; 4 a file or the output failed; 5 the
-          command line is refused
-Example:  ntpaudit refute claim.json recording.pcap refutation.json
-More:     man ntpaudit, which says when a refutation stands";
-
-/// The command, its operands and options.
-pub(crate) fn declaration<'a>(alloc: Global) -> Result<Command<'a>, AllocError>
-    ensures { IfOk result (table.IsDeclared table.refute) }
-{
-    let refutation = required(alloc, "REFUTATION", "The refutation, a JSON file");
-    let drift = "Let the clock's error drift as the claim grants, not stay the same";
-    let about = "Check a refutation of a claim against a capture";
-    evidence_command(alloc, "refute", about, HELP)?
-        .arg(refutation)?
-        .arg(flag(alloc, "drift", drift))?
-        .arg(sums_option(alloc))
-}
 
 /// What its words call for.
 pub(crate) fn invocation(alloc: Global, words: &ArgMatches) -> Result<Invocation, AllocError>

@@ -1,4 +1,5 @@
 use Rattle.error_marks.proofs.Compatibility.{of_sorted}
+use Rattle.feasibility.proofs.Common.{refl}
 use Rattle.feasibility.proofs.SortedMarks.{kept_range, order_there, range_there, written}
 use Rattle.feasibility.proofs.kept_marks.KeptMarks.sort_and_compare.Goals as goal
 
@@ -35,3 +36,13 @@ returns-clause-sorted c = record {
   high_order = order_there c.args.self.now.highs c.deref_mut-2.result.now c.sort_marks-2.new.marks
       c.deref_mut-2.ensures.value c.sort_marks-2.ensures.permutation c.sort_marks-2.ensures.order;
 }
+
+pub returns-clause-lows : goal.returns-clause-lows
+returns-clause-lows c =
+    written c.args.self.now.lows c.deref_mut.result.now c.sort_marks.new.marks c.deref_mut.ensures.value
+    c.sort_marks.ensures.permutation _ refl
+
+pub returns-clause-highs : goal.returns-clause-highs
+returns-clause-highs c =
+    written c.args.self.now.highs c.deref_mut-2.result.now c.sort_marks-2.new.marks c.deref_mut-2.ensures.value
+    c.sort_marks-2.ensures.permutation _ refl

@@ -1,6 +1,6 @@
-use Rattle.feasibility.proofs.Common.{rules, ℤ, to_z, of_z, ◌≡◌, ◌+◌, [], ◌∷◌, ◌++◌, drop, length, map, sym, ap, ◌∙◌, subst, w128, data_of as claim_data, low_mark, high_mark, IsWithinRange, Mark}
+use Rattle.feasibility.proofs.Common.{rules, ℤ, to_z, of_z, ◌≡◌, ◌+◌, ◌≤◌, [], ◌∷◌, ◌++◌, drop, length, map, length-map, sym, ap, ◌∙◌, subst, w128, data_of as claim_data, low_mark, high_mark, IsWithinRange, Mark}
 use Rattle.feasibility.proofs.KeptMarkLists.{first_left, lawful_shown}
-use Rattle.feasibility.proofs.Numbering.{past_other, past_own}
+use Rattle.feasibility.proofs.Numbering.{all_numbered, past_other, past_own}
 use Rattle.feasibility.proofs.numbered_marks.NumberedMarks.of_group.Goals as goal
 use Rattle.feasibility.proofs.numbered_marks.NumberedMarks.of_group.Goals.{then-is_of+in_ok-push+in_ok-push-2+in_ok-push-3, else-is_of}
 
@@ -54,3 +54,21 @@ loop-number-preserved g c =
           (past_other claim c.args.group xs k x numbers lows highs split c.loop-number.invariant
           (sym c.is_of.ensures ∙ w.if-is_of.false))
     ]
+
+pub returns-clause-numbered : goal.returns-clause-numbered
+returns-clause-numbered g c =
+    let gone = c.loop-number.invariant in
+    record {
+      low_count = gone.low_count;
+      high_count = gone.high_count;
+      low_range = gone.low_range;
+      high_range = gone.high_range;
+    }
+
+pub returns-clause-exact : goal.returns-clause-exact
+returns-clause-exact g c =
+    let xs = map g.X.ToExchange.shown c.args.exchanges.now in
+    let past : length xs ≤ c.loop-number.number =
+    rw (length-map c.args.exchanges.now g.X.ToExchange.shown) c.loop-number-test.false in
+    all_numbered (claim_data c.args.claim.now) c.args.group xs c.loop-number.number _ past c.loop-number.invariant
+    c.first_impossible-alone.ensures

@@ -1,0 +1,28 @@
+//! The command `at`.
+
+ghost use Rattle.std.specs.Prelude.{IfOk};
+ghost use Rattle.command_table.specs.Commands as table;
+
+use crate::argument::required;
+use crate::evidence::evidence_command;
+use clap::Command;
+use std::alloc::{AllocError, Global};
+
+const HELP: &str = "\
+Prints:   a line for each server that has a sample, `SERVER LO HI`: the clock's error, from LO to HI
+          ticks of 2^-32 s, if this server is right; then `hull LO HI`, `hull unbounded` or
+          `hull empty`: the clock's error if at most false_max groups of servers are wrong.
+          With --human milliseconds, in columns under a heading
+Status:   0 done; 2 an input is refused; 3 out of memory; 4 a file or the output failed; 5 the
+          command line is refused
+Example:  ntpaudit at claim.json recording.pcap 2026-11-22T06:46:09Z
+More:     man ntpaudit";
+
+/// The command, its operands and options.
+pub(crate) fn declaration<'a>(alloc: Global) -> Result<Command<'a>, AllocError>
+    ensures { IfOk result (table.IsDeclared table.at) }
+{
+    let time = "The moment, as 2026-11-22T06:46:09Z; it may lie outside the claim's span";
+    let about = "Print what a capture says about the clock at one moment";
+    evidence_command(alloc, "at", about, HELP)?.arg(required(alloc, "TIME", time))
+}
