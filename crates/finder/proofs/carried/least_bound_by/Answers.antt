@@ -20,8 +20,11 @@ loop-least-preserved c =
       in_order = omega (arith, c.trial-tried_ns.ensures.below_high);
       small = before.small;
       carried = before.carried;
-      first = λ samples tabled. inr (c.trial-tried_ns.result, refl,
-          rw c.in-Some.is at (c.in_ok-try_bound.ensures samples tabled));
+      first = λ samples tabled. inr (
+        c.trial-tried_ns.result,
+        refl,
+        rw c.in-Some.is at (c.in_ok-try_bound.ensures samples tabled),
+      );
     }
 
 pub loop-least-preserved-in-None : goal.loop-least-preserved-in-None
