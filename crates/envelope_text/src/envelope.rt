@@ -261,8 +261,8 @@ pub fn envelope_text<S: SampleSource>(
     requires samples { AreSamplesOf (data_of claim.now) (S.samples samples) }
     requires few { length envelope.now.pieces.items ≤ max_pieces }
     requires envelope { IsLawfulEnvelope (length (S.samples samples)) envelope.now }
-    ensures { IfOk result (λ text. text.items ≡ spec.envelope_text style asked (S.samples samples)
-        (data_of claim.now) (envelope_data envelope.now) least) }
+    ensures { IfOk result (λ text. text.items ≡ spec.envelope_text style asked
+        (S.samples samples) (data_of claim.now) (envelope_data envelope.now) least) }
 {
     let mut text = Vec::new(alloc);
     add_heading(&mut text, style, columns(asked))?;

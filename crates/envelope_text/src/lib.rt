@@ -1,8 +1,8 @@
 //! The text of `envelope`.
 //!
-//! [`envelope_text`] shows what is known of the clock's error in each piece of a span, and the least
-//! bound that holds in all of them; what its lines say was calculated before. [`laws`] has what
-//! holds of its columns.
+//! [`envelope_text`] shows what is known of the clock's error in each piece of a span, and the
+//! least bound that holds in all of them; what its lines say was calculated before. [`laws`] has
+//! what holds of its columns.
 //!
 //! The text of an envelope that was found, as `tell` of `audit/src/question/envelope.rt` has it
 //! made, with its proof:
