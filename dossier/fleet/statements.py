@@ -6,7 +6,7 @@ from typing import Annotated
 from ..fault import fault
 from ..folder.claim import Claim
 from ..folder.entry import SKEW, YES, LeapList
-from ..folder.files import AUDIT, YEAR, Folder, sum_of
+from ..folder.files import AUDIT, YEAR, Folder, absolute, sum_of
 from ..folder.registry import Known
 from ..folder.result import Year
 from ..records import dataclass, field, replace
@@ -89,7 +89,7 @@ def read_statements(data: bytes) -> Statements:
 
 def sums_of(place: str, year: Year) -> bytes:
     """The sums of a machine's days, with paths as seen from a folder."""
-    machine = os.path.relpath(year.machine, place)
+    machine = os.path.relpath(absolute(year.machine), absolute(place))
     rows = (f"{day.sha256}  {machine}/{day.folder}/{AUDIT}\n" for day in year.days if day.sha256)
     return "".join(rows).encode("utf-8", "surrogateescape")
 
@@ -133,7 +133,7 @@ def days_in(folder: Folder, stated: Stated) -> list[str]:
 
 def folders_above(path: str) -> set[str]:
     """The absolute paths of a folder and of those in which it is."""
-    parts = os.path.abspath(path).split("/")
+    parts = absolute(path).split("/")
     return {"/".join(parts[:k]) or "/" for k in range(1, len(parts) + 1)}
 
 
@@ -141,7 +141,7 @@ def may_be(name: str, machine: str) -> bool:
     """Whether a machine may have been called so where its year was made: its folder's own name is the same. What stands
     before that is no part of a sentence: it is as here, or has no blank."""
     above, own = os.path.split(name)
-    is_here = plain(os.path.abspath(machine)).endswith(f"/{os.path.normpath(name).lstrip('./')}")
+    is_here = plain(absolute(machine)).endswith(f"/{os.path.normpath(name).lstrip('./')}")
     return own == plain(os.path.basename(machine)) and (is_here or above == plain(above) and " " not in above)
 
 

@@ -172,14 +172,14 @@ class Comparison:
 def verify_all(folders: list[str], verifier: Verifier, signers: Signers, seconds: int) -> int:
     """Prints `verified` and the verdict, or the first difference, a line for each folder, and notes. The status is 0 if
     all is verified and shown, and 1 if something isn't; or a fault's."""
-    worst, seen, named = 0, dict[str, str](), {os.path.abspath(folder) for folder in folders}
+    worst, seen, named = 0, dict[str, str](), {files.absolute(folder) for folder in folders}
     below = {folder: days_below(folder, named, seconds) for folder in folders}
     every = [each for folder in folders for each in (*below[folder], folder)]
     above = {path for days in below.values() for day in days for path in folders_above(os.path.dirname(day))}
 
     def work(path: str, _: int) -> Result:  # (a year's signature is one for its days)
-        is_named = os.path.abspath(path) in named
-        if is_named and os.path.abspath(path) in above and is_of_days(path):
+        is_named = files.absolute(path) in named
+        if is_named and files.absolute(path) in above and is_of_days(path):
             return Result(lines=["(a year's days are in it)"])
         return verify(verifier, signers if is_named else Signers(None), path, named)
     for path, found in run_all(every, work, seconds):

@@ -57,6 +57,11 @@ def is_capture(name: str) -> bool:
     return bool(CAPTURE.fullmatch(name)) and name != JOINED
 
 
+def absolute(path: str) -> str:
+    """The absolute path of what the command line names, in a folder's own process too: that one is elsewhere."""
+    return os.path.normpath(os.path.join(os.readlink(f"/proc/self/fd/{HOME}"), path))
+
+
 def limit_of(name: str) -> int:
     """The bytes that a file of this name may have."""
     file = name.rpartition("/")[2]

@@ -61,6 +61,11 @@ def test_signatures(place: Path) -> None:
     check("an unsigned folder", run=(said[unsigned], (1, f"{unsigned}: nobody signed it\n".encode(), b"")))
     check("a stranger's signature", status=(said[strange][0], 1), words=(b"may not sign" in said[strange][1], True),
           named=(b"by mallory" in said[strange][1], False))
+    for folder, (status, out, _) in said.items():
+        for name, home in ((folder.name, place), (".", folder)):
+            check(f"{folder.name}, named {name}",
+                  run=(dossier("verify", "--signers", signers, name, cwd=home)[:2],
+                       (status, out.replace(str(folder).encode(), name.encode()))))
     text = dossier("page", "--signers", signers, *folders)[1].decode()
     check_page("a page of signatures", text)
     day, hour = at[:10], at[11:19]

@@ -160,6 +160,9 @@ def test_signed_year(place: Path) -> None:
           by=(any("by key@example.org" in line for line in lines), True),
           end=(f"{pages}: verified: its statements follow from its days" in lines, True),
           named=(lines[-1], f"{place / 'fleet'}: (a year's days are in it)"))
+    check("verify a year by relative names",
+          run=(dossier("verify", "--signers", signers, "pages", "fleet", cwd=place)[:2],
+               (status, out.replace(f"{place}/".encode(), b""))))
     status, out, _ = dossier("verify", pages)
     check("a year whose days are in no folder that is named", status=(status, 2), days=(out.count(b"2001-09-09"), 1),
           told=(out.decode().partition("\n")[0], f"{pages}: ntpaudit-dossier: {own}/2001-09-09 is in no folder that is "
