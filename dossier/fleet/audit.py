@@ -21,6 +21,7 @@ from ..records import dataclass
 from ..text import label
 from ..verdict.making import Making, sums_of_inputs
 from ..verdict.sentences import line_of, refusal_of
+from .days import is_day
 from .metrics import Sample, of_record, of_verdict, write_metrics
 
 
@@ -58,16 +59,21 @@ def audit_all(folders: list[str], wanted: Wanted, jobs: int, seconds: int, metri
 
 
 def audit(wanted: Wanted, path: str, _: int) -> Result:
-    """Audits a folder and leaves its files, audit.json last.
+    """Audits a folder and leaves its files, audit.json last. No other call writes there meanwhile.
 
     A refusal is an audit too, and is written down. A fault is raised only if that isn't possible, or if the folder is
     signed and would have to be audited again.
     """
-    with Folder(path) as folder:
+    with Folder(path) as folder, wanted.known.alone(folder):
         is_ones_own(folder.place)
         old = known_record(folder, wanted.known)
         if old and not wanted.again and is_same(folder, old, wanted):
             return result_of(path, old, wanted.known, " (unchanged)")
+        return audited_anew(wanted, path, old)
+
+
+def audited_anew(wanted: Wanted, path: str, old: Record | None) -> Result:
+    """Makes an audit, and puts it in place."""
     with Folder(path) as folder:
         is_signed = folder.has(files.SIGNATURE)
         if is_signed and not wanted.again:
@@ -78,10 +84,9 @@ def audit(wanted: Wanted, path: str, _: int) -> Result:
         except Fault as found:
             record = making.refused(found)
         text, stale = record_text(record), {*LEFT, *(old.outputs if old else ()), files.SIGNATURE}
-        made: dict[str, Iterable[bytes]] = {name: blocks_of(name) for name in record.outputs}
-        with wanted.known.alone(folder):
-            keep_recordings(folder, record)
-            place(folder, {**made, files.AUDIT: [text]}, stale - record.outputs.keys())
+        outputs: dict[str, Iterable[bytes]] = {name: blocks_of(name) for name in record.outputs}
+        keep_recordings(folder, record)
+        place(folder, {**outputs, files.AUDIT: [text]}, stale - record.outputs.keys())
     wanted.known.add(sum_of(text), record)
     removed = [f"{'':14}{label(path)}: its signature was removed"] if is_signed else []
     return result_of(path, record, wanted.known, "", removed)
@@ -114,7 +119,7 @@ def known_record(folder: Folder, known: Known) -> Record | None:
     """The folder's record, if it was made or verified here."""
     try:
         data = folder.data(files.AUDIT)
-        return known.shown(sum_of(data), read_record(data))
+        return known.shown_now(sum_of(data), read_record(data))
     except Fault:
         return None
 
@@ -151,7 +156,9 @@ def change_of(folder: Folder, record: Record) -> str:
         if folder.sum(name) != sum_:
             return (f"{label(name)} was changed since the audit ({short(folder.sum(name))}, {files.AUDIT} has "
                     f"{short(sum_)})")
-    more = next(filter(folder.has, sorted(LEFT - record.outputs.keys())), None)
+    days = filter(is_day, filter(folder.is_folder, folder.names() if record.options.days else ()))
+    left = {f"{part}{name}" for part in ("", *(f"{day}/" for day in days)) for name in LEFT} | {files.YEAR}
+    more = next(filter(folder.has, sorted(left - record.outputs.keys())), None)
     return f"{more} isn't of this audit: {files.AUDIT} has no sum of it" if more else ""
 
 

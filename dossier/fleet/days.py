@@ -134,4 +134,4 @@ def told_of(name: str, entry: Entry, record: Record, sum_: str, dispute: str) ->
         return Found(Told(name, WITHOUT, plain(name), f"{claim.from_} to {claim.to} is no day"), claim)
     told = Told(date, DISPUTED, plain(name), dispute, sha256=sum_) if dispute else \
         Told(date, entry.verdict, plain(name), reason(entry), entry.least_ns, sum_)
-    return Found(told, claim, record.program, record.captures)
+    return Found(told, claim, record.program, record.recordings)

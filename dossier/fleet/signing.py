@@ -50,13 +50,13 @@ def to_be_signed(known: Known, leaps: LeapList, path: str, _: int) -> Result:
     isn't what it says, that is said. A year's statements likewise, if they follow from days that are known here."""
     with Folder(path) as folder:
         is_ones_own(folder.place)
+        if folder.has(signature := f"{signed_in(folder)}.sig"):
+            raise fault(f"signed already; who wants another signature takes {signature} away", DEVICE)
         if signed_in(folder) == YEAR:
             if wrong := difference(folder, known, leaps):
                 return Result(NOT_SHOWN, [wrong])
             return Result(text=json_text(replace(read_statements(folder.data(YEAR)), signed=now())).decode())
         record, seen = known_in(folder, known)
-        if folder.has(files.SIGNATURE):
-            raise fault(f"signed already; who wants another signature takes {files.SIGNATURE} away", DEVICE)
         if record.refusal:
             raise fault("the audit was refused, so there is nothing to sign", DEVICE)
         if not seen:

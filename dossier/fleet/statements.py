@@ -1,6 +1,7 @@
 """The statements for a year: what is said of each machine, and year.json, which holds on which sums that rests, so that
 somebody can sign it."""
 import os
+import re
 from typing import Annotated
 
 from ..fault import fault
@@ -11,7 +12,7 @@ from ..folder.registry import Known
 from ..folder.result import Year
 from ..records import dataclass, field, replace
 from ..schema import Count, Name, Sum, Text, Time, is_time, length, or_nothing, read_typed, within
-from ..text import count, label, listed, plain
+from ..text import count, label, listed, plain, spelled
 from ..units import now, ns_ms, ns_up_ms, seconds_of
 from .days import Wanted, is_day, twinned, year_of
 
@@ -20,7 +21,9 @@ RULES = {100_000: "MiFID II's RTS 25 of high-frequency trading, and CAT's 6.8 of
          1_000_000_000: "MiFID II's RTS 25 of voice trading, and CAT's 6.8 of manual orders"}
 """Who asks for a bound of so many nanoseconds, by docs/BOUND.md."""
 
-TWINS = "A recording of these days is that of"
+IN_A_SENTENCE = re.compile(r"[\w./@+-]+")
+
+TWINS, MOST_OF_A_PATH = "A recording of these days is that of", 4_096
 
 
 @dataclass(frozen=True)
@@ -48,10 +51,10 @@ class Statements:
 def statement(year: Year) -> str:
     """What somebody can sign of a machine's year."""
     if not year.claim or not any(day.sha256 for day in year.days):
-        return f"Of {year.machine} nothing is known here."
+        return f"Of {quoted(year.machine)} nothing is known here."
     claim, counts = year.claim, year.counts
     rule = RULES.get(claim.bound_ns)
-    said = [f"The clock of {claim.client} ({year.machine}) had to be within {ns_ms(claim.bound_ns)} ms of UTC"
+    said = [f"The clock of {claim.client} ({quoted(year.machine)}) had to be within {ns_ms(claim.bound_ns)} ms of UTC"
             f"{f', as {rule} ask' if rule else ''}.",
             f"From {year.days[0].date} to {year.days[-1].date} this is shown on {counts[YES]} of "
             f"{count(len(year.days), 'day')}, each from midnight to midnight (UTC): in every course of events that "
@@ -64,9 +67,15 @@ def statement(year: Year) -> str:
     worst = year.worst
     said += [f"The greatest bound that a day needed was {ns_up_ms(worst.least_ns or 0)} ms, on {worst.date}."] \
         if worst else []
-    said += [f"{TWINS} {listed(year.twins)} too, so one of them is a copy."] if year.twins else []
+    said += [f"{TWINS} {listed([quoted(twin) for twin in year.twins])} too, so one of them is a copy."] if year.twins else []
     programs = "; ".join(f"{made.version or 'ntpaudit'}, SHA-256 {made.sha256}" for made in year.programs)
     return " ".join([*said, f"Audited by {programs}."])
+
+
+def quoted(machine: str) -> str:
+    """A machine's name in a sentence: in quotes, if it could be more of the sentence."""
+    within_quotes = machine.replace('"', spelled('"'))
+    return machine if IN_A_SENTENCE.fullmatch(machine) else f'"{within_quotes}"'
 
 
 def premises_of(claim: Claim) -> str:
@@ -107,6 +116,8 @@ def audits_in(data: bytes) -> list[str]:
         raise fault("a file of sums isn't one") from None
     if not all(os.path.basename(path) == AUDIT and is_day(os.path.basename(path[: -len(AUDIT) - 1])) for path in paths):
         raise fault("a file of sums names other files than audits of days")
+    if any(len(path) > MOST_OF_A_PATH for path in paths):
+        raise fault(f"a file of sums names a path of more than {MOST_OF_A_PATH:,} characters")
     return paths
 
 
@@ -141,7 +152,7 @@ def may_be(name: str, machine: str) -> bool:
     """Whether a machine may have been called so where its year was made: its folder's own name is the same. What stands
     before that is no part of a sentence: it is as here, or has no blank."""
     above, own = os.path.split(name)
-    is_here = plain(absolute(machine)).endswith(f"/{os.path.normpath(name).lstrip('./')}")
+    is_here = plain(absolute(machine)).endswith(f"/{name.strip('/').lstrip('./')}")
     return own == plain(os.path.basename(machine)) and (is_here or above == plain(above) and " " not in above)
 
 

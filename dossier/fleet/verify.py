@@ -125,7 +125,7 @@ def known_in(folder: Folder, known: Known) -> tuple[Record, Record | None]:
     """What audit.json says, and the same as it was made or verified here, if it was."""
     data = audit_json(folder)
     record = read_record(data)
-    return record, known.shown(sum_of(data), record)
+    return record, known.shown_now(sum_of(data), record)
 
 
 def earlier_of(folder: Folder, record: Record) -> dict[str, bytes]:
@@ -175,7 +175,7 @@ def verify_all(folders: list[str], verifier: Verifier, signers: Signers, seconds
     worst, seen, named = 0, dict[str, str](), {files.absolute(folder) for folder in folders}
     below = {folder: days_below(folder, named, seconds) for folder in folders}
     every = [each for folder in folders for each in (*below[folder], folder)]
-    above = {path for days in below.values() for day in days for path in folders_above(os.path.dirname(day))}
+    above = {path for days in below.values() for day in days for path in named & folders_above(os.path.dirname(day))}
 
     def work(path: str, _: int) -> Result:  # (a year's signature is one for its days)
         is_named = files.absolute(path) in named
@@ -239,5 +239,5 @@ def verify(verifier: Verifier, signers: Signers, path: str, named: set[str]) -> 
     words = ", ".join(f"{number} {verdict}" if len(made.entries) > 1 else verdict
                       for verdict, number in verdicts.items()) if made else ""
     lines = [*(findings or [f"verified: {words}"]), *(f"({note})" for note in [*notes, *others])]
-    status, captures = (made.status, sorted(made.captures)) if made else (NOT_SHOWN, [])
+    status, captures = (made.status, sorted(made.recordings)) if made else (NOT_SHOWN, [])
     return Result(NOT_SHOWN if findings else status, lines, captures=captures)

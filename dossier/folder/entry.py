@@ -322,6 +322,11 @@ class Record:
         return frozenset(sum_ for name, sum_ in self.inputs.items() if is_capture(name))
 
     @property
+    def recordings(self) -> frozenset[str]:
+        """The sums by which a recording is known again: of the captures, and of what was unpacked or joined of them."""
+        return self.captures | {sum_ for name, sum_ in self.outputs.items() if name.rpartition("/")[2] == JOINED}
+
+    @property
     def verdicts(self) -> list[str]:
         return [entry.verdict for entry in self.entries] or [REFUSED]
 

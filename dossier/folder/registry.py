@@ -48,8 +48,8 @@ class Known:
         self.judgements = self.by_sum(self.judged.text)
 
     def renew(self) -> None:
-        """Takes in what other processes of this call have added."""
-        self.lines = self.by_sum(self.journal.again())
+        """Takes in what other processes have added."""
+        self.lines, self.judgements = self.by_sum(self.journal.again()), self.by_sum(self.judged.again())
 
     def alone(self, folder: Folder) -> AbstractContextManager[None]:
         """Waits until no other call that has this record writes in a folder."""
@@ -73,6 +73,12 @@ class Known:
             return None
         _, program, made, seconds, version = self.lines[sum_].split(" ", 4)
         return replace(record, program=Made(version, program), made=made, seconds=float(seconds))
+
+    def shown_now(self, sum_: str, record: Record) -> Record | None:
+        """The same, by what other calls have added meanwhile too."""
+        if sum_ not in self.lines:
+            self.renew()
+        return self.shown(sum_, record)
 
     def add(self, sum_: str, found: Record) -> None:
         """Adds a line: what was found of an audit.json of this sum."""

@@ -4,10 +4,9 @@ import os
 import time
 from collections import Counter
 from collections.abc import Iterator, Sequence
-from contextlib import suppress
 from typing import NamedTuple
 
-from ..fault import REFUSED as INPUT_REFUSED, Fault, fault
+from ..fault import DEVICE, REFUSED as INPUT_REFUSED, Fault, fault
 from ..fleet.audit import change_of
 from ..fleet.metrics import Sample, of_record, of_verdict, write_metrics
 from ..fleet.signature import NONE, STRANGER, UNFIT, UNSEEN, Signature, Signers
@@ -122,7 +121,7 @@ class Looking(NamedTuple):
             if self.has_articles:
                 said = article(path, folder, record, entry, signature, judged, name)
             row = row_of(path, entry, signature, judged)
-            found.append(Section(row, *said, record.program, sorted(record.captures)))
+            found.append(Section(row, *said, record.program, sorted(record.recordings)))
         return Result(sections=found, metrics=list(of_record(path, record)), verdicts=record.verdicts)
 
     def refused(self, path: str, found: Fault | Refusal, signature: Signature,
@@ -200,9 +199,12 @@ def years_of(folders: list[str], given: argparse.Namespace, known: Known, leaps:
     for year in sorted({os.path.basename(folder)[:4] for folder in folders}):
         pages = Pages(f"{given.title}, {year}", None, os.path.join(given.split, year))
         wanted = Wanted(int(year), known, leaps, int(time.time()))
-        with suppress(Fault):  # (of a machine that can't be looked at the page has the line)
+        try:  # (of a machine that can't be looked at the page has the line)
             write_year(list(machines_of(folders)), wanted, pages, given.limit, 1)
             found.append(year)
+        except Fault as none:
+            if none.status == DEVICE:
+                raise
     return found
 
 

@@ -124,7 +124,11 @@ def test_copied_days(place: Path) -> None:
           span=([f"<span>{row[end][11:19]}</span>" in text and row["client"] in page.words for row in rows
                  for end in ("begin", "end")], [True] * 8))
     out = dossier("verify", *copies, other)[1].decode()
-    check("copies by verify", lines=(out.count("so one of them is a copy"), 2))
+    packed = folder_of(place, "web-4")
+    run(["gzip", packed / "f.pcap"])
+    dossier("audit", packed)
+    out_packed = dossier("verify", one, packed)[1].decode()
+    check("copies by verify", lines=([text.count("so one of them is a copy") for text in (out, out_packed)], [2, 1]))
     dossier("page", "--split", place / "pages", *copies, other)
     split = [(place / "pages" / f"{number:05}.html").read_text() for number in range(1, 5)]
     check("copies on pages of their own", warned=(["so one of them is a copy" in text for text in split],

@@ -96,7 +96,12 @@ def test_disputing(place: Path) -> None:
     dossier("verify", *state, "--second", yes)
     bug = planted(place / "planted", "whole(bound, 0, 10**15) * SECOND // BILLION",
                   "whole(bound, 0, 10**15) * SECOND // BILLION // 100")
+    from dossier.folder.entry import read_record
+    from dossier.folder.registry import Known
+    known, record = Known(str(state[1]), True), read_record((yes / "audit.json").read_bytes())
     status, out, _ = dossier("verify", *state, "--second", refuted, yes, env=bug)
+    known.renew()
+    check("what another process disputes", seen=(known.dispute(record) != "", True))
     words = ('of certificate.json the program says "verdict yes", and the second program "verdict no piece 0 exceeds" '
              "(status 1)")
     line = f"{yes}: disputed: {words}\n"

@@ -455,6 +455,16 @@ def test_at_once(place: Path) -> None:
         wait_until(lambda: waits_for_lock(call.pid))
         check("an audit while another writes", waits=((call.poll(), (folder / "audit.json").exists()), (None, False)))
     check("an audit after another wrote", status=(call.wait(SECONDS), 0), made=((folder / "audit.json").exists(), True))
+    for words, status in ((["audit", "--step", "4"], 5), (["keep"], 0)):
+        kept = (state / "audits").read_text()
+        (state / "audits").write_text("")
+        with Folder(str(folder)) as ours, known[0].alone(ours):
+            call = subprocess.Popen([SCRIPT, words[0], "--state", state, *words[1:], folder], env=ENVIRONMENT,
+                                    stdout=subprocess.DEVNULL)
+            wait_until(lambda: waits_for_lock(call.pid))
+            (state / "audits").write_text(kept)
+            (folder / "audit.json.sig").touch() if status else (folder / "audit.json.sig").unlink()
+        check(f"{words[0]} after another wrote", status=(call.wait(SECONDS), status))
     (state / "audits").write_text("")
     sums = [[hashlib.sha256(f"{one} {k}".encode()).hexdigest() for k in range(200)] for one in range(4)]
     threads = [threading.Thread(target=lambda own=own, one=one: [own.add(sum_, record) for sum_ in sums[one]])

@@ -76,6 +76,11 @@ def test_year(place: Path) -> None:
     check("what isn't counted", twice=("2001-09-16: 2001-09-09 stands twice" in others
                                        or "2001-09-09: 2001-09-09 stands twice" in others, True),
           other=("2001-09-14: another claim or client" in others, True), number=(others.count("<li>"), 2))
+    (place / "table").mkdir()
+    (place / "table" / "2001").touch()
+    check("a calendar that can't be written",
+          run=(dossier("page", "--split", place / "table", *sorted(own.iterdir()))[::2],
+               (4, b"ntpaudit-dossier: 00001.html can't be written (Not a directory)\n")))
     words = text.partition('class="statement">')[2].partition("</p>")[0]
     for said in ("The clock of 192.0.2.10", "within 1 ms of UTC", "From 2001-01-01 to 2001-12-31 this is shown on 2 of "
                  "365 days", "Not shown: 1 refuted, 1 no evidence, 1 not verified, 360 missing", "no more than 1 group "
@@ -152,7 +157,8 @@ def test_signed_year(place: Path) -> None:
     shutil.rmtree(own / "2001-09-12")
     dossier("year", "--year", "2001", "--split", pages, own)
     status, out, _ = dossier("sign", "--key", key, pages)
-    check("sign a year", run=((status, out), (0, f"{pages}: signed\n".encode())))
+    check("sign a year", run=((status, out), (0, f"{pages}: signed\n".encode())),
+          again=(dossier("sign", "--key", key, pages)[0], 4))
     named = (pages, place / "fleet")
     status, out, _ = dossier("verify", "--signers", signers, *named)
     lines = out.decode().splitlines()
@@ -176,6 +182,7 @@ def test_signed_year(place: Path) -> None:
     (machine,), sums = year["machines"], (pages / "00001.sums").read_text()
     odd, more = sums.replace("2001-09-09", "day"), "web 2) was right on each day. And that of ("
     many = "".join(f"{sums[:64]}  ../fleet/web 1/{1000 + number}-01-01/audit.json\n" for number in range(5000))
+    long = f"{sums[:64]}  ../fleet/web 1{'/x' * 2048}/2001-09-09/audit.json\n"
     for name, machines, rows, words in (
             ("one machine's days as those of two", [machine, {**machine, "machine": "web 2"}], sums, "there twice"),
             ("another machine's name", [{**machine, "machine": "web 2",
@@ -184,6 +191,9 @@ def test_signed_year(place: Path) -> None:
             ("another machine's statement before its own", [
                 {**machine, "machine": f"{more}/{machine['machine']}",
                  "statement": machine["statement"].replace("(", f"({more}/", 1)}], sums, "which has another name"),
+            ("a sentence before a path", [{**machine, "machine": f"{more}x/../fleet/web 1"}], sums,
+             "which has another name"),
+            ("a long path", [{**machine, "sha256": sum_of(long.encode())}], long, "more than 4,096 characters"),
             ("more days shown than are", [{**machine, "shown": 9}], sums, "doesn't follow from its days"),
             ("a folder that is no day", [{**machine, "sha256": sum_of(odd.encode())}], odd, "other files than audits"),
             ("days that aren't there", [{**machine, "sha256": sum_of(many.encode())}], many, "a day isn't the one")):
@@ -191,7 +201,7 @@ def test_signed_year(place: Path) -> None:
         (pages / "00001.sums").write_text(rows)
         status, out, _ = dossier("verify", *named)
         lines = out.decode().splitlines()
-        check(f"a year with {name}", status=(status, lambda status: status in (1, 4)), few=(len(lines) < 20, True),
+        check(f"a year with {name}", status=(status, lambda status: status in (1, 2, 4)), few=(len(lines) < 20, True),
               told=(any(words in line for line in lines), True), yes=(any("verified: its" in line for line in lines),
                                                                       False))
     (pages / "year.json").write_text(text)
@@ -225,7 +235,7 @@ def test_copied_years(place: Path) -> None:
     dossier("year", "--year", "2001", "--split", pages, *sorted(fleet.iterdir()))
     texts = [unescape((pages / f"0000{number}.html").read_text()) for number in (1, 2, 3)]
     twins = [re.findall(r"A recording of these days is that of (.*?) too", text) for text in texts]
-    check("a day of another machine", named=(twins, [[f"{fleet}/web 3"], [], [f"{fleet}/web 1"]]),
+    check("a day of another machine", named=(twins, [[f'"{fleet}/web 3"'], [], [f'"{fleet}/web 1"']]),
           index=((pages / "index.html").read_text().count("has a recording of"), 2))
     check("a copy, signed and verified", sign=(dossier("sign", "--key", key, pages)[0], 0),
           said=(b"verified: its statements follow" in dossier("verify", pages, fleet)[1], True))
@@ -235,7 +245,9 @@ def test_copied_years(place: Path) -> None:
     (pages / "empty.sums").write_bytes(b"")
     silent["statement"] = re.sub("A recording .*? copy[.] ", "", silent["statement"])
     for name, machines in (("a copy that isn't said", [silent, *year["machines"][1:]]),
-                           ("a statement on no days", [nothing])):
+                           ("a statement on no days", [nothing]),
+                           ("a sentence on no days", [{**nothing, "machine": "web 1: shown. Of web 9", "shown": 0,
+                                                       "statement": "Of web 1: shown. Of web 9 nothing is known here."}])):
         (pages / "year.json").write_text(json.dumps({**year, "machines": machines}))
         out = dossier("verify", pages, fleet)[1]
         check(f"a year with {name}", told=(b"doesn't follow from its days" in out, True))
@@ -255,6 +267,14 @@ def test_midnight(place: Path) -> None:
                                     for server in (1, 2, 3, 4)))
     (folder / "claim.json").write_text(json.dumps(claim))
     dossier("audit", "--days", folder)
+    for name in "2001-09-25/report.txt", "year.json":
+        (folder / name).parent.mkdir(exist_ok=True)
+        (folder / name).touch()
+        status, out, _ = dossier("verify", folder)
+        check(f"days beside {name}", run=((status, out.decode().partition(":")[2].partition(":")[0]),
+                                          (1, f" {name} isn't of this audit")))
+        (folder / name).unlink()
+    (folder / "2001-09-25").rmdir()
     claims = [entry["claim"] for entry in json.loads((folder / "audit.json").read_text())["entries"]]
     spans = [(own["from"], own["to"]) for own in claims]
     check("days join", ends=([end for _, end in spans[:-1]], [begin for begin, _ in spans[1:]]), number=(len(spans), 3),
