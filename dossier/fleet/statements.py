@@ -67,7 +67,8 @@ def statement(year: Year) -> str:
     worst = year.worst
     said += [f"The greatest bound that a day needed was {ns_up_ms(worst.least_ns or 0)} ms, on {worst.date}."] \
         if worst else []
-    said += [f"{TWINS} {listed([quoted(twin) for twin in year.twins])} too, so one of them is a copy."] if year.twins else []
+    twins = listed([quoted(twin) for twin in year.twins])
+    said += [f"{TWINS} {twins} too, so one of them is a copy."] if twins else []
     programs = "; ".join(f"{made.version or 'ntpaudit'}, SHA-256 {made.sha256}" for made in year.programs)
     return " ".join([*said, f"Audited by {programs}."])
 

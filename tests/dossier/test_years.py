@@ -246,8 +246,9 @@ def test_copied_years(place: Path) -> None:
     silent["statement"] = re.sub("A recording .*? copy[.] ", "", silent["statement"])
     for name, machines in (("a copy that isn't said", [silent, *year["machines"][1:]]),
                            ("a statement on no days", [nothing]),
-                           ("a sentence on no days", [{**nothing, "machine": "web 1: shown. Of web 9", "shown": 0,
-                                                       "statement": "Of web 1: shown. Of web 9 nothing is known here."}])):
+                           ("a sentence on no days", [{
+                               **nothing, "machine": "web 1: shown. Of web 9", "shown": 0,
+                               "statement": "Of web 1: shown. Of web 9 nothing is known here."}])):
         (pages / "year.json").write_text(json.dumps({**year, "machines": machines}))
         out = dossier("verify", pages, fleet)[1]
         check(f"a year with {name}", told=(b"doesn't follow from its days" in out, True))
