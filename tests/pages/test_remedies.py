@@ -321,6 +321,7 @@ SHOWN: dict[str, tuple[Maker, str]] = {
 def spelled(command: str) -> str:
     """A page's command with the names that the files have here."""
     command = re.sub(r"\bFILE\b|\bf\.pcapng\b", "f.pcap", command).replace(" g.pcap", " new.pcap")
+    command = command.replace(" /tmp/", " ../")
     return command.replace("FILTER", FILTER).replace("{file}", "f.pcap")
 
 
@@ -379,8 +380,9 @@ DAEMON = ("ip link set lo up && chronyd -x -f \"$PWD/chrony.conf\" && "
 """A command that asks a chronyd, which runs beside it in a network of its own."""
 
 NAMES = {"-F pcap", "--chrony", "--ntpd", "--jobs", "--leap-seconds", "--limit SECONDS", "drift_ppb", "false_max",
-         "reading_ns", "System clock was stepped", "xleave", "tcpdump -U", "settle", "refute --drift"}
-"""What is no command: options, names, and what stands in a log."""
+         "reading_ns", "System clock was stepped", "xleave", "tcpdump -U", "settle", "refute --drift",
+         "./ntpaudit --path"}
+"""What is no command: options, names, and what stands in a log; and the launcher's own option, which might build."""
 
 
 def own_codes() -> set[str]:
