@@ -232,6 +232,7 @@ def test_package(folder: Path) -> None:
     check("unpacking it leaves the folder as it was", status=(unpacked, 0),
           mode=(oct(target.stat().st_mode & 0o777), "0o755"),
           inside=(sorted({oct(file.stat().st_mode & 0o777) for file in target.rglob("*") if file.is_dir()}), ["0o755"]))
+    hold_links(target / "usr/share/doc/ntpaudit")
     root = folder / "root"
     for kept in ("var/lib/dpkg/info", "var/lib/dpkg/updates", "etc"):
         (root / kept).mkdir(parents=True)
@@ -264,6 +265,17 @@ def test_package(folder: Path) -> None:
           kept=(files_below(root / "usr"), before), modules=compiled(root / "usr/share/ntpaudit/dossier"))
     check("the package is removed", status=(run([*dpkg, "-r", "ntpaudit"])[0], 0),
           left=([file for file in files_below(root) if not file.startswith(("var/lib/dpkg/", "etc/"))], []))
+
+
+def hold_links(pages: Path) -> None:
+    """A link of a packed page to one of the repository's root or of docs/ that is packed too leads to it, and so does
+    one to the schema."""
+    packed = {*files_below(pages), "audit.schema.json"}
+    for page in sorted(pages.glob("*.md")):
+        links = [link.split("/") for link in re.findall(r"\]\(([^)#:]+)", page.read_text("utf-8"))]
+        lost = ["/".join(parts) for parts in links if parts[-1] in packed and {*parts[:-1]} <= {"..", "docs"}
+                and not (pages / "/".join(parts)).exists()]
+        check(f"the links of the packed {page.name}", lost=(lost, []))
 
 
 def is_at_hand(name: str) -> bool:
