@@ -4,7 +4,7 @@ from collections.abc import Iterator
 
 from ..folder.entry import ANSWERED, NOTHING_FITS, REFUSED, Hull, Piece
 from ..folder.result import Moment
-from ..text import count, plain
+from ..text import count, label, plain
 from ..units import SECOND, TICKS, bound_ticks, ceil_div, civil, high_ms, low_ms, ns_up_ms
 from .metrics import Sample, labels_of
 
@@ -30,14 +30,14 @@ def whole(pieces: list[Piece]) -> Hull | None:
 
 def fields_of(moment: Moment) -> list[str]:
     """The line, in parts that stay together."""
-    begin, end = civil(moment.begin), civil(moment.end)
+    begin, end, recorder = civil(moment.begin), civil(moment.end), label(moment.recorder)
     said = [f"{begin} .. {end[11:] if begin[:10] == end[:10] else end}", moment.verdict]
     hull = whole(moment.pieces)
     if hull is None and moment.verdict == REFUSED:
-        return [moment.recorder, *said]
+        return [recorder, *said]
     if hull is None:
         was = f"nothing was recorded since {civil(moment.last)}" if moment.last else "nothing was recorded"
-        return [moment.recorder, *said, was]
+        return [recorder, *said, was]
     if not isinstance(hull, str):
         ends = f"{signed(low_ms(hull[0]))} .. {signed(high_ms(hull[1]))} ms"
         said.append(f"{ends} of {exact_ms(moment.bound_ns)} ms")
@@ -45,7 +45,7 @@ def fields_of(moment: Moment) -> list[str]:
         said.append(f"least {ns_up_ms(moment.least_ns)} ms")
     said.append(f"{moment.heard} of {count(moment.groups, 'group')}")
     said += ["the clock is off"] if moment.is_off else []
-    return [moment.recorder, *said, *([moment.leap] if moment.leap else [])]
+    return [recorder, *said, *([moment.leap] if moment.leap else [])]
 
 
 def signed(words: str) -> str:
@@ -125,7 +125,7 @@ class Band:
                    for k in range(places)]
         most = max([bound, *(abs(end) for hull in columns if isinstance(hull, tuple) for end in hull)]) * 9 // 8 or 1
         edges = [most - 2 * most * row // ROWS for row in range(ROWS + 1)]
-        rows = [label(high, low, bound) + "".join(drawn(hull, high, low, bound) for hull in columns)
+        rows = [edge(high, low, bound) + "".join(drawn(hull, high, low, bound) for hull in columns)
                 for high, low in zip(edges, edges[1:])]
         return [*rows, f"{'':{LEFT}}{civil(end - HOUR)[11:16]}{civil(end)[11:16]:>{places - 5}}"]
 
@@ -135,7 +135,7 @@ class Band:
         return whole([own[second] for second in range(begin + 1, end + 1) if second in own])
 
 
-def label(high: int, low: int, bound: int) -> str:
+def edge(high: int, low: int, bound: int) -> str:
     """What stands at the left of a row: the bound, or zero."""
     for value, sign in ((bound, "+"), (-bound, "-"), (0, " ")):
         if low <= value < high:

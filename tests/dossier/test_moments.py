@@ -104,6 +104,9 @@ def test_now_of_files(place: Path) -> None:
     recorded(rotated, begin, (begin, last + 1, AHEAD), interface="wlan0")
     status, lines, _ = now(rotated)
     check("two interfaces", status=(status, 1), order=([line.split()[0] for line in lines], ["wlan0", "eth0"]))
+    alike = place / "alike"
+    recorded(alike, begin, (begin, last + 1, AHEAD), interface="eth0  yes  4 of 4 groups")
+    check("a recorder called like a line", line=(now(alike)[1][0].split("  ")[0], r"eth0 \x20yes \x204 of 4 groups"))
     few = place / "few"
     recorded(few, begin, (begin, last + 1, RIGHT), servers=(1, 2, 3))
     check("a silent group", line=("  3 of 4 groups" in now(few)[1][0], True))
