@@ -9,7 +9,7 @@ REMEDIES = [
     ("can't be called", "No other process may be begun, or the file is no program for this machine.",
      "See `ulimit -u` and `ulimit -n`, and what NTPAUDIT names."),
     ("can't be worked on", "What failed stands in parentheses.", "See who may write where, and make room."),
-    ("memory|ended by signal", "The program was refused memory, or was ended from outside.",
+    ("(?<=: )memory$|out of memory$|ended by signal", "The program was refused memory, or was ended from outside.",
      "See what limits it: `ulimit -v`, a container's limit, or fewer `--jobs`."),
     ("can't be read", "A file can't be opened or read.",
      "`ls -l` and `cat FILE > /dev/null` say more. tcpdump may have left it to another user."),
@@ -21,7 +21,7 @@ REMEDIES = [
     ("can't be joined", "One of several captures can't be joined with the others.",
      "`ntpaudit list` on each of them says what it is. Take out what is no capture, or of another interface."),
     ("zstd, which isn't installed", "The capture is packed.", "Install zstd, or unpack it elsewhere."),
-    ("can't be unpacked", "The packed capture is damaged.", "Fetch the file again, in binary mode."),
+    ("can't be unpacked(: its gzip is damaged)?", "The packed capture is damaged.", "Fetch the file again, in binary mode."),
     ("frames of several kinds", "The capture is of several interfaces, not all of them Ethernet.",
      "Record on one Ethernet interface by its name."),
     ("packets without a time|coarser than micro|no decimal parts", "The times of the capture are of no use.",
@@ -51,8 +51,11 @@ REMEDIES = [
 
 
 def remedy(line: str, folder: str = "FOLDER") -> tuple[str, str]:
-    """Why there was this fault of a folder, and what to do."""
+    """Why there was this fault of a folder, and what to do: by the pattern that ends last, since a stranger's names
+    stand before it, or in parentheses behind it."""
+    words, found = re.sub(r" \([^(]*\)$", "", line), (0, "", "See docs/REFUSALS.md.")
     for pattern, why, what in REMEDIES:
-        if re.search(rf"ntpaudit(-dossier)?: .*?({pattern})", line):
-            return why, what.replace("FOLDER", shlex.quote(folder))
-    return "", "See docs/REFUSALS.md."
+        seen = re.search(rf"ntpaudit(-dossier)?: .*({pattern})", words)
+        if seen and seen.end() > found[0]:
+            found = seen.end(), why, what.replace("FOLDER", shlex.quote(folder))
+    return found[1:]

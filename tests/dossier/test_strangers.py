@@ -833,7 +833,12 @@ def test_own_faults(place: Path) -> None:
              "f.pcapng is damaged at byte 9", "f.pcapng has more than 1,000 interfaces, so it is damaged",
              "the times of the capture go back and forth between days too often",
              "f.pcapng has a block that is damaged", "f.pcapng has a packet that is damaged"]
-    check("remedies of these", missing=([line for line in lines if not remedy(f"ntpaudit-dossier: {line}")[0]], []))
+    told = {line: remedy(f"ntpaudit-dossier: {line}") for line in lines}
+    check("remedies of these", missing=([line for line in lines if not told[line][0]], []))
+    for line in lines:
+        if line.startswith("f.pcap"):
+            wrong = [name for name in lines if remedy(f"ntpaudit-dossier: {name}.pcap{line[6:]}") != told[line]]
+            check(f"the remedy of '{line}', whatever the name", wrong=(wrong, []))
     script = (f'import sys; sys.path.insert(0, {str(Path(SCRIPT).parent)!r}); from dossier import command_line as c; '
               'c.run = lambda given: 1 / 0; sys.exit(c.main(["page", "x"]))')
     check("an error of one's own", status=(run(["python3", "-c", script], env=ENVIRONMENT)[0], 70))
