@@ -45,6 +45,10 @@ OUTPUT = "write the page to FILE, whole or not at all; standard output if it is 
 class Parser(argparse.ArgumentParser):
     commands: "dict[str, Parser]"
 
+    def exit(self, status: int = 0, message: str | None = None) -> NoReturn:
+        sys.stdout.flush()  # (help that can't be written is a fault)
+        super().exit(status, message)
+
     def error(self, message: str) -> NoReturn:
         self.exit(USAGE, f"{self.prog}: {plain(message)}\n")
 

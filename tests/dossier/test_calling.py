@@ -99,10 +99,10 @@ def test_statuses(place: Path) -> None:
              "6 descriptors": f'ulimit -n 6; "$0" verify "{folder}"', "closed output": f'"$0" page "{folder}" >&-',
              "closed input": f'"$0" verify "{folder}" <&-', "closed errors": f'"$0" verify "{folder}" 2>&-',
              "an empty operand": '"$0" verify ""',
-             "a full output": f'"$0" verify "{folder}" > /dev/full',
+             "a full output": f'"$0" verify "{folder}" > /dev/full', "help to a full output": '"$0" help > /dev/full',
              "no memory": f'ulimit -v 20000; "$0" verify "{folder}"'}
     wanted = {"an empty operand": (5,), "closed output": (4,), "closed input": (0,), "closed errors": (0,),
-              "a full output": (4,)}
+              "a full output": (4,), "help to a full output": (4,)}
     for name, script in calls.items():
         status, out, _ = run(["sh", "-c", script, SCRIPT], env=ENVIRONMENT)
         check(f"the status of {name}", is_one=(status in wanted.get(name, (0, 2, 3, 4, 70)), True),
