@@ -157,8 +157,8 @@ class Settling:
 
     def contest(self, name: str, text: bytes) -> bytes:
         """Leaves a refutation of the claim of this name: an earlier one, if it is another and the program accepts
-        it."""
-        if self.earlier not in (b"", text):
+        it; but none with a blank before it, which `settle` never writes: it wouldn't be read as a refutation."""
+        if self.earlier.startswith(b"{") and self.earlier != text:
             self.keep(files.REFUTATION, self.earlier)
             with suppress(Fault):
                 if self.judged(*self.contested(name)).endswith(b"refuted yes\n"):

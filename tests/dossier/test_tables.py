@@ -32,7 +32,7 @@ from pathlib import Path
 from typing import Any
 from unittest.mock import patch
 
-from tests.support import DATA, ROOT, SECONDS, check, children, files_in, run, wait_until
+from tests.support import DATA, ROOT, SECONDS, check, children, files_in, run, sum_of, wait_until
 from tests.dossier.audits import (CLAIMS, ENVIRONMENT, PROGRAM, SCRIPT, STATE, TICKS_PER_MS, capture_of, check_page,
                                   dossier, folder_of, match_of, parts_left, rows, skipped, table)
 from tests.dossier.test_captures import records_of
@@ -1033,6 +1033,13 @@ def test_other_answers(place: Path) -> None:
     check("another refutation by another build",
           run=(dossier("verify", folder, env=environment)[:2],
                (1, f"{folder}: verified: refuted\n{folder}".encode() + other)))
+    kept, record = (folder / "refutation.json").read_bytes(), (folder / "audit.json").read_text()
+    (folder / "refutation.json").write_bytes(b"\n" + kept)
+    (folder / "audit.json").write_text(record.replace(sum_of(kept), sum_of(b"\n" + kept)))
+    status, out, _ = dossier("verify", folder, env=environment)
+    check("one that begins with a line feed", status=(status, 1), line=(b"refutation.json: from byte 0 on" in out, True))
+    (folder / "refutation.json").write_bytes(kept)
+    (folder / "audit.json").write_text(record)
     answers(json.dumps(refutation), "no")
     check("a refutation that isn't accepted any more",
           run=(dossier("verify", folder, env=environment)[:2],
