@@ -1037,7 +1037,8 @@ def test_other_answers(place: Path) -> None:
     (folder / "refutation.json").write_bytes(b"\n" + kept)
     (folder / "audit.json").write_text(record.replace(sum_of(kept), sum_of(b"\n" + kept)))
     status, out, _ = dossier("verify", folder, env=environment)
-    check("one that begins with a line feed", status=(status, 1), line=(b"refutation.json: from byte 0 on" in out, True))
+    check("one that begins with a line feed", status=(status, 1),
+          line=(b"refutation.json: from byte 0 on" in out, True))
     (folder / "refutation.json").write_bytes(kept)
     (folder / "audit.json").write_text(record)
     answers(json.dumps(refutation), "no")
