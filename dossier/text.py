@@ -2,28 +2,39 @@
 import re
 import shlex
 import sys
+from unicodedata import name as name_of, normalize
 
-LATIN = re.compile("[A-Za-z]")
-BLANK = re.compile("[\u034f\u115f\u1160\u17b4\u17b5\u180b-\u180f\u2800\u3164\ufe00-\ufe0f\uffa0\U000e0100-\U000e01ef]")
+BLANK = re.compile("[\u034f\u115f\u1160\u17b4\u17b5\u180b-\u180f\u2800\u3164\ufe00-\ufe0f\uffa0\U00016fe4\U0001d159"
+                   "\U000e0100-\U000e01ef]")
 """What counts as printable, and isn't seen: two names may differ in it alone."""
 
-
 WORD = re.compile(r"[^\s/]+")
-ALIKE = re.compile("[\u0370-\u058f\u13a0-\u13ff\u1c80-\u1c88\u1f00-\u1fff\u2c80-\u2cff\u2de0-\u2dff\ua4d0-\ua4ff"
-                   "\ua640-\ua69f\uab70-\uabbf\uff21-\uff5a\U0001d400-\U0001d7ff]")
-"""Letters of alphabets with some that look like Latin ones: Greek, Cyrillic, Armenian, Cherokee, Coptic, Lisu, and
-Latin ones of other widths and weights."""
+LATIN = re.compile("LATIN|DIGIT|MODIFIER")
+"""How Unicode's names of Latin letters begin, of ASCII digits, and of what stands beside letters, such as a colon."""
+LETTERS = "\u0300-\u036f\xc6\xd0\xd8\xde\xdf\xe6\xf0\xf8\xfe\u0110\u0111\u0126\u0127\u0141\u0142\u0152\u0153\u1e9e"
+"""Accents by themselves, and Latin letters that are no ASCII letter with an accent."""
+IN_NAMES = re.compile(f"[{LETTERS}]")
+IN_TEXTS = re.compile(f"[{LETTERS}\xa1-\xff\u2013\u2014\u2018-\u201e\u2021\u2026\u2205\u2212\u2713\u2717\ufffd]")
+"""What isn't spelled out in names, and in texts, which may have quotes, dashes, and the signs of pages."""
 
 
-def plain(words: str) -> str:
+def plain(words: str, staying: re.Pattern[str] = IN_TEXTS) -> str:
     """The text with whatever isn't printable, or isn't seen, spelled out, as in `a\\x0ab`: line feeds, escape codes,
-    marks that turn the direction of writing, bytes that are no UTF-8, and what may look like a Latin letter in a word
-    with such."""
+    marks that turn the direction of writing, bytes that are no UTF-8, and what may look like ASCII in a Latin word."""
     if words.isascii() and words.isprintable():
         return words
-    words = WORD.sub(lambda word: ALIKE.sub(lambda c: spelled(c[0]), word[0]) if LATIN.search(word[0]) else word[0],
-                     words)
+    words = WORD.sub(lambda word: latin(word[0], staying), words)
     return "".join(c if c.isprintable() and not BLANK.match(c) else spelled(c) for c in words)
+
+
+def latin(word: str, staying: re.Pattern[str]) -> str:
+    """A word with all spelled out but ASCII, with accents or without, and what stays; but as it is if it is wholly of
+    another script: if it has a letter, and no Latin one in whatever form, nor an ASCII digit."""
+    forms = (name_of(form, "") for c in word for form in normalize("NFKC", c))
+    if word.isascii() or any(map(str.isalpha, word)) and not any(map(LATIN.match, forms)):
+        return word
+    return "".join(c if staying.match(c) or normalize("NFC", c) == c and normalize("NFD", c)[0].isascii()
+                   else spelled(c) for c in word)  # (NFC makes a K of Kelvin's sign)
 
 
 def spelled(c: str) -> str:
@@ -36,7 +47,7 @@ def spelled(c: str) -> str:
 def label(name: str) -> str:
     """A name where a line begins, which can't look like what the line says behind it: a space behind a colon or another
     space, and one at an end, is spelled out too."""
-    return re.sub("(?<=[: ]) |^ | $", r"\\x20", plain(name))
+    return re.sub("(?<=[: ]) |^ | $", r"\\x20", plain(name, IN_NAMES))
 
 
 def reference(digits: str) -> str:
