@@ -56,7 +56,7 @@ def remedy(line: str, folder: str = "FOLDER") -> tuple[str, str]:
     stand before it, or in parentheses behind it."""
     words, found = re.sub(r" \([^(]*\)$", "", line), (0, "", "See docs/REFUSALS.md.")
     for pattern, why, what in REMEDIES:
-        seen = re.search(rf"ntpaudit(-dossier)?: .*({pattern})", words)
+        seen = re.search(rf"(?s)ntpaudit(-dossier)?: .*({pattern})", words)
         if seen and seen.end() > found[0]:
             found = seen.end(), why, what.replace("FOLDER", shlex.quote(folder))
     return found[1:]

@@ -846,7 +846,7 @@ def test_own_faults(place: Path) -> None:
     check("remedies of these", missing=([line for line in lines if not told[line][0]], []))
     for line in lines:
         if line.startswith("f.pcap"):
-            wrong = [name for name in lines if remedy(f"ntpaudit-dossier: {name}.pcap{line[6:]}") != told[line]]
+            wrong = [name for name in lines if remedy(f"ntpaudit-dossier: {name}\n.pcap{line[6:]}") != told[line]]
             check(f"the remedy of '{line}', whatever the name", wrong=(wrong, []))
     script = (f'import sys; sys.path.insert(0, {str(Path(SCRIPT).parent)!r}); from dossier import command_line as c; '
               'c.run = lambda given: 1 / 0; sys.exit(c.main(["page", "x"]))')
