@@ -31,7 +31,7 @@ ABOUT = """Puts many audits by ntpaudit together: folders with a claim and captu
                                                                               a claim to start from: read it, fix it
   ntpaudit-dossier audit web-1                                                the audit
   ntpaudit-dossier page web-1 > dossier.html                                  the page
-  ntpaudit-dossier sign web-1 --key ~/.ssh/id_ed25519                         who answers for it (if you like)
+  ntpaudit-dossier sign --key ~/.ssh/id_ed25519 web-1                         who answers for it (if you like)
   ntpaudit-dossier verify web-1                                               a year later
 
 docs/DOSSIER.md has more. Statuses are those of ntpaudit: 0 yes, 1 no yes, 2 an input is refused, 3 out of memory, 4 a

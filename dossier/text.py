@@ -9,8 +9,10 @@ BLANK = re.compile("[\u034f\u115f\u1160\u17b4\u17b5\u180b-\u180f\u2800\u3164\ufe
 """What counts as printable, and isn't seen: two names may differ in it alone."""
 
 WORD = re.compile(r"[^\s/]+")
-LATIN = re.compile("LATIN|DIGIT|MODIFIER")
-"""How Unicode's names of Latin letters begin, of ASCII digits, and of what stands beside letters, such as a colon."""
+LATIN = re.compile("LATIN|MODIFIER")
+"""How Unicode's names of Latin letters begin, and of what stands beside letters, such as a colon."""
+UNLIKE = re.compile("CJK UNIFIED|HIRAGANA LETTER|KATAKANA LETTER|HANGUL SYLLABLE")
+"""How the names of letters begin that look like no Latin ones."""
 LETTERS = "\u0300-\u036f\xc6\xd0\xd8\xde\xdf\xe6\xf0\xf8\xfe\u0110\u0111\u0126\u0127\u0141\u0142\u0152\u0153\u1e9e"
 """Accents by themselves, and Latin letters that are no ASCII letter with an accent."""
 IN_NAMES = re.compile(f"[{LETTERS}]")
@@ -28,13 +30,13 @@ def plain(words: str, staying: re.Pattern[str] = IN_TEXTS) -> str:
 
 
 def latin(word: str, staying: re.Pattern[str]) -> str:
-    """A word with all spelled out but ASCII, with accents or without, and what stays; but as it is if it is wholly of
-    another script: if it has a letter, and no Latin one in whatever form, nor an ASCII digit."""
+    """A word with all spelled out but ASCII, with accents or without, and what stays; but as it is if it is of another
+    script: if it has a letter, and no Latin one in whatever form."""
     forms = (name_of(form, "") for c in word for form in normalize("NFKC", c))
     if word.isascii() or any(map(str.isalpha, word)) and not any(map(LATIN.match, forms)):
         return word
-    return "".join(c if staying.match(c) or normalize("NFC", c) == c and normalize("NFD", c)[0].isascii()
-                   else spelled(c) for c in word)  # (NFC makes a K of Kelvin's sign)
+    return "".join(c if staying.match(c) or UNLIKE.match(name_of(c, "")) or normalize("NFC", c) == c
+                   and normalize("NFD", c)[0].isascii() else spelled(c) for c in word)  # (NFC makes K of Kelvin's sign)
 
 
 def spelled(c: str) -> str:
