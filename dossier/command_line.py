@@ -145,7 +145,7 @@ OPTIONS = [
            "how long before its record's time a request may have left, or after it a reply arrived, in nanoseconds; 0 "
            f"if `record` recorded it, else {UNKNOWN_READING}, if it is left out", among="reading"),
     Option("draft", "--measured", "FILE", "what `measure -o` left, which has that number", among="reading"),
-    Option(ON_FOLDERS, "folders", "FOLDER", "a folder with claim.json and captures, and what an audit wrote beside them",
+    Option(ON_FOLDERS, "folders", "FOLDER", "a folder with claim.json and captures, and what an audit left there",
            {"nargs": "+"}),
     Option("year", "folders", "DAYS", "folders of days, or of machines with such in them", {"nargs": "+"}),
     Option("year", "--year", (1971, 9999), "this year if it is left out"),

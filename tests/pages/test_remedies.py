@@ -321,7 +321,7 @@ SHOWN: dict[str, tuple[Maker, str]] = {
 def spelled(command: str) -> str:
     """A page's command with the names that the files have here."""
     command = re.sub(r"\bFILE\b|\bf\.pcapng\b", "f.pcap", command).replace(" g.pcap", " new.pcap")
-    command = command.replace(" /tmp/", " ../")
+    command = command.replace(" ~/", " ../")
     return command.replace("FILTER", FILTER).replace("{file}", "f.pcap")
 
 
