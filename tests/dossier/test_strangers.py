@@ -22,7 +22,7 @@ from pathlib import Path
 from typing import Any
 from unittest.mock import patch
 
-from tests.support import DATA, ROOT, SECONDS, Ran, check, children, run, wait_until
+from tests.support import DATA, ROOT, SECONDS, Ran, check, children, is_here, run, wait_until
 from tests.dossier.audits import (ENVIRONMENT, KEEP, PROGRAM, SCRIPT, SEARCH, check_page, dossier, folder_of,
                                   parts_left, rows, skipped, table, within)
 from tests.dossier.test_evidence import key_of, why_no_link
@@ -455,16 +455,22 @@ def test_at_once(place: Path) -> None:
         wait_until(lambda: waits_for_lock(call.pid))
         check("an audit while another writes", waits=((call.poll(), (folder / "audit.json").exists()), (None, False)))
     check("an audit after another wrote", status=(call.wait(SECONDS), 0), made=((folder / "audit.json").exists(), True))
-    for words, status in ((["audit", "--step", "4"], 5), (["keep"], 0)):
-        kept = (state / "audits").read_text()
+    signature, kept = folder / "audit.json.sig", (state / "audits").read_text()
+    later = [(["audit"], 0, b"(unchanged)"), (["audit", "--step", "4"], 5, b"")]
+    later += [(["keep"], 0, b": kept")] if is_here("zstd", "a folder that is kept after another wrote") else []
+    for words, status, said in later:
         (state / "audits").write_text("")
         with Folder(str(folder)) as ours, known[0].alone(ours):
             call = subprocess.Popen([SCRIPT, words[0], "--state", state, *words[1:], folder], env=ENVIRONMENT,
-                                    stdout=subprocess.DEVNULL)
+                                    stdout=subprocess.PIPE)
             wait_until(lambda: waits_for_lock(call.pid))
             (state / "audits").write_text(kept)
-            (folder / "audit.json.sig").touch() if status else (folder / "audit.json.sig").unlink()
-        check(f"{words[0]} after another wrote", status=(call.wait(SECONDS), status))
+            if status:
+                signature.touch()
+        out = call.communicate(timeout=SECONDS)[0]
+        check(f"{' '.join(words)} after another wrote", run=(call.returncode, status), said=(said in out, True),
+              left=(signature.exists(), status != 0))
+        signature.unlink(missing_ok=True)
     (state / "audits").write_text("")
     sums = [[hashlib.sha256(f"{one} {k}".encode()).hexdigest() for k in range(200)] for one in range(4)]
     threads = [threading.Thread(target=lambda own=own, one=one: [own.add(sum_, record) for sum_ in sums[one]])
