@@ -11,7 +11,7 @@ BLANK = re.compile("[\u034f\u115f\u1160\u17b4\u17b5\u180b-\u180f\u2800\u3164\ufe
 WORD = re.compile(r"[^\s/]+")
 LATIN = re.compile("LATIN|MODIFIER")
 """How Unicode's names of Latin letters begin, and of what stands beside letters, such as a colon."""
-UNLIKE = re.compile("CJK UNIFIED|HIRAGANA LETTER|KATAKANA LETTER|HANGUL SYLLABLE")
+UNLIKE = re.compile("CJK UNIFIED|HIRAGANA LETTER|KATAKANA LETTER|KATAKANA-HIRAGANA|HANGUL SYLLABLE")
 """How the names of letters begin that look like no Latin ones."""
 LETTERS = "\u0300-\u036f\xc6\xd0\xd8\xde\xdf\xe6\xf0\xf8\xfe\u0110\u0111\u0126\u0127\u0141\u0142\u0152\u0153\u1e9e"
 """Accents by themselves, and Latin letters that are no ASCII letter with an accent."""

@@ -74,10 +74,13 @@ def audit(wanted: Wanted, path: str, _: int) -> Result:
 
 def audited_anew(wanted: Wanted, path: str, old: Record | None) -> Result:
     """Makes an audit, and puts it in place."""
+    is_signed, _ = before = standing(path)
     with Folder(path) as folder:
-        is_signed = folder.has(files.SIGNATURE)
         if is_signed and not wanted.again:
             raise fault(SIGNED, USAGE)
+        for day in folders_of_days(folder, wanted.options):
+            if folder.has(f"{day}/{files.AUDIT}"):
+                raise fault(f"{day} has an audit of its own, which --days would overwrite")
         making = Making(folder, wanted.program, wanted.options, wanted.leaps)
         try:
             record = making.record()
@@ -86,10 +89,26 @@ def audited_anew(wanted: Wanted, path: str, old: Record | None) -> Result:
         text, stale = record_text(record), {*LEFT, *(old.outputs if old else ()), files.SIGNATURE}
         outputs: dict[str, Iterable[bytes]] = {name: blocks_of(name) for name in record.outputs}
         keep_recordings(folder, record)
+        if standing(path) != before:  # (by somebody whose record is another, so that nobody waited)
+            raise fault(f"{files.AUDIT} has changed meanwhile")
         place(folder, {**outputs, files.AUDIT: [text]}, stale - record.outputs.keys())
     wanted.known.add(sum_of(text), record)
     removed = [f"{'':14}{label(path)}: its signature was removed"] if is_signed else []
     return result_of(path, record, wanted.known, "", removed)
+
+
+def standing(path: str) -> tuple[bool, str]:
+    """Whether there is a signature now, and the sum of audit.json."""
+    with Folder(path) as folder:
+        try:
+            return folder.has(files.SIGNATURE), folder.sum(files.AUDIT)
+        except Fault:
+            return folder.has(files.SIGNATURE), ""
+
+
+def folders_of_days(folder: Folder, options: Options) -> list[str]:
+    """The folders of days in a folder that is audited by days."""
+    return [name for name in folder.names() if is_day(name) and folder.is_folder(name)] if options.days else []
 
 
 def keep_recordings(folder: Folder, record: Record) -> None:
@@ -156,8 +175,8 @@ def change_of(folder: Folder, record: Record) -> str:
         if folder.sum(name) != sum_:
             return (f"{label(name)} was changed since the audit ({short(folder.sum(name))}, {files.AUDIT} has "
                     f"{short(sum_)})")
-    days = filter(is_day, filter(folder.is_folder, folder.names() if record.options.days else ()))
-    left = {f"{part}{name}" for part in ("", *(f"{day}/" for day in days)) for name in LEFT} | {files.YEAR}
+    parts = ["", *(f"{day}/" for day in folders_of_days(folder, record.options))]
+    left = {f"{part}{name}" for part in parts for name in LEFT} | {files.YEAR}
     more = next(filter(folder.has, sorted(left - record.outputs.keys())), None)
     return f"{more} isn't of this audit: {files.AUDIT} has no sum of it" if more else ""
 

@@ -87,7 +87,9 @@ def year_of(wanted: Wanted, machine: str, names: list[str]) -> Year:
     made = {one.made: None for one in found if one.made and one.told.date in kept}
     told_of_all = [kept.get(date) or beside.get(date) or Told(date, MISSING) for date in dates]
     captures = {sum_ for one in found if kept.get(one.told.date) is one.told for sum_ in one.captures}
-    return Year(plain(machine), told_of_all, claims.get(common), sorted(others), list(made), sorted(captures))
+    path = machine if machine.isprintable() else plain(machine)  # (a line feed would make a line of a file of sums)
+    return Year(plain(machine), told_of_all, claims.get(common), sorted(others), list(made), sorted(captures),
+                path=path)
 
 
 def twinned(years: list[Year]) -> list[Year]:

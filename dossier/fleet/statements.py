@@ -21,7 +21,7 @@ RULES = {100_000: "MiFID II's RTS 25 of high-frequency trading, and CAT's 6.8 of
          1_000_000_000: "MiFID II's RTS 25 of voice trading, and CAT's 6.8 of manual orders"}
 """Who asks for a bound of so many nanoseconds, by docs/BOUND.md."""
 
-IN_A_SENTENCE = re.compile(r"[\w./@+-]+")
+IN_A_SENTENCE, OUT_OF_QUOTES = re.compile("[A-Za-z0-9_./@+-]+"), re.compile(r"[^\w./@+\\ -]")
 
 TWINS, MOST_OF_A_PATH = "A recording of these days is that of", 4_096
 
@@ -74,8 +74,8 @@ def statement(year: Year) -> str:
 
 
 def quoted(machine: str) -> str:
-    """A machine's name in a sentence: in quotes, if it could be more of the sentence."""
-    within_quotes = machine.replace('"', spelled('"'))
+    """A machine's name in a sentence: in quotes if it could be more of the sentence, and then without other marks."""
+    within_quotes = OUT_OF_QUOTES.sub(lambda mark: spelled(mark[0]), machine)
     return machine if IN_A_SENTENCE.fullmatch(machine) else f'"{within_quotes}"'
 
 
@@ -99,7 +99,7 @@ def read_statements(data: bytes) -> Statements:
 
 def sums_of(place: str, year: Year) -> bytes:
     """The sums of a machine's days, with paths as seen from a folder."""
-    machine = os.path.relpath(absolute(year.machine), absolute(place))
+    machine = os.path.relpath(absolute(year.path), absolute(place))
     rows = (f"{day.sha256}  {machine}/{day.folder}/{AUDIT}\n" for day in year.days if day.sha256)
     return "".join(rows).encode("utf-8", "surrogateescape")
 

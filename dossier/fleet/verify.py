@@ -24,6 +24,7 @@ from ..verdict.making import Making
 from ..verdict.second import Second
 from ..verdict.sentences import TWICE, reason
 from .audit import change_of
+from .days import is_day
 from .signature import GOOD, NONE, UNSEEN, Signers, in_words, signed_in
 from .statements import days_of, difference as year_difference, folders_above
 
@@ -174,8 +175,14 @@ def verify_all(folders: list[str], verifier: Verifier, signers: Signers, seconds
     all is verified and shown, and 1 if something isn't; or a fault's."""
     worst, seen, named = 0, dict[str, str](), {files.absolute(folder) for folder in folders}
     below = {folder: days_below(folder, named, seconds) for folder in folders}
+    stated = [day for days in below.values() for day in days]
+    above = {path for day in stated for path in named & folders_above(os.path.dirname(day))}
+    seen_days = named.union(map(files.absolute, stated))
+    for folder in folders:
+        if files.absolute(folder) in above:
+            below[folder] += [day for day in days_beside(folder, stated, seconds)
+                              if files.absolute(day) not in seen_days]
     every = [each for folder in folders for each in (*below[folder], folder)]
-    above = {path for days in below.values() for day in days for path in named & folders_above(os.path.dirname(day))}
 
     def work(path: str, _: int) -> Result:  # (a year's signature is one for its days)
         is_named = files.absolute(path) in named
@@ -197,6 +204,26 @@ def days_below(path: str, named: set[str], seconds: int) -> list[str]:
         with Folder(path) as folder:
             days = days_of(folder, named) if signed_in(folder) == files.YEAR else []
             return Result(lines=[day for day in days if is_there(day)])
+    return run_one(path, work, seconds).lines
+
+
+def days_beside(path: str, stated: list[str], seconds: int) -> list[str]:
+    """The folders of all days in a folder, in those in it, and beside the stated days below it; and the folders among
+    these that can't be looked into."""
+    machines = {os.path.dirname(day) for day in stated if files.absolute(path) in folders_above(os.path.dirname(day))}
+
+    def work(path: str, _: int) -> Result:
+        with Folder(path) as folder:
+            inner = {os.path.join(path, name) for name in folder.names() if folder.is_folder(name) and not is_day(name)}
+        found = list[str]()
+        for place in sorted({files.absolute(place): place for place in (path, *inner, *machines)}.values()):
+            try:
+                with Folder(place) as folder:
+                    found += [os.path.join(place, name) for name in folder.names()
+                              if is_day(name) and folder.is_folder(name)]
+            except Fault:
+                found.append(place)
+        return Result(lines=found)
     return run_one(path, work, seconds).lines
 
 

@@ -59,7 +59,8 @@ def is_capture(name: str) -> bool:
 
 def absolute(path: str) -> str:
     """The absolute path of what the command line names, in a folder's own process too: that one is elsewhere."""
-    return os.path.normpath(os.path.join(os.readlink(f"/proc/self/fd/{HOME}"), path))
+    whole = os.path.normpath(os.path.join(os.readlink(f"/proc/self/fd/{HOME}"), path))
+    return f"/{whole.lstrip('/')}"  # (two slashes stay two for normpath)
 
 
 def limit_of(name: str) -> int:

@@ -117,6 +117,8 @@ class Year:
     """The sums of its days' captures."""
     twins: list[Text] = field(default_factory=list)
     """The machines that have one of these too."""
+    path: Text = ""
+    """Its folder."""
 
     @property
     def counts(self) -> dict[str, int]:

@@ -39,7 +39,7 @@ class Pages(NamedTuple):
                     signs=SIGNS, months=self.months, statement=statement, strip=strip, link_to=self.link_to)
 
     def link_to(self, year: Year, day: Told) -> str:
-        path = os.path.relpath(os.path.join(year.machine, day.folder), self.base or ".") if day.folder else ""
+        path = os.path.relpath(os.path.join(year.path, day.folder), self.base or ".") if day.folder else ""
         return f"{quoted(path)}/" if path else ""
 
     def months(self, year: Year) -> Iterator[tuple[str, list[tuple[str, str, str, str]]]]:

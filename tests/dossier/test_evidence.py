@@ -62,7 +62,7 @@ def test_signatures(place: Path) -> None:
     check("a stranger's signature", status=(said[strange][0], 1), words=(b"may not sign" in said[strange][1], True),
           named=(b"by mallory" in said[strange][1], False))
     for folder, (status, out, _) in said.items():
-        for name, home in ((folder.name, place), (".", folder)):
+        for name, home in ((folder.name, place), (".", folder), (f"/{folder}", place)):
             check(f"{folder.name}, named {name}",
                   run=(dossier("verify", "--signers", signers, name, cwd=home)[:2],
                        (status, out.replace(str(folder).encode(), name.encode()))))

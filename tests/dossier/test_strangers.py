@@ -456,6 +456,12 @@ def test_at_once(place: Path) -> None:
         check("an audit while another writes", waits=((call.poll(), (folder / "audit.json").exists()), (None, False)))
     check("an audit after another wrote", status=(call.wait(SECONDS), 0), made=((folder / "audit.json").exists(), True))
     signature, kept = folder / "audit.json.sig", (state / "audits").read_text()
+    signs = place / "signs"
+    signs.write_text(f'#!/bin/sh\n[ "$1" != envelope ] || : > "{signature}"\nexec "{PROGRAM}" "$@"\n')
+    signs.chmod(0o755)
+    status, _, _ = dossier("audit", "--state", state, folder, env={**ENVIRONMENT, "NTPAUDIT": str(signs)})
+    check("an audit of what is signed meanwhile", status=(status, 2), left=(signature.exists(), True))
+    signature.unlink()
     later = [(["audit"], 0, b"(unchanged)"), (["audit", "--step", "4"], 5, b"")]
     later += [(["keep"], 0, b": kept")] if is_here("zstd", "a folder that is kept after another wrote") else []
     for words, status, said in later:
@@ -747,7 +753,7 @@ def test_names_in_lines(place: Path) -> None:
     from dossier.text import label, plain
     check("what looks like ASCII", left=([ascii(c) for c in alike if not label(f"web{c}1").isascii()], []),
           alone=([ascii(c) for c in "\ua789\u0966\u1d00\U0001d42d\U0001d159" if not plain(c).isascii()], []))
-    for name in ("s\xe4\xe9\xdf\xf8\u0142\u1ea1e\u0301-1", "\u0445\u043e\u0441\u0442-1 \u6771\u4eacweb1"):
+    for name in ("s\xe4\xe9\xdf\xf8\u0142\u1ea1e\u0301-1", "\u0445\u043e\u0441\u0442-1 \u6771\u4eac\u30b5\u30fcweb1"):
         check(f"what looks like itself: {ascii(name)}", label=(label(name), name))
     check("a minus sign", called=(label("web\u22121"), r"web\u22121"), number=(plain("\u22121 ms"), "\u22121 ms"))
     odd = folder_of(place, "odd")

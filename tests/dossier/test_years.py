@@ -160,9 +160,12 @@ def test_signed_year(place: Path) -> None:
     check("sign a year", run=((status, out), (0, f"{pages}: signed\n".encode())),
           again=(dossier("sign", "--key", key, pages)[0], 4))
     named = (pages, place / "fleet")
+    other = place / "fleet" / "web 2" / "2001-09-09"
+    other.mkdir(parents=True)
     status, out, _ = dossier("verify", "--signers", signers, *named)
     lines = out.decode().splitlines()
-    check("verify a year", status=(status, 1), days=(sum(": verified: " in line for line in lines), 5),
+    check("verify a year", status=(status, 1), days=(sum(": verified: " in line for line in lines), 7),
+          beside=(f"{other}: ntpaudit-dossier: not audited" in lines, True),
           by=(any("by key@example.org" in line for line in lines), True),
           end=(f"{pages}: verified: its statements follow from its days" in lines, True),
           named=(lines[-1], f"{place / 'fleet'}: (a year's days are in it)"))
@@ -231,11 +234,11 @@ def test_copied_years(place: Path) -> None:
     check("a known audit.json beside another claim", shown=("0 of 365" in text, True),
           cell=('title="2001-09-09: not verified"' in text, True))
     (other / "audit.json").write_bytes(kept)
-    shutil.copytree(known, fleet / "web 3" / known.name)
+    shutil.copytree(known, fleet / "web-\u043c\u043e" / known.name)
     dossier("year", "--year", "2001", "--split", pages, *sorted(fleet.iterdir()))
     texts = [unescape((pages / f"0000{number}.html").read_text()) for number in (1, 2, 3)]
     twins = [re.findall(r"A recording of these days is that of (.*?) too", text) for text in texts]
-    check("a day of another machine", named=(twins, [[f'"{fleet}/web 3"'], [], [f'"{fleet}/web 1"']]),
+    check("a day of another machine", named=(twins, [[rf'"{fleet}/web-\u043c\u043e"'], [], [f'"{fleet}/web 1"']]),
           index=((pages / "index.html").read_text().count("has a recording of"), 2))
     check("a copy, signed and verified", sign=(dossier("sign", "--key", key, pages)[0], 0),
           said=(b"verified: its statements follow" in dossier("verify", pages, fleet)[1], True))
@@ -252,6 +255,9 @@ def test_copied_years(place: Path) -> None:
         (pages / "year.json").write_text(json.dumps({**year, "machines": machines}))
         out = dossier("verify", pages, fleet)[1]
         check(f"a year with {name}", told=(b"doesn't follow from its days" in out, True))
+    from dossier.fleet.statements import quoted
+    check("names in sentences", seen=([quoted(name) for name in ("web-1", "web 1\u201d) is (\u201c", "\u670d\u52a1")],
+                                      ["web-1", r'"web 1\u201d\x29 is \x28\u201c"', '"\u670d\u52a1"']))
     dossier("year", "--year", "2002", "--split", place / "2002", fleet / "web 1")
     check("a year without days", verified=(dossier("verify", place / "2002")[:2], (
         0, f"{place}/2002: verified: its statements follow from its days\n".encode())))
@@ -276,6 +282,11 @@ def test_midnight(place: Path) -> None:
                                           (1, f" {name} isn't of this audit")))
         (folder / name).unlink()
     (folder / "2001-09-25").rmdir()
+    own = folder / "2001-09-10" / "audit.json"
+    own.touch()
+    check("a day with an audit of its own", run=(dossier("audit", "--days", "--again", folder)[0], 2),
+          left=(own.read_bytes(), b""))
+    own.unlink()
     claims = [entry["claim"] for entry in json.loads((folder / "audit.json").read_text())["entries"]]
     spans = [(own["from"], own["to"]) for own in claims]
     check("days join", ends=([end for _, end in spans[:-1]], [begin for begin, _ in spans[1:]]), number=(len(spans), 3),
