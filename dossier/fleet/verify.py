@@ -28,8 +28,8 @@ from .days import is_day
 from .signature import GOOD, NONE, UNSEEN, Signers, in_words, signed_in
 from .statements import days_of, difference as year_difference, folders_above
 
-SHOWN, MOST_OF_A_DISPUTE = 80, 1000
-"""Characters of a value that are shown of a difference, and of what is disputed."""
+SHOWN, MOST_OF_A_DISPUTE, MOST_DAYS = 80, 1000, 1_000_000
+"""Characters of a value that are shown of a difference, and of what is disputed; and days that are verified at once."""
 TWICE_JUDGED = "judged by two programs"
 OPEN_ONCE = f"what is {OPEN} was judged by one program: it states nothing that the second could judge"
 
@@ -175,20 +175,23 @@ def verify_all(folders: list[str], verifier: Verifier, signers: Signers, seconds
     all is verified and shown, and 1 if something isn't; or a fault's."""
     worst, seen, named = 0, dict[str, str](), {files.absolute(folder) for folder in folders}
     below = {folder: days_below(folder, named, seconds) for folder in folders}
-    stated = [day for days in below.values() for day in days]
-    above = {path for day in stated for path in named & folders_above(os.path.dirname(day))}
-    seen_days = named.union(map(files.absolute, stated))
-    for folder in folders:
-        if files.absolute(folder) in above:
-            below[folder] += [day for day in days_beside(folder, stated, seconds)
-                              if files.absolute(day) not in seen_days]
+    stated, machines = [day for days in below.values() for day in days], dict[str, list[str]]()
+    for machine in {os.path.dirname(day) for day in stated}:
+        for path in named & folders_above(machine):
+            machines.setdefault(path, []).append(machine)
+    beside = {folder: days_beside(folder, machines[files.absolute(folder)], seconds)
+              for folder in folders if files.absolute(folder) in machines}
+    counted = named.union(map(files.absolute, stated))
+    for folder, found in beside.items():
+        below[folder] += [day for day in found.lines if files.absolute(day) not in counted]
     every = [each for folder in folders for each in (*below[folder], folder)]
 
     def work(path: str, _: int) -> Result:  # (a year's signature is one for its days)
-        is_named = files.absolute(path) in named
-        if is_named and files.absolute(path) in above and is_of_days(path):
+        if path in beside and is_of_days(path):
+            if refusal := beside[path].refusal:
+                raise Fault(refusal.line, refusal.status)
             return Result(lines=["(a year's days are in it)"])
-        return verify(verifier, signers if is_named else Signers(None), path, named)
+        return verify(verifier, signers if files.absolute(path) in named else Signers(None), path, named)
     for path, found in run_all(every, work, seconds):
         copies = [seen[sum_] for sum_ in found.captures if seen.setdefault(sum_, path) != path]
         lines = [found.refusal.line] if found.refusal else found.lines
@@ -207,11 +210,9 @@ def days_below(path: str, named: set[str], seconds: int) -> list[str]:
     return run_one(path, work, seconds).lines
 
 
-def days_beside(path: str, stated: list[str], seconds: int) -> list[str]:
-    """The folders of all days in a folder, in those in it, and beside the stated days below it; and the folders among
+def days_beside(path: str, machines: list[str], seconds: int) -> Result:
+    """The folders of all days in a folder, in those in it, and in those of machines below it; and the folders among
     these that can't be looked into."""
-    machines = {os.path.dirname(day) for day in stated if files.absolute(path) in folders_above(os.path.dirname(day))}
-
     def work(path: str, _: int) -> Result:
         with Folder(path) as folder:
             inner = {os.path.join(path, name) for name in folder.names() if folder.is_folder(name) and not is_day(name)}
@@ -223,8 +224,10 @@ def days_beside(path: str, stated: list[str], seconds: int) -> list[str]:
                               if is_day(name) and folder.is_folder(name)]
             except Fault:
                 found.append(place)
+            if len(found) > MOST_DAYS:
+                raise fault(f"more than {MOST_DAYS:,} days are in the folder")
         return Result(lines=found)
-    return run_one(path, work, seconds).lines
+    return run_one(path, work, seconds)
 
 
 def is_there(path: str) -> bool:

@@ -172,6 +172,11 @@ def test_signed_year(place: Path) -> None:
     check("verify a year by relative names",
           run=(dossier("verify", "--signers", signers, "pages", "fleet", cwd=place)[:2],
                (status, out.replace(f"{place}/".encode(), b""))))
+    run(["sh", "-c", "seq 100001 | xargs touch"], cwd=place / "fleet")
+    check("a folder with too much in it", told=(
+        f"{place / 'fleet'}: ntpaudit-dossier: more than 100,000 files are in the folder"
+        in dossier("verify", *named)[1].decode().splitlines(), True))
+    run(["sh", "-c", "seq 100001 | xargs rm"], cwd=place / "fleet")
     status, out, _ = dossier("verify", pages)
     check("a year whose days are in no folder that is named", status=(status, 2), days=(out.count(b"2001-09-09"), 1),
           told=(out.decode().partition("\n")[0], f"{pages}: ntpaudit-dossier: {own}/2001-09-09 is in no folder that is "
