@@ -61,8 +61,8 @@ def audit_all(folders: list[str], wanted: Wanted, jobs: int, seconds: int, metri
 def audit(wanted: Wanted, path: str, _: int) -> Result:
     """Audits a folder and leaves its files, audit.json last. No other call writes there meanwhile.
 
-    A refusal is an audit too, and is written down. A fault is raised only if that isn't possible, or if the folder is
-    signed and would have to be audited again.
+    A refusal is an audit too, and is written down. A fault is raised only if that isn't possible, or if it would take
+    a signature or another's audit away.
     """
     with Folder(path) as folder, wanted.known.alone(folder):
         is_ones_own(folder.place)

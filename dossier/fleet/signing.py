@@ -78,8 +78,8 @@ def sign(known: Known, leaps: LeapList, signed: bytes, signature: bytes, path: s
     time."""
     with Folder(path) as folder, known.alone(folder):
         if signed_in(folder) == YEAR:
-            now_there, then = (replace(read_statements(data), signed="") for data in (folder.data(YEAR), signed))
-            if folder.has(f"{YEAR}.sig") or now_there != then:
+            standing, own = (replace(read_statements(data), signed="") for data in (folder.data(YEAR), signed))
+            if folder.has(f"{YEAR}.sig") or standing != own:
                 raise fault(f"{YEAR} has changed meanwhile")
             place(folder, {YEAR: [signed], f"{YEAR}.sig": [signature]})
             return Result(lines=["signed"])

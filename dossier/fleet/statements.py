@@ -22,8 +22,12 @@ RULES = {100_000: "MiFID II's RTS 25 of high-frequency trading, and CAT's 6.8 of
 """Who asks for a bound of so many nanoseconds, by docs/BOUND.md."""
 
 IN_A_SENTENCE, OUT_OF_QUOTES = re.compile("[A-Za-z0-9_./@+-]+"), re.compile(r"[^\w./@+\\ -]")
+"""A name that stands in a sentence as it is; and what is spelled out of any other."""
 
-TWINS, MOST_OF_A_PATH = "A recording of these days is that of", 4_096
+TWINS = "A recording of these days is that of"
+
+MOST_OF_A_PATH = 4_096
+"""Characters of a path in a file of sums: all folders above it are worked out."""
 
 
 @dataclass(frozen=True)
@@ -51,10 +55,10 @@ class Statements:
 def statement(year: Year) -> str:
     """What somebody can sign of a machine's year."""
     if not year.claim or not any(day.sha256 for day in year.days):
-        return f"Of {quoted(year.machine)} nothing is known here."
-    claim, counts = year.claim, year.counts
+        return f"Of {in_quotes(year.machine)} nothing is known here."
+    claim, counts, name = year.claim, year.counts, in_quotes(year.machine)
     rule = RULES.get(claim.bound_ns)
-    said = [f"The clock of {claim.client} ({quoted(year.machine)}) had to be within {ns_ms(claim.bound_ns)} ms of UTC"
+    said = [f"The clock of {claim.client} ({name}) had to be within {ns_ms(claim.bound_ns)} ms of UTC"
             f"{f', as {rule} ask' if rule else ''}.",
             f"From {year.days[0].date} to {year.days[-1].date} this is shown on {counts[YES]} of "
             f"{count(len(year.days), 'day')}, each from midnight to midnight (UTC): in every course of events that "
@@ -67,13 +71,13 @@ def statement(year: Year) -> str:
     worst = year.worst
     said += [f"The greatest bound that a day needed was {ns_up_ms(worst.least_ns or 0)} ms, on {worst.date}."] \
         if worst else []
-    twins = listed([quoted(twin) for twin in year.twins])
+    twins = listed([in_quotes(twin) for twin in year.twins])
     said += [f"{TWINS} {twins} too, so one of them is a copy."] if twins else []
     programs = "; ".join(f"{made.version or 'ntpaudit'}, SHA-256 {made.sha256}" for made in year.programs)
     return " ".join([*said, f"Audited by {programs}."])
 
 
-def quoted(machine: str) -> str:
+def in_quotes(machine: str) -> str:
     """A machine's name in a sentence: in quotes if it could be more of the sentence, and then without other marks."""
     within_quotes = OUT_OF_QUOTES.sub(lambda mark: spelled(mark[0]), machine)
     return machine if IN_A_SENTENCE.fullmatch(machine) else f'"{within_quotes}"'

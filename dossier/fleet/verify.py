@@ -183,7 +183,9 @@ def verify_all(folders: list[str], verifier: Verifier, signers: Signers, seconds
               for folder in folders if files.absolute(folder) in machines}
     counted = named.union(map(files.absolute, stated))
     for folder, found in beside.items():
-        below[folder] += [day for day in found.lines if files.absolute(day) not in counted]
+        others = [day for day in found.lines if files.absolute(day) not in counted]
+        below[folder] += others
+        counted.update(map(files.absolute, others))
     every = [each for folder in folders for each in (*below[folder], folder)]
 
     def work(path: str, _: int) -> Result:  # (a year's signature is one for its days)

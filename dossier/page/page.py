@@ -6,7 +6,7 @@ from collections import Counter
 from collections.abc import Iterator, Sequence
 from typing import NamedTuple
 
-from ..fault import DEVICE, REFUSED as INPUT_REFUSED, Fault, fault
+from ..fault import REFUSED as INPUT_REFUSED, Fault, fault
 from ..fleet.audit import change_of
 from ..fleet.metrics import Sample, of_record, of_verdict, write_metrics
 from ..fleet.signature import NONE, STRANGER, UNFIT, UNSEEN, Signature, Signers
@@ -202,8 +202,8 @@ def years_of(folders: list[str], given: argparse.Namespace, known: Known, leaps:
         try:  # (of a machine that can't be looked at the page has the line)
             write_year(list(machines_of(folders)), wanted, pages, given.limit, 1)
             found.append(year)
-        except Fault as none:
-            if none.status == DEVICE:
+        except Fault as refused:
+            if refused.status != INPUT_REFUSED:
                 raise
     return found
 
