@@ -161,7 +161,7 @@ def test_install(folder: Path) -> None:
     status, out, _ = run([ROOT / "install", prefix])
     listed = sorted(line.removeprefix(f"{prefix}/") for line in out.decode().splitlines())
     check("what is installed is said", status=(status, 0),
-          files=([file for file in files_below(prefix) if not file.endswith(".pyc")], listed))
+          files=([file for file in files_below(prefix) if not file.endswith((".pyc", "/installed"))], listed))
     check("the installed dossier is compiled", modules=compiled(prefix / "share/ntpaudit/dossier"))
     broken = folder / "broken"
     shutil.copytree(prefix / "share/ntpaudit/dossier", broken)
@@ -206,6 +206,31 @@ def test_install(folder: Path) -> None:
           other=([file for file in listed if file.startswith("lib/")], []), said=(len(everywhere) > len(listed), True))
     run([ROOT / "install", "--remove", system])
     check("nothing is left", left=(list(system.iterdir()), []))
+
+
+def test_remove(folder: Path) -> None:
+    """What another put in the place of a file, and what lies behind a link, isn't removed."""
+    if not is_at_hand("what is removed"):
+        return
+    prefix, other = folder / "prefix", folder / "checkout"
+    own = prefix / "share/ntpaudit/dossier"
+    run([ROOT / "install", prefix])
+    own.rename(other)
+    own.symlink_to(other)
+    (prefix / "bin/ntpaudit").write_text("another's\n")
+    there = files_below(other)
+    status, _, err = run([ROOT / "install", "--remove", prefix])
+    lines = err.decode().splitlines()
+    check("what another put there, or lies behind a link, is left",
+          status=(status, 70), checkout=(files_below(other), there),
+          said=({line.split(" is left: ")[1] for line in lines},
+                {"it is another file than what was installed", f"{own} is a link"}),
+          left=([file for file in files_below(prefix) if "dossier/" not in file],
+                ["bin/ntpaudit", "share/ntpaudit/installed"]))
+    check("no file behind a link is written", run=(run([ROOT / "install", prefix])[::2],
+          (70, f"ntpaudit: {own} is a link, and what it leads to would be written\n".encode())))
+    (prefix / "share/ntpaudit/installed").unlink()
+    check("what isn't known isn't removed", run=(run([ROOT / "install", "--remove", prefix])[0], 70))
 
 
 def test_package(folder: Path) -> None:
