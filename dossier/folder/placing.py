@@ -4,10 +4,12 @@ An output is made without a name in the folder where it belongs, or where that c
 when all of them are made. Nothing is written through a link, root writes nothing into another user's folder, and
 nothing is taken away but by the name of a file that is known to be one's own.
 """
+import errno
 import fcntl
 import os
 import signal
 import stat
+import time
 from collections.abc import Iterable, Iterator
 from contextlib import contextmanager, suppress
 
@@ -18,6 +20,9 @@ from .files import (BLOCK, FILE, HOME, MOST_OF_A_CAPTURE, OF_A_FILE, Folder, fol
 END = signal.SIGUSR1
 """What ends the process of a folder, but not while it is undisturbed: a signal for which Python has no handler, which
 one that has only just been forked would have too."""
+
+READER = 10
+"""The reader of a FIFO is waited for that many seconds."""
 
 
 def unwritable(name: str, error: OSError) -> Fault:
@@ -300,6 +305,28 @@ class Journal:
 # ---- files that the command line names
 
 
+@contextmanager
+def taken_by_another(name: str, place: int) -> Iterator[int]:
+    """A descriptor of a device or a FIFO, for a while. Who reads a FIFO may begin after this, but not much later."""
+    flags = os.O_WRONLY | os.O_NONBLOCK | os.O_NOCTTY | os.O_NOFOLLOW | os.O_CLOEXEC
+    end = time.monotonic() + READER
+    while True:
+        try:
+            file = os.open(name, flags, dir_fd=place)
+            break
+        except OSError as error:
+            if error.errno != errno.ENXIO:
+                raise
+        if time.monotonic() > end:
+            raise fault(f"nobody reads {name}, so it isn't written", DEVICE)
+        time.sleep(0.1)
+    try:
+        os.set_blocking(file, True)
+        yield file
+    finally:
+        os.close(file)
+
+
 def write_named(path: str, data: bytes, is_below: bool = False) -> None:
     """Writes a file that the command line names, or one below a folder that it names, which is made: straight into what
     is a device or a FIFO, if its name is the user's choice, else whole or not at all. A link in any part of its path
@@ -309,7 +336,7 @@ def write_named(path: str, data: bytes, is_below: bool = False) -> None:
         with folder_at(parent, make_in if is_below else None) as place:
             kind = FILE if is_below else kind_of(place, name)
             if kind in ("a FIFO", "a device"):
-                with held(name, place, os.O_WRONLY | os.O_NOCTTY | os.O_NOFOLLOW | os.O_CLOEXEC) as opened:
+                with taken_by_another(name, place) as opened:
                     if stat.S_ISREG(os.fstat(opened).st_mode):
                         raise fault(f"{name} has changed meanwhile")
                     write(opened, data)

@@ -352,6 +352,8 @@ def test_named_outputs(place: Path) -> None:
     out = reader.communicate()[0]
     check("-o to a FIFO", status=(status, 0), whole=(out.endswith(b"</html>\n"), True),
           there=(stat.S_ISFIFO(fifo.lstat().st_mode), True))
+    status, _, err = dossier("page", "-o", fifo, folder)
+    check("-o to a FIFO that nobody reads", status=(status, 4), said=(b"nobody reads fifo" in err, True))
     if not why_no_link():
         check("measure -o to a link", status=(dossier("measure", "--count", "10", "-o", link)[0], 4),
               link=(link.is_symlink(), True), target=(target.read_text(), "old"))
