@@ -98,10 +98,13 @@ def test_statuses(place: Path) -> None:
     calls = {"a current folder that is gone": f'cd "{gone}"; rmdir "{gone}"; "$0" verify "{folder}"',
              "6 descriptors": f'ulimit -n 6; "$0" verify "{folder}"', "closed output": f'"$0" page "{folder}" >&-',
              "closed input": f'"$0" verify "{folder}" <&-', "closed errors": f'"$0" verify "{folder}" 2>&-',
+             "closed errors, and what is said there": '"$0" page -o /dev/full x 2>&-',
+             "errors to a full disk": '"$0" audit --bad 2>/dev/full',
              "an empty operand": '"$0" verify ""',
              "a full output": f'"$0" verify "{folder}" > /dev/full', "help to a full output": '"$0" help > /dev/full',
              "no memory": f'ulimit -v 20000; "$0" verify "{folder}"'}
     wanted = {"an empty operand": (5,), "closed output": (4,), "closed input": (0,), "closed errors": (0,),
+              "closed errors, and what is said there": (4,), "errors to a full disk": (5,),
               "a full output": (4,), "help to a full output": (4,)}
     for name, script in calls.items():
         status, out, _ = run(["sh", "-c", script, SCRIPT], env=ENVIRONMENT)
