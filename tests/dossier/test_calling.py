@@ -82,6 +82,21 @@ def test_beside(place: Path) -> None:
     check("what lies beside", run=((place / "owned").exists(), False))
 
 
+def test_older_python(place: Path) -> None:
+    """Where python3 is older than 3.11, a newer one is taken by its name."""
+    for folder in ("older", "newer"):
+        (place / folder).mkdir()
+    older = place / "older/python3"
+    older.write_text(f"#!/bin/sh\nshift 5\nexec {sys.executable} -c 'import runpy, sys; sys.version_info = (3, 9, 18); "
+                     "sys.argv = sys.argv[1:]; runpy.run_path(sys.argv[0], run_name=\"__main__\")' \"$@\"\n")
+    older.chmod(0o755)
+    (place / "newer/python3.11").symlink_to(os.path.realpath(sys.executable))
+    for path, wanted in ((place / "older", 70), (f"{place}/older:{place}/newer", 0)):
+        status, out, err = run([SCRIPT, "--version"], env={**ENVIRONMENT, "PATH": str(path)})
+        check(f"an older Python, status {wanted}", run=(status, wanted),
+              said=(b"form " in out if wanted == 0 else b"Python 3.11" in err, True))
+
+
 def test_statuses(place: Path) -> None:
     """No fault has the status of a no."""
     folder = folder_of(place, "host")

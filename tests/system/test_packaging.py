@@ -292,6 +292,41 @@ def test_package(folder: Path) -> None:
           left=([file for file in files_below(root) if not file.startswith(("var/lib/dpkg/", "etc/"))], []))
 
 
+def test_rpm(folder: Path) -> None:
+    """The package for Red Hat: the same twice, clean by rpmlint, and put into an empty tree by rpm."""
+    if not is_at_hand("the rpm package") or not is_here("rpmbuild", "the rpm package"):
+        return
+    if not (ROOT / ".git").exists():
+        skip("the rpm package", "the repository's history isn't here, and so not its time")
+        return
+    packages = []
+    for name in ("one", "two"):
+        (folder / name).mkdir()
+        status, out, err = run([ROOT / "package", "--rpm"], cwd=folder / name)
+        check(f"rpm package {name}", run=((status, err), (0, b"")))
+        packages.append(folder / name / out.decode().strip())
+    check("the same sources give the same rpm", same=(packages[0].read_bytes() == packages[1].read_bytes(), True))
+    if is_here("rpmlint", "the package by rpmlint"):
+        linted = run(["rpmlint", "-c", ROOT / "redhat/rpmlint.toml", packages[0]])
+        check("rpmlint finds nothing", status=(linted[0], 0), said=(b" 0 errors, 0 warnings" in linted[1], True))
+    root = folder / "root"
+    rpm = ["rpm", "--root", root, "--dbpath", "/db", "--nodeps", "--noscripts"]
+    if os.geteuid():
+        skip("the package put in place by rpm", "this isn't root")
+        return
+    check("the rpm is installed", status=(run([*rpm, "-i", packages[0]])[0], 0))
+    run([ROOT / "install", folder / "usr"])
+    wanted = {file for file in files_below(folder / "usr") if not file.endswith((".1", ".pyc", "/installed"))}
+    check("its files are those of ./install and pages", missing=(wanted - set(files_below(root / "usr")), set()),
+          files=(len(wanted), lambda count: count > 50),
+          pages=((root / "usr/share/doc/ntpaudit/README.md").exists(), True))
+    check("its program runs", run=(run([root / "usr/bin/ntpaudit", "list", DATA / "two-packets.pcap"]),
+                                   (0, (DATA / "two-packets.list.txt").read_bytes(), b"")))
+    bare = {name: value for name, value in os.environ.items() if name != "NTPAUDIT"}
+    check("its dossier runs", status=(run([root / "usr/bin/ntpaudit-dossier", "--version"], env=bare)[0], 0))
+    check("the rpm is removed", status=(run([*rpm, "-e", "ntpaudit"])[0], 0), left=(files_below(root / "usr"), []))
+
+
 def hold_links(pages: Path) -> None:
     """A link of a packed page to one of the repository's root or of docs/ that is packed too leads to it, and so does
     one to the schema."""
