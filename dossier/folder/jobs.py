@@ -126,7 +126,7 @@ class Process:
             raise fault(f"no process can be begun for a folder ({error.strerror})", DEVICE) from None
         if not self.process:
             try:
-                limit(parent, bounds)
+                limit(parent, bounds, os.path.dirname(private))
                 os.chdir(private)
                 write(its_output, json.dumps(said(outcome(path, number, work))).encode())
             finally:  # (whatever comes: nothing here is for this process any more)
@@ -176,11 +176,13 @@ class Process:
         return found
 
 
-def limit(parent: int, bounds: Bounds) -> None:
-    """Gives this process its own group, and its limits. It ends when the one that began it has ended, and has none of
-    its outputs: what reads these would wait for one that can't be ended."""
+def limit(parent: int, bounds: Bounds, copies: str) -> None:
+    """Gives this process its own group, and its limits. It ends when the one that began it has ended, and takes away
+    the private copies, which that one can't any more. It has none of its outputs: what reads these would wait for one
+    that can't be ended."""
     def look(*_: object) -> None:
         if os.getppid() != parent:
+            shutil.rmtree(copies, ignore_errors=True)
             os.killpg(0, signal.SIGKILL)
     os.setpgid(0, 0)
     with own(os.devnull) as nothing:

@@ -4,11 +4,12 @@ import json
 import os
 import resource
 import shutil
+import subprocess
 from functools import partial
 from pathlib import Path
 from typing import Any
 
-from tests.support import DATA, ROOT, SECONDS, Ran, check, run, sum_of
+from tests.support import DATA, ROOT, SECONDS, Ran, check, run, sum_of, wait_until
 from tests.dossier.audits import (ENVIRONMENT, KEEP, PROGRAM, SCRIPT, capture_of, dossier, folder_of, rows, skipped,
                                   within)
 from tests.dossier.leaps import leap_list
@@ -150,6 +151,21 @@ def test_budget(place: Path) -> None:
     finally:
         traffic.MOST_PAIRS = most
     check("many addresses", said=("pairs of addresses" in told, True))
+
+
+def test_killed(place: Path) -> None:
+    """An audit that is killed leaves no private copies."""
+    folder, private, slow = folder_of(place, "host"), place / "private", place / "ntpaudit"
+    private.mkdir()
+    slow.write_text(f'#!/bin/sh\n[ "$1" != settle ] || sleep 600\nexec {PROGRAM} "$@"\n')
+    slow.chmod(0o755)
+    call = subprocess.Popen([SCRIPT, "audit", folder], env={**ENVIRONMENT, "NTPAUDIT": str(slow),
+                                                            "TMPDIR": str(private)})
+    has_begun = wait_until(lambda: bool([*private.glob("ntpaudit-*/0/claim.json")]))
+    call.kill()
+    call.wait()
+    check("an audit that is killed", begun=(has_begun, True),
+          is_tidy=(wait_until(lambda: not [*private.iterdir()]), True))
 
 
 def endless(*_: object) -> None:
