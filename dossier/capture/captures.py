@@ -5,13 +5,14 @@ import re
 import zlib
 from collections.abc import Callable, Iterator
 from functools import partial
+from hashlib import sha256
 from itertools import islice
 from typing import NamedTuple
 
 from ..fault import fault
 from ..folder.claim import Claim, Part
 from ..folder.entry import Alert
-from ..folder.files import BLOCK, JOINED, MOST_OF_A_CAPTURE, mapped, own, size_of, too_big
+from ..folder.files import BLOCK, JOINED, MOST_OF_A_CAPTURE, mapped, own, size_of, sum_of_file, too_big
 from ..folder.jobs import find_tool, stream
 from ..folder.placing import Copy, cut_off, move
 from ..folder.program import Program
@@ -119,16 +120,36 @@ def begins(path: str, magic: bytes) -> bool:
 
 def unpacked(name: str, copy: str) -> tuple[str, int | None]:
     """What a copy holds, in a file beside it if it is packed; and its size if it was cut off."""
-    unpack = gunzip if begins(copy, GZIP) else unzstd if begins(copy, ZSTD) else None
-    if not unpack:
+    if not is_packed(copy):
         return copy, None
     with Copy(f"{copy}.unpacked") as new:
-        def take(block: bytes) -> None:
-            if new.size + len(block) > MOST_OF_A_CAPTURE:
-                raise too_big(name, MOST_OF_A_CAPTURE)
-            new.take(block)
-        is_whole = unpack(name, copy, take)
+        is_whole = unpack(name, copy, new.take)
     return new.path, None if is_whole else new.size
+
+
+def sum_of_unpacked(name: str, copy: str) -> str:
+    """The SHA-256 of what a copy holds."""
+    found = sha256()
+    if is_packed(copy):
+        unpack(name, copy, found.update)
+    return found.hexdigest() if is_packed(copy) else sum_of_file(copy)
+
+
+def is_packed(copy: str) -> bool:
+    return begins(copy, GZIP) or begins(copy, ZSTD)
+
+
+def unpack(name: str, copy: str, take: Callable[[bytes], object]) -> bool:
+    """Hands on what a packed copy holds, up to the size of a capture. Whether it is whole."""
+    size = 0
+
+    def take_some(block: bytes) -> None:
+        nonlocal size
+        size += len(block)
+        if size > MOST_OF_A_CAPTURE:
+            raise too_big(name, MOST_OF_A_CAPTURE)
+        take(block)
+    return (gunzip if begins(copy, GZIP) else unzstd)(name, copy, take_some)
 
 
 def gunzip(name: str, copy: str, take: Callable[[bytes], None]) -> bool:

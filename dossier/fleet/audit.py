@@ -7,7 +7,7 @@ from functools import partial
 
 from ..fault import DEVICE, NOT_SHOWN, USAGE, Fault, fault, summed
 from ..folder import files
-from ..folder.entry import DISPUTED, REFUSED, LeapList, Options, Record, read_record, record_text
+from ..folder.entry import DISPUTED, REFUSED, LeapList, Options, Record, is_made_anew, read_record, record_text
 from ..folder.files import FILE, LEFT, Folder, kind_of, sum_of
 from ..folder.jobs import run_all
 from ..folder.older import read_any
@@ -81,7 +81,7 @@ def audited_anew(wanted: Wanted, path: str, old: Record | None) -> Result:
         for day in folders_of_days(folder, wanted.options):
             if folder.has(f"{day}/{files.AUDIT}"):
                 raise fault(f"{day} has an audit of its own, which --days would overwrite")
-        making = Making(folder, wanted.program, wanted.options, wanted.leaps)
+        making = Making(folder, wanted.program, wanted.options, wanted.leaps, old or written_in(folder))
         try:
             record = making.record()
         except Fault as found:
@@ -111,12 +111,18 @@ def folders_of_days(folder: Folder, options: Options) -> list[str]:
     return [name for name in folder.names() if is_day(name) and folder.is_folder(name)] if options.days else []
 
 
+def written_in(folder: Folder) -> Record | None:
+    """What an audit.json says, whoever made it: by it a packed capture keeps its name."""
+    with suppress(Fault):
+        return read_any(folder.data(files.AUDIT))
+    return None
+
+
 def keep_recordings(folder: Folder, record: Record) -> None:
     """Refuses to put something in the place of a joined capture, or to take one away, that no audit left: it may be
     somebody's only recording."""
-    left: dict[str, str] = {}
-    with suppress(Fault):
-        left = read_any(folder.data(files.AUDIT)).outputs
+    written = written_in(folder)
+    left = written.outputs if written else {}
     for name in {files.JOINED, *record.outputs}:
         if os.path.basename(name) == files.JOINED and kind_of(folder.place, name) == FILE and \
                 folder.sum(name) not in (left.get(name), record.outputs.get(name)):
@@ -168,7 +174,7 @@ def change_of(folder: Folder, record: Record) -> str:
     if new:
         return f"{label(new[0])} is new, and {files.AUDIT} has no sum of it"
     for name, sum_ in (record.outputs | record.packed).items():
-        if record.is_left_out(name) and not folder.has(name):
+        if is_made_anew(name) and not folder.has(name):
             continue
         if not folder.has(name):
             return f"{label(name)} isn't there"

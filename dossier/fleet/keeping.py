@@ -13,20 +13,19 @@ from functools import partial
 
 from ..fault import DEVICE, NOT_SHOWN, USAGE, fault
 from ..folder import files
-from ..folder.entry import DISPUTED, Kept, Record, record_text
-from ..folder.files import Folder, is_capture, sum_of, sum_of_file
+from ..folder.entry import DISPUTED, Record, is_made_anew, is_packable
+from ..folder.files import Folder
 from ..folder.jobs import find_tool, run_all, stream
 from ..folder.placing import Copy, blocks_of, copy_of, is_ones_own, make_last, place, remove_folder, take_away
 from ..folder.registry import Known
 from ..folder.result import Result
-from ..records import replace
 from ..text import label, note, plain
 from ..units import DAY
+from ..verdict.making import packed_in
 from .audit import change_of
 from .verify import known_in
 
 YEAR = 365.25 * DAY
-PACKED = (".gz", ".zst")
 TENTH, JUMP = 10, 31 * DAY
 """One call takes away no more than this part of the folders; and seconds after the newest recording, or the last call,
 from which on the clock isn't believed."""
@@ -98,32 +97,29 @@ def keep(path: str, is_over: bool, known: Known) -> Result:
             raise fault("the audit was refused, so there is nothing to keep", DEVICE)
         if min(entry.claim.last for entry in record.entries) > time.time() + DAY:
             raise fault("its span is in the future, so it is left as it is", DEVICE)
+        loose = [name for name in record.inputs
+                 if is_packable(name) and f"{name}.zst" not in record.inputs and folder.has(name)]
+        again = list(filter(folder.has, filter(is_made_anew, record.outputs)))
+        if not (is_over or loose or again):
+            return Result(lines=["kept"])
         if changed := change_of(folder, record):
             raise fault(changed)
         if is_over:
             take_all(folder, record)
             return Result(lines=[GONE])
-        if not record.kept:
-            if folder.has(files.SIGNATURE):
-                raise fault("signed: a folder is kept before it is signed", USAGE)
-            record = packed(folder, record, seen, known)
-        take_rest(folder, record)
+        pack_all(folder, [name for name in loose if not folder.has(f"{name}.zst")])
+        make_last(folder, [f"{name}.zst" for name in loose])
+        for name in (*loose, *again):
+            take_away(folder.place, name)
         return Result(lines=["kept"])
 
 
-def packed(folder: Folder, record: Record, seen: Record, known: Known) -> Record:
-    """Packs the captures, and puts them into their places, the new record last."""
-    made: dict[str, Iterable[bytes]] = {}
-    sums = {}
-    for name in (name for name in record.inputs if is_capture(name) and not name.endswith(PACKED)):
-        if f"{name}.zst" not in record.inputs:
-            path = pack(folder, name, len(made))
-            sums[name], made[f"{name}.zst"] = sum_of_file(path), blocks_of(path)
-    record = replace(record, kept=Kept(sums))
-    text = record_text(record)
-    place(folder, {**made, files.AUDIT: [text]})
-    known.add(sum_of(text), seen)
-    return record
+def pack_all(folder: Folder, names: list[str]) -> None:
+    """Packs captures, and puts them into their places. Nothing that stands in audit.json changes by that."""
+    made = dict[str, Iterable[bytes]]()
+    for number, name in enumerate(names):
+        made[f"{name}.zst"] = blocks_of(pack(folder, name, number))
+    place(folder, made)
 
 
 def pack(folder: Folder, name: str, number: int) -> str:
@@ -139,16 +135,8 @@ def pack(folder: Folder, name: str, number: int) -> str:
     return path
 
 
-def take_rest(folder: Folder, record: Record) -> None:
-    """Takes away what is packed, and what may be made anew."""
-    make_last(folder, [*record.packed, files.AUDIT])
-    for name in record.kept.sums if record.kept else ():
-        take_away(folder.place, name)
-    for name in filter(record.is_left_out, record.outputs):
-        take_away(folder.place, name)
-
-
 def take_all(folder: Folder, record: Record) -> None:
     """Takes away what the record names, which is unchanged, itself last."""
-    for name in (*record.outputs, *record.inputs, *record.packed, files.SIGNATURE, files.AUDIT):
+    packed = packed_in(folder.names(), record)
+    for name in (*record.outputs, *record.inputs, *packed, files.SIGNATURE, files.AUDIT):
         take_away(folder.place, name)

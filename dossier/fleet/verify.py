@@ -7,7 +7,7 @@ from typing import NamedTuple
 from .. import VERSION
 from ..fault import DEVICE, NOT_SHOWN, Fault, fault, summed
 from ..folder import files
-from ..folder.entry import DISPUTED, OPEN, UNSUPPORTED, LeapList, Record, read_record
+from ..folder.entry import DISPUTED, OPEN, UNSUPPORTED, LeapList, Record, is_made_anew, read_record
 from ..folder.files import Folder, own, sum_of
 from ..folder.jobs import run_all, run_one
 from ..folder.older import differs as differs_from_older, form_of, read_any
@@ -61,7 +61,7 @@ class Verifier:
         if found := "" if record.refusal else change_of(folder, record):
             return Verified(found, [], None)
         is_other = record.program.sha256 != self.program.made.sha256
-        making = Making(folder, self.program, record.options, self.leaps, record.kept)
+        making = Making(folder, self.program, record.options, self.leaps, record)
         made = replace(making.record(earlier_of(folder, record) if is_other else None), signed=record.signed)
         found = self.compared(folder, record, made, is_other, form < VERSION)
         notes = ["by another build of the program than the audit's"] if is_other else []
@@ -95,10 +95,10 @@ class Verifier:
     def compared(self, folder: Folder, record: Record, made: Record, is_other: bool, is_older: bool) -> str:
         """What stands in a folder that isn't so by the record that was made now. Another list of leap seconds may say
         more or less than one's own, but the verdicts are the same."""
-        made = replace(made, made=record.made, seconds=record.seconds, signed=record.signed,
+        made = replace(made, made=record.made, seconds=record.seconds, signed=record.signed, kept=record.kept,
                        program=record.program if is_other else made.program)
         for name, sum_ in made.outputs.items():
-            is_left_out = record.is_left_out(name) and not folder.has(name)
+            is_left_out = is_made_anew(name) and not folder.has(name)
             if name in record.outputs and not is_left_out and folder.sum(name) != sum_:
                 comparison = Comparison(name)
                 folder.read(name, comparison.take)

@@ -1,5 +1,6 @@
 """What audit.json holds: a record of a folder, with an entry for each audit in it."""
 import json
+import os
 import re
 from typing import Annotated, Any, Final, Literal
 
@@ -11,7 +12,7 @@ from ..schema import (Address, Count, Mangled, Name, Nanoseconds, Seconds, Small
 from ..text import plain
 from ..units import now
 from .claim import Claim
-from .files import AUDIT, CLAIM, JOINED, LEFT, LIMITS, is_capture
+from .files import AUDIT, CLAIM, JOINED, LEFT, LIMITS, is_capture, sum_of
 
 Answer = Literal["yes", "refuted", "nothing fits", "no evidence", "open"]
 """What the program says."""
@@ -52,6 +53,17 @@ def is_left(name: str) -> bool:
 def is_packable(name: str) -> bool:
     """Whether it is the name of a capture that isn't packed."""
     return is_capture(name) and is_capture(f"{name}.zst")
+
+
+def is_made_anew(name: str) -> bool:
+    """Whether it is what is made of captures, so that it needn't be there once these are packed."""
+    return name.rpartition("/")[2] == JOINED
+
+
+def line_of_sum(sum_: str, name: str) -> str:
+    """A line as `sha256sum` prints it."""
+    written = name.replace("\\", "\\\\").replace("\n", "\\n").replace("\r", "\\r")
+    return f"{'' if written == name else chr(92)}{sum_}  {written}\n"
 
 
 Left = Annotated[str, is_left]
@@ -268,8 +280,7 @@ class Options:
 
 @dataclass(frozen=True)
 class Kept:
-    """How a folder is kept for years: its captures are packed by zstd, each in a file with `.zst` behind its name, and
-    what was made of them isn't there."""
+    """What versions before 1.1.0 wrote when they packed captures, each in a file with `.zst` behind its name."""
 
     sums: dict[Annotated[str, is_packable], Sum] = field(default_factory=dict)
     """The SHA-256 of each packed file, by the name of the capture in it."""
@@ -307,14 +318,18 @@ class Record:
     def status(self) -> int:
         return self.refusal.status if self.refusal else int(any(entry.verdict != YES for entry in self.entries))
 
-    def is_left_out(self, name: str) -> bool:
-        """Whether an output isn't there since the folder is kept: it may be made anew."""
-        return self.kept is not None and name.rpartition("/")[2] == JOINED
-
     @property
     def packed(self) -> dict[str, str]:
-        """The SHA-256 of each packed file, by its own name."""
+        """The SHA-256 of each packed file, by its own name, if an older version wrote it down."""
         return {f"{name}.zst": sum_ for name, sum_ in (self.kept.sums if self.kept else {}).items()}
+
+    @property
+    def name(self) -> str:
+        """The name for good of what was audited: the SHA-256 of the lines that `sha256sum` prints of claim, captures,
+        evidence and answers, by their names. It stays when captures are packed, and when the folder is signed."""
+        files = {name: sum_ for name, sum_ in (self.inputs | self.outputs).items() if not is_made_anew(name)}
+        lines = (line_of_sum(files[name], name) for name in sorted(files, key=os.fsencode))
+        return sum_of("".join(lines).encode("utf-8", "surrogateescape"))
 
     @property
     def captures(self) -> frozenset[str]:

@@ -1,11 +1,12 @@
 """One audit on the page: what it says, its picture, its servers, what it grants, its counts, and its files."""
 import shlex
+from collections.abc import Collection
 from typing import Any
 
 from ..fleet.signature import Signature, in_words
 from ..folder import files
 from ..folder.answers import read_envelope
-from ..folder.entry import NOTHING_FITS, OPEN, REFUTED, YES, Entry, Record
+from ..folder.entry import NOTHING_FITS, OPEN, REFUTED, YES, Entry, Record, is_made_anew
 from ..folder.evidence import evidence
 from ..folder.files import Folder
 from ..folder.registry import Judgement
@@ -15,6 +16,7 @@ from ..premise.premises import premises, support
 from ..text import label
 from ..units import SECOND
 from ..verdict.apart import ranges_of
+from ..verdict.making import packed_in
 from ..verdict.sentences import fit, sentence, span, to_do, warned
 from .figure import legend, picture, stroke
 from .templates import templates
@@ -60,7 +62,7 @@ def seen(name: str, folder: Folder, record: Record, entry: Entry) -> dict[str, o
     envelope = read_envelope(folder.data(entry.within(files.ENVELOPE)))
     label = (f"The clock's error in ms, {span(claim)}, in pieces of {entry.envelope_step} s. Above 0 the clock "
              "is ahead of UTC. The band is the hull: what is left if no more were wrong than granted.")
-    drawn, backed = ranges_of(envelope), backing(folder, record.inputs)
+    drawn, backed, packed = ranges_of(envelope), backing(folder, record.inputs), packed_in(folder.names(), record)
     kept = evidence(folder) if files.EVIDENCE in record.inputs else {}
     strokes = {address: stroke(place) for place, address in enumerate(drawn)}
     apart = {server for warning in entry.warnings if warning.kind == "apart" for server in warning.servers}
@@ -74,10 +76,10 @@ def seen(name: str, folder: Folder, record: Record, entry: Entry) -> dict[str, o
         "premises": [(premise, list(support(premise.name, backed, record, entry)), kept.get(premise.name, ""))
                      for premise in premises(claim)],
         "counts": [(what, f"{number:,}", COUNTS.get(what, "")) for what, number in entry.counts.items()],
-        "calls": list(map(shlex.join, calls(record, entry))),
-        "is_left_out": record.is_left_out(capture_of(record, entry)),
+        "calls": list(map(shlex.join, calls(record, entry, packed.values()))),
+        "is_left_out": is_left_out(folder, record, entry),
         "sums": [*((file, "input", sum_) for file, sum_ in record.inputs.items()),
-                 *((file, "the same, packed", sum_) for file, sum_ in record.packed.items()),
+                 *((file, "the same, packed", folder.sum(file)) for file in packed),
                  *((file, "left by the audit", sum_) for file, sum_ in entry.outputs.items()),
                  (record.program.version or "ntpaudit", "the program", record.program.sha256)]}
 
@@ -97,10 +99,16 @@ def capture_of(record: Record, entry: Entry) -> str:
     return f"./{capture}" if capture.startswith("-") else capture
 
 
-def calls(record: Record, entry: Entry) -> list[list[str]]:
+def is_left_out(folder: Folder, record: Record, entry: Entry) -> bool:
+    """Whether the capture that was read isn't there, since it may be made anew."""
+    capture = capture_of(record, entry)
+    return is_made_anew(capture) and not folder.has(entry.within(capture).rpartition("../")[2])
+
+
+def calls(record: Record, entry: Entry, packed: Collection[str]) -> list[list[str]]:
     """The calls that settle it, for whoever wants to make them by hand in the folder."""
     capture, unpacks = capture_of(record, entry), list[list[str]]()
-    if capture != files.JOINED and record.kept and record.capture in record.kept.sums:
+    if capture != files.JOINED and record.capture in packed:
         packed, capture = f"{capture}.zst", f"../{capture.rpartition('/')[2]}"
         unpacks = [["zstd", "-d", packed, "-o", capture]]
     found = [["settle", files.CLAIM, capture]]

@@ -5,13 +5,14 @@ it.
 """
 import re
 import time
+from collections.abc import Collection
 
 from .. import VERSION
-from ..capture.captures import cut, thinned, unpacked
+from ..capture.captures import cut, sum_of_unpacked, thinned, unpacked
 from ..capture.twice import once
 from ..fault import DEVICE, Fault, fault
 from ..folder.claim import Claim, parts_of
-from ..folder.entry import Entry, Kept, LeapList, Options, Record, Refusal, refusal_by
+from ..folder.entry import Entry, LeapList, Options, Record, Refusal, is_packable, refusal_by
 from ..folder.evidence import evidence_files
 from ..folder.files import CLAIM, JOINED, MOST_OF_A_CAPTURE, Folder, is_capture, own_data, size_of, sum_of_file, too_big
 from ..folder.placing import copy_of, move
@@ -24,15 +25,26 @@ from ..units import now
 from .judgement import Beside
 from .settling import Settling
 
+PACKED = "packed"
+"""A private copy of a packed capture of which only the sum is taken."""
 
-def inputs_of(folder: Folder, kept: Kept | None) -> dict[str, str]:
+
+def packed_in(names: Collection[str], record: Record | None) -> dict[str, str]:
+    """The captures of an audit that have been packed since, by the names of the files in which they are."""
+    inputs = record.inputs if record else {}
+    return {f"{name}.zst": name for name in inputs
+            if is_packable(name) and f"{name}.zst" in names and f"{name}.zst" not in inputs}
+
+
+def inputs_of(folder: Folder, record: Record | None) -> dict[str, str]:
     """The claim, the captures and the evidence, in the order of their names, each with the name of the file in which
-    it is: a capture that is kept is packed. A fault if there are none."""
+    it is: a capture that an audit names may have been packed since. A fault if there are none."""
     names = folder.names()
     if CLAIM not in names:
         raise fault(f"no {CLAIM} in the folder", DEVICE)
-    packed = {f"{name}.zst": name for name in (kept.sums if kept else ())}
-    captures = {packed.get(name, name): name for name in filter(is_capture, names)}
+    packed = packed_in(names, record)
+    captures = {packed.get(name, name): name for name in filter(is_capture, names)
+                if name not in packed or packed[name] not in names}
     if not captures:
         raise fault("no capture in the folder", DEVICE)
     others = {name: name for name in evidence_files(folder, names) if name not in captures.values()}
@@ -40,16 +52,20 @@ def inputs_of(folder: Folder, kept: Kept | None) -> dict[str, str]:
 
 
 def sums_of_inputs(folder: Folder, record: Record) -> dict[str, str]:
-    """The SHA-256 of each input, by its name. Of one that is packed it is the recorded one, if the packed file is what
-    it was; but if the capture is there too, it is its own."""
-    found = {}
-    for name, file in inputs_of(folder, record.kept).items():
-        is_packed = file != name and record.kept is not None and folder.sum(file) == record.kept.sums[name]
-        if is_packed and not folder.has(name):
-            found[name] = record.inputs[name]
-        else:
-            found[name] = folder.sum(name if is_packed else file)
+    """The SHA-256 of each input, by its name: of one that is packed that of the capture in it. A packed file beside its
+    capture is none, if it holds the same."""
+    inputs = inputs_of(folder, record)
+    found = {name: folder.sum(file) if file == name else sum_in(folder, file) for name, file in inputs.items()}
+    for file, name in packed_in(folder.names(), record).items():
+        if inputs[name] == name and sum_in(folder, file) != found[name]:
+            found[file] = folder.sum(file)
     return found
+
+
+def sum_in(folder: Folder, file: str) -> str:
+    """The SHA-256 of the capture that a file holds; of the file itself if that isn't packed."""
+    copy_of(folder, file, PACKED)
+    return sum_of_unpacked(file, PACKED)
 
 
 @dataclass
@@ -73,11 +89,11 @@ class Inputs:
         return re.sub(r"(?<= )[0-9]+\.pcap(?![^ ,;])", lambda found: plain(names.get(found[0], found[0])), words)
 
 
-def take_inputs(folder: Folder, kept: Kept | None) -> Inputs:
-    """Copies claim and captures into the current folder, under names of one's own, and takes all sums. What is kept is
-    unpacked."""
+def take_inputs(folder: Folder, record: Record | None) -> Inputs:
+    """Copies claim and captures into the current folder, under names of one's own, and takes all sums. What an earlier
+    audit names and has been packed since is unpacked."""
     taken = Inputs({}, {})
-    for name, file in inputs_of(folder, kept).items():
+    for name, file in inputs_of(folder, record).items():
         copy = CLAIM if name == CLAIM else f"{len(taken.copies)}.pcap" if is_capture(name) else ""
         taken.sums[name] = copy_of(folder, file, copy) if copy else folder.sum(file)
         if file != name:
@@ -125,13 +141,13 @@ def read_claim(program: Program, capture: str) -> Claim:
 class Making:
     """The record that comes of a folder, verdict or refusal."""
 
-    def __init__(self, folder: Folder, program: Program, options: Options, leaps: LeapList, kept: Kept | None = None):
-        self.folder, self.program, self.options, self.leaps, self.kept = folder, program, options, leaps, kept
+    def __init__(self, folder: Folder, program: Program, options: Options, leaps: LeapList, old: Record | None = None):
+        self.folder, self.program, self.options, self.leaps, self.old = folder, program, options, leaps, old
         self.begun, self.made, self.taken = time.monotonic(), now(), Inputs({}, {})
 
     def record(self, earlier: dict[str, bytes] | None = None) -> Record:
         """What the program answers; a fault if there is no verdict."""
-        self.taken = take_inputs(self.folder, self.kept)
+        self.taken = take_inputs(self.folder, self.old)
         backed = backing(self.folder, self.taken.sums)
         try:
             return self.of(make(self.taken, self.options, self.leaps, backed, self.program, earlier or {}))
@@ -146,8 +162,7 @@ class Making:
 
     def of(self, entries: list[Entry], refusal: Refusal | None = None) -> Record:
         return Record(VERSION, self.program.made, self.options, self.taken.sums, self.taken.capture, self.made,
-                      round(time.monotonic() - self.begun, 3), "", entries, refusal, None if refusal else self.leaps,
-                      self.kept)
+                      round(time.monotonic() - self.begun, 3), "", entries, refusal, None if refusal else self.leaps)
 
     def refused(self, found: Fault) -> Record:
         return self.of([], refusal_by(found))

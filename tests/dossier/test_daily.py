@@ -475,7 +475,7 @@ def test_keep(place: Path) -> None:
     lines = log.read_text().splitlines()
     check("what is packed is on the disk before the capture goes", order=(
         [line for line in lines if line.startswith("disk ") or line == "away f.pcap"],
-        ["disk f.pcap.zst", "disk audit.json", "disk last", "away f.pcap"]))
+        ["disk f.pcap.zst", "disk last", "away f.pcap"]))
     packed_file = one / "f.pcap.zst"
     right = packed_file.read_bytes()
     packed_file.write_bytes(right[:-1])
@@ -487,15 +487,33 @@ def test_keep(place: Path) -> None:
     if not shutil.which("ssh-keygen"):
         skipped("what is kept is signed", "ssh-keygen isn't installed")
     else:
-        key = key_of(place, "key")[0]
+        key, allowed = key_of(place, "key")
+        (place / "signers").write_text(allowed)
         check("what is kept is signed", run=(dossier("sign", "--key", key, one)[0], 0),
               verified=(dossier("verify", one)[0], 0))
         signed = folder_of(place, "signed")
         dossier("audit", signed)
         dossier("sign", "--key", key, signed)
-        check("what is signed isn't kept", run=(dossier("keep", signed)[:2], (
-            5, f"{signed}: ntpaudit-dossier: signed: a folder is kept before it is signed\n".encode())),
-            files=("f.pcap" in listed(signed), True))
+        left = [(signed / name).read_bytes() for name in ("audit.json", "audit.json.sig")]
+        check("what is signed is kept", run=(dossier("keep", signed)[:2], (0, f"{signed}: kept\n".encode())),
+              same=([(signed / name).read_bytes() for name in ("audit.json", "audit.json.sig")], left),
+              files=({"f.pcap", "f.pcap.zst"} & set(listed(signed)), {"f.pcap.zst"}),
+              verified=(dossier("verify", "--signers", place / "signers", signed)[0], 0))
+        names = {name_of(folder) for folder in (one, signed)}
+        dossier("audit", "--again", one)
+        check("a name for good", names=(names, {name_by_hand(signed)}), again=(name_of(one), name_by_hand(signed)))
+
+
+def name_of(folder: Path) -> str:
+    from dossier.folder.entry import read_record
+    return read_record((folder / "audit.json").read_bytes()).name
+
+
+def name_by_hand(folder: Path) -> str:
+    """What docs/AUDITING.md has somebody do."""
+    script = ("zstd -dqf *.zst; sha256sum claim.json *.pcap certificate.json bound-0.claim.json refutation.json "
+              "report.txt envelope.txt | LC_ALL=C sort -k 2 | sha256sum")
+    return run(["sh", "-c", script], cwd=folder)[1].decode().split()[0]
 
 
 def test_kept_by_strangers(place: Path) -> None:
@@ -519,7 +537,7 @@ def test_kept_by_strangers(place: Path) -> None:
             1),
             ("another in it", {"f.pcap.zst": packed},
             "f.pcap isn't the file that was audited", 1),
-            ("another with its sum", swapped, "report.txt: from byte 0 on (line 1) it is", 1),
+            ("another with its sum", swapped, "f.pcap isn't the file that was audited", 1),
             ("a joined one", {"joined.pcap": other}, "joined.pcap isn't of this", 1),
             ("one that isn't packed", {"f.pcap.zst": other},
             "f.pcap isn't the file that was audited", 1),

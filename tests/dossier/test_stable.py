@@ -15,7 +15,7 @@ from pathlib import Path
 from types import NoneType
 from typing import Any
 
-from tests.support import DATA, ROOT, check, files_in, run
+from tests.support import DATA, ROOT, check, files_in, is_here, run, sum_of
 from tests.dossier.audits import ENVIRONMENT, PROGRAM, check_page, dossier
 from tests.dossier.leaps import leap_list
 
@@ -77,6 +77,23 @@ def test_verify(place: Path) -> None:
                   form=(f"form {form} of audit.json" in out.decode(), form < max(FORMS.values())),
                   left=({path.name: path.read_bytes() for path in folder.iterdir()},
                         {path.name: path.read_bytes() for path in kept.iterdir()}))
+
+
+def test_kept(place: Path) -> None:
+    """What an older version packed is verified: it wrote the sum of each packed file into audit.json."""
+    if not is_here("zstd", "older folders that are kept"):
+        return
+    for version in FORMS:
+        shutil.copytree(OLDER / version / "yes", folder := place / version)
+        run(["zstd", "-q", "--rm", "f.pcap"], cwd=folder)
+        record = json.loads((folder / "audit.json").read_text())
+        packed = {"sums": {"f.pcap": sum_of((folder / "f.pcap.zst").read_bytes())}}
+        (folder / "audit.json").write_text(json.dumps({**record, "kept": packed}))
+        check(f"verify of {version}, kept", run=(dossier("verify", folder)[1].decode().splitlines()[0],
+                                                 f"{folder}: verified: yes"))
+        packed["sums"]["f.pcap"] = "0" * 64
+        (folder / "audit.json").write_text(json.dumps({**record, "kept": packed}))
+        check(f"verify of {version}, kept otherwise", run=(dossier("verify", folder)[0], 1))
 
 
 def test_shown(place: Path) -> None:
