@@ -291,9 +291,10 @@ def run(given: argparse.Namespace) -> int:
         from .fleet.day import make_days
         return make_days(given.source, given.target, given.date, SECONDS)
     if given.command in ("filter", "record"):
-        from .capture.recorder import Wanted as Recording, filter_of, record
         if given.command == "record":
-            record(Recording(given.interface, given.folder, given.hourly, given.claim))
+            from .capture.watch import Wanted as Recording, record
+            return record(Recording(given.interface, given.folder, given.hourly, given.claim))
+        from .capture.recorder import filter_of
         print(filter_of(given.claim))
         return 0
     program = find_program()

@@ -1,18 +1,17 @@
-"""The recorder: tcpdump on an interface. Beside its files it leaves what they are recorded by, and has evidence.json
-name it, so that a draft can know of what kind their stamps are.
+"""What an interface is recorded by, and what of it: beside a recorder's files it stands what they are recorded by, and
+evidence.json names it, so that a draft can know of what kind their stamps are.
 """
 import os
 import re
-import signal
 from collections.abc import Iterable, Iterator
-from typing import Annotated, Literal, NamedTuple, NoReturn
+from typing import Annotated, Literal
 
-from ..fault import DEVICE, USAGE, Fault, fault
+from ..fault import DEVICE, Fault, fault
 from ..folder.claim import Claim
 from ..folder.evidence import evidence, named_in
 from ..folder.files import EVIDENCE, Folder, data_named, is_capture
-from ..folder.jobs import ENVIRONMENT, find_tool, private_folder, run
-from ..folder.placing import make_folder, place
+from ..folder.jobs import find_tool, private_folder, run
+from ..folder.placing import place
 from ..records import dataclass, replace
 from ..schema import Address, Text, Time, is_time, json_text, length, matching, read_typed
 from ..text import note, plain
@@ -21,12 +20,9 @@ from ..units import now, seconds_of
 BEGUN = re.compile(r"(.*?)(\d{4}-\d\d-\d\dT\d\d)(\d\d)(\d\d)Z(.*)", re.DOTALL)
 """Names of recorders' files: what stands around the time names the recorder."""
 INTERFACE = re.compile(r"[A-Za-z0-9][A-Za-z0-9_.:@-]{0,14}")
-HOUR, MEGABYTES = "3600", "1000"
-"""What a file of an hourly recording has at the most: seconds, and bytes by the million."""
 TRIES = 9
 """How often evidence is written, where another recorder may write in between."""
 ENDING = ".recorder.json"
-OF_ROOT = "name one of root's own, such as /srv/web-1, since tcpdump needs root"
 
 
 @dataclass(frozen=True)
@@ -56,53 +52,23 @@ class Recorder:
                 f"{self.machine}, since {self.since} under {self.kernel}, with the kernel's own stamps.")
 
 
-class Wanted(NamedTuple):
-    interface: str
-    folder: str
-    is_hourly: bool
-    claim: str | None
-
-
-def record(wanted: Wanted) -> NoReturn:
-    """Becomes tcpdump."""
-    if not INTERFACE.fullmatch(wanted.interface):
-        raise fault("--interface takes the name of one, such as eth0", USAGE)
-    tool = find_tool("tcpdump", "tcpdump isn't installed, which records")
-    make_folder(wanted.folder, OF_ROOT)
-    try:
-        keep(wanted.folder, recorder(tool, wanted.interface))
-    except Fault as found:  # (what is recorded counts without it too)
-        note(f"ntpaudit-dossier: no evidence of the recorder is left: {found.words}")
-    for number in (signal.SIGPIPE, signal.SIGXFSZ):  # (Python ignores them)
-        signal.signal(number, signal.SIG_DFL)
-    try:
-        os.execve(tool, [tool, *words_of(wanted)], {**ENVIRONMENT, "TZ": "UTC"})
-    except OSError as error:
-        raise fault(f"tcpdump can't be called ({error.strerror})", DEVICE) from None
-
-
-def words_of(wanted: Wanted) -> list[str]:
-    """tcpdump's words. A file has in its name when it was begun, and only whole records are in it."""
-    name, hourly = f"{wanted.interface}-{now().replace(':', '')}.pcap", []
-    path = os.path.abspath(wanted.folder)
-    if wanted.is_hourly:
-        name, path = f"{wanted.interface}-%Y-%m-%dT%H%M%SZ.pcap", path.replace("%", "%%")
-        hourly = ["-G", HOUR, "-C", MEGABYTES]
-        hourly += [] if os.geteuid() else ["-Z", "root"]  # (else tcpdump may not begin the next file)
-    return ["-i", wanted.interface, "-n", "-U", "-j", "host", "--time-stamp-precision=nano", *hourly, "-w",
-            os.path.join(path, name), "--", filter_of(wanted.claim)]
-
-
-def filter_of(path: str | None) -> str:
-    """What tcpdump takes of the packets, tagged or not: those of a claim's servers, if it is there."""
-    own = "udp port 123"
+def filter_of(path: str | None, clients: Iterable[str] = ()) -> str:
+    """What tcpdump takes of the packets, tagged or not: what a claim's client and its servers send one another, if the
+    claim is there; else what some clients ask, and the answers; else all NTP packets."""
+    servers: list[str] = []
     try:
         if path is not None:
             claim: Claim = read_typed(os.path.basename(path), Claim, data_named(path))
-            own += f" and ({' or '.join(f'host {server}' for server in claim.servers)})"
+            clients, servers = [claim.client], claim.servers
     except Fault as found:
         note(found.line)
-    return f"({own}) or (vlan and {own})"
+
+    def way(client: str, server: str) -> str:
+        ends = (f"({' or '.join(f'{end} host {one}' for one in known)})"
+                for end, known in ((client, clients), (server, servers)) if known)
+        return " and ".join([f"udp {server} port 123", *ends])
+    own = f"({way('src', 'dst')}) or ({way('dst', 'src')})" if clients else "udp port 123"
+    return f"({own}) or (vlan and ({own}))"
 
 
 def recorder(tool: str, interface: str) -> Recorder:

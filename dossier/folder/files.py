@@ -215,6 +215,14 @@ class Folder:
         except OSError as error:
             raise unreadable(name, error) from None
 
+    def is_at(self, path: str) -> bool:
+        """Whether a path leads to it still."""
+        try:
+            with Folder(path) as other:
+                return os.path.samestat(os.fstat(self.place), os.fstat(other.place))
+        except Fault:
+            return False
+
     def size(self, name: str) -> int:
         return os.stat(name, dir_fd=self.place, follow_symlinks=False).st_size
 

@@ -4,6 +4,7 @@ Such a process has a limit of memory, of processor, of files and of time, a priv
 a group of processes, in which all that it calls is too. Whatever becomes of it (it crashes, reads without an end, takes
 all memory) is that folder's result. None outlives the call that began it.
 """
+import fcntl
 import gc
 import json
 import os
@@ -106,6 +107,46 @@ def run(words: Sequence[str], given: str = os.devnull, cwd: str = ".") -> tuple[
     blocks: list[bytes] = []
     status, error = stream(words, blocks.append, given, cwd)
     return status, b"".join(blocks), error
+
+
+class Beside:
+    """A program that runs beside this one for long. What it prints is taken as it comes."""
+    ROOM = 1 << 20
+    """Bytes of its output that wait, while this process is busy."""
+
+    def __init__(self, words: Sequence[str], environment: dict[str, str]):
+        self.process = begun(words, stdout=PIPE, stderr=PIPE, env=environment)
+        assert self.process.stdout and self.process.stderr
+        self.output, self.error, self.poll = self.process.stdout, self.process.stderr, select.poll()
+        for pipe in (self.output, self.error):
+            self.poll.register(pipe, select.POLLIN)
+        with suppress(OSError):
+            fcntl.fcntl(self.output, fcntl.F_SETPIPE_SZ, self.ROOM)
+
+    def wait(self, seconds: float) -> set[int]:
+        """Waits until it has printed something, or ended, so long at most."""
+        return {file for file, _ in self.poll.poll(max(0.0, seconds) * 1000)}
+
+    def came(self, ready: set[int]) -> tuple[bytes | None, bytes]:
+        """What it printed on its output and beside it: of the output None if it is at its end."""
+        output, error = b"", b""
+        if self.error.fileno() in ready and not (error := os.read(self.error.fileno(), BLOCK)):
+            self.poll.unregister(self.error)
+        if self.output.fileno() in ready:
+            return os.read(self.output.fileno(), BLOCK) or None, error
+        return output, error
+
+    def asked(self, number: int) -> None:
+        self.process.send_signal(number)
+
+    def end(self, seconds: float = 0) -> int:
+        """Ends it, if it doesn't end by itself in some seconds, and gives its status."""
+        with suppress(subprocess.TimeoutExpired):
+            self.process.wait(seconds)
+        self.process.kill()
+        for pipe in (self.output, self.error):
+            pipe.close()
+        return self.process.wait()
 
 
 # ---- folders

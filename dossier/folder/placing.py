@@ -17,6 +17,8 @@ from ..fault import DEVICE, Fault, fault
 from .files import (BLOCK, FILE, HOME, MOST_OF_A_CAPTURE, OF_A_FILE, Folder, folder_at, held, kind_of, own, parent_of,
                     read_named)
 
+MOST_ALIKE = 1000
+"""Files of a recorder that would have one name."""
 END = signal.SIGUSR1
 """What ends the process of a folder, but not while it is undisturbed: a signal for which Python has no handler, which
 one that has only just been forked would have too."""
@@ -247,6 +249,69 @@ def remove_folder(path: str) -> None:
     """Removes a folder, if nothing lies in it."""
     with suppress(OSError, Fault), folder_at(os.path.dirname(path)) as parent:
         os.rmdir(os.path.basename(path), dir_fd=parent)
+
+
+# ---- what a recorder writes
+
+
+class Begun:
+    """A new file in a folder, which grows by whole records: of what doesn't fit nothing stays. Another file of its name
+    is none of it: then it has a number behind, as tcpdump's have."""
+
+    def __init__(self, place: int, name: str, header: bytes):
+        self.place, self.size, flags = place, 0, os.O_WRONLY | os.O_CREAT | os.O_EXCL | os.O_NOFOLLOW | os.O_CLOEXEC
+        for self.name in (name, *(f"{name}{number}" for number in range(1, MOST_ALIKE))):
+            with suppress(FileExistsError):
+                self.file = os.open(self.name, flags, 0o666, dir_fd=place)
+                break
+        else:
+            raise fault(f"{name} stands there {MOST_ALIKE:,} times", DEVICE)
+        try:
+            self.take(header)
+        except OSError:
+            os.close(self.file)
+            os.unlink(self.name, dir_fd=place)
+            raise
+
+    def take(self, records: bytes) -> None:
+        try:
+            write(self.file, records)
+        except OSError:
+            with suppress(OSError):
+                os.ftruncate(self.file, self.size)
+            raise
+        self.size += len(records)
+
+    def stands(self) -> bool:
+        """Whether it has its name still, and what was written."""
+        try:
+            named, seen = os.stat(self.name, dir_fd=self.place, follow_symlinks=False), os.fstat(self.file)
+        except OSError:
+            return False
+        return (named.st_dev, named.st_ino, seen.st_size) == (seen.st_dev, seen.st_ino, self.size)
+
+    def end(self) -> None:
+        with suppress(OSError):
+            if os.fstat(self.file).st_size > self.size:  # (broken off in the middle of a record)
+                os.ftruncate(self.file, self.size)
+        os.close(self.file)
+
+
+class Slate:
+    """A small file that is written again and again in its place: once it is there, a full disk doesn't matter."""
+    SIZE = 4096
+
+    def __init__(self, place: int, name: str):
+        flags = os.O_RDWR | os.O_CREAT | os.O_NOFOLLOW | os.O_NONBLOCK | os.O_CLOEXEC
+        self.file = os.open(name, flags, 0o666, dir_fd=place)
+
+    def put(self, data: bytes) -> None:
+        with suppress(OSError):
+            os.pwrite(self.file, data[: self.SIZE].ljust(self.SIZE), 0)
+            os.ftruncate(self.file, self.SIZE)
+
+    def end(self) -> None:
+        os.close(self.file)
 
 
 # ---- a record of one's own

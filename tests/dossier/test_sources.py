@@ -13,17 +13,15 @@ OPENING = {"open", "os.open", "os.read", "os.pread", "os.scandir", "os.listdir",
            "mmap.mmap"}
 WRITING = {"os.write", "os.mkdir", "os.makedirs", "os.rename", "os.replace", "os.link", "os.symlink", "os.unlink",
            "os.remove", "os.rmdir", "os.truncate", "os.ftruncate", "os.chmod", "os.chown", "os.utime", "os.mknod",
-           "os.mkfifo", "os.fdopen", "fcntl.flock", "fcntl.lockf"}
+           "os.mkfifo", "os.fdopen", "os.pwrite", "fcntl.flock", "fcntl.lockf"}
 RUNNING = {"os.fork", "os.pipe", "os.system", "os.popen", "os.kill", "os.killpg", "os.waitpid", "os.chdir",
            "os.setpgid", "subprocess.Popen", "shutil.rmtree", "resource.setrlimit"}
 NOWHERE = ("os.walk", "os.fwalk", "os.spawn", "os.posix_spawn", "os.exec", "subprocess.run", "subprocess.call",
            "subprocess.check", "shutil.copy", "shutil.move", "pathlib", "io.open", "glob", "eval", "exec", "compile",
            "tempfile", "__import__", "pickle", "importlib", "ctypes", "socket", "urllib", "http")
 MODULES = {"files": OPENING, "placing": OPENING | WRITING, "jobs": {"os.read", "os.pread"} | RUNNING,
-           "measuring": {"os.fork", "os.kill", "os.waitpid", "open", "subprocess", "subprocess.Popen"},
-           "recorder": {"os.execve"}}
-"""What each module may call: those that open, write and run; the one that measures, which has no folder; and the one
-that becomes tcpdump."""
+           "measuring": {"os.fork", "os.kill", "os.waitpid", "open", "subprocess", "subprocess.Popen"}}
+"""What each module may call: those that open, write and run; and the one that measures, which has no folder."""
 
 
 PACKAGES = ["folder", "capture", "premise", "verdict", "fleet", "page"]

@@ -222,12 +222,18 @@ def test_flood(place: Path) -> None:
                 lambda said: len(said) == 1))
     unit = (ROOT / "systemd" / "ntpaudit-record@.service").read_text()
     status, out, _ = dossier("filter", plain / "claim.json")
-    called = recorder.words_of(recorder.Wanted("eth0", str(place), True, str(plain / "claim.json")))
-    check("the recorder's filter", ceiling=(called[called.index("-C") + 1], "1000"),
-          own=(called[-1] + "\n", out.decode()), unit=(" --hourly --claim %S/ntpaudit/days/claim.json " in unit, True),
-          run=((status, out), (0, b"(udp port 123 and (host 192.0.2.1 or host 192.0.2.2)) or (vlan and udp port 123 "
-                               b"and (host 192.0.2.1 or host 192.0.2.2))\n")),
-          none=(dossier("filter", place / "none")[:2], (0, b"(udp port 123) or (vlan and udp port 123)\n")))
+    ways = ("(udp src port 123 and (dst host 192.0.2.10) and (src host 192.0.2.1 or src host 192.0.2.2))",
+            "(udp dst port 123 and (src host 192.0.2.10) and (dst host 192.0.2.1 or dst host 192.0.2.2))")
+    check("the recorder's filter", unit=(" --hourly --claim %S/ntpaudit/days/claim.json " in unit, True),
+          run=((status, out.decode()), (0, f"({' or '.join(ways[::-1])}) or (vlan and ({' or '.join(ways[::-1])}))\n")),
+          none=(dossier("filter", place / "none")[:2], (0, b"(udp port 123) or (vlan and (udp port 123))\n")),
+          clients=(recorder.filter_of(None, ["192.0.2.7", "192.0.2.8"]).count("dst host 192.0.2.8"), 2))
+    if shutil.which("tcpdump"):
+        taken = run(["tcpdump", "--time-stamp-precision=nano", "-r", flooded / "f.pcap", "-w", "-", out.decode().strip()])
+        check("what the filter takes", packets=([one[:16] for one in records_of(taken[1])], [
+            one[:16] for one in records_of((plain / "f.pcap").read_bytes())]))
+    else:
+        skipped("what the filter takes", "tcpdump isn't installed")
 
 
 def test_dead_mounts(place: Path) -> None:
