@@ -119,7 +119,7 @@ COMMANDS = {
     "year": "make a calendar of a year of machines, with statements to be signed",
     "day": "make the folders of days from what a recorder left",
     "now": "say of the last minutes of a recording whether the clock is right",
-    "record": "record an interface by tcpdump, with evidence of its stamps",
+    "record": "record an interface by tcpdump, which is watched, with evidence of its stamps",
     "filter": "print a recorder's filter, which names the servers of a claim",
     "measure": "measure whether a packet's stamp comes after it left",
     "picture": "print the picture of a claim and a capture, as SVG",
@@ -195,10 +195,14 @@ OPTIONS = [
            REQUIRED | {"dest": "target"}),
     Option("day", "--date", "DATE",
            "the day (UTC), such as 2026-11-22; each whole day before today if it is left out"),
+    Option("day", "--clear", (1, 10_000),
+           "then take away recordings but those of the newest N days that have any, if folders of days have the same; "
+           "a tenth at most; none if it is left out"),
     Option("record", "folder", "FOLDER", "where the captures are left; it is made if it isn't there"),
     Option("record", "--interface", "NAME", "which interface to record", REQUIRED),
-    Option("record", "--hourly", "", "begin a new file each hour, and at 1 GB"),
-    Option("record", "--claim", "FILE", "record only a claim's servers; all if it is left out, or isn't there"),
+    Option("record", "--hourly", "", "begin a new file each hour"),
+    Option("record", "--claim", "FILE", "record only a claim's client and servers; what the interface's own "
+           "addresses ask if it is left out, or isn't there"),
     Option("filter", "claim", "CLAIM", "a JSON file; if it isn't there, all servers are recorded"),
     Option("measure", "--count", (10, 100_000), "how many packets; 1000 if left out", {"default": 1000}),
     Option("measure", "--load", "", "keep all processors busy meanwhile"),
@@ -289,7 +293,7 @@ def run(given: argparse.Namespace) -> int:
         return run_year(given, [tidy(folder) for folder in given.folders])
     if given.command == "day":
         from .fleet.day import make_days
-        return make_days(given.source, given.target, given.date, SECONDS)
+        return make_days(given.source, given.target, given.date, SECONDS, given.clear)
     if given.command in ("filter", "record"):
         if given.command == "record":
             from .capture.watch import Wanted as Recording, record

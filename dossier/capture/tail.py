@@ -28,7 +28,7 @@ class Heads:
     """How heads of records are read: a place leads to the next one."""
 
     def __init__(self, order: str, unit: int):
-        self.unit, self.pattern, self.unpack = unit, HEADS[order], Struct(f"{order}IIII").unpack_from
+        self.order, self.unit, self.pattern, self.unpack = order, unit, HEADS[order], Struct(f"{order}IIII").unpack_from
         self.left = MOST_PLACES
 
     def after(self, data: bytes, at: int) -> int | None:

@@ -21,6 +21,7 @@ from ..records import replace
 from ..schema import is_time, read_typed
 from ..text import note, plain
 from ..units import DAY, civil, day_of, seconds_of
+from .clearing import clear
 
 FOREVER, MOST_DAYS = 1 << 40, 31
 """Later than any Unix second; and the days before today that are made if none is named."""
@@ -53,10 +54,11 @@ def recordings(folder: Folder) -> tuple[list[Recorded], list[str]]:
     return [one for one in found if one.begin < ahead], [one.name for one in found if one.begin >= ahead]
 
 
-def make_days(source: str, target: str, date: str | None, seconds: int) -> int:
+def make_days(source: str, target: str, date: str | None, seconds: int, clear_all_but: int | None = None) -> int:
     """Makes the folder of a day; if none is named, that of each day after the one of the first file, of the last 31
     before today. Their paths are printed, with those that were made earlier of these 31. The folder of days has the
-    claim of any day, and the evidence of all. The status is the worst of all days."""
+    claim of any day, and the evidence of all. Then recordings are taken away but those of the newest days, if so many
+    are named. The status is the worst of all days."""
     planned, worst = answer(lambda *_: plan(source, target, date)), 0
     for line in planned.lines:
         note(line)
@@ -68,6 +70,9 @@ def make_days(source: str, target: str, date: str | None, seconds: int) -> int:
         if not result.refusal:
             print(plain(path), flush=True)
         worst = max(worst, result.status)
+    if clear_all_but:
+        for line in answer(lambda *_: clear(source, target, clear_all_but or 1)).lines:
+            note(line)
     return worst
 
 

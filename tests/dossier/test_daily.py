@@ -636,6 +636,36 @@ def test_years(place: Path) -> None:
     check("what ended lately", there=("claim.json" in listed(lately), True))
 
 
+def test_clear(place: Path) -> None:
+    """Recordings are taken away but those of the newest days that have any, whatever the clock says; only if folders
+    of days have the same, packed or not; and a tenth a call."""
+    today = int(time.time()) // DAY * DAY
+    recorder, days, names = recorded(place, range(-15 * 24, 0, 6), today)
+    words = ("day", "--from", recorder, "--to", days, "--clear", "10")
+    for wrong in (2099, 1970):  # (what was recorded while the clock was wrong)
+        second = timegm((wrong, 12, 31, 23, 0, 0))
+        ahead = capture_of(place / "whole.pcap", f"1:-1000..1000@{second % 2**32}x3").read_bytes()
+        names.append(time.strftime("eth0-%Y-%m-%dT%H%M%SZ.pcap", time.gmtime(second)))
+        (recorder / names[-1]).write_bytes(ahead)
+    old = names[:60 - 4 * 9]  # (six days of four; 2099 is the tenth of those that stay, and 1970 the oldest)
+    status, _, err = dossier(*words[:-2])
+    changed, packed = (days / time.strftime("%Y-%m-%d", time.gmtime(today - 14 * DAY)) / names[at] for at in (4, 5))
+    changed.write_bytes(changed.read_bytes()[:-1])
+    if shutil.which("zstd"):
+        run(["zstd", "-q", "--rm", packed])
+    told, left = [], [len(list(recorder.glob("*.pcap")))]
+    for _ in range(6):
+        status, _, err = dossier(*words)
+        told.append([line for line in err.decode().splitlines() if "taken away" in line])
+        left.append(len(list(recorder.glob("*.pcap"))))
+    kept = {path.name for path in recorder.glob("*.pcap")}
+    check("recordings that are taken away", status=(status, 0),
+          said=(told[0], ["6 recordings taken away, which folders of days have too"]),
+          tenth=([before - after for before, after in zip(left, left[1:])], [6, 5, 5, 4, 3, 0]),
+          kept=(sorted(set(old) & kept), [names[4]]), new=(set(names) - set(old) <= kept, True),
+          named=(f"{names[-1]} is old and stays" in err.decode(), True))
+
+
 # ---- systemd
 
 

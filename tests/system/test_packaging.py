@@ -201,7 +201,7 @@ def test_install(folder: Path) -> None:
           left=(sorted(str(file.relative_to(prefix)) for file in prefix.rglob("*")), ["bin", "bin/other"]))
     system = folder / "usr"
     everywhere = run([ROOT / "install", system])[1].decode().splitlines()
-    units = {"lib/systemd/system/ntpaudit-daily.timer", "lib/sysusers.d/ntpaudit.conf", "lib/tmpfiles.d/ntpaudit.conf"}
+    units = {"lib/systemd/system/ntpaudit-daily.timer", "lib/sysusers.d/ntpaudit.conf"}
     check("systemd's files are put where it reads them", usr=(units - set(files_below(system)), set()),
           other=([file for file in listed if file.startswith("lib/")], []), said=(len(everywhere) > len(listed), True))
     run([ROOT / "install", "--remove", system])
