@@ -168,8 +168,9 @@ OPTIONS = [
     Option("year", "--title", "TEXT", "the page's heading"),
     Option("year", "--jobs", (1, 4096), "machines side by side; as many as processors if it is left out", JOBS),
     Option("sign", "--key", "FILE", "a private key, or the public one of a key that an agent holds", REQUIRED),
-    Option("page verify", "--signers", "FILE",
-           "who may sign, as ssh-keygen's file of allowed signers has it: signatures are checked"),
+    Option("page verify sign year", "--signers", "FILE",
+           "who may sign, as ssh-keygen's file of allowed signers has it: signatures are checked, and a year counts "
+           "days that are signed by their machine"),
     Option("now", "--from", "DIR", "where recorders write", REQUIRED | {"dest": "source"}),
     Option("now", "--claim", "FILE", "the claim of any day: its span doesn't matter", REQUIRED),
     Option("now", "--minutes", (1, 1440), "how many; 10 if left out", {"default": 10}),
@@ -181,6 +182,12 @@ OPTIONS = [
     Option("audit page verify sign year now", "--leap-seconds", "FILE",
            "the list of leap seconds; the system's if it is left out"),
     Option("verify", "--second", "", "have the second program, ntpaudit-recheck, judge each answer too"),
+    Option("verify", "--answers", "",
+           "hold each input and answer to its sum, and have the program judge answers, instead of making all again"),
+    Option("verify", "--sample", (1, 1_000_000),
+           "make so many days again, which --seed draws; the others aren't looked at, or with --answers are judged"),
+    Option("verify", "--seed", "TEXT", "what the days are drawn by, such as a throw of dice after all was signed"),
+    Option("verify", "--as-signed", "", "status 0 if all is as it was signed, whatever the verdicts, and 1 if not"),
     Option("audit page", "--metrics", "FILE",
            "write what came of it to FILE too, for Prometheus, whole or not at all"),
     Option("keep", "--years", (1, 100), "take away folders whose span ended so many years ago; none if it is left out"),
@@ -328,11 +335,12 @@ def run_now(given: argparse.Namespace, program: Program) -> int:
 
 def run_year(given: argparse.Namespace, folders: list[str]) -> int:
     from .fleet.days import Wanted
+    from .fleet.signature import Signers
     from .page.years import Pages, write_year
     from .premise.leap import read_list
     number = given.year or int(now()[:4])
     wanted = Wanted(number, Known(state_of(given.state), writes=False), read_list(given.leap_seconds),
-                    int(time.time()))
+                    int(time.time()), Signers(given.signers))
     pages = Pages(given.title or f"Clocks in {number}", given.output, given.split)
     return write_year(folders, wanted, pages, given.limit, given.jobs)
 
@@ -347,8 +355,9 @@ def run_on_folders(given: argparse.Namespace, folders: list[str]) -> int:
     from .premise.leap import read_list
     leaps = read_list(given.leap_seconds)
     if given.command == "sign":
+        from .fleet.signature import Signers
         from .fleet.signing import sign_all
-        return sign_all(folders, given.key, known, given.limit, leaps)
+        return sign_all(folders, given.key, known, given.limit, leaps, Signers(given.signers))
     if given.command == "page" and not given.verify:
         from .page.page import write_page
         return write_page(folders, given, known, leaps)
@@ -358,14 +367,19 @@ def run_on_folders(given: argparse.Namespace, folders: list[str]) -> int:
         from .folder.entry import Options
         wanted = Audit(Options(given.step, given.days), given.again, leaps, known, program)
         return audit_all(folders, wanted, given.jobs, given.limit, given.metrics)
-    from .fleet.verify import Verifier, verify_all
+    from .fleet.verify import How, Verifier, verify_all
     if given.command == "page":
         from .page.page import write_page
         return write_page(folders, given, known, leaps, Verifier(program, known, leaps))
     from .fleet.signature import Signers
     from .verdict.second import find_second
     verifier = Verifier(program, known, leaps, find_second() if given.second else None)
-    return verify_all(folders, verifier, Signers(given.signers), given.limit)
+    if (given.sample is None) != (given.seed is None):
+        raise fault("--sample and --seed go together: who draws has to name what the days are drawn by", USAGE)
+    if given.as_signed and given.signers is None:
+        raise fault("--as-signed takes --signers: a signature that nobody looks at says nothing", USAGE)
+    how = How(given.answers, given.sample, given.seed or "", given.as_signed)
+    return verify_all(folders, verifier, Signers(given.signers), given.limit, how)
 
 
 def tidy(folder: str) -> str:

@@ -8,7 +8,7 @@ from functools import partial
 from ..fault import DEVICE, NOT_SHOWN, USAGE, Fault, fault, summed
 from ..folder import files
 from ..folder.entry import DISPUTED, REFUSED, LeapList, Options, Record, is_made_anew, read_record, record_text
-from ..folder.files import FILE, LEFT, Folder, kind_of, sum_of
+from ..folder.files import CLAIM, LEFT, Folder, sum_of
 from ..folder.jobs import run_all
 from ..folder.older import read_any
 from ..folder.placing import blocks_of, is_ones_own, place
@@ -88,7 +88,7 @@ def audited_anew(wanted: Wanted, path: str, old: Record | None) -> Result:
             record = making.refused(found)
         text, stale = record_text(record), {*LEFT, *(old.outputs if old else ()), files.SIGNATURE}
         outputs: dict[str, Iterable[bytes]] = {name: blocks_of(name) for name in record.outputs}
-        keep_recordings(folder, record)
+        keep_ones_own(folder, record)
         if standing(path) != before:  # (by somebody whose record is another, so that nobody waited)
             raise fault(f"{files.AUDIT} has changed meanwhile")
         place(folder, {**outputs, files.AUDIT: [text]}, stale - record.outputs.keys())
@@ -118,16 +118,22 @@ def written_in(folder: Folder) -> Record | None:
     return None
 
 
-def keep_recordings(folder: Folder, record: Record) -> None:
-    """Refuses to put something in the place of a joined capture, or to take one away, that no audit left: it may be
-    somebody's only recording."""
+def keep_ones_own(folder: Folder, record: Record) -> None:
+    """Refuses to put something in the place of a joined capture or of a day's claim, or to take one away, that no audit
+    left: it may be somebody's only recording, or what a person wrote."""
     written = written_in(folder)
     left = written.outputs if written else {}
-    for name in {files.JOINED, *record.outputs}:
-        if os.path.basename(name) == files.JOINED and kind_of(folder.place, name) == FILE and \
-                folder.sum(name) not in (left.get(name), record.outputs.get(name)):
-            raise fault(f"{name} is what an audit leaves, and none left this one: if it is a recording, give it "
-                        "another name, such as f.pcap", DEVICE)
+    for name in {files.JOINED, *record.outputs, *left}:
+        kind, stands = os.path.basename(name), ""
+        with suppress(Fault):  # (a link is nobody's recording)
+            stands = folder.sum(name) if kind in KEPT and folder.has(name) else ""
+        if stands not in ("", left.get(name), record.outputs.get(name)):
+            raise fault(f"{name} is what an audit leaves, and none left this one: {KEPT[kind]}", DEVICE)
+
+
+KEPT = {files.JOINED: "if it is a recording, give it another name, such as f.pcap",
+        CLAIM: "`--days` would overwrite it; if a person wrote it, move its day elsewhere"}
+"""What to do about files that an audit would replace, and that may be a person's."""
 
 
 def result_of(path: str, record: Record, known: Known, more: str, others: Iterable[str] = ()) -> Result:
@@ -162,10 +168,10 @@ def is_same(folder: Folder, old: Record, wanted: Wanted) -> bool:
         return False
 
 
-def change_of(folder: Folder, record: Record) -> str:
+def change_of(folder: Folder, record: Record, taken: dict[str, str] | None = None) -> str:
     """The first file that isn't there any more, or isn't what it was, or that came, if it is an input or has the name
-    of an output; nothing if there is none."""
-    now = sums_of_inputs(folder, record)
+    of an output; nothing if there is none. The sums of inputs may have been taken already."""
+    now = sums_of_inputs(folder, record, taken or {})
     for name, sum_ in record.inputs.items():
         if now.get(name) != sum_:
             return (f"{label(name)} isn't the file that was audited ({short(now.get(name))}, {files.AUDIT} has "

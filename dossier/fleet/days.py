@@ -3,31 +3,37 @@
 Each day's audit.json is looked at, and its claim, but no capture. A day is what its claim's span says, whatever its
 folder is called. It counts once, and only if it is of the claim that most of the machine's days have.
 """
+import json
 import os
 from collections import Counter
-from collections.abc import Iterator
+from collections.abc import Collection, Iterator
+from hashlib import sha256
+from zlib import compress, decompress
 from typing import NamedTuple
 
 from ..fault import Fault
 from ..folder.claim import Claim
 from ..folder.entry import DISPUTED, NOT_VERIFIED, REFUSED, WORST_FIRST, Entry, LeapList, Made, Record, read_record
-from ..folder.files import AUDIT, CLAIM, Folder
+from ..folder.files import AUDIT, CLAIM, SIGNATURE, Folder, absolute
 from ..folder.registry import Known
-from ..folder.result import MISSING, MOST_DAYS, Told, Year
+from ..folder.result import MISSING, MOST_DAYS, NOT_COUNTED, Told, Year
 from ..premise.leap import record_by
 from ..records import replace
-from ..schema import is_time
+from ..schema import is_time, said, typed
 from ..text import plain
 from ..units import DAY, day_of, seconds_of
 from ..verdict.sentences import reason
+from .signature import GOOD, Signers
+from .twins import Table, few_of
 
-WITHOUT = "no day"
-"""What is in a folder of a day is none."""
 OTHER = "another claim or client than most days have"
+NO_DAY = "its name is no day, and it has no audit.json"
+UNKNOWN = f"{AUDIT} was neither made nor verified here, or is of another {CLAIM}"
 
 
 class Found(NamedTuple):
-    """What is known of a folder: the day of its claim's span, its record and entry, and the sums of its captures."""
+    """What is known of a folder: the day of its claim's span, its record and entry, and the sums of its captures. What
+    isn't counted has the day after which the folder is called, if that is one."""
 
     told: Told
     claim: Claim | None = None
@@ -36,24 +42,33 @@ class Found(NamedTuple):
 
 
 class Wanted(NamedTuple):
-    """Which year, what is known here, and up to which Unix second days have ended."""
+    """Which year, what is known here, up to which Unix second days have ended, who may have signed what isn't known
+    here, who signed which folder by what is to be verified, and how many machines there are."""
 
     year: int
     known: Known
     leaps: LeapList
     at: int
+    signers: Signers = Signers(None)
+    signed: dict[str, str] = {}
+    machines: int = 1
+
+
+def key_of(words: str) -> int:
+    return int.from_bytes(sha256(words.encode()).digest()[:8], "big")
 
 
 def is_day(name: str) -> bool:
     return is_time(f"{name}T00:00:00Z")
 
 
-def machines_of(folders: list[str]) -> dict[str, list[str]]:
-    """The machines whose days, or folders of days, are named, each with the names of days; none if all are meant."""
+def machines_of(folders: list[str], others: Collection[str] = ()) -> dict[str, list[str]]:
+    """The machines whose days, or folders of days, are named, each with the names of days; none if all are meant. A
+    day's folder is called after it, or is one of these others."""
     found: dict[str, list[str]] = {}
     for folder in folders:
         above, name = os.path.split(folder)
-        if is_day(name):
+        if is_day(name) or folder in others:
             found.setdefault(above or ".", []).append(name)
         else:
             found.setdefault(folder, [])
@@ -64,21 +79,23 @@ def year_of(wanted: Wanted, machine: str, names: list[str]) -> Year:
     """The year of a machine, by its folder. Of two folders with the same day the worse counts."""
     with Folder(machine) as folder:
         twice = [name for name, number in Counter(names).items() if number > 1]
-        days = sorted(set(names)) or [name for name in folder.names() if is_day(name) and folder.is_folder(name)]
+        days = sorted(set(names)) or [name for name in folder.names() if folder.is_folder(name)]
         found = [one for name in days[:MOST_DAYS] for one in found_in(wanted, folder, name)]
+    left = days[MOST_DAYS:]
     claims = {same(one.claim): one.claim for one in found if one.claim}
     common = max(claims, key=Counter(same(one.claim) for one in found if one.claim).__getitem__, default="")
     begin, end = seconds_of(f"{wanted.year}-01-01T00:00:00Z"), seconds_of(f"{wanted.year}-12-31T00:00:00Z") + DAY
     today = wanted.at // DAY * DAY
     kept, beside, others = dict[str, Told](), dict[str, Told](), [f"{name} is named twice" for name in twice]
+    others += [f"{plain(name)}: {len(left)} folders from it on are more than {MOST_DAYS}" for name in left[:1]]
     for one in sorted(found, key=lambda one: [*WORST_FIRST, one.told.verdict].index(one.told.verdict)):
-        told, first = one.told, seconds_of(f"{one.told.date}T00:00:00Z")
+        told, first = one.told, seconds_of(f"{one.told.date}T00:00:00Z") if one.told.date else begin
         if not begin <= first < min(end, today):
             others += [f"{told.folder}: {told.date} hasn't ended yet"] if first >= today else []
-        elif told.verdict == WITHOUT or (one.claim and same(one.claim) != common):
-            why = told.cause if told.verdict == WITHOUT else OTHER
+        elif told.verdict == NOT_COUNTED or (one.claim and same(one.claim) != common):
+            why = told.cause if told.verdict == NOT_COUNTED else OTHER
             others.append(f"{told.folder}: {why}")
-            beside.setdefault(told.date, Told(told.date, MISSING, told.folder, why))
+            beside.setdefault(told.date, replace(told, verdict=NOT_COUNTED, cause=why, least_ns=None, off=0))
         elif told.date in kept:
             others.append(f"{told.folder}: {told.date} stands twice, and counts as in {kept[told.date].folder}")
         else:
@@ -86,22 +103,51 @@ def year_of(wanted: Wanted, machine: str, names: list[str]) -> Year:
     dates = [day_of(second) for second in range(begin, min(end, today), DAY)]
     made = {one.made: None for one in found if one.made and one.told.date in kept}
     told_of_all = [kept.get(date) or beside.get(date) or Told(date, MISSING) for date in dates]
-    captures = {sum_ for one in found if kept.get(one.told.date) is one.told for sum_ in one.captures}
+    captures = {sum_ for one in found if kept.get(one.told.date) is one.told
+                for sum_ in few_of(one.captures, 366 * wanted.machines)}
     path = machine if machine.isprintable() else plain(machine)  # (a line feed would make a line of a file of sums)
     return Year(plain(machine), told_of_all, claims.get(common), sorted(others), list(made), sorted(captures),
                 path=path)
 
 
-def twinned(years: list[Year]) -> list[Year]:
-    """Years of machines, each with those that have a capture of its days too."""
-    where, twins = dict[str, int](), [set[int]() for _ in years]
-    for number, year in enumerate(years):
+class Twins:
+    """The machines that have a capture in common, or a day of the same client."""
+
+    def __init__(self) -> None:
+        self.machines, self.captures, self.days = list[str](), Table(), Table()
+        self.twins, self.alike = dict[int, set[int]](), dict[int, set[int]]()
+
+    def add(self, year: Year) -> None:
+        number = len(self.machines)
+        self.machines.append(year.machine)
         for sum_ in year.captures:
-            if (other := where.setdefault(sum_, number)) != number:
-                twins[number].add(other)
-                twins[other].add(number)
-    return [replace(year, captures=[], twins=[years[other].machine for other in sorted(own)])
-            for year, own in zip(years, twins)]
+            meet(self.twins, number, self.captures.first(int(sum_[:16], 16), number))
+        for day in year.days:
+            if year.claim and day.name:
+                meet(self.alike, number, self.days.first(key_of(f"{year.claim.client} {day.date}"), number))
+
+    def of(self, number: int, year: Year) -> Year:
+        """A year, by its machine's number from 0, with the machines that have its recordings or its client's days."""
+        twins = self.twins.get(number, set())
+        alike = self.alike.get(number, set()) - twins
+        return replace(year, captures=[], twins=[self.machines[other] for other in sorted(twins)],
+                       alike=[self.machines[other] for other in sorted(alike)])
+
+
+def packed(year: Year) -> bytes:
+    """A year in few bytes: many are held until it is known which have recordings in common."""
+    return compress(json.dumps(said(replace(year, captures=[]))).encode(), 1)
+
+
+def unpacked(data: bytes) -> Year:
+    found: Year = typed(Year, json.loads(decompress(data)))
+    return found
+
+
+def meet(met: dict[int, set[int]], one: int, other: int) -> None:
+    if one != other:
+        met.setdefault(one, set()).add(other)
+        met.setdefault(other, set()).add(one)
 
 
 def same(claim: Claim) -> str:
@@ -111,29 +157,56 @@ def same(claim: Claim) -> str:
 
 def found_in(wanted: Wanted, folder: Folder, name: str) -> Iterator[Found]:
     """What is known of the days that a folder of one has: one, if it is as it should be."""
+    named = name if is_day(name) else ""
     try:
-        written = read_record(folder.data(f"{name}/{AUDIT}"))
-        record = wanted.known.shown(sum_ := folder.sum(f"{name}/{AUDIT}"), written)
+        if not named and not folder.has(f"{name}/{AUDIT}"):
+            yield Found(Told("", NOT_COUNTED, plain(name), NO_DAY))
+            return
+        written, by = read_record(folder.data(f"{name}/{AUDIT}")), wanted.signed.get(f"{folder.path}/{name}", "")
+        record = wanted.known.shown(folder.sum(f"{name}/{AUDIT}"), written)
+        if not record and (signer := signer_of(wanted.signers, folder, name)) and by in ("", signer):
+            record, by = written, signer
         if record and not record.refusal and folder.sum(f"{name}/{CLAIM}") != record.inputs.get(CLAIM):
             record = None
     except Fault as found:
-        yield Found(Told(name, MISSING, plain(name), plain(found.words)))
+        yield Found(Told(named, NOT_COUNTED, plain(name), plain(found.words)))
         return
-    if record is None:
-        why = f"{AUDIT} was neither made nor verified here, or is of another {CLAIM}"
-        yield Found(Told(name, NOT_VERIFIED, plain(name), why, sha256=sum_))
-    elif record.refusal:
-        yield Found(Told(name, REFUSED, plain(name), plain(record.refusal.line), sha256=sum_), made=written.program)
+    if record is None or record.refusal:
+        verdict, why = (REFUSED, record.refusal.line) if record and record.refusal else (NOT_VERIFIED, UNKNOWN)
+        told = Told(named, verdict, plain(name), plain(why), name=written.name, by=by if record else "")
+        yield Found(told if named else replace(told, verdict=NOT_COUNTED), made=record.program if record else None)
     else:
         dispute = plain(wanted.known.dispute(record))
-        yield from (told_of(name, entry, record, sum_, dispute) for entry in record_by(wanted.leaps, record).entries)
+        yield from (told_of(name, entry, record, by, dispute) for entry in record_by(wanted.leaps, record).entries)
 
 
-def told_of(name: str, entry: Entry, record: Record, sum_: str, dispute: str) -> Found:
+def signer_of(signers: Signers, folder: Folder, name: str) -> str:
+    """Who signed a day that isn't known here, if that is its machine: called like its folder, or `..@` that."""
+    machine = os.path.basename(absolute(folder.path))
+    if signers.given is None or not folder.has(f"{name}/{SIGNATURE}"):
+        return ""
+    with Folder(os.path.join(folder.path, name)) as day:
+        found = signers.signature_of(day)
+        is_same = day.sum(AUDIT) == folder.sum(f"{name}/{AUDIT}")
+    is_its_own = found.signer == machine or found.signer.endswith(f"@{machine}")
+    return found.signer if found.state == GOOD and is_same and is_its_own else ""
+
+
+def told_of(name: str, entry: Entry, record: Record, by: str, dispute: str) -> Found:
     """An entry, if it is of a whole day. What the second program disputes has no verdict."""
     claim, date = entry.claim, entry.claim.from_[:10]
     if claim.first % DAY or claim.last != claim.first + DAY:
-        return Found(Told(name, WITHOUT, plain(name), f"{claim.from_} to {claim.to} is no day"), claim)
-    told = Told(date, DISPUTED, plain(name), dispute, sha256=sum_) if dispute else \
-        Told(date, entry.verdict, plain(name), reason(entry), entry.least_ns, sum_)
+        why = f"{claim.from_} to {claim.to} is no day"
+        return Found(Told(name if is_day(name) else "", NOT_COUNTED, plain(name), why), claim)
+    told = Told(date, DISPUTED, plain(name), dispute, name=record.name, by=by) if dispute else \
+        Told(date, entry.verdict, plain(name), reason(entry), entry.least_ns, known_error(entry), record.name, by)
     return Found(told, claim, record.program, record.recordings)
+
+
+def known_error(entry: Entry) -> int:
+    """The largest distance from UTC, in ticks, that the clock had at least at some time: of what the hull left on one
+    side of zero."""
+    found = entry.reason
+    hulls = [entry.worst.hull, *([found.piece.hull] if found and found.piece else []),
+             *(stretch.hull for stretch in (found.stretches if found else ()))]
+    return max((max(hull[0], -hull[1], 0) for hull in hulls if not isinstance(hull, str)), default=0)

@@ -12,8 +12,8 @@ from ..folder.files import AUDIT, SIGNATURE, YEAR, Folder, data_named
 from ..folder.jobs import find_tool, run
 from ..folder.older import read_any
 from ..folder.placing import keep
+from ..folder.year import read_statements
 from ..schema import is_time
-from .statements import read_statements
 
 NAMESPACE = "ntpaudit-dossier"
 """What a signature is made for: one that was made for anything else doesn't count."""

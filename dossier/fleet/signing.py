@@ -12,14 +12,15 @@ from ..folder.jobs import DEVNULL, ENVIRONMENT, PIPE, begun, find_tool, private_
 from ..folder.placing import is_ones_own, keep, place
 from ..folder.registry import Known
 from ..folder.result import Result
+from ..folder.year import read_statements
 from ..premise.leap import record_by
 from ..records import replace
 from ..schema import json_text
 from ..text import label, plain
 from ..units import now
 from .audit import change_of
-from .signature import NAMESPACE, NO_KEYGEN, signed_in
-from .statements import difference, read_statements
+from .signature import NAMESPACE, NO_KEYGEN, Signers, signed_in
+from .statements import difference
 from .verify import known_in
 
 OF_A_PERSON = ("HOME", "TERM", "DISPLAY", "WAYLAND_DISPLAY", "XDG_RUNTIME_DIR", "SSH_AUTH_SOCK", "SSH_ASKPASS",
@@ -28,11 +29,11 @@ OF_A_PERSON = ("HOME", "TERM", "DISPLAY", "WAYLAND_DISPLAY", "XDG_RUNTIME_DIR", 
 PROGRESS = (b"Signing file ", b"Write signature to ")
 
 
-def sign_all(folders: list[str], key: str, known: Known, seconds: int, leaps: LeapList) -> int:
+def sign_all(folders: list[str], key: str, known: Known, seconds: int, leaps: LeapList, signers: Signers) -> int:
     """Signs each folder, and prints a line for each. The status is the worst. The key is asked for between two looks at
     a folder, by the process that has the terminal."""
     worst, key = 0, os.path.abspath(key)
-    for path, found in run_all(folders, partial(to_be_signed, known, leaps), seconds):
+    for path, found in run_all(folders, partial(to_be_signed, known, leaps, signers), seconds):
         if found.text:
             try:
                 signature = signature_by(key, found.text.encode())
@@ -45,7 +46,7 @@ def sign_all(folders: list[str], key: str, known: Known, seconds: int, leaps: Le
     return worst
 
 
-def to_be_signed(known: Known, leaps: LeapList, path: str, _: int) -> Result:
+def to_be_signed(known: Known, leaps: LeapList, signers: Signers, path: str, _: int) -> Result:
     """A folder's audit.json as it was made or verified here, with the time in it, which is to be signed. If a file
     isn't what it says, that is said. A year's statements likewise, if they follow from days that are known here."""
     with Folder(path) as folder:
@@ -53,7 +54,7 @@ def to_be_signed(known: Known, leaps: LeapList, path: str, _: int) -> Result:
         if folder.has(signature := f"{signed_in(folder)}.sig"):
             raise fault(f"signed already; who wants another signature takes {signature} away", DEVICE)
         if signed_in(folder) == YEAR:
-            if wrong := difference(folder, known, leaps):
+            if wrong := difference(folder, known, leaps, signers):
                 return Result(NOT_SHOWN, [wrong])
             return Result(text=json_text(replace(read_statements(folder.data(YEAR)), signed=now())).decode())
         record, seen = known_in(folder, known)

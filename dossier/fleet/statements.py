@@ -2,19 +2,20 @@
 somebody can sign it."""
 import os
 import re
-from typing import Annotated
+from typing import NamedTuple
 
 from ..fault import fault
 from ..folder.claim import Claim
-from ..folder.entry import SKEW, YES, LeapList
-from ..folder.files import AUDIT, YEAR, Folder, absolute, sum_of
+from ..folder.entry import NOT_VERIFIED, YES, LeapList
+from ..folder.files import YEAR, Folder, absolute, sum_of
 from ..folder.registry import Known
-from ..folder.result import Year
-from ..records import dataclass, field, replace
-from ..schema import Count, Name, Sum, Text, Time, is_time, length, or_nothing, read_typed, within
+from ..folder.result import Told, Year
+from ..folder.year import Stated, read_statements
+from ..records import replace
 from ..text import count, label, listed, plain, spelled
-from ..units import now, ns_ms, ns_up_ms, seconds_of
-from .days import Wanted, is_day, twinned, year_of
+from ..units import low_ms, ns_ms, ns_up_ms, seconds_of
+from .days import Twins, Wanted, packed, unpacked, year_of
+from .signature import Signers
 
 RULES = {100_000: "MiFID II's RTS 25 of high-frequency trading, and CAT's 6.8 of exchanges",
          1_000_000: "MiFID II's RTS 25 of most venues and trading", 50_000_000: "FINRA 6820 and CAT's 6.8 of members",
@@ -24,37 +25,19 @@ RULES = {100_000: "MiFID II's RTS 25 of high-frequency trading, and CAT's 6.8 of
 IN_A_SENTENCE, OUT_OF_QUOTES = re.compile("[A-Za-z0-9_./@+-]+"), re.compile(r"[^\w./@+\\ -]")
 """A name that stands in a sentence as it is; and what is spelled out of any other."""
 
-TWINS = "A recording of these days is that of"
+TWINS, ALIKE = "A recording of these days is that of", "days of the same client, on the same dates"
+OF_SIGNED = "nobody made them again where this was put together"
+VERIFIED, NOBODY, NOTHING = "verified", "-", "0" * 64
+"""Who answers for a day that was made or verified where a year was put together, and for one that is known nowhere; and
+the name of one that has no audit."""
 
 MOST_OF_A_PATH = 4_096
 """Characters of a path in a file of sums: all folders above it are worked out."""
 
 
-@dataclass(frozen=True)
-class Stated:
-    """What is said of a machine, and the file with the sums of its days' audits, as `sha256sum` has it."""
-
-    machine: Text
-    statement: Text
-    shown: Count
-    days: Count
-    file: Name
-    sha256: Sum
-
-
-@dataclass(frozen=True)
-class Statements:
-    """The year of all machines."""
-
-    year: Annotated[int, within(1971, 9999)]
-    made: Time
-    signed: Annotated[str, or_nothing(is_time)]
-    machines: Annotated[list[Stated], length(1, 100_000)] = field(default_factory=list)
-
-
 def statement(year: Year) -> str:
     """What somebody can sign of a machine's year."""
-    if not year.claim or not any(day.sha256 for day in year.days):
+    if not year.claim or not any(day.name for day in year.days):
         return f"Of {in_quotes(year.machine)} nothing is known here."
     claim, counts, name = year.claim, year.counts, in_quotes(year.machine)
     rule = RULES.get(claim.bound_ns)
@@ -68,13 +51,25 @@ def statement(year: Year) -> str:
     length_, first = year.gap
     said += [f"The longest time without a day that is shown is {count(length_, 'day')} from {first} on."] \
         if length_ else []
-    worst = year.worst
-    said += [f"The greatest bound that a day needed was {ns_up_ms(worst.least_ns or 0)} ms, on {worst.date}."] \
-        if worst else []
-    twins = listed([in_quotes(twin) for twin in year.twins])
+    said += figures_of(year)
+    said += [f"{count(number, 'day')} {'is' if number == 1 else 'are'} signed by {in_quotes(signer)}, and {OF_SIGNED}."
+             for signer, number in year.signers.items()]
+    twins, alike = (listed([in_quotes(machine) for machine in machines]) for machines in (year.twins, year.alike))
     said += [f"{TWINS} {twins} too, so one of them is a copy."] if twins else []
+    said += [f"{alike} {'has' if len(year.alike) == 1 else 'have'} {ALIKE}."] if alike else []
     programs = "; ".join(f"{made.version or 'ntpaudit'}, SHA-256 {made.sha256}" for made in year.programs)
     return " ".join([*said, f"Audited by {programs}."])
+
+
+def figures_of(year: Year) -> list[str]:
+    """The greatest of the least bounds, on how many days none is known, and the largest error that is known."""
+    worst, unknown, off = year.worst, year.unknown, year.off
+    on = f"on {count(unknown, 'more day')}" if worst else f"on {count(unknown, 'day')}"
+    said = [f"The greatest bound that a day needed was {ns_up_ms(worst.least_ns or 0)} ms, on {worst.date}."] \
+        if worst else []
+    said += [f"No bound is known {on}."] if unknown else []
+    return said + ([f"The largest error that is known was at least {low_ms(off.off)} ms, on {off.date}."]
+                   if off and off.off else [])
 
 
 def in_quotes(machine: str) -> str:
@@ -94,18 +89,26 @@ def premises_of(claim: Claim) -> str:
             "this machine, and nobody changed them; and no leap second fell into these days, by the list.")
 
 
-def read_statements(data: bytes) -> Statements:
-    found: Statements = read_typed(YEAR, Statements, data)
-    if max(found.made, found.signed) > now(SKEW):
-        raise fault(f"{YEAR} is dated in the future")
-    return found
+class Line(NamedTuple):
+    """A line of a file of days: the day's name for good, who answers for it, and the path of its folder."""
+
+    name: str
+    by: str
+    path: str
 
 
-def sums_of(place: str, year: Year) -> bytes:
-    """The sums of a machine's days, with paths as seen from a folder."""
+def by_of(day: Told) -> str:
+    return NOBODY if day.verdict == NOT_VERIFIED or not day.name else day.by or VERIFIED
+
+
+LINE = re.compile(r"([0-9a-f]{64}) (\S+) (.+)")
+
+
+def lines_of(place: str, year: Year) -> bytes:
+    """The lines of a machine's days, with paths as seen from a folder."""
     machine = os.path.relpath(absolute(year.path), absolute(place))
-    rows = (f"{day.sha256}  {machine}/{day.folder}/{AUDIT}\n" for day in year.days if day.sha256)
-    return "".join(rows).encode("utf-8", "surrogateescape")
+    lines = (f"{day.name or NOTHING} {by_of(day)} {machine}/{day.folder}\n" for day in year.days if day.folder)
+    return "".join(lines).encode("utf-8", "surrogateescape")
 
 
 def stated_of(year: Year, file: str, sums: bytes) -> Stated:
@@ -113,38 +116,36 @@ def stated_of(year: Year, file: str, sums: bytes) -> Stated:
     return Stated(year.machine, statement(year), year.counts[YES], len(year.days), file, sum_of(sums))
 
 
-def audits_in(data: bytes) -> list[str]:
-    """The paths in a file of sums."""
-    try:
-        paths = [line.split("  ", 1)[1] for line in data.decode("utf-8", "surrogateescape").splitlines()]
-    except IndexError:
-        raise fault("a file of sums isn't one") from None
-    if not all(os.path.basename(path) == AUDIT and is_day(os.path.basename(path[: -len(AUDIT) - 1])) for path in paths):
-        raise fault("a file of sums names other files than audits of days")
-    if any(len(path) > MOST_OF_A_PATH for path in paths):
-        raise fault(f"a file of sums names a path of more than {MOST_OF_A_PATH:,} characters")
-    return paths
+def read_lines(data: bytes) -> list[Line]:
+    """The lines of a file of days."""
+    found = [LINE.fullmatch(line) for line in data.decode("utf-8", "surrogateescape").splitlines()]
+    lines = [Line(*line.groups()) for line in found if line]
+    if len(lines) < len(found):
+        raise fault("a file of days isn't one")
+    if any(len(line.path) > MOST_OF_A_PATH for line in lines):
+        raise fault(f"a file of days names a path of more than {MOST_OF_A_PATH:,} characters")
+    return lines
 
 
-def days_of(folder: Folder, named: set[str]) -> list[str]:
-    """The folders of all days on which the statements rest. Each has to be in a folder that the command line names, and
-    stands for one machine."""
-    days = dict[str, None]()
+def days_of(folder: Folder, named: set[str]) -> dict[str, str]:
+    """The folders of all days on which the statements rest, each with its name for good. Each has to be in a folder
+    that the command line names, and stands for one machine."""
+    days = dict[str, str]()
     for stated in read_statements(folder.data(YEAR)).machines:
-        for day in days_in(folder, stated):
-            if named.isdisjoint(folders_above(day)):
-                raise fault(f"{day} is in no folder that is named: if it may be read, name the folder of its machine "
-                            "too")
-            if day in days:
-                raise fault(f"{day} stands there twice: one of the statements is a copy")
-            days[day] = None
-    return list(days)
+        for line in lines_in(folder, stated):
+            if named.isdisjoint(folders_above(line.path)):
+                raise fault(f"{line.path} is in no folder that is named: if it may be read, name the folder of its "
+                            "machine too")
+            if line.path in days:
+                raise fault(f"{line.path} stands there twice: one of the statements is a copy")
+            days[line.path] = line.name
+    return {path: name for path, name in days.items() if name != NOTHING}
 
 
-def days_in(folder: Folder, stated: Stated) -> list[str]:
-    """The folders of the days of a machine."""
-    paths = audits_in(folder.data(stated.file))
-    return [os.path.normpath(os.path.join(folder.path, os.path.dirname(path))) for path in paths]
+def lines_in(folder: Folder, stated: Stated) -> list[Line]:
+    """The lines of the days of a machine, with paths as seen from here."""
+    lines = read_lines(folder.data(stated.file))
+    return [line._replace(path=os.path.normpath(os.path.join(folder.path, line.path))) for line in lines]
 
 
 def folders_above(path: str) -> set[str]:
@@ -161,30 +162,80 @@ def may_be(name: str, machine: str) -> bool:
     return own == plain(os.path.basename(machine)) and (is_here or above == plain(above) and " " not in above)
 
 
-def difference(folder: Folder, known: Known, leaps: LeapList) -> str:
+def difference(folder: Folder, known: Known, leaps: LeapList, signers: Signers = Signers(None)) -> str:
     """The first difference between what stands in a year and what its days come to, by what is known here; nothing if
     there is none."""
+    return compared(folder, known, leaps, signers)[0]
+
+
+def compared(folder: Folder, known: Known, leaps: LeapList, signers: Signers) -> tuple[str, list[str]]:
+    """The same, and the days that aren't shown."""
     found = read_statements(folder.data(YEAR))
-    years = list[Year]()
+    twins, years = Twins(), list[bytes]()
     for stated in found.machines:
-        data, name = folder.data(stated.file), label(stated.machine)
-        if sum_of(data) != stated.sha256:
-            return f"{label(stated.file)} isn't the file that {YEAR} names"
-        days = days_in(folder, stated)
-        machines = {os.path.dirname(day) or "." for day in days}
-        if len(machines) > 1:
-            return f"{label(stated.file)} has days of several machines"
-        year = Year("", [])
-        for machine in machines:
-            wanted = Wanted(found.year, known, leaps, seconds_of(found.made))
-            year = year_of(wanted, machine, [os.path.basename(day) for day in days])
-            if sums_of(folder.path, year) != data:
-                return f"{name}: a day isn't the one that {stated.file} names"
-            if not may_be(stated.machine, machine):
-                return f"{name}: its days are in {machine}, which has another name"
-        years.append(replace(year, machine=stated.machine))
-    for stated, year in zip(found.machines, twinned(years)):
+        if sum_of(folder.data(stated.file)) != stated.sha256:
+            return f"{label(stated.file)} isn't the file that {YEAR} names", []
+        if wrong := has_one_machine(folder, stated):
+            return wrong, []
+        year = year_stated(folder, stated, Wanted(found.year, known, leaps, seconds_of(found.made), signers))
+        if wrong := other_days(folder, stated, year):
+            return wrong, []
+        twins.add(year)
+        years.append(packed(year))
+    hidden = list[str]()
+    for number, (stated, data) in enumerate(zip(found.machines, years)):
+        year = twins.of(number, unpacked(data))
         own = stated if year.days else replace(stated, days=0)
         if stated_of(year, stated.file, folder.data(stated.file)) != own:
-            return f"{label(stated.machine)}: the statement doesn't follow from its days, as they are known here"
+            return f"{label(stated.machine)}: the statement doesn't follow from its days, as they are known here", []
+        hidden += not_shown(year)
+    return "", hidden
+
+
+def has_one_machine(folder: Folder, stated: Stated) -> str:
+    machines = {os.path.dirname(line.path) or "." for line in lines_in(folder, stated)}
+    if len(machines) > 1:
+        return f"{label(stated.file)} has days of several machines"
+    other = next((machine for machine in machines if not may_be(stated.machine, machine)), "")
+    return f"{label(stated.machine)}: its days are in {other}, which has another name" if other else ""
+
+
+def year_stated(folder: Folder, stated: Stated, wanted: Wanted) -> Year:
+    """The year of a machine by the folders that a statement names, as far as they are known here."""
+    lines = lines_in(folder, stated)
+    if not lines:
+        return Year(stated.machine, [])
+    machine = os.path.dirname(lines[0].path) or "."
+    signed = {line.path: line.by for line in lines if line.by not in (VERIFIED, NOBODY)}
+    year = year_of(wanted._replace(signed=signed), machine, [os.path.basename(line.path) for line in lines])
+    return replace(year, machine=stated.machine)
+
+
+def other_days(folder: Folder, stated: Stated, year: Year) -> str:
+    """The first day that isn't the one that a line names, or isn't known here as the line says."""
+    known = {os.path.normpath(os.path.join(year.path, day.folder)): day for day in year.days if day.folder}
+    for line in lines_in(folder, stated):
+        day = known.get(line.path)
+        if not day or (day.name or NOTHING) != line.name:
+            return f"{label(line.path)} isn't the day that {stated.file} names"
+        if by_of(day) != line.by:
+            return f"{label(line.path)} is {WORDS.get(line.by, f'signed by {line.by}')} by {stated.file}, and here " \
+                f"{WORDS.get(by_of(day), f'signed by {day.by}')}"
     return ""
+
+
+WORDS = {VERIFIED: "verified", NOBODY: "not verified"}
+
+
+def not_shown(year: Year) -> list[str]:
+    """The days of a machine that aren't shown, those of one verdict that follow one another together."""
+    runs = list[list[str]]()
+    for before, day in zip([None, *year.days], year.days):
+        if day.verdict == YES:
+            continue
+        if before and before.verdict == day.verdict:
+            runs[-1][1] = day.date
+        else:
+            runs.append([day.date, day.date, day.verdict])
+    return [f"{year.machine} {first if first == last else f'{first} .. {last}'} {verdict}"
+            for first, last, verdict in runs]

@@ -1,13 +1,14 @@
 """A year later, or at a stranger's: does an audit of the inputs alone come to what stands in the folder?"""
 import os
 from collections import Counter
+from collections.abc import Callable
 from contextlib import suppress
 from typing import NamedTuple
 
 from .. import VERSION
 from ..fault import DEVICE, NOT_SHOWN, Fault, fault, summed
 from ..folder import files
-from ..folder.entry import DISPUTED, OPEN, UNSUPPORTED, LeapList, Record, is_made_anew, read_record
+from ..folder.entry import DISPUTED, OPEN, UNSUPPORTED, YES, Entry, LeapList, Record, is_made_anew, read_record
 from ..folder.files import Folder, own, sum_of
 from ..folder.jobs import run_all, run_one
 from ..folder.older import differs as differs_from_older, form_of, read_any
@@ -17,16 +18,18 @@ from ..folder.result import Result
 from ..premise.leap import record_by
 from ..records import replace
 from ..schema import first_difference, said
-from ..text import label, plain
+from ..text import count, label, plain
 from ..units import now
 from ..verdict.alerts import warning_words
 from ..verdict.making import Making
 from ..verdict.second import Second
-from ..verdict.sentences import TWICE, reason
+from ..verdict.sentences import reason
 from .audit import change_of
 from .days import is_day
+from .judging import ONLY_MADE, Judging, Other
 from .signature import GOOD, NONE, UNSEEN, Signers, in_words, signed_in
-from .statements import days_of, difference as year_difference, folders_above
+from .statements import compared as year_compared, days_of, folders_above
+from .twins import Seen
 
 SHOWN, MOST_OF_A_DISPUTE, MOST_DAYS = 80, 1000, 1_000_000
 """Characters of a value that are shown of a difference, and of what is disputed; and days that are verified at once."""
@@ -45,6 +48,18 @@ class Verified(NamedTuple):
     difference: str
     notes: list[str]
     made: Record | None
+    is_judged: bool = False
+    """Whether its answers were judged, and not made again."""
+
+
+class How(NamedTuple):
+    """How folders are verified: by judging their answers; or so many of them, drawn by a seed, or by both; and whether
+    the status says that all is as it was signed, whatever the verdicts."""
+
+    answers: bool = False
+    sample: int | None = None
+    seed: str = ""
+    as_signed: bool = False
 
 
 class Verifier:
@@ -72,17 +87,31 @@ class Verifier:
                 self.known.add(sum_of(data), made)
             else:
                 notes.append(OLDER.format(form))
-            notes += self.judged_twice(making, made)
+            notes += self.judged_twice(made, making.capture_of)
         return Verified(found, notes, made)
 
-    def judged_twice(self, making: Making, made: Record) -> list[str]:
+    def judge(self, folder: Folder) -> Verified:
+        """The same by the answers alone: each input and answer is held to its sum, and the program judges each answer.
+        What can't be judged so is made again."""
+        record = read_any(audit_json(folder))
+        try:
+            if form_of(audit_json(folder)) < VERSION:
+                raise Other
+            found, capture = Judging(folder, self.program, self.leaps).judged(record)
+        except Other:
+            return self.verify(folder)
+        if found:
+            return Verified(found, [], None)
+        return Verified("", self.judged_twice(record, lambda _: capture), record, is_judged=True)
+
+    def judged_twice(self, made: Record, capture_of: Callable[[Entry], str]) -> list[str]:
         """Has the second program judge each answer, and records what it says. What came of it, in words."""
         if not self.second or made.refusal:
             return []
         closed, disputes, faults = [entry for entry in made.entries if entry.answer != OPEN], list[str](), list[Fault]()
         for entry in closed:
             try:
-                disputes += self.second.disputes(entry, making.capture_of(entry))
+                disputes += self.second.disputes(entry, capture_of(entry))
             except Fault as found:
                 faults.append(found)
         if faults and not disputes:
@@ -170,12 +199,53 @@ class Comparison:
         return self.found or f"after {self.at} bytes it{in_words_of('', '', rest)}"
 
 
-def verify_all(folders: list[str], verifier: Verifier, signers: Signers, seconds: int) -> int:
+def verify_all(folders: list[str], verifier: Verifier, signers: Signers, seconds: int, how: How = How()) -> int:
     """Prints `verified` and the verdict, or the first difference, a line for each folder, and notes. The status is 0 if
     all is verified and shown, and 1 if something isn't; or a fault's."""
-    worst, seen, named = 0, dict[str, str](), {files.absolute(folder) for folder in folders}
-    below = {folder: days_below(folder, named, seconds) for folder in folders}
-    stated, machines = [day for days in below.values() for day in days], dict[str, list[str]]()
+    named = {files.absolute(folder) for folder in folders}
+    plan = planned(folders, named, seconds)
+    names = names_of(plan, seconds) if how.sample is not None else {}
+    drawn = drawn_of(names, how.sample or 0, how.seed)
+    verifier.known.believes = how.sample is not None and not how.answers
+    told, seen = Told(how.as_signed), Seen(len(plan.every))
+
+    def is_left(path: str) -> bool:
+        return how.sample is not None and not how.answers and path in names and path not in drawn
+
+    def work(path: str, _: int) -> Result:  # (a year's signature is one for its days)
+        if path in plan.beside and is_of_days(path):
+            if refusal := plan.beside[path].refusal:
+                raise Fault(refusal.line, refusal.status)
+            return Result(lines=["(a year's days are in it)"], is_same=True)
+        who = signers if files.absolute(path) in named else Signers(None)
+        return verify(verifier, signers, who, path, named, how.answers and path not in drawn)
+    for path, found in run_all([path for path in plan.every if not is_left(path)], work, seconds):
+        if how.answers and found.text and found.is_same:
+            verifier.known.believed.add(bytes.fromhex(found.text))
+        twins = seen.twins(path, found.claims, found.captures)
+        told.tell(path, found, [f"({words})" for words in twins], plan.stated)
+    if how.sample is not None:
+        told.say(likelihoods(len(drawn), len(names)))
+    if how.answers:
+        told.say(f"({ONLY_MADE})")
+    return told.end()
+
+
+class Plan(NamedTuple):
+    """The folders that are looked at, in order; those of days on which a year's statements rest, each with its name for
+    good; and of folders with a year's machines all days in them."""
+
+    every: list[str]
+    stated: dict[str, str]
+    beside: dict[str, Result]
+
+
+def planned(folders: list[str], named: set[str], seconds: int) -> Plan:
+    stated, below = dict[str, str](), dict[str, list[str]]()
+    for folder in folders:
+        days = dict(line.split(" ", 1)[::-1] for line in days_below(folder, named, seconds))
+        below[folder], stated = list(days), {**stated, **days}
+    machines = dict[str, list[str]]()
     for machine in {os.path.dirname(day) for day in stated}:
         for path in named & folders_above(machine):
             machines.setdefault(path, []).append(machine)
@@ -186,29 +256,90 @@ def verify_all(folders: list[str], verifier: Verifier, signers: Signers, seconds
         others = [day for day in found.lines if files.absolute(day) not in counted]
         below[folder] += others
         counted.update(map(files.absolute, others))
-    every = [each for folder in folders for each in (*below[folder], folder)]
+        found.lines.clear()
+    return Plan([each for folder in folders for each in (*below[folder], folder)], stated, beside)
 
-    def work(path: str, _: int) -> Result:  # (a year's signature is one for its days)
-        if path in beside and is_of_days(path):
-            if refusal := beside[path].refusal:
-                raise Fault(refusal.line, refusal.status)
-            return Result(lines=["(a year's days are in it)"])
-        return verify(verifier, signers if files.absolute(path) in named else Signers(None), path, named)
-    for path, found in run_all(every, work, seconds):
-        copies = [seen[sum_] for sum_ in found.captures if seen.setdefault(sum_, path) != path]
+
+def names_of(plan: Plan, seconds: int) -> dict[str, str]:
+    """The days of which some are drawn, each with its name for good: as a year states it, else as audit.json does."""
+    def work(path: str, _: int) -> Result:
+        with Folder(path) as folder:
+            return Result(text=read_any(audit_json(folder)).name)
+    others = [path for path in plan.every if path not in plan.stated]
+    return plan.stated | {path: found.text for path, found in run_all(others, work, seconds) if found.text}
+
+
+def drawn_of(names: dict[str, str], number: int, seed: str) -> set[str]:
+    """So many days: those for which the SHA-256 of the seed, a blank and the day's name is the least."""
+    return set(sorted(names, key=lambda path: (sum_of(f"{seed} {names[path]}".encode()), path))[:number])
+
+
+SHARES = (1, 5)
+"""Per cent of the days."""
+
+
+def likelihoods(drawn: int, days: int) -> str:
+    """How likely one bad day would have been drawn, if there were so many."""
+    said = [f"had {share} % of all been bad ({max(1, days * share // 100):,}), one would have been drawn with "
+            f"{percent(likelihood(drawn, days, max(1, days * share // 100)))}" for share in SHARES]
+    return f"({drawn:,} of {count(days, 'day')} were drawn and made again: {'; '.join(said)})"
+
+
+def likelihood(drawn: int, days: int, bad: int) -> float:
+    """That of so many days that are drawn one is bad, if so many of all are."""
+    missed = 1.0
+    for k in range(min(bad, days)):
+        missed *= max(0, days - drawn - k) / (days - k)
+    return 1 - missed if days else 0.0
+
+
+def percent(part: float) -> str:
+    """A part in per cent, rounded down."""
+    return f"{int(part * 1000) / 10} %" if part < 1 else "certainty"
+
+
+class Told:
+    """What is printed of folders, and what comes of all."""
+
+    def __init__(self, as_signed: bool):
+        self.as_signed, self.worst = as_signed, 0
+        self.others, self.hidden, self.of_years = list[str](), list[tuple[str, str]](), list[str]()
+        self.stated = dict[str, str]()
+
+    def say(self, line: str) -> None:
+        print(plain(line), flush=True)
+
+    def tell(self, path: str, found: Result, more: list[str], stated: dict[str, str]) -> None:
         lines = [found.refusal.line] if found.refusal else found.lines
-        for line in [*lines, *(f"({TWICE} {copy})" for copy in copies)]:
+        for line in [*lines, *more]:
             print(f"{label(path)}: {plain(line)}", flush=True)
-        worst = summed(worst, found.status)
-    return worst
+        status = (0 if found.is_same else NOT_SHOWN) if self.as_signed else found.status
+        self.worst = summed(self.worst, status)
+        if not found.is_same:
+            self.others.append(label(path))
+        self.of_years += found.earlier
+        if (verdicts := {verdict for verdict in found.verdicts if verdict != YES}) and path not in stated:
+            self.hidden.append((label(path), ", ".join(sorted(verdicts))))
+
+    def end(self) -> int:
+        """The status. With `--as-signed` the last line says whether all is as it was signed, and what isn't shown."""
+        if self.as_signed:
+            shown = [*self.of_years, *(f"{path} {verdict}" for path, verdict in self.hidden)]
+            words = f"not shown: {', '.join(shown)}" if shown else "all is shown"
+            self.say(f"{f'not as it was signed: {chr(44).join(self.others)}' if self.others else AS_SIGNED}; {words}")
+        return self.worst
+
+
+AS_SIGNED = "all is as it was signed"
 
 
 def days_below(path: str, named: set[str], seconds: int) -> list[str]:
-    """The folders of the days on which a year's statements rest, if there are such in a folder, and that are there."""
+    """The names for good of the days on which a year's statements rest, if there are such in a folder, each with its
+    folder, if that is there."""
     def work(path: str, _: int) -> Result:
         with Folder(path) as folder:
-            days = days_of(folder, named) if signed_in(folder) == files.YEAR else []
-            return Result(lines=[day for day in days if is_there(day)])
+            days = days_of(folder, named) if signed_in(folder) == files.YEAR else {}
+            return Result(lines=[f"{name} {day}" for day, name in days.items() if is_there(day)])
     return run_one(path, work, seconds).lines
 
 
@@ -244,24 +375,27 @@ def is_of_days(path: str) -> bool:
         return not folder.has(files.AUDIT) and not folder.has(files.YEAR)
 
 
-def verify(verifier: Verifier, signers: Signers, path: str, named: set[str]) -> Result:
-    """What verifying a folder comes to. With a file of signers, a folder that nobody signed differs too."""
+def verify(verifier: Verifier, signers: Signers, who: Signers, path: str, named: set[str], by_answers: bool) -> Result:
+    """What verifying a folder comes to. With a file of those who may sign it, a folder that nobody signed differs
+    too."""
     findings: list[str] = []
     notes: list[str] = []
     try:
         with Folder(path) as folder:
-            signature = signers.signature_of(folder)
+            signature = who.signature_of(folder)
             if signature.state in (GOOD, UNSEEN):
                 notes.append(in_words(signature))
-            elif signature.state != NONE or signers.given is not None:
+            elif signature.state != NONE or who.given is not None:
                 findings.append(in_words(signature))
             if signed_in(folder) == files.YEAR:
                 verifier.known.renew()
                 days_of(folder, named)
-                findings += filter(None, [year_difference(folder, verifier.known, verifier.leaps)])
-                lines = [*(findings or ["verified: its statements follow from its days"]), *(f"({n})" for n in notes)]
-                return Result(NOT_SHOWN if findings else 0, lines)
-            difference, others, made = verifier.verify(folder)
+                differs, hidden = year_compared(folder, verifier.known, verifier.leaps, signers)
+                findings += filter(None, [differs])
+                lines = [*(findings or [year_words(verifier.known)]), *(f"({n})" for n in notes)]
+                return Result(NOT_SHOWN if findings else 0, lines, is_same=not findings, earlier=hidden)
+            difference, others, made, is_judged = verifier.judge(folder) if by_answers else verifier.verify(folder)
+            data = sum_of(audit_json(folder))
     except Fault as found:
         return Result(found.status, [*findings, found.line, *(f"({note})" for note in notes)])
     findings += [difference] if difference else []
@@ -270,6 +404,16 @@ def verify(verifier: Verifier, signers: Signers, path: str, named: set[str]) -> 
     verdicts = Counter(made.verdicts if made else ())
     words = ", ".join(f"{number} {verdict}" if len(made.entries) > 1 else verdict
                       for verdict, number in verdicts.items()) if made else ""
-    lines = [*(findings or [f"verified: {words}"]), *(f"({note})" for note in [*notes, *others])]
+    lines = [*(findings or [f"{'judged' if is_judged else 'verified'}: {words}"]),
+             *(f"({note})" for note in [*notes, *others])]
     status, captures = (made.status, sorted(made.recordings)) if made else (NOT_SHOWN, [])
-    return Result(NOT_SHOWN if findings else status, lines, captures=captures)
+    return Result(NOT_SHOWN if findings else status, lines, captures=captures, is_same=not findings,
+                  verdicts=list(verdicts), claims=[entry.claim for entry in made.entries] if made else [],
+                  text="" if findings else data)
+
+
+def year_words(known: Known) -> str:
+    """What is said of a year's statements, by what is known of its days."""
+    if known.believes:
+        return "its statements follow from what its days say of themselves, of which some were made again"
+    return "verified: its statements follow from its days" + (", by their answers" if known.believed else "")

@@ -46,6 +46,7 @@ class Known:
             raise fault(f"{why}: --state names another folder", DEVICE) from None
         self.lines = self.by_sum(self.journal.text)
         self.judgements = self.by_sum(self.judged.text)
+        self.believed, self.believes = set[bytes](), False
 
     def renew(self) -> None:
         """Takes in what other processes have added."""
@@ -68,9 +69,10 @@ class Known:
         return {line.partition(" ")[0]: line for line in text.split("\n") if line.count(" ") >= 4}
 
     def shown(self, sum_: str, record: Record) -> Record | None:
-        """A record as it was made or verified here, if it was."""
+        """A record as it was made or verified here, if it was; or as it says of itself, if that is believed in this
+        call: of all, or of those that are named by their sums."""
         if sum_ not in self.lines:
-            return None
+            return record if self.believes or bytes.fromhex(sum_) in self.believed else None
         _, program, made, seconds, version = self.lines[sum_].split(" ", 4)
         return replace(record, program=Made(version, program), made=made, seconds=float(seconds))
 

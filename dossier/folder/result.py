@@ -3,13 +3,13 @@ from collections import Counter
 from typing import Annotated
 
 from ..records import dataclass, field
-from ..schema import Count, Sum, Text, length
+from ..schema import Count, Sum, Text, Ticks, length, matching
 from ..units import bound_ticks
 from .claim import Claim
 from .entry import WORST_FIRST, YES, Day, Made, Piece, Refusal, side_of
 
-MISSING = "missing"
-"""There is no audit of a day."""
+MISSING, NOT_COUNTED = "missing", "not counted"
+"""There is no folder of a day; there is one, and it isn't counted."""
 MOST_DAYS = 4000
 """Folders of a machine that are looked at."""
 
@@ -98,8 +98,16 @@ class Told:
     folder: Text = ""
     cause: Text = ""
     least_ns: Count | None = None
-    sha256: Sum | None = None
-    """Of its audit.json."""
+    off: Ticks = 0
+    """The least distance from UTC that the clock had at some time of it, as far as that is known."""
+    name: Annotated[str, matching("[0-9a-f]{64}|")] = ""
+    """The day's name for good; nothing if it has no audit."""
+    by: Text = ""
+    """Who signed the audit, if it was neither made nor verified here."""
+
+
+def off_of(day: Told) -> int:
+    return day.off
 
 
 @dataclass(frozen=True)
@@ -114,9 +122,11 @@ class Year:
     others: Annotated[list[Text], length(0, 2 * MOST_DAYS)] = field(default_factory=list)
     programs: list[Made] = field(default_factory=list)
     captures: list[Sum] = field(default_factory=list)
-    """The sums of its days' captures."""
+    """Sums of its days' captures."""
     twins: list[Text] = field(default_factory=list)
     """The machines that have one of these too."""
+    alike: list[Text] = field(default_factory=list)
+    """The machines that have a day of the same client too."""
     path: Text = ""
     """Its folder."""
 
@@ -124,7 +134,23 @@ class Year:
     def counts(self) -> dict[str, int]:
         """How many days there are of each verdict, those that are shown first."""
         counts = Counter(day.verdict for day in self.days)
-        return {YES: counts[YES]} | {verdict: counts[verdict] for verdict in (*WORST_FIRST, MISSING) if counts[verdict]}
+        every = (*WORST_FIRST, NOT_COUNTED, MISSING)
+        return {YES: counts[YES]} | {verdict: counts[verdict] for verdict in every if counts[verdict]}
+
+    @property
+    def signers(self) -> dict[str, int]:
+        """How many days count by a signature alone, by who signed them."""
+        return dict(sorted(Counter(day.by for day in self.days if day.by).items()))
+
+    @property
+    def unknown(self) -> int:
+        """How many days have a folder, and no bound that is known."""
+        return sum(day.verdict != MISSING and day.least_ns is None for day in self.days)
+
+    @property
+    def off(self) -> Told | None:
+        """The day with the largest error that is known."""
+        return max(self.days, key=off_of) if self.days else None
 
     @property
     def gap(self) -> tuple[int, str]:
@@ -147,7 +173,7 @@ class Year:
 class Result:
     """A status, lines for a terminal, verdicts, metrics, sections of a page, sums of captures; what last minutes say; a
     year; when the newest recording ends; the days that are to be made, and that were made earlier; a text, such as one
-    that is to be signed; and if nothing came of it, why."""
+    that is to be signed; whether all is as it was; the claims of audits; and if nothing came of it, why."""
 
     status: Count = 0
     lines: list[str] = field(default_factory=list)
@@ -161,4 +187,6 @@ class Result:
     days: list[str] = field(default_factory=list)
     earlier: list[str] = field(default_factory=list)
     text: str = ""
+    is_same: bool = False
+    claims: list[Claim] = field(default_factory=list)
     refusal: Refusal | None = None

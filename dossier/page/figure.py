@@ -282,7 +282,8 @@ def standing_alone(envelope: Envelope, bound_ns: int, label: str, wide: int = 90
 
 SMALL, SHADES = 14, 4
 """The height of a year drawn small, in pixels; and into how many parts the bound is cut by which a yes is shaded."""
-HEIGHTS = {"unsupported": 12, "no-evidence": 12, "open": 12, "not-verified": 2, "refused": 2, "missing": 2}
+HEIGHTS = {"unsupported": 12, "no-evidence": 12, "open": 12, "not-verified": 2, "refused": 2, "missing": 2,
+           "not-counted": 2}
 """Of days in it that aren't shown: those that aren't there are a line. The others are as high as it is."""
 
 

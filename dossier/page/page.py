@@ -6,10 +6,11 @@ from collections import Counter
 from collections.abc import Iterator, Sequence
 from typing import NamedTuple
 
-from ..fault import REFUSED as INPUT_REFUSED, Fault, fault
+from ..fault import REFUSED as INPUT_REFUSED, USAGE, Fault, fault
 from ..fleet.audit import change_of
 from ..fleet.metrics import Sample, of_record, of_verdict, write_metrics
 from ..fleet.signature import NONE, STRANGER, UNFIT, UNSEEN, Signature, Signers
+from ..fleet.twins import are_neighbours
 from ..fleet.verify import Verifier, audit_json
 from ..folder.entry import (DISPUTED, FEW, NO_EVIDENCE, NOT_VERIFIED, NOTHING_FITS, OPEN, REFUSED, REFUTED, UNSUPPORTED,
                             YES, LeapList, Refusal)
@@ -21,10 +22,12 @@ from ..folder.result import Result, Row, Section
 from ..premise.leap import record_by
 from ..records import asdict, replace
 from ..schema import json_text
-from ..text import capital, count
+from ..text import capital, count, note
+from ..units import seconds_of
 from ..verdict.sentences import TWICE
 from . import templates
 from .article import article, parts, short_article
+from .names import Split, page_of
 from .remedies import remedy
 from .table import as_csv, badness_of, row_of, row_without_verdict
 from .templates import INDEX, put
@@ -58,6 +61,10 @@ class Shown(NamedTuple):
     @property
     def row(self) -> Row:
         return self.section.row
+
+    @property
+    def span(self) -> tuple[str, int, int]:
+        return self.row.client, seconds_of(self.row.begin), seconds_of(self.row.end)
 
     @property
     def link(self) -> str:
@@ -103,7 +110,7 @@ class Looking(NamedTuple):
         data = audit_json(folder)
         written = read_any(data)
         if self.verifier:
-            why, _, record = self.verifier.verify(folder)
+            why, _, record, _ = self.verifier.verify(folder)
         else:
             record = self.known.shown(sum_of(data), written)
             why = UNKNOWN if not record else "" if record.refusal else change_of(folder, record)
@@ -146,14 +153,17 @@ def name_of(number: int, part: int) -> str:
 
 def mark_twins(found: list[Shown]) -> set[str]:
     """Warns of a capture that is in several folders, which are given."""
-    where: dict[str, dict[str, str]] = {}
+    where: dict[str, list[Shown]] = {}
     for one in found:
         for sum_ in one.section.captures:
-            where.setdefault(sum_, {})[one.path] = one.row.machine
+            where.setdefault(sum_, []).append(one)
     for one in found:
         for sum_ in one.section.captures:
-            if others := [machine for other, machine in where[sum_].items() if other != one.path]:
+            others = [other.row.machine for other in where[sum_]
+                      if other.path != one.path and not are_neighbours(one.span, other.span)]
+            if others := list(dict.fromkeys(others)):
                 one.row.twice.append(f"{TWICE} {', '.join(others[:FEW])}{' ..' if others[FEW:] else ''}.")
+        one.row.twice[:] = dict.fromkeys(one.row.twice)
         one.row.warnings[:0] = one.row.twice
     return {one.path for one in found if one.row.twice}
 
@@ -165,23 +175,29 @@ def write_page(folders: list[str], given: argparse.Namespace, known: Known, leap
     looking = Looking(known, Signers(given.signers), leaps, verifier, not (given.json or given.csv))
     if looking.has_articles:
         parts()  # (which the processes of all folders have then, or none is begun)
+    split = Split(given.split) if given.split else None
     worst, has_audit, found, metrics = 0, False, list[Shown](), list[Sample]()
     for number, result in enumerate(looking.at(folders, given.limit)):
         worst, has_audit = max(worst, result.status), has_audit or bool(result.verdicts)
         metrics += result.metrics
-        shown = [Shown(section, name_of(number, part), f"{number + 1:05}.html" if given.split else "", folders[number])
+        file = f"{page_of(folders[number])}.html" if split else ""
+        shown = [Shown(section, name_of(number, part), file, folders[number])
                  for part, section in enumerate(result.sections)]
-        found += list(written(shown, given)) if given.split else shown
+        found += list(written(shown, given, split)) if split else shown
     twins = mark_twins(found)
-    if given.split:
+    if split:
         again = [number for number, path in enumerate(folders) if path in twins]
         for number, result in zip(again, looking.at([folders[number] for number in again], given.limit)):
-            rows = [one.row for one in found if one.file == f"{number + 1:05}.html"]
-            list(written([Shown(replace(section, row=row), name_of(number, part), f"{number + 1:05}.html")
-                          for part, (section, row) in enumerate(zip(result.sections, rows))], given))
-    years = years_of(folders, given, known, leaps) if given.split else []
+            own = [one for one in found if one.path == folders[number]]
+            list(written([one._replace(section=replace(section, row=one.row))
+                          for section, one in zip(result.sections, own)], given, split))
+    years = years_of(folders, given, known, leaps) if split else []
     data = text_of(worst_first(found), given, len(folders), years)
-    put(data, INDEX if given.split else given.output, given.split)
+    if split:
+        split.put(data, INDEX)
+        split.end()
+    else:
+        put(data, given.output)
     status = write_metrics(given.metrics, metrics) if given.metrics else 0
     if not has_audit:
         raise fault("none of these folders has an audit")
@@ -198,20 +214,24 @@ def years_of(folders: list[str], given: argparse.Namespace, known: Known, leaps:
     found = []
     for year in sorted({os.path.basename(folder)[:4] for folder in folders}):
         pages = Pages(f"{given.title}, {year}", None, os.path.join(given.split, year))
-        wanted = Wanted(int(year), known, leaps, int(time.time()))
+        wanted = Wanted(int(year), known, leaps, int(time.time()), Signers(given.signers))
         try:  # (of a machine that can't be looked at the page has the line)
             write_year(list(machines_of(folders)), wanted, pages, given.limit, 1)
-            found.append(year)
         except Fault as refused:
-            if refused.status != INPUT_REFUSED:
+            if refused.status == USAGE:  # (it is signed)
+                note(refused.words)
+            elif refused.status == INPUT_REFUSED:
+                continue
+            else:
                 raise
+        found.append(year)
     return found
 
 
-def written(own: list[Shown], given: argparse.Namespace) -> Iterator[Shown]:
+def written(own: list[Shown], given: argparse.Namespace, split: Split) -> Iterator[Shown]:
     """Writes the sections of a folder as a page of their own, and leaves their lines."""
     text = page([one._replace(file="") for one in own], given.title, 1, given.signers is not None, INDEX)
-    put(text, own[0].file, given.split)
+    split.put(text, own[0].file)
     return (one._replace(section=replace(one.section, head="", rest="")) for one in own)
 
 

@@ -13,8 +13,9 @@ from ..folder.entry import (DISPUTED, NO_EVIDENCE, NOT_VERIFIED, NOTHING_FITS, O
                             YES)
 from ..folder.files import own_data
 from ..folder.placing import write_named
+from ..folder.result import MISSING as NO_FOLDER, NOT_COUNTED
 from ..text import capital, count, plain
-from ..units import now, ns_ms, ns_up_ms, range_ms
+from ..units import low_ms, now, ns_ms, ns_up_ms, range_ms
 
 if TYPE_CHECKING:
     from jinja2 import Environment
@@ -24,7 +25,8 @@ PLACES = site.getsitepackages()
 """Where the system keeps what it has installed of Python's packages."""
 NO_JINJA = "Jinja2 isn't installed, which makes pages: apt-get install python3-jinja2"
 SIGNS = {YES: "\u2713", UNSUPPORTED: "\u2260", REFUTED: "\u2717", NOTHING_FITS: "\u2205", NO_EVIDENCE: "\u2026",
-         OPEN: "?", NOT_VERIFIED: "\u2014", REFUSED: "!", DISPUTED: "\u2021", "missing": "\u00b7"}
+         OPEN: "?", NOT_VERIFIED: "\u2014", REFUSED: "!", DISPUTED: "\u2021", NOT_COUNTED: "\u25cb",
+         NO_FOLDER: "\u00b7"}
 """A sign of each verdict, for whoever sees no colours."""
 INDEX = "index.html"
 MANY = 20
@@ -57,15 +59,15 @@ def templates() -> "Environment":
                         lstrip_blocks=True, auto_reload=False,
                         finalize=lambda value: plain(value) if type(value) is str else value)
     found.filters |= {"capital": capital, "count": count, "dashed": lambda verdict: verdict.replace(" ", "-"),
-                      "minus": minus, "ms": ns_ms, "up_ms": ns_up_ms}
+                      "minus": minus, "ms": ns_ms, "up_ms": ns_up_ms, "low_ms": low_ms}
     found.globals |= {"now": now, "policy": policy, "range_ms": range_ms, "sign": lambda verdict: SIGNS[verdict]}
     return found
 
 
-def put(data: bytes, file: str | None, split: str | None = None) -> None:
+def put(data: bytes, file: str | None, split: str = "") -> None:
     """Writes a page whole or not at all: below a folder, or to a file; to standard output if there is neither."""
     if file:
-        write_named(os.path.join(split or "", file), data, bool(split))
+        write_named(os.path.join(split, file), data, bool(split))
     else:
         sys.stdout.buffer.write(data)
 

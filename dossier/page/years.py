@@ -2,22 +2,44 @@
 statements to sign, and kept so that these can be signed."""
 import os
 from collections.abc import Iterator, Sequence
+from contextlib import suppress
 from itertools import groupby
 from typing import NamedTuple
 
-from ..fault import fault
-from ..fleet.days import Wanted, machines_of, twinned, year_of
-from ..fleet.statements import Stated, Statements, stated_of, statement, sums_of
-from ..folder.files import YEAR
-from ..folder.jobs import run_all
+from ..fault import Fault, fault
+from ..fleet.days import Twins, Wanted, is_day, machines_of, packed, unpacked, year_of
+from ..fleet.statements import lines_of, stated_of, statement
+from ..folder.entry import YES
+from ..folder.files import AUDIT, YEAR, Folder
+from ..folder.jobs import run_all, run_one
 from ..folder.result import Result, Told, Year
+from ..folder.year import Stated, Statements
 from ..schema import json_text
 from ..text import note
 from ..units import civil, ns_up_ms
 from .figure import shade, strip
+from .names import Split, page_of
 from .templates import INDEX, SIGNS, page, put, templates
 
 MONTHS = ("Jan", "Feb", "Mar", "Apr", "May", "Jun", "Jul", "Aug", "Sep", "Oct", "Nov", "Dec")
+
+
+class Row(NamedTuple):
+    """A machine in the table of all: where its year is, and what is said of it."""
+
+    link: str
+    machine: str
+    days: int
+    counts: dict[str, int]
+    signers: dict[str, int]
+    signed: int
+    gap: tuple[int, str]
+    worst: Told | None
+    unknown: int
+    off: Told | None
+    twins: list[str]
+    alike: list[str]
+    strip: str
 
 
 class Pages(NamedTuple):
@@ -32,11 +54,13 @@ class Pages(NamedTuple):
         """The folder from which days are linked to."""
         return self.split or os.path.dirname(self.output or "")
 
-    def page(self, title: str, articles: list[tuple[int, Year]], machines: Sequence[tuple[Year, str]] = (),
+    def page(self, title: str, articles: list[tuple[int, Year]], machines: Sequence[Row] = (),
              above: str = "") -> bytes:
-        """A page of the table of machines, each with where its year is, or of a machine alone."""
+        """A page of the table of machines, or of a machine alone."""
         return page("year.html", len(machines), title=title, articles=articles, machines=machines, above=above,
-                    signs=SIGNS, months=self.months, statement=statement, strip=strip, link_to=self.link_to)
+                    days=sum(row.days for row in machines), shown=sum(row.counts[YES] for row in machines),
+                    signed=sum(row.signed for row in machines), signs=SIGNS, months=self.months, statement=statement,
+                    link_to=self.link_to)
 
     def link_to(self, year: Year, day: Told) -> str:
         path = os.path.relpath(os.path.join(year.path, day.folder), self.base or ".") if day.folder else ""
@@ -50,7 +74,9 @@ class Pages(NamedTuple):
     def cell(self, year: Year, day: Told) -> tuple[str, str, str, str]:
         kind, shaded = day.verdict.replace(" ", "-"), shade(year, day)
         least = f", least bound {ns_up_ms(day.least_ns)} ms" if day.least_ns is not None else ""
-        kind, words = f"{kind} s{shaded}" if shaded else kind, f"{day.date}: {day.verdict}{least}"
+        by = f", signed by {day.by}" if day.by else ""
+        kind, words = f"{kind} s{shaded}" if shaded else kind, f"{day.date}: {day.verdict}{least}{by}"
+        kind += " signed" if by else ""
         return kind, SIGNS.get(day.verdict, "?"), words, self.link_to(year, day)
 
 
@@ -60,33 +86,56 @@ def quoted(path: str) -> str:
                    for byte in path.encode("utf-8", "surrogateescape"))
 
 
+def row_of(link: str, year: Year) -> Row:
+    signed = sum(day.verdict == YES for day in year.days if day.by)
+    return Row(link, year.machine, len(year.days), year.counts, year.signers, signed, year.gap, year.worst,
+               year.unknown, year.off, year.twins, year.alike, strip(year))
+
+
+def days_among(folders: list[str], seconds: int) -> list[str]:
+    """The folders that have an audit of their own, so that they are a day's and no machine's, whatever they are
+    called."""
+    def work(*_: object) -> Result:
+        found = list[str]()
+        for path in folders:
+            with suppress(Fault), Folder(path) as folder:
+                found += [path] * folder.has(AUDIT)
+        return Result(lines=found)
+    return run_one("", work, seconds).lines if folders else []
+
+
 def write_year(folders: list[str], wanted: Wanted, pages: Pages, seconds: int, jobs: int) -> int:
     """Writes the year. The status is that of the worst machine that couldn't be looked at; 0 if all could."""
-    names, worst, found, stated = machines_of(folders), 0, dict[int, Year](), list[Stated]()
+    others = days_among([folder for folder in folders if not is_day(os.path.basename(folder))], seconds)
+    names, worst, found = machines_of(folders, others), 0, list[bytes]()
+    split, twins = Split(pages.split) if pages.split else None, Twins()
+    wanted = wanted._replace(machines=len(names))
     templates()
 
     def work(machine: str, _: int) -> Result:
         return Result(year=year_of(wanted, machine, names[machine]))
-    for number, (machine, result) in enumerate(run_all(list(names), work, seconds, min(jobs, len(names))), 1):
+    for machine, result in run_all(list(names), work, seconds, min(jobs, len(names))):
         if result.refusal or result.year is None:
             worst = max(worst, result.status)
-            why = result.refusal.line if result.refusal else "nothing came of it"
-            note(f"{machine}: {why}")
+            note(f"{machine}: {result.refusal.line if result.refusal else 'nothing came of it'}")
             continue
-        found[number] = result.year
+        twins.add(result.year)
+        found.append(packed(result.year))
     if not found:
         raise fault("none of these folders has a year")
-    articles = list(zip(found, twinned(list(found.values()))))
-    machines = [(year, f"{number:05}.html" if pages.split else f"#m{number}") for number, year in articles]
-    if not pages.split:
-        put(pages.page(pages.title, articles, machines), pages.output)
+    years = (twins.of(number, unpacked(data)) for number, data in enumerate(found))
+    if not split:
+        articles = list(enumerate(years, 1))
+        put(pages.page(pages.title, articles, [row_of(f"#m{number}", year) for number, year in articles]), pages.output)
         return worst
-    for number, year in articles:
-        text = pages.page(f"{pages.title}: {year.machine}", [(number, year)], above=INDEX)
-        put(text, f"{number:05}.html", pages.split)
-        sums, data = f"{number:05}.sums", sums_of(pages.split, year)
-        put(data, sums, pages.split)
-        stated.append(stated_of(year, sums, data))
-    put(pages.page(pages.title, [], machines), INDEX, pages.split)
-    put(json_text(Statements(wanted.year, civil(wanted.at), "", stated)), YEAR, pages.split)
+    rows, stated = list[Row](), list[Stated]()
+    for number, year in enumerate(years, 1):
+        name = page_of(year.path)
+        split.put(pages.page(f"{pages.title}: {year.machine}", [(number, year)], above=INDEX), f"{name}.html")
+        split.put(lines := lines_of(split.path, year), f"{name}.days")
+        stated.append(stated_of(year, f"{name}.days", lines))
+        rows.append(row_of(f"{name}.html", year))
+    split.put(pages.page(pages.title, [], rows), INDEX)
+    split.put(json_text(Statements(wanted.year, civil(wanted.at), "", stated)), YEAR)
+    split.end()
     return worst

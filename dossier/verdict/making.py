@@ -51,11 +51,12 @@ def inputs_of(folder: Folder, record: Record | None) -> dict[str, str]:
     return {CLAIM: CLAIM, **{name: captures[name] for name in sorted(captures)}, **others}
 
 
-def sums_of_inputs(folder: Folder, record: Record) -> dict[str, str]:
-    """The SHA-256 of each input, by its name: of one that is packed that of the capture in it. A packed file beside its
-    capture is none, if it holds the same."""
+def sums_of_inputs(folder: Folder, record: Record, taken: dict[str, str]) -> dict[str, str]:
+    """The SHA-256 of each input, by its name: of one that is packed that of the capture in it. Some may have been taken
+    already. A packed file beside its capture is none, if it holds the same."""
     inputs = inputs_of(folder, record)
-    found = {name: folder.sum(file) if file == name else sum_in(folder, file) for name, file in inputs.items()}
+    found = {name: taken.get(name) or (folder.sum(file) if file == name else sum_in(folder, file))
+             for name, file in inputs.items()}
     for file, name in packed_in(folder.names(), record).items():
         if inputs[name] == name and sum_in(folder, file) != found[name]:
             found[file] = folder.sum(file)

@@ -126,6 +126,12 @@ def rows(*found: Any) -> tuple[Any, ...]:
     return found
 
 
+def called(path: object) -> str:
+    """The name of a folder's page without its ending, by docs/DOSSIER.md."""
+    return "".join("+" if byte == 47 else chr(byte) if byte < 128 and chr(byte).isalnum() or byte in b"._-"
+                   else f"={byte:02X}" for byte in os.fsencode(str(path)))
+
+
 def match_of(pattern: str, text: str) -> re.Match[str]:
     """Where a text has this: it has to."""
     found = re.search(pattern, text)

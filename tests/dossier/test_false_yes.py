@@ -9,7 +9,7 @@ from pathlib import Path
 from typing import Any
 
 from tests.support import DATA, check, is_here, run
-from tests.dossier.audits import ENVIRONMENT, SCRIPT, capture_of, check_page, dossier, folder_of, skipped, table
+from tests.dossier.audits import ENVIRONMENT, SCRIPT, called, capture_of, check_page, dossier, folder_of, skipped, table
 from tests.dossier.leaps import leap_list
 from tests.dossier.test_captures import packed_folder, pcapng, records_of
 from tests.dossier.test_evidence import FIRST, MINUTE, key_of
@@ -130,7 +130,7 @@ def test_copied_days(place: Path) -> None:
     out_packed = dossier("verify", one, packed)[1].decode()
     check("copies by verify", lines=([text.count("so one of them is a copy") for text in (out, out_packed)], [2, 1]))
     dossier("page", "--split", place / "pages", *copies, other)
-    split = [(place / "pages" / f"{number:05}.html").read_text() for number in range(1, 5)]
+    split = [(place / "pages" / f"{called(path)}.html").read_text() for path in (*copies, other)]
     check("copies on pages of their own", warned=(["so one of them is a copy" in text for text in split],
                                                   [True, True, True, False]))
 

@@ -23,8 +23,8 @@ from typing import Any
 from unittest.mock import patch
 
 from tests.support import DATA, ROOT, SECONDS, Ran, check, children, is_here, run, wait_until
-from tests.dossier.audits import (ENVIRONMENT, KEEP, PROGRAM, SCRIPT, SEARCH, check_page, dossier, folder_of,
-                                  parts_left, rows, skipped, table, within)
+from tests.dossier.audits import (ENVIRONMENT, KEEP, PROGRAM, SCRIPT, SEARCH, called, check_page, dossier,
+                                  folder_of, parts_left, rows, skipped, table, within)
 from tests.dossier.test_evidence import key_of, why_no_link
 
 limited = functools.partial(dossier, memory=3 << 30)
@@ -792,10 +792,10 @@ def test_second_look(place: Path) -> None:
     with patch.object(page, "run_all", second), patch.dict(os.environ, ENVIRONMENT):
         status = command_line.main(["page", "--state", str(place / "state"), "--split", str(place / "pages"),
                                     "--leap-seconds", ENVIRONMENT["NTPAUDIT_LEAP_SECONDS"], *map(str, folders)])
-    texts = {path.name: path.read_text() for path in sorted((place / "pages").iterdir())}
+    texts = {path.name: path.read_text() for path in sorted((place / "pages").glob("*.html"))}
     check("processes that end at the second look", status=(status, 0), looked=(len(calls), 2),
           copies=({name: text.count("so one of them is a copy") for name, text in texts.items()},
-                  {"00001.html": 2, "00002.html": 2, "00003.html": 2, "index.html": 0}),
+                  {**{f"{called(folder)}.html": 2 for folder in folders}, "index.html": 0}),
           counted=(texts["index.html"].count("3 warnings"), 3))
 
 

@@ -11,7 +11,7 @@ from pathlib import Path
 from typing import Any
 
 from tests.support import DATA, ROOT, check, run
-from tests.dossier.audits import PROGRAM, SEARCH, capture_of, check_page, dossier, folder_of, rows, table
+from tests.dossier.audits import PROGRAM, SEARCH, called, capture_of, check_page, dossier, folder_of, rows, table
 from tests.dossier.leaps import LATER, leap_list
 
 FIRST = 1_000_000_000
@@ -168,33 +168,41 @@ def test_split(place: Path) -> None:
     dossier("audit", *folders)
     dossier("audit", "--days", days)
     made = place / "made" / "pages"
+    names = [f"{called(folder)}.html" for folder in (*folders, days)]
     check("page --split", run=(dossier("page", "--split", made, *folders, days), (0, b"", b"")),
           files=(sorted(path.name for path in made.iterdir()),
-                 [f"{number:05}.html" for number in (1, 2, 3, 4)] + ["index.html"]))
+                 sorted([*names, "index.html", "pages.sums"])))
+    listed = run(["sha256sum", "-c", "--quiet", "pages.sums"], cwd=made)
+    check("the sums of pages", run=(listed, (0, b"", b"")))
     index = (made / "index.html").read_text()
-    check_page("the page of the table", index, ["00002.html", "00004.html", "00004.html", "00003.html", "00001.html"])
+    check_page("the page of the table", index, [names[number] for number in (1, 3, 3, 2, 0)])
     check("the page of the table alone", articles=(index.count("<article"), 0),
           badges=([index.count(f'class="verdict {kind}"') for kind in ("yes", "refuted", "no-evidence", "refused")],
                   [2, 3, 2, 2]), brief=(bool(re.search(r">\d warnings?<", index)), True))
     many = dossier("page", *folders, *(place / f"none {number}" for number in range(20)))[1].decode()
     check_page("a page of many lines", many, scripts=[SEARCH])
     whole = dossier("page", *folders, days)[1].decode()
-    for number, articles in ((1, 1), (2, 1), (3, 1), (4, 2)):
-        text = (made / f"{number:05}.html").read_text()
+    for number, articles in ((0, 1), (1, 1), (2, 1), (3, 2)):
+        text = (made / names[number]).read_text()
         check_page(f"the page of folder {number}", text, ["index.html"])
         own = re.findall(r"<article.*?</article>", text, flags=re.S)
         check(f"the page of folder {number} has what the one page has", count=(len(own), articles),
               same=(all(article in whole for article in own), True))
     check("page --split again", run=(dossier("page", "--split", made, folders[0])[0], 0),
-          articles=((made / "00001.html").read_text().count("<article"), 1))
+          articles=((made / names[0]).read_text().count("<article"), 1),
+          files=(sorted(path.name for path in made.iterdir()), sorted([names[0], "index.html", "pages.sums"])))
+    (made / names[1]).write_text("mine")
+    (made / "pages.sums").write_text(f"{'0' * 64}  {names[1]}\n{'0' * 64}  ../{place.name}\n")
+    dossier("page", "--split", made, folders[0])
+    check("page --split beside what it didn't leave", kept=((made / names[1]).read_text(), "mine"))
     victim = place / "victim"
     victim.write_text("victim")
-    for name, make in rows(("index.html", lambda path: path.symlink_to(victim)), ("00001.html", os.mkfifo)):
+    for name, make in rows(("index.html", lambda path: path.symlink_to(victim)), (names[0], os.mkfifo)):
         (made / name).unlink()
         make(made / name)
     check("page --split over a link and a FIFO", run=(dossier("page", "--split", made, folders[0])[0], 0),
           victim=(victim.read_text(), "victim"),
-          files=([(made / name).is_file() and not (made / name).is_symlink() for name in ("index.html", "00001.html")],
+          files=([(made / name).is_file() and not (made / name).is_symlink() for name in ("index.html", names[0])],
                  [True] * 2), left=([path.name for path in made.iterdir() if path.name.startswith(".")], []))
     check("page --split and --output", status=(dossier("page", "--split", made, "-o", place / "x", folders[0])[0], 5),
           json=(dossier("page", "--split", made, "--json", folders[0])[0], 5))

@@ -12,7 +12,8 @@ from pathlib import Path
 from typing import Any
 
 from tests.support import check, is_here, run, sum_of
-from tests.dossier.audits import ENVIRONMENT, capture_of, check_page, dossier
+from tests.dossier.audits import ENVIRONMENT, called, capture_of, check_page, dossier
+from tests.dossier.test_daily import name_by_hand
 from tests.dossier.test_evidence import key_of
 from tests.dossier.test_verdicts import CLAIM
 
@@ -21,8 +22,8 @@ DAY, FIRST = 86_400, 999_993_600
 RIGHT, WIDE = "-1000..1000", "-8589934..8589934"
 """Ends in ticks: a sample that shows the bound, and one that doesn't."""
 COUNTED = {"2001-09-09": "yes", "2001-09-10": "yes", "2001-09-11": "refuted", "2001-09-12": "not verified",
-           "2001-09-13": "no evidence"}
-"""What the machine's days are. The other 360 of the year are missing."""
+           "2001-09-13": "no evidence", "2001-09-14": "not counted"}
+"""What the machine's days are. The other 359 of the year are missing."""
 
 
 def day(machine: Path, number: int, ends: str, name: str = "", servers: int = 4, **changes: object) -> Path:
@@ -61,8 +62,8 @@ def test_year(place: Path) -> None:
     own = machine_of(place)
     status, _, err = dossier("year", "--year", "2001", "--split", place / "pages", place / "fleet" / "web 1")
     check("year", run=((status, err), (0, b"")))
-    text = (place / "pages" / "00001.html").read_text()
-    names = [*COUNTED, "2001-09-14"]
+    text = (place / "pages" / f"{called(own)}.html").read_text()
+    names = list(COUNTED)
     cells = re.findall(r'<(?:a|span) class="d ([a-z-]+)[^"]*"[^>]*title="(\S+): ([a-z ]+)', text)
     check("the cells of a year", number=(len(cells), 365),
           named=({date: words.strip() for _, date, words in cells if words.strip() != "missing"}, COUNTED),
@@ -80,20 +81,23 @@ def test_year(place: Path) -> None:
     (place / "table" / "2001").touch()
     check("a calendar that can't be written",
           run=(dossier("page", "--split", place / "table", *sorted(own.iterdir()))[::2],
-               (4, b"ntpaudit-dossier: 00001.html can't be written (Not a directory)\n")))
+               (4, f"ntpaudit-dossier: {called(own)}.html can't be written (Not a directory)\n".encode())))
     words = text.partition('class="statement">')[2].partition("</p>")[0]
     for said in ("The clock of 192.0.2.10", "within 1 ms of UTC", "From 2001-01-01 to 2001-12-31 this is shown on 2 of "
-                 "365 days", "Not shown: 1 refuted, 1 no evidence, 1 not verified, 360 missing", "no more than 1 group "
+                 "365 days", "Not shown: 1 refuted, 1 no evidence, 1 not verified, 1 not counted, 359 missing", "no more than 1 group "
                  "was wrong", "no request left more than 0 ms before its record",
                  "no reply arrived more than that after its own",
                  "The longest time without a day that is shown is 251 days from 2001-01-01 on"):
         check(f"the statement: {said[:40]}", there=(said in words, True))
     check_page("the page of a machine's year", text, re.findall(r'href="([^"#]+)"', text))
     index = (place / "pages" / "index.html").read_text()
-    check_page("the page of a year", index, ["00001.html"] * 2)
+    check_page("the page of a year", index, [f"{called(own)}.html"] * 2)
     check("the sums of a year", line=(["2 of 365" in index, "251 from 2001-01-01" in index], [True, True]))
-    sums = run(["sha256sum", "-c", "00001.sums"], cwd=place / "pages")
-    check("the sums of its days", run=(sums[0], 0), lines=(len(sums[1].splitlines()), 5))
+    lines = [line.split(" ", 2) for line in (place / "pages" / f"{called(own)}.days").read_text().splitlines()]
+    check("the names of its days", number=(len(lines), 6), paths=({path for _, _, path in lines} <= {
+        f"../fleet/web 1/{name}" for name in [*names, "2001-09-16"]}, True), by=([by for _, by, _ in lines],
+                                                                                ["verified"] * 3 + ["-", "verified", "verified"]),
+          by_hand=(lines[2][0], name_by_hand(own / "2001-09-11", "refutation.json report.txt envelope.txt")))
     maybe = place / "second"
     maybe.write_text("#!/bin/sh\necho verdict maybe\n")
     maybe.chmod(0o755)
@@ -189,10 +193,10 @@ def test_signed_year(place: Path) -> None:
     check("a statement that was changed", status=(status, 1), told=(b"the signature doesn't fit" in out
                                                                     and b"doesn't follow from its days" in out, True))
     year = json.loads(text)
-    (machine,), sums = year["machines"], (pages / "00001.sums").read_text()
-    odd, more = sums.replace("2001-09-09", "day"), "web 2) was right on each day. And that of ("
-    many = "".join(f"{sums[:64]}  ../fleet/web 1/{1000 + number}-01-01/audit.json\n" for number in range(5000))
-    long = f"{sums[:64]}  ../fleet/web 1{'/x' * 2048}/2001-09-09/audit.json\n"
+    (machine,), sums = year["machines"], (days := pages / f"{called(own)}.days").read_text()
+    odd, more = sums.replace(" verified ", "  "), "web 2) was right on each day. And that of ("
+    many = "".join(f"{sums[:64]} verified ../fleet/web 1/{1000 + number}-01-01\n" for number in range(5000))
+    long = f"{sums[:64]} verified ../fleet/web 1{'/x' * 2048}/2001-09-09\n"
     for name, machines, rows, words in (
             ("one machine's days as those of two", [machine, {**machine, "machine": "web 2"}], sums, "there twice"),
             ("another machine's name", [{**machine, "machine": "web 2",
@@ -205,17 +209,17 @@ def test_signed_year(place: Path) -> None:
              "which has another name"),
             ("a long path", [{**machine, "sha256": sum_of(long.encode())}], long, "more than 4,096 characters"),
             ("more days shown than are", [{**machine, "shown": 9}], sums, "doesn't follow from its days"),
-            ("a folder that is no day", [{**machine, "sha256": sum_of(odd.encode())}], odd, "other files than audits"),
-            ("days that aren't there", [{**machine, "sha256": sum_of(many.encode())}], many, "a day isn't the one")):
+            ("lines that name nobody", [{**machine, "sha256": sum_of(odd.encode())}], odd, "a file of days isn't one"),
+            ("days that aren't there", [{**machine, "sha256": sum_of(many.encode())}], many, "isn't the day that")):
         (pages / "year.json").write_text(json.dumps({**year, "machines": machines}))
-        (pages / "00001.sums").write_text(rows)
+        days.write_text(rows)
         status, out, _ = dossier("verify", *named)
         lines = out.decode().splitlines()
         check(f"a year with {name}", status=(status, lambda status: status in (1, 4)), few=(len(lines) < 20, True),
               told=(any(words in line for line in lines), True), yes=(any("verified: its" in line for line in lines),
                                                                       False))
     (pages / "year.json").write_text(text)
-    (pages / "00001.sums").write_text(sums)
+    days.write_text(sums)
     with open(own / "2001-09-10" / "f.pcap", "ab") as opened:
         opened.write(b"\0")
     status, out, _ = dossier("verify", *named)
@@ -223,7 +227,13 @@ def test_signed_year(place: Path) -> None:
     record = own / "2001-09-10" / "audit.json"
     record.write_text(record.read_text().replace('"samples": 576', '"samples": 577'))
     status, out, _ = dossier("verify", *named)
-    check("an audit that was changed", told=(b"a day isn't the one that 00001.sums names" in out, True))
+    check("an audit that was changed", told=(f"{record.parent} is verified by {days.name}, and here not verified"
+                                             in out.decode(), True))
+    record.write_text(record.read_text().replace('"report.txt": "', '"report.txt": "0').replace("0" * 64, "0"))
+    text = record.read_text()
+    record.write_text(text[:(at := text.index('"report.txt": "') + 15)] + text[at:at + 63] + text[at + 64:])
+    status, out, _ = dossier("verify", *named)
+    check("a sum that was changed", told=(f"{record.parent} isn't the day that {days.name} names" in out.decode(), True))
 
 
 def test_copied_years(place: Path) -> None:
@@ -243,7 +253,7 @@ def test_copied_years(place: Path) -> None:
     (other / "audit.json").write_bytes(kept)
     shutil.copytree(known, fleet / "web-\u043c\u043e" / known.name)
     dossier("year", "--year", "2001", "--split", pages, *sorted(fleet.iterdir()))
-    texts = [unescape((pages / f"0000{number}.html").read_text()) for number in (1, 2, 3)]
+    texts = [unescape((pages / f"{called(path)}.html").read_text()) for path in sorted(fleet.iterdir())]
     twins = [re.findall(r"A recording of these days is that of (.*?) too", text) for text in texts]
     check("a day of another machine", named=(twins, [[rf'"{fleet}/web-\u043c\u043e"'], [], [f'"{fleet}/web 1"']]),
           index=((pages / "index.html").read_text().count("has a recording of"), 2))
@@ -295,6 +305,16 @@ def test_midnight(place: Path) -> None:
     check("a day with an audit of its own", run=(dossier("audit", "--days", "--again", folder)[0], 2),
           left=(own.read_bytes(), b""))
     own.unlink()
+    record, own = (folder / "audit.json").read_text(), folder / "2001-09-10" / "claim.json"
+    left = own.read_text()
+    own.write_text(left.replace("60000000", "59999999"))
+    mine = own.read_bytes()
+    for words in (("--days",), ()):
+        status, out, _ = dossier("audit", *words, folder)
+        check(f"a day's claim that a person wrote, and audit {words}", run=((status, own.read_bytes()), (4, mine)),
+              said=("2001-09-10/claim.json is what an audit leaves, and none left this one" in out.decode(), True))
+    own.write_text(left)
+    (folder / "audit.json").write_text(record)
     claims = [entry["claim"] for entry in json.loads((folder / "audit.json").read_text())["entries"]]
     spans = [(own["from"], own["to"]) for own in claims]
     check("days join", ends=([end for _, end in spans[:-1]], [begin for begin, _ in spans[1:]]), number=(len(spans), 3),

@@ -1,0 +1,119 @@
+"""Verified by judging: each input and answer of a folder is held to its sum, and the program judges each answer.
+
+It takes a part of the time that making all again takes. What is only made, and states nothing that could be judged, is
+held to its sum alone: envelopes, least bounds, warnings, and all that pages make of them.
+"""
+from typing import NamedTuple
+
+from ..capture.captures import audited
+from ..fault import REFUSED, Fault
+from ..folder.answers import read_counts
+from ..folder.claim import Claim
+from ..folder.entry import REFUTED, UNSUPPORTED, YES, Entry, LeapList, Record, Refutation
+from ..folder.files import CERTIFICATE, CLAIM, CLAIM_OF_0, JOINED, REFUTATION, REPORT, Folder, own_data, sum_of
+from ..folder.placing import copy_of
+from ..folder.program import Program
+from ..premise.backing import against, backing
+from ..premise.leap import alerts_of, look_up
+from ..records import replace
+from ..schema import read_typed
+from ..verdict.making import Inputs, take_inputs
+from .audit import change_of
+
+ONLY_MADE = "envelopes, least bounds and warnings were held to their sums, not made again"
+ANSWERS = CERTIFICATE, CLAIM_OF_0, REFUTATION, REPORT
+"""What is copied: of the report it is seen that the program says it again."""
+
+
+class Judged(NamedTuple):
+    """The first difference, nothing if there is none; and the capture by which the answers were judged."""
+
+    difference: str
+    capture: str
+
+
+class Other(Exception):
+    """What can't be judged by itself, and has to be made again: another capture than all of them together, days, a
+    refusal, another form."""
+
+
+class Judging:
+    """Judges a folder's answers in the current folder, which is one's own."""
+
+    def __init__(self, folder: Folder, program: Program, leaps: LeapList):
+        self.folder, self.program, self.leaps = folder, program, leaps
+
+    def judged(self, record: Record) -> Judged:
+        if record.refusal or record.options.days or len(record.entries) != 1:
+            raise Other
+        entry, = record.entries
+        taken = take_inputs(self.folder, record)
+        if changed := change_of(self.folder, record, taken.sums):
+            return Judged(changed, "")
+        capture = self.capture_of(record, taken)
+        claim: Claim = read_typed(CLAIM, Claim, own_data(CLAIM))
+        if claim != entry.claim:
+            return Judged(f"the claim of audit.json isn't that of {CLAIM}", capture)
+        for name in ANSWERS:
+            if name in entry.outputs:
+                copy_of(self.folder, name, name)
+        own = self.verdict_of(entry, taken)
+        if own != entry.verdict and entry.answer == YES:
+            return Judged(f"the verdict of audit.json is {entry.verdict}, and by the evidence and the list of leap "
+                          f"seconds {own}", capture)
+        return Judged(self.difference(entry, capture, record), capture)
+
+    def capture_of(self, record: Record, taken: Inputs) -> str:
+        """The capture that was audited: the one input, or all of them joined."""
+        whole = audited(taken.copies)
+        if (JOINED if whole.is_made else next(iter(taken.copies))) != record.capture:
+            raise Other
+        return whole.path
+
+    def verdict_of(self, entry: Entry, taken: Inputs) -> str:
+        """What a yes is by the folder's own evidence, and by one's own list of leap seconds."""
+        claim = entry.claim
+        margin = 1 + claim.bound_ns // 10**9
+        leap = look_up(self.leaps, min(entry.leap.from_, claim.first - margin), max(entry.leap.to, claim.last + margin))
+        speaks = [*alerts_of(leap, self.leaps), *against(backing(self.folder, taken.sums), claim, leap)]
+        return UNSUPPORTED if speaks else YES
+
+    def difference(self, entry: Entry, capture: str, record: Record) -> str:
+        """Has the program judge each answer. The first that it doesn't accept, or of which it says something else."""
+        sums = {**record.inputs, **entry.outputs}
+        of_capture = sums[record.capture]
+        if entry.answer == YES:
+            held = {CLAIM: sums[CLAIM], capture: of_capture, CERTIFICATE: sums.get(CERTIFICATE, "")}
+            text = self.held("check", CLAIM, capture, CERTIFICATE, sums=held)
+            if not text.endswith(b"\nverdict yes\n"):
+                return f"{CERTIFICATE}: the program doesn't accept it"
+            counts = next(line for line in text.decode().split("\n") if line.startswith("records "))
+            if read_counts(counts) != entry.counts:
+                return "the counts of audit.json aren't those of the capture"
+            if own_data(CLAIM_OF_0) != replace(entry.claim, bound_ns=0).text:
+                return f"{CLAIM_OF_0} isn't the claim with the bound 0"
+        elif entry.answer == REFUTED:
+            text = self.program.run("refute", CLAIM, capture, REFUTATION, "--drift").text
+        else:
+            text = self.program.run("settle", CLAIM, capture).text
+        if sum_of(text) != entry.outputs.get(REPORT):
+            return f"{REPORT} isn't what the program says now"
+        if (entry.answer == REFUTED or entry.refutation) and not self.is_refuted(entry, capture):
+            return f"{REFUTATION}: the program doesn't accept it"
+        return ""
+
+    def held(self, *words: str, sums: dict[str, str]) -> bytes:
+        """What the program says of files that it holds to their sums. If the joined capture has another sum, it is made
+        of fewer captures."""
+        try:
+            return self.program.run(*words, sums=sums).text
+        except Fault as found:
+            if found.status == REFUSED and found.line.endswith("sums differ capture") and words[2] == JOINED:
+                raise Other from None
+            raise
+
+    def is_refuted(self, entry: Entry, capture: str) -> bool:
+        claim = CLAIM if entry.answer == REFUTED else CLAIM_OF_0
+        stands: Refutation = read_typed(REFUTATION, Refutation, own_data(REFUTATION))
+        return stands == entry.refutation and \
+            self.program.run("refute", claim, capture, REFUTATION, "--drift").text == b"refuted yes\n"

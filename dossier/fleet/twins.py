@@ -1,0 +1,75 @@
+"""Which folders have a capture in common, so that one of them is a copy, under whatever name.
+
+Days that follow one another have the captures of the hours beside midnight in common: of one client, and without a
+moment in common, two folders aren't copies.
+"""
+from array import array
+from collections.abc import Iterable
+
+from ..folder.claim import Claim
+from ..verdict.sentences import TWICE
+
+FEW, MANY = 4, 2_000_000
+"""Of each folder at least so many captures are looked for again, those with the smallest sums, and of all so many."""
+
+
+class Table:
+    """Numbers by keys of 64 bits, in 12 bytes each."""
+
+    def __init__(self) -> None:
+        self.size, self.used, self.keys, self.numbers = 0, 0, array("Q"), array("I")
+        self.grow()
+
+    def grow(self) -> None:
+        old = zip(self.keys, self.numbers)
+        self.size = 2 * self.size or 1 << 10
+        self.keys, self.numbers, self.used = array("Q", bytes(8 * self.size)), array("I", bytes(4 * self.size)), 0
+        for key, number in old:
+            if number:
+                self.first(key, number - 1)
+
+    def first(self, key: int, number: int) -> int:
+        """The number that came with a key first."""
+        at = key % self.size
+        while self.numbers[at] and self.keys[at] != key:
+            at = (at + 1) % self.size
+        if not self.numbers[at]:
+            self.keys[at], self.numbers[at], self.used = key, number + 1, self.used + 1
+            if 3 * self.used > 2 * self.size:
+                self.grow()
+                return number
+        return self.numbers[at] - 1
+
+
+def few_of(captures: Iterable[str], folders: int) -> list[str]:
+    """The captures that are looked for again, of so many folders."""
+    return sorted(captures)[:max(FEW, MANY // max(1, folders))]
+
+
+class Seen:
+    """The folders that were seen. A few bytes are kept of each capture, however many there are."""
+
+    def __init__(self, folders: int):
+        self.folders, self.table, self.paths = folders, Table(), list[str]()
+        self.clients, self.spans = list[str](), array("q")
+
+    def twins(self, path: str, claims: list[Claim], captures: Iterable[str]) -> list[str]:
+        """What is said of a folder with these claims and captures if others have one of these too."""
+        if not claims:
+            return []
+        number, client = len(self.paths), claims[0].client
+        first, last = min(claim.first for claim in claims), max(claim.last for claim in claims)
+        self.paths.append(path)
+        self.clients.append(client)
+        self.spans.extend((first, last))
+        others = {self.table.first(int(sum_[:16], 16), number) for sum_ in few_of(captures, self.folders)}
+        return [f"{TWICE} {self.paths[other]}" for other in sorted(others - {number})
+                if not are_neighbours((client, first, last), self.span_of(other))]
+
+    def span_of(self, number: int) -> tuple[str, int, int]:
+        return self.clients[number], self.spans[2 * number], self.spans[2 * number + 1]
+
+
+def are_neighbours(one: tuple[str, int, int], other: tuple[str, int, int]) -> bool:
+    """Whether two spans, each behind its client, are of one client and have no stretch in common."""
+    return one[0] == other[0] and (one[2] <= other[1] or other[2] <= one[1])
