@@ -84,8 +84,8 @@ def test_year(place: Path) -> None:
                (4, f"ntpaudit-dossier: {called(own)}.html can't be written (Not a directory)\n".encode())))
     words = text.partition('class="statement">')[2].partition("</p>")[0]
     for said in ("The clock of 192.0.2.10", "within 1 ms of UTC", "From 2001-01-01 to 2001-12-31 this is shown on 2 of "
-                 "365 days", "Not shown: 1 refuted, 1 no evidence, 1 not verified, 1 not counted, 359 missing", "no more than 1 group "
-                 "was wrong", "no request left more than 0 ms before its record",
+                 "365 days", "Not shown: 1 refuted, 1 no evidence, 1 not verified, 1 not counted, 359 missing", "no more than 1 "
+                 "group was wrong", "no request left more than 0 ms before its record",
                  "no reply arrived more than that after its own",
                  "The longest time without a day that is shown is 251 days from 2001-01-01 on"):
         check(f"the statement: {said[:40]}", there=(said in words, True))
@@ -94,9 +94,9 @@ def test_year(place: Path) -> None:
     check_page("the page of a year", index, [f"{called(own)}.html"] * 2)
     check("the sums of a year", line=(["2 of 365" in index, "251 from 2001-01-01" in index], [True, True]))
     lines = [line.split(" ", 2) for line in (place / "pages" / f"{called(own)}.days").read_text().splitlines()]
-    check("the names of its days", number=(len(lines), 6), paths=({path for _, _, path in lines} <= {
-        f"../fleet/web 1/{name}" for name in [*names, "2001-09-16"]}, True), by=([by for _, by, _ in lines],
-                                                                                ["verified"] * 3 + ["-", "verified", "verified"]),
+    paths = {f"../fleet/web 1/{name}" for name in [*names, "2001-09-16"]}
+    check("the names of its days", number=(len(lines), 6), paths=({path for _, _, path in lines} <= paths, True),
+          by=([by for _, by, _ in lines], [*["verified"] * 3, "-", "verified", "verified"]),
           by_hand=(lines[2][0], name_by_hand(own / "2001-09-11", "refutation.json report.txt envelope.txt")))
     maybe = place / "second"
     maybe.write_text("#!/bin/sh\necho verdict maybe\n")
@@ -233,7 +233,8 @@ def test_signed_year(place: Path) -> None:
     text = record.read_text()
     record.write_text(text[:(at := text.index('"report.txt": "') + 15)] + text[at:at + 63] + text[at + 64:])
     status, out, _ = dossier("verify", *named)
-    check("a sum that was changed", told=(f"{record.parent} isn't the day that {days.name} names" in out.decode(), True))
+    check("a sum that was changed",
+          told=(f"{record.parent} isn't the day that {days.name} names" in out.decode(), True))
 
 
 def test_copied_years(place: Path) -> None:
