@@ -84,8 +84,8 @@ def test_year(place: Path) -> None:
                (4, f"ntpaudit-dossier: {called(own)}.html can't be written (Not a directory)\n".encode())))
     words = text.partition('class="statement">')[2].partition("</p>")[0]
     for said in ("The clock of 192.0.2.10", "within 1 ms of UTC", "From 2001-01-01 to 2001-12-31 this is shown on 2 of "
-                 "365 days", "Not shown: 1 refuted, 1 no evidence, 1 not verified, 1 not counted, 359 missing", "no more than 1 "
-                 "group was wrong", "no request left more than 0 ms before its record",
+                 "365 days", "Not shown: 1 refuted, 1 no evidence, 1 not verified, 1 not counted, 359 missing",
+                 "no more than 1 group was wrong", "no request left more than 0 ms before its record",
                  "no reply arrived more than that after its own",
                  "The longest time without a day that is shown is 251 days from 2001-01-01 on"):
         check(f"the statement: {said[:40]}", there=(said in words, True))
