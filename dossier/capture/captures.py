@@ -4,17 +4,18 @@ takes. The copies are private ones in the current folder, and what was recorded 
 import re
 import zlib
 from collections.abc import Callable, Iterator
+from contextlib import suppress
 from functools import partial
 from hashlib import sha256
 from itertools import islice
 from typing import NamedTuple
 
-from ..fault import fault
+from ..fault import Fault, fault
 from ..folder.claim import Claim, Part
 from ..folder.entry import Alert
-from ..folder.files import BLOCK, JOINED, MOST_OF_A_CAPTURE, mapped, own, size_of, sum_of_file, too_big
+from ..folder.files import BLOCK, JOINED, MOST_OF_A_CAPTURE, mapped, own, size_of, sum_of, sum_of_file, too_big
 from ..folder.jobs import find_tool, stream
-from ..folder.placing import Copy, cut_off, move
+from ..folder.placing import Copy, cut_off, keep, move
 from ..folder.program import Program
 from ..units import SECOND
 from . import classic, pcapng
@@ -25,6 +26,9 @@ MARGIN = 3600
 """Seconds beside a span whose records speak about it too."""
 MANY = 1_000_000
 """Records that are listed at once."""
+MOST_AT_ONCE = 1 << 26
+"""Bytes of a capture that is unpacked with others by one call."""
+NO_ZSTD = "is packed by zstd, which isn't installed to unpack it"
 PART, THINNED, CUT = "part.pcap", "thinned.pcap", "cut.pcap"
 
 
@@ -135,6 +139,39 @@ def sum_of_unpacked(name: str, copy: str) -> str:
     return found.hexdigest() if is_packed(copy) else sum_of_file(copy)
 
 
+def unpacked_at_once(copies: dict[str, str]) -> dict[str, str]:
+    """Unpacks copies, each into the file that is named, by one call of zstd: a call for each of a day's hours takes
+    longer than the hour. Their SHA-256; nothing if they aren't as large as they say of themselves, or don't say it."""
+    sizes = [size_said(copy) for copy in copies]
+    if not sizes or 0 in sizes or max(sizes) > MOST_AT_ONCE or sum(sizes) > MOST_OF_A_CAPTURE:
+        return {}
+    found, left = dict[str, str](), bytearray()
+
+    def take(block: bytes) -> None:
+        left.extend(block)
+        while len(found) < len(sizes) and len(left) >= sizes[len(found)]:
+            path, size = list(copies.values())[len(found)], sizes[len(found)]
+            keep(path, whole := bytes(left[:size]))
+            found[path] = sum_of(whole)
+            del left[:size]
+        if len(left) > max(sizes):
+            raise fault("packed files hold more than they say")
+    with suppress(Fault):
+        status, _ = stream([find_tool("zstd", NO_ZSTD), "-dcq", "--", *copies], take)
+        return found if not status and not left else {}
+    return {}
+
+
+def size_said(copy: str) -> int:
+    """How large a file is that zstd packed, by its own word (RFC 8878, section 3.1.1.1); 0 if it doesn't say it."""
+    with own(copy) as opened:
+        head = opened.read(18)
+    kind = head[4] if len(head) == 18 and head[:4] == ZSTD else 0
+    at = 5 + (not kind & 32) + (0, 1, 2, 4)[kind & 3]
+    width = (kind >> 5 & 1, 2, 4, 8)[kind >> 6]
+    return int.from_bytes(head[at:at + width], "little") + (256 if width == 2 else 0)
+
+
 def is_packed(copy: str) -> bool:
     return begins(copy, GZIP) or begins(copy, ZSTD)
 
@@ -169,7 +206,7 @@ def gunzip(name: str, copy: str, take: Callable[[bytes], None]) -> bool:
 
 
 def unzstd(name: str, copy: str, take: Callable[[bytes], None]) -> bool:
-    tool = find_tool("zstd", f"{name} is packed by zstd, which isn't installed to unpack it")
+    tool = find_tool("zstd", f"{name} {NO_ZSTD}")
     status, error = stream([tool, "-dcq", "--", copy], take)
     if status:
         said = error.decode("utf-8", "replace").splitlines() or [f"status {status}"]

@@ -26,7 +26,6 @@ IN_A_SENTENCE, OUT_OF_QUOTES = re.compile("[A-Za-z0-9_./@+-]+"), re.compile(r"[^
 """A name that stands in a sentence as it is; and what is spelled out of any other."""
 
 TWINS, ALIKE = "A recording of these days is that of", "days of the same client, on the same dates"
-OF_SIGNED = "nobody made them again where this was put together"
 VERIFIED, NOBODY, NOTHING = "verified", "-", "0" * 64
 """Who answers for a day that was made or verified where a year was put together, and for one that is known nowhere; and
 the name of one that has no audit."""
@@ -52,7 +51,8 @@ def statement(year: Year) -> str:
     said += [f"The longest time without a day that is shown is {count(length_, 'day')} from {first} on."] \
         if length_ else []
     said += figures_of(year)
-    said += [f"{count(number, 'day')} {'is' if number == 1 else 'are'} signed by {in_quotes(signer)}, and {OF_SIGNED}."
+    said += [f"{count(number, 'day')} {'is' if number == 1 else 'are'} signed by {in_quotes(signer)}, and nobody made "
+             f"{'it' if number == 1 else 'them'} again where this was put together."
              for signer, number in year.signers.items()]
     twins, alike = (listed([in_quotes(machine) for machine in machines]) for machines in (year.twins, year.alike))
     said += [f"{TWINS} {twins} too, so one of them is a copy."] if twins else []

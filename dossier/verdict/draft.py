@@ -207,6 +207,8 @@ class Draft:
                     "Whether no more were is for a person to say.")
         self.remark("groups: servers of one operator, or on one reference clock, belong together.",
                     "A capture shows only what they name as their reference.")
+        numbers = ", ".join(f"{number} is {server}" for number, server in enumerate(claim.servers))
+        self.remark(f"In `groups` {numbers}.")
 
 
 def counted(counts: dict[str, int]) -> str:

@@ -8,7 +8,7 @@ import time
 from collections.abc import Collection
 
 from .. import VERSION
-from ..capture.captures import cut, sum_of_unpacked, thinned, unpacked
+from ..capture.captures import cut, sum_of_unpacked, thinned, unpacked, unpacked_at_once
 from ..capture.twice import once
 from ..fault import DEVICE, Fault, fault
 from ..folder.claim import Claim, parts_of
@@ -93,16 +93,21 @@ class Inputs:
 def take_inputs(folder: Folder, record: Record | None) -> Inputs:
     """Copies claim and captures into the current folder, under names of one's own, and takes all sums. What an earlier
     audit names and has been packed since is unpacked."""
-    taken = Inputs({}, {})
+    taken, packed = Inputs({}, {}), dict[str, str]()
     for name, file in inputs_of(folder, record).items():
         copy = CLAIM if name == CLAIM else f"{len(taken.copies)}.pcap" if is_capture(name) else ""
-        taken.sums[name] = copy_of(folder, file, copy) if copy else folder.sum(file)
         if file != name:
-            path, _ = unpacked(name, copy)
-            move(path, copy)
-            taken.sums[name] = sum_of_file(copy)
+            packed[name] = f"{copy}.zst"
+            copy_of(folder, file, packed[name])
+        else:
+            taken.sums[name] = copy_of(folder, file, copy) if copy else folder.sum(file)
         if is_capture(name):
             taken.copies[name] = copy
+    at_once = unpacked_at_once({copy: taken.copies[name] for name, copy in packed.items()})
+    for name, copy in packed.items():
+        if not at_once:
+            move(unpacked(name, copy)[0], taken.copies[name])
+        taken.sums[name] = at_once.get(taken.copies[name]) or sum_of_file(taken.copies[name])
     return taken
 
 

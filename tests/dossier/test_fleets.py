@@ -1,0 +1,275 @@
+"""Tests of a year that is brought together from machines that sign, and verified in each way: all again, by answers,
+by a sample, and whether it is as it was signed.
+"""
+import hashlib
+import json
+import os
+import random
+import re
+import shutil
+from fractions import Fraction
+from math import comb
+from pathlib import Path
+from typing import Any
+
+from tests.support import ROOT, check, is_here
+from tests.dossier.audits import ENVIRONMENT, called, capture_of, dossier
+from tests.dossier.test_evidence import key_of
+from tests.dossier.test_years import DAY, FIRST, RIGHT, WIDE, day
+
+CHANGES = int(os.environ.get("CHANGES", 120))
+"""How many random bytes of a signed year are changed; 5,000 by hand."""
+
+
+def machine(place: Path, name: str, number: int = 2, ends: str = RIGHT, **changes: Any) -> Path:
+    """A machine with days from 2001-09-09 on, the last of which isn't shown."""
+    for k in range(number):
+        day(place / name, k, ends if k < number - 1 else WIDE, **changes)
+    return place / name
+
+
+def days_of(*machines: Path) -> list[Path]:
+    return sorted(path for one in machines for path in one.iterdir())
+
+
+def signed_fleet(place: Path) -> tuple[Path, list[Path], dict[str, Any]]:
+    """Two machines that audited and signed their days by keys of their own; and what knows nothing of them."""
+    fleet, allowed = place / "fleet", ""
+    for number, name in enumerate(("web-1", "web-2")):
+        own = {**ENVIRONMENT, "XDG_STATE_HOME": str(place / f"state {name}")}
+        days = days_of(machine(fleet, name, client=f"192.0.2.{10 + number}") if not number else
+                       machine(fleet, name, 3))
+        key, line = key_of(place, name)
+        dossier("audit", *days, env=own)
+        dossier("sign", "--key", key, *days, env=own)
+        allowed += line.replace(f"{name}@example.org", name)
+    signers = place / "signers"
+    signers.write_text(allowed + key_of(place, "ann")[1])
+    return signers, [fleet / "web-1", fleet / "web-2"], {**ENVIRONMENT, "XDG_STATE_HOME": str(place / "here")}
+
+
+def test_signed_days(place: Path) -> None:
+    """A day that its machine signed counts, apart from those that are verified here, and no other's key does."""
+    if not is_here("ssh-keygen", "a fleet that signs"):
+        return
+    signers, (one, two), here = signed_fleet(place)
+    asked = ["year", "--year", "2001", "--split", place / "pages"]
+    dossier(*asked, one, two, env=here)
+    index = (place / "pages" / "index.html").read_text()
+    check("a fleet without its signers", shown=(index.count(">0 of 365"), 2))
+    dossier("verify", one / "2001-09-09", env=here)
+    dossier(*asked, "--signers", signers, one, two, env=here)
+    index, page = ((place / "pages" / f"{name}.html").read_text() for name in ("index", called(one)))
+    words = page.partition('class="statement">')[2].partition("</p>")[0]
+    text = " ".join(re.sub("<.*?>", " ", index).split())
+    check("a fleet by its signers", shown=([index.count(f">{k} of 365") for k in (1, 2)], [1, 1]),
+          counts=(("1 signed by web-1" in index, "3 signed by web-2" in index), (True, True)),
+          totals=("3 are shown: 1 made or verified here, and 2 by the signature of their machine alone" in text, True),
+          cells=(re.findall(r'title="2001-09-(09|10): [a-z]+(?:, least bound \S+ ms)?(, signed by web-1)?"', page),
+                 [("09", ""), ("10", ", signed by web-1")]),
+          statement=("1 day is signed by web-1, and nobody made it again where this was put together" in words, True))
+    lines = (place / "pages" / f"{called(two)}.days").read_text().splitlines()
+    check("who answers for days", by=([line.split(" ")[1] for line in lines], ["web-2"] * 3))
+    shutil.copytree(two / "2001-09-11", one / "2001-09-11")
+    dossier(*asked, "--signers", signers, one, env=here)
+    text = (place / "pages" / f"{called(one)}.html").read_text()
+    check("a day that another machine signed", cell=('title="2001-09-11: not' in text, True))
+    shutil.rmtree(one / "2001-09-11")
+    check("pages of the machines that aren't named are gone", names=(
+        {path.name for path in (place / "pages").iterdir()},
+        {"index.html", "year.json", "pages.sums", f"{called(one)}.html", f"{called(one)}.days"}))
+    dossier(*asked, "--signers", signers, one, two, env=here)
+    key = place / "ann"
+    signing = ["sign", "--key", key]
+    check("a year with days of others, signed", without=(dossier(*signing, place / "pages", env=here)[0], 1),
+          with_=(dossier(*signing, "--signers", signers, place / "pages", env=here)[0], 0))
+    again = dossier(*asked, one, env=here)
+    check("what is signed isn't replaced", run=((again[0], b"is signed, so nothing is replaced" in again[2]), (5, True)))
+    words_ = ["verify", "--signers", signers, "--as-signed"]
+    named = [place / "pages", place / "fleet"]
+    status, out, _ = dossier(*words_, *named, env={**here, "XDG_STATE_HOME": str(place / "auditor")})
+    last = out.decode().splitlines()[-1]
+    check("as it was signed", status=(status, 0), last=(last.partition(";")[0], "all is as it was signed"),
+          bad=([f"{one} 2001-09-10 refuted" in last, f"{two} 2001-09-11 refuted" in last,
+                f"{two} 2001-09-12 .. 2001-12-31 missing" in last], [True] * 3))
+    with open(two / "2001-09-10" / "report.txt", "ab") as opened:
+        opened.write(b"\n")
+    status, out, _ = dossier(*words_, *named, env=here)
+    last = out.decode().splitlines()[-1]
+    check("not as it was signed", status=(status, 1),
+          last=(last.startswith(f"not as it was signed: {two}/2001-09-10"), True), bad=("refuted" in last, True))
+    check("as signed by whom?", status=(dossier("verify", "--as-signed", one, env=here)[0], 5))
+
+
+def test_sample(place: Path) -> None:
+    """The days that are drawn are those of the published rule, and a bad one among them is seen."""
+    own = machine(place / "fleet", "web-1", 8)
+    dossier("audit", *days_of(own))
+    dossier("year", "--year", "2001", "--split", place / "pages", own)
+    lines = [line.split(" ", 2) for line in (place / "pages" / f"{called(own)}.days").read_text().splitlines()]
+    for seed in ("4 1 6 6", "x"):
+        by_rule = sorted(lines, key=lambda line: hashlib.sha256(f"{seed} {line[0]}".encode()).hexdigest())[:3]
+        status, out, _ = dossier("verify", "--sample", 3, "--seed", seed, place / "pages", place / "fleet")
+        seen = re.findall(r"(\S+): verified: ", out.decode())
+        days = [{Path(path).name for path in paths} for paths in (seen, [path for _, _, path in by_rule])]
+        check(f"drawn by {seed}", days=(days[0], days[1]), said=(
+            "3 of 8 days were drawn and made again: had 1 % of all been bad (1), one would have been drawn with 37.5 %"
+            in out.decode(), True))
+    drawn = own / Path(by_rule[0][2]).name
+    (drawn / "report.txt").write_text("")
+    status, out, _ = dossier("verify", "--sample", 3, "--seed", "x", place / "pages", place / "fleet")
+    check("a bad day that was drawn", status=(status, 1),
+          said=(f"{drawn}: report.txt was changed" in out.decode(), True))
+    for option, value in (("--sample", "3"), ("--seed", "x")):
+        check(f"verify {option} alone", status=(dossier("verify", option, value, own)[0], 5))
+    from dossier.fleet.verify import likelihood
+    for number, all_, bad in ((300, 18_250, 182), (3, 8, 1), (8, 8, 1), (1, 8, 8), (0, 8, 3), (300, 365_000, 3_650)):
+        missed = Fraction(comb(all_ - bad, number), comb(all_, number))
+        check(f"{number} of {all_}", seen=(abs(likelihood(number, all_, bad) - float(1 - missed)) < 1e-9, True))
+
+
+def test_answers(place: Path) -> None:
+    """Each answer is held to its sum and judged by the program; what is forged beside right sums is seen."""
+    own = machine(place / "fleet", "web-1", 3)
+    other = day(place / "fleet" / "web-1", 3, RIGHT, servers=1)
+    dossier("audit", *days_of(own))
+    log, wrapper = place / "log", place / "program"
+    wrapper.write_text(f'#!/bin/sh\necho "$@" >> {log}\nexec {ROOT / ENVIRONMENT["NTPAUDIT"]} "$@"\n')
+    wrapper.chmod(0o755)
+    status, out, _ = dossier("verify", "--answers", *days_of(own), env={**ENVIRONMENT, "NTPAUDIT": str(wrapper)})
+    calls = [line.split()[0] + " --sums" * ("--sums" in line) + " --drift" * ("--drift" in line)
+             for line in log.read_text().splitlines()]
+    check("days by their answers", status=(status, 1),
+          lines=([line.partition(": ")[2] for line in out.decode().splitlines()],
+                 ["judged: yes", "judged: yes", "judged: refuted", "judged: no evidence", ""]),
+          told=("envelopes, least bounds and warnings were held to their sums, not made again" in out.decode(), True),
+          calls=(calls[1:], [*["check --sums", "refute --drift"] * 2, "refute --drift", "refute --drift", "settle"]))
+    second = dossier("verify", "--answers", "--second", *days_of(own))[1].decode()
+    check("days by their answers and two programs", judged=(second.count("(judged by two programs)"), 4))
+    first = own / "2001-09-09"
+    files = {path.name: path.read_bytes() for path in first.iterdir()}
+    record = json.loads(files["audit.json"])
+
+    def forged(name: str, data: bytes, **changes: object) -> str:
+        """What is said where a file, its sum, and some of the entry are others."""
+        entry = record["entries"][0]
+        outputs = {**entry["outputs"], **({name: hashlib.sha256(data).hexdigest()} if name in entry["outputs"] else {})}
+        inputs = {**record["inputs"], **({name: hashlib.sha256(data).hexdigest()} if name in record["inputs"] else {})}
+        (first / name).write_bytes(data)
+        (first / "audit.json").write_text(json.dumps({
+            **record, "inputs": inputs, "entries": [{**entry, **changes, "outputs": outputs}]}))
+        found = dossier("verify", "--answers", first)
+        for file, kept in files.items():
+            (first / file).write_bytes(kept)
+        return f"{found[0]} {found[1].decode().partition(': ')[2]}"
+    certificate, claim = files["certificate.json"], files["claim.json"]
+    pieces = json.loads(certificate)["pieces"]
+    pieces[0]["entries"] = pieces[0]["entries"][:1]
+    reading = json.loads(files["refutation.json"])
+    for what, said, wanted in (
+            ("a certificate", forged("certificate.json", json.dumps({"pieces": pieces}).encode()), "doesn't accept it"),
+            ("a report", forged("report.txt", files["report.txt"].replace(b"yes", b"yet")), "report.txt isn't what"),
+            ("a refutation", forged("refutation.json", json.dumps({**reading, "error": 0}).encode(), refutation={
+                **reading, "error": 0}), "refutation.json: the program doesn't accept it"),
+            ("another refutation than it says", forged("report.txt", files["report.txt"], refutation={
+                **reading, "error": 1}), "refutation.json: the program doesn't accept it"),
+            ("a claim", forged("claim.json", claim.replace(b"1000000", b"1")), "the claim of audit.json isn't"),
+            ("a claim of 0", forged("bound-0.claim.json", claim), "bound-0.claim.json isn't the claim"),
+            ("a verdict", forged("report.txt", files["report.txt"], verdict="unsupported", reason={"why": "evidence"}),
+             "the verdict of audit.json is unsupported"),
+            ("counts", forged("report.txt", files["report.txt"],
+                              counts={**record["entries"][0]["counts"], "samples": 1}), "counts of audit.json aren't")):
+        check(f"by answers: {what} that was forged", status=(said[0], "1"), said=(wanted in said, True))
+    with open(other / "report.txt", "ab") as opened:
+        opened.write(b"\n")
+    check("by answers: a file that was changed", said=(
+        b"report.txt was changed since the audit" in dossier("verify", "--answers", other)[1], True))
+
+
+def test_changed_bytes(place: Path) -> None:
+    """Each random change of a byte in what is signed of a year is seen by its answers."""
+    if not is_here("ssh-keygen", "a year that is signed") or not is_here("zstd", "a year that is packed"):
+        return
+    own, (key, allowed) = machine(place / "fleet", "web-1", 3), key_of(place, "key")
+    hour = FIRST + 2 * DAY
+    capture_of(own / "2001-09-11" / "g.pcap", *(f"{server}:{WIDE}@{hour + 60 + 600 * k}" for k in range(144)
+                                                for server in (1, 2, 3, 4)))
+    (place / "signers").write_text(allowed)
+    dossier("audit", *days_of(own))
+    dossier("keep", own / "2001-09-10", own / "2001-09-11")
+    dossier("sign", "--key", key, *days_of(own))
+    dossier("year", "--year", "2001", "--split", place / "pages", own)
+    dossier("sign", "--key", key, place / "pages")
+    asked = ["verify", "--answers", "--as-signed", "--signers", place / "signers"]
+    named = [*days_of(own), place / "pages"]
+    check("a signed year", status=(dossier(*asked, *named)[0], 0))
+    files = [path for path in [*own.rglob("*"), place / "pages" / "year.json", *(place / "pages").glob("*.days")]
+             if path.is_file() and path.suffix != ".sig"]
+    drawn, unseen = random.Random(94), list[str]()
+    for _ in range(CHANGES):
+        path = drawn.choice(files)
+        kept = path.read_bytes()
+        at = drawn.randrange(len(kept))
+        path.write_bytes(kept[:at] + bytes([kept[at] ^ drawn.randrange(1, 256)]) + kept[at + 1:])
+        of_day = [path.parent] if path.parent.parent == own else [place / "pages", place / "fleet"]
+        if not dossier(*asked, *of_day)[0]:
+            unseen.append(f"{path.name} at {at}")
+        path.write_bytes(kept)
+    check("bytes that were changed", unseen=(unseen, []))
+    check("the year is as it was", status=(dossier(*asked, *named)[0], 0))
+
+
+def test_figures(place: Path) -> None:
+    """What nothing fits counts for: unknown; and an error that is known is told. What isn't counted is named with its
+    cause, and what stands twice is seen under any name."""
+    own = place / "fleet" / "web-1"
+    day(own, 0, RIGHT)
+    stepped = day(own, 1, RIGHT)
+    ahead, half = round(.3 * 2**32), FIRST + DAY + DAY // 2
+    ends = [(RIGHT if second < half else f"{ahead - 1000}..{ahead + 1000}", second)
+            for second in range(FIRST + DAY, FIRST + 2 * DAY, 600)]
+    capture_of(stepped / "f.pcap", *(f"{server}:{words}@{second}" for words, second in ends for server in (1, 2, 3, 4)))
+    day(own, 2, RIGHT, name="web-1-2001-09-11")
+    day(own, 3, RIGHT, bound_ns=2_000_000)
+    (own / "notes").mkdir()
+    dossier("audit", *(path for path in days_of(own) if path.name != "notes"))
+    shutil.copytree(own / "2001-09-09", own / "again")
+    shutil.copytree(own, place / "fleet" / "copy-1")
+    (place / "fleet" / "copy-1" / "2001-09-09" / "f.pcap").unlink()
+    day(place / "fleet" / "copy-2", 0, "-999..999")
+    dossier("audit", place / "fleet" / "copy-2" / "2001-09-09")
+    dossier("year", "--year", "2001", "--split", place / "pages", *sorted((place / "fleet").iterdir()))
+    index, page = ((place / "pages" / f"{name}.html").read_text() for name in ("index", called(own)))
+    words = page.partition('class="statement">')[2].partition("</p>")[0]
+    row = index[index.index(f'{called(own)}.html"'):]
+    row = " ".join(re.sub("<.*?>", " ", row[:row.index("The year")]).split())
+    off = re.findall(r"off by (\d+\.\d+) ms or more, 2001-09-10", row)
+    check("a machine that was stepped", unknown=("unknown: 2 days" in row, True), shown=("2 of 365" in row, True),
+          off=([299.9 < float(number) <= 300.001 for number in off], [True]),
+          statement=(("No bound is known on 2 more days." in words, "known was at least" in words), (True, True)))
+    others = page[page.index("Not counted"):]
+    check("what isn't counted", notes=("<li>notes: its name is no day, and it has no audit.json</li>" in
+                                       others.replace("&#39;", "'"), True),
+          other=("2001-09-12: another claim or client than most days have" in others, True),
+          twice=("2001-09-09 stands twice, and counts as in" in others, True), number=(others.count("<li>"), 3),
+          cells=(['title="2001-09-11: yes' in page, 'title="2001-09-12: not counted' in page], [True, True]))
+    check("twice under any name", copy=(f"has a recording of {place}/fleet/copy-1" in index, True),
+          client=(f"its client has days of {place}/fleet/copy-1 too" in index, True))
+    check("day numbers", row=(re.findall(r"<span>(\d+)</span>", page[:page.index("Jan")]),
+                              [str(number) for number in range(1, 32)]))
+    status, _, err = dossier("draft", ROOT / "data" / "vlan-ns.pcap")
+    servers = json.loads((ROOT / "data" / "vlan-ns.claim.json").read_text())["servers"]
+    words = "In groups " + ", ".join(f"{number} is {server}" for number, server in enumerate(servers))
+    check("which number in groups is which server", status=(status, 0), said=(f"{words}." in err.decode(), True))
+
+
+def test_neighbours(place: Path) -> None:
+    """Days that follow one another share the hours beside midnight, and none of them is a copy."""
+    own = machine(place, "web-1", 3)
+    for number in range(2):
+        one, other = (own / f"2001-09-{9 + number + k:02}" for k in (0, 1))
+        capture_of(one / f"g{number}.pcap", f"1:{RIGHT}@{FIRST + DAY * (number + 1) - 60}")
+        shutil.copy(one / f"g{number}.pcap", other)
+    dossier("audit", *days_of(own))
+    said = dossier("verify", *days_of(own))[1].decode() + dossier("page", *days_of(own))[1].decode()
+    check("days that follow one another", copies=(said.count("one of them is a copy"), 0))
