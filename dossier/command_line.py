@@ -184,6 +184,8 @@ OPTIONS = [
     Option("verify", "--second", "", "have the second program, ntpaudit-recheck, judge each answer too"),
     Option("verify", "--answers", "",
            "hold each input and answer to its sum, and have the program judge answers, instead of making all again"),
+    Option("verify", "--known", "",
+           "leave it at that if a day was made, verified, or with --answers judged here before"),
     Option("verify", "--sample", (1, 1_000_000),
            "make so many days again, which --seed draws; the others aren't looked at, or with --answers are judged"),
     Option("verify", "--seed", "TEXT", "what the days are drawn by, such as a throw of dice after all was signed"),
@@ -378,7 +380,7 @@ def run_on_folders(given: argparse.Namespace, folders: list[str]) -> int:
         raise fault("--sample and --seed go together: who draws has to name what the days are drawn by", USAGE)
     if given.as_signed and given.signers is None:
         raise fault("--as-signed takes --signers: a signature that nobody looks at says nothing", USAGE)
-    how = How(given.answers, given.sample, given.seed or "", given.as_signed)
+    how = How(given.answers, given.known, given.sample, given.seed or "", given.as_signed)
     return verify_all(folders, verifier, Signers(given.signers), given.limit, how)
 
 

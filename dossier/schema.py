@@ -34,7 +34,7 @@ def within(least: int, most: int) -> Rule:
 
 
 def matching(pattern: str) -> Rule:
-    return Rule(lambda text: re.fullmatch(pattern, text), (("pattern", f"^(?:{pattern})$"),))
+    return Rule(re.compile(pattern).fullmatch, (("pattern", f"^(?:{pattern})$"),))
 
 
 def length(least: int, most: int) -> Rule:

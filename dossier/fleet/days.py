@@ -17,6 +17,7 @@ from ..folder.entry import DISPUTED, NOT_VERIFIED, REFUSED, WORST_FIRST, Entry, 
 from ..folder.files import AUDIT, CLAIM, SIGNATURE, Folder, absolute
 from ..folder.registry import Known
 from ..folder.result import MISSING, MOST_DAYS, NOT_COUNTED, Told, Year
+from ..folder.table import Table
 from ..premise.leap import record_by
 from ..records import replace
 from ..schema import is_time, said, typed
@@ -24,7 +25,7 @@ from ..text import plain
 from ..units import DAY, day_of, seconds_of
 from ..verdict.sentences import reason
 from .signature import GOOD, Signers
-from .twins import Table, few_of
+from .twins import few_of
 
 OTHER = "another claim or client than most days have"
 NO_DAY = "its name is no day, and it has no audit.json"

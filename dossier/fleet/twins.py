@@ -7,38 +7,11 @@ from array import array
 from collections.abc import Iterable
 
 from ..folder.claim import Claim
+from ..folder.table import Table
 from ..verdict.sentences import TWICE
 
 FEW, MANY = 4, 2_000_000
 """Of each folder at least so many captures are looked for again, those with the smallest sums, and of all so many."""
-
-
-class Table:
-    """Numbers by keys of 64 bits, in 12 bytes each."""
-
-    def __init__(self) -> None:
-        self.size, self.used, self.keys, self.numbers = 0, 0, array("Q"), array("I")
-        self.grow()
-
-    def grow(self) -> None:
-        old = zip(self.keys, self.numbers)
-        self.size = 2 * self.size or 1 << 10
-        self.keys, self.numbers, self.used = array("Q", bytes(8 * self.size)), array("I", bytes(4 * self.size)), 0
-        for key, number in old:
-            if number:
-                self.first(key, number - 1)
-
-    def first(self, key: int, number: int) -> int:
-        """The number that came with a key first."""
-        at = key % self.size
-        while self.numbers[at] and self.keys[at] != key:
-            at = (at + 1) % self.size
-        if not self.numbers[at]:
-            self.keys[at], self.numbers[at], self.used = key, number + 1, self.used + 1
-            if 3 * self.used > 2 * self.size:
-                self.grow()
-                return number
-        return self.numbers[at] - 1
 
 
 def few_of(captures: Iterable[str], folders: int) -> list[str]:

@@ -53,10 +53,11 @@ class Verified(NamedTuple):
 
 
 class How(NamedTuple):
-    """How folders are verified: by judging their answers; or so many of them, drawn by a seed, or by both; and whether
-    the status says that all is as it was signed, whatever the verdicts."""
+    """How folders are verified: by judging their answers; or so many of them, drawn by a seed, or by both; whether what
+    was so before is left at that; and whether the status says that all is as it was signed, whatever the verdicts."""
 
     answers: bool = False
+    known: bool = False
     sample: int | None = None
     seed: str = ""
     as_signed: bool = False
@@ -218,7 +219,7 @@ def verify_all(folders: list[str], verifier: Verifier, signers: Signers, seconds
                 raise Fault(refusal.line, refusal.status)
             return Result(lines=["(a year's days are in it)"], is_same=True)
         who = signers if files.absolute(path) in named else Signers(None)
-        return verify(verifier, signers, who, path, named, how.answers and path not in drawn)
+        return verify(verifier, signers, who, path, named, how._replace(answers=how.answers and path not in drawn))
     for path, found in run_all([path for path in plan.every if not is_left(path)], work, seconds):
         if how.answers and found.text and found.is_same:
             verifier.known.believed.add(bytes.fromhex(found.text))
@@ -375,7 +376,17 @@ def is_of_days(path: str) -> bool:
         return not folder.has(files.AUDIT) and not folder.has(files.YEAR)
 
 
-def verify(verifier: Verifier, signers: Signers, who: Signers, path: str, named: set[str], by_answers: bool) -> Result:
+def before(verifier: Verifier, folder: Folder, how: How) -> Verified | None:
+    """What an earlier call made of a folder's audit.json, if that is enough."""
+    record, sum_ = read_record(audit_json(folder)), sum_of(audit_json(folder))
+    if verifier.known.shown(sum_, record):
+        return Verified("", ["that was here before"], record)
+    if how.answers and verifier.known.answers.of(sum_):
+        return Verified("", ["that was here before"], record, is_judged=True)
+    return None
+
+
+def verify(verifier: Verifier, signers: Signers, who: Signers, path: str, named: set[str], how: How) -> Result:
     """What verifying a folder comes to. With a file of those who may sign it, a folder that nobody signed differs
     too."""
     findings: list[str] = []
@@ -394,8 +405,12 @@ def verify(verifier: Verifier, signers: Signers, who: Signers, path: str, named:
                 findings += filter(None, [differs])
                 lines = [*(findings or [year_words(verifier.known)]), *(f"({n})" for n in notes)]
                 return Result(NOT_SHOWN if findings else 0, lines, is_same=not findings, earlier=hidden)
-            difference, others, made, is_judged = verifier.judge(folder) if by_answers else verifier.verify(folder)
+            found = before(verifier, folder, how) if how.known else None
+            difference, others, made, is_judged = \
+                found or (verifier.judge(folder) if how.answers else verifier.verify(folder))
             data = sum_of(audit_json(folder))
+            if is_judged and not difference:
+                verifier.known.add_answers(data, verifier.program.made.sha256, now())
     except Fault as found:
         return Result(found.status, [*findings, found.line, *(f"({note})" for note in notes)])
     findings += [difference] if difference else []

@@ -2,7 +2,7 @@
 which program it was made or verified here, when, and in how many seconds.
 
 Nothing else makes an audit.json more than a stranger's word, and what stands in the line is what is shown. What the
-second program said of answers stands in a file beside it.
+second program said of answers stands in a file beside it, and of which audit.json the answers were judged in another.
 """
 import os
 from contextlib import AbstractContextManager
@@ -13,8 +13,9 @@ from ..records import replace
 from .entry import Made, Record
 from .files import CLAIM, Folder, sum_of
 from .placing import Journal
+from .table import Table
 
-FILE, JUDGED, LOCKS = "audits", "judged", "locks"
+FILE, JUDGED, ANSWERS, LOCKS = "audits", "judged", "answers", "locks"
 
 
 class Judgement(NamedTuple):
@@ -35,22 +36,49 @@ def state_of(given: str | None) -> str:
     return given if given is not None else os.path.join(own, "ntpaudit")
 
 
+class Lines:
+    """The lines of a file that are whole, the last of each sum that one begins with. Where a line begins is kept in 12
+    bytes, however many there are."""
+
+    def __init__(self, text: str):
+        self.text, self.table, self.more, at = text.encode(), Table(), dict[str, str](), 0
+        while (end := self.text.find(b"\n", at)) >= 0:
+            if self.text.count(b" ", at, end) >= 4:
+                self.table.put(key_of(self.text[at:at + 16]), at)
+            at = end + 1
+
+    def of(self, sum_: str) -> str:
+        """The line of a sum; nothing if there is none."""
+        at = self.table.get(key_of(sum_[:16].encode()))
+        line = self.text[at:self.text.find(b"\n", at)].decode("utf-8", "replace") if at is not None else ""
+        return self.more.get(sum_) or (line if line.startswith(f"{sum_} ") else "")
+
+
+def key_of(digits: bytes) -> int:
+    try:
+        return int(digits, 16)
+    except ValueError:
+        return 0
+
+
 class Known:
     """The record, as it stood when this was made, and what was added since."""
 
     def __init__(self, state: str, writes: bool):
         try:
-            self.journal, self.judged = Journal(state, FILE, writes), Journal(state, JUDGED, writes)
+            self.journal, self.judged, self.by_answers = (Journal(state, name, writes)
+                                                          for name in (FILE, JUDGED, ANSWERS))
         except OSError as error:
             why = f"the record of audits in {state} can't be used ({error.strerror})"
             raise fault(f"{why}: --state names another folder", DEVICE) from None
-        self.lines = self.by_sum(self.journal.text)
-        self.judgements = self.by_sum(self.judged.text)
+        self.lines, self.judgements = Lines(self.journal.text), Lines(self.judged.text)
+        self.answers = Lines(self.by_answers.text)
+        self.journal.text = self.judged.text = self.by_answers.text = ""
         self.believed, self.believes = set[bytes](), False
 
     def renew(self) -> None:
         """Takes in what other processes have added."""
-        self.lines, self.judgements = self.by_sum(self.journal.again()), self.by_sum(self.judged.again())
+        self.lines, self.judgements = Lines(self.journal.again()), Lines(self.judged.again())
 
     def alone(self, folder: Folder) -> AbstractContextManager[None]:
         """Waits until no other call that has this record writes in a folder."""
@@ -58,41 +86,44 @@ class Known:
 
     def last_call(self) -> int:
         """The time of the last call that took folders away, in Unix seconds; 0 if there was none."""
-        times = [line.split()[1] for line in self.journal.text.splitlines() if line.startswith("kept ")]
-        return int(times[-1]) if times else 0
+        at = self.lines.text.rfind(b"\nkept ")
+        at = at + 1 if at >= 0 or not self.lines.text.startswith(b"kept ") else 0
+        return int(self.lines.text[at:].split()[1]) if self.lines.text.startswith(b"kept ", at) else 0
 
     def note_call(self, now: int) -> None:
         self.append(self.journal, f"kept {now}")
 
-    def by_sum(self, text: str) -> dict[str, str]:
-        """The lines that are whole."""
-        return {line.partition(" ")[0]: line for line in text.split("\n") if line.count(" ") >= 4}
-
     def shown(self, sum_: str, record: Record) -> Record | None:
         """A record as it was made or verified here, if it was; or as it says of itself, if that is believed in this
         call: of all, or of those that are named by their sums."""
-        if sum_ not in self.lines:
+        if not (line := self.lines.of(sum_)):
             return record if self.believes or bytes.fromhex(sum_) in self.believed else None
-        _, program, made, seconds, version = self.lines[sum_].split(" ", 4)
+        _, program, made, seconds, version = line.split(" ", 4)
         return replace(record, program=Made(version, program), made=made, seconds=float(seconds))
 
     def shown_now(self, sum_: str, record: Record) -> Record | None:
         """The same, by what other calls have added meanwhile too."""
-        if sum_ not in self.lines:
+        if not self.lines.of(sum_):
             self.renew()
         return self.shown(sum_, record)
 
     def add(self, sum_: str, found: Record) -> None:
         """Adds a line: what was found of an audit.json of this sum."""
         line = f"{sum_} {found.program.sha256} {found.made} {found.seconds} {found.program.version}"
-        if sum_ not in self.lines:
+        if not self.lines.of(sum_):
             self.append(self.journal, line)
-            self.lines |= self.by_sum(line)
+            self.lines.more[sum_] = line
+
+    def add_answers(self, sum_: str, program: str, at: str) -> None:
+        """Adds a line: that the answers of an audit.json of this sum were judged, by which program and when."""
+        if not self.answers.of(sum_):
+            self.append(self.by_answers, line := f"{sum_} {program} {at} - -")
+            self.answers.more[sum_] = line
 
     def judgement(self, record: Record) -> Judgement | None:
         """What the second program said last of these answers. A dispute is about whatever is said of the question, so
         that another audit doesn't end it."""
-        line = self.judgements.get(question_of(record))
+        line = self.judgements.of(question_of(record))
         found = Judgement(*line.split(" ", 4)) if line else None
         return found if found and (found.dispute or found.answers == answers_of(record)) else None
 
@@ -105,7 +136,7 @@ class Known:
         """Adds a line: what the second program, of this sum, said of a record."""
         line = f"{question_of(record)} {answers_of(record)} {second} {at} {dispute}"
         self.append(self.judged, line)
-        self.judgements |= self.by_sum(line)
+        self.judgements.more[question_of(record)] = line
 
     def append(self, journal: Journal, line: str) -> None:
         try:

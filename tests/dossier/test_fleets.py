@@ -12,8 +12,8 @@ from math import comb
 from pathlib import Path
 from typing import Any
 
-from tests.support import ROOT, check, is_here
-from tests.dossier.audits import ENVIRONMENT, called, capture_of, dossier
+from tests.support import ROOT, check, is_here, run
+from tests.dossier.audits import ENVIRONMENT, called, capture_of, dossier, match_of
 from tests.dossier.test_evidence import key_of
 from tests.dossier.test_years import DAY, FIRST, RIGHT, WIDE, day
 
@@ -84,7 +84,8 @@ def test_signed_days(place: Path) -> None:
     check("a year with days of others, signed", without=(dossier(*signing, place / "pages", env=here)[0], 1),
           with_=(dossier(*signing, "--signers", signers, place / "pages", env=here)[0], 0))
     again = dossier(*asked, one, env=here)
-    check("what is signed isn't replaced", run=((again[0], b"is signed, so nothing is replaced" in again[2]), (5, True)))
+    check("what is signed isn't replaced", status=(again[0], 5),
+          said=(b"is signed, so nothing is replaced" in again[2], True))
     words_ = ["verify", "--signers", signers, "--as-signed"]
     named = [place / "pages", place / "fleet"]
     status, out, _ = dossier(*words_, *named, env={**here, "XDG_STATE_HOME": str(place / "auditor")})
@@ -261,6 +262,33 @@ def test_figures(place: Path) -> None:
     servers = json.loads((ROOT / "data" / "vlan-ns.claim.json").read_text())["servers"]
     words = "In groups " + ", ".join(f"{number} is {server}" for number, server in enumerate(servers))
     check("which number in groups is which server", status=(status, 0), said=(f"{words}." in err.decode(), True))
+
+
+def test_side_by_side(place: Path) -> None:
+    """docs/FLEET.md's lines for a year that is verified by many processes, and by what they left the statements."""
+    own = machine(place / "fleet", "web-1", 3)
+    dossier("audit", "--state", place / "made", *days_of(own))
+    dossier("year", "--state", place / "made", "--year", "2001", "--split", place / "pages", own)
+    (place / "ntpaudit-dossier").symlink_to(ROOT / "ntpaudit-dossier")
+    text = (ROOT / "docs" / "FLEET.md").read_text("utf-8").partition("## Many processors")[2]
+    array = text.split("a file audit.slurm:\n\n")[1].split("\n\n")[0]
+    ways = {"slurm": re.sub("audit --jobs.*", match_of(r'that line is `(.*?)`', text)[1], array)}
+    if is_here("parallel", "GNU parallel"):
+        ways["parallel"] = match_of(r"    (parallel -n 100 .*)", text)[1].replace("-n 100", "-n 2")
+    last = match_of(r"and then `\./ntpaudit-dossier (verify .*?)`", text)[1].split()
+    for name, script in ways.items():
+        lines = list[str]()
+        for task in (0, 1, 2) if name == "slurm" else (0,):
+            own_task = {**ENVIRONMENT, "SLURM_ARRAY_TASK_ID": str(task)}
+            lines += run(["bash", "-c", script], cwd=place, env=own_task)[1].decode().splitlines()
+        judged = sorted(line for line in lines if ": judged: " in line)
+        check(f"judged by {name}", lines=(judged, [f"fleet/web-1/2001-09-{day}: judged: {word}" for day, word in (
+            ("09", "yes"), ("10", "yes"), ("11", "refuted"))]))
+        said = dossier(*last, cwd=place)[1].decode()
+        check(f"the statements after {name}", before=(said.count("(that was here before)"), 3),
+              said=("pages: verified: its statements follow from its days, by their answers" in said, True))
+        shutil.rmtree(place / "state")
+    check("the statements before", said=(b"here before" in dossier(*last, cwd=place)[1], False))
 
 
 def test_neighbours(place: Path) -> None:

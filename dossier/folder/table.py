@@ -1,0 +1,44 @@
+"""Numbers by keys of 64 bits, in few bytes each: there may be millions."""
+from array import array
+
+
+class Table:
+    """Numbers from 0 by keys, 12 bytes for each place, of which at most two thirds are taken."""
+
+    def __init__(self) -> None:
+        self.size, self.used, self.keys, self.numbers = 0, 0, array("Q"), array("I")
+        self.grow()
+
+    def grow(self) -> None:
+        old = zip(self.keys, self.numbers)
+        self.size = 2 * self.size or 1 << 10
+        self.keys, self.numbers, self.used = array("Q", bytes(8 * self.size)), array("I", bytes(4 * self.size)), 0
+        for key, number in old:
+            if number:
+                self.put(key, number - 1)
+
+    def place_of(self, key: int) -> int:
+        """The place of a key, or the free one where it would be."""
+        at = key % self.size
+        while self.numbers[at] and self.keys[at] != key:
+            at = (at + 1) % self.size
+        return at
+
+    def get(self, key: int) -> int | None:
+        number = self.numbers[self.place_of(key)]
+        return number - 1 if number else None
+
+    def put(self, key: int, number: int) -> None:
+        """Puts a number in the place of another one of the key, if there is one."""
+        at = self.place_of(key)
+        self.used += not self.numbers[at]
+        self.keys[at], self.numbers[at] = key, number + 1
+        if 3 * self.used > 2 * self.size:
+            self.grow()
+
+    def first(self, key: int, number: int) -> int:
+        """The number that came with a key first: this one, if none did."""
+        found = self.get(key)
+        if found is None:
+            self.put(key, number)
+        return number if found is None else found
