@@ -1,0 +1,66 @@
+(* ntpaudit-judge: judges what ntpaudit answered, by the judge that is proved in Coq. *)
+
+let usage = "Usage: ntpaudit-judge CLAIM CAPTURE CERTIFICATE            the last line of `ntpaudit check`
+       ntpaudit-judge CLAIM CAPTURE REFUTATION [--drift]   that of `ntpaudit refute [--drift]`
+       ntpaudit-judge CLAIM CAPTURE ANSWER --drift         whatever `settle` printed, but `open ..`
+
+`-` is standard input. `nothing fits` and `no evidence ..` are printed again if they are right, else behind
+`not right: `. Status: 0 yes; 1 no, or an answer in words; 2 not judged, and standard error says why.
+"
+
+exception Unreadable of string
+
+let block = 1 lsl 20
+
+(* The blocks of a file or a pipe, each but the last full. *)
+let blocks_of channel =
+  let rec filled bytes at =
+    let count = if at = block then 0 else input channel bytes at (block - at) in
+    if count = 0 then at else filled bytes (at + count) in
+  let rec more found size =
+    let bytes = Bytes.create block in
+    match filled bytes 0 with
+    | 0 -> found, size
+    | count -> more (bytes :: found) (size + count) in
+  more [] 0
+
+let read what path =
+  try
+    let channel = if path = "-" then stdin else open_in_bin path in
+    let found, size = blocks_of channel in
+    if path <> "-" then close_in channel;
+    let blocks = Array.of_list (List.rev found) in
+    let at place =
+      let place = Whole.to_int place in
+      Whole.of_int (Char.code (Bytes.unsafe_get blocks.(place lsr 20) (place land (block - 1)))) in
+    { Judge.size = Whole.of_int size; at }
+  with Sys_error why -> raise (Unreadable (what ^ ": " ^ why))
+
+let judged words =
+  let drift = List.mem "--drift" words in
+  match List.filter (fun word -> word <> "--drift") words with
+  | [claim; capture; third] when List.length words <= 4 ->
+    let claim = read "claim" claim in
+    let third = read "answer" third in
+    let capture = read "capture" capture in
+    Answers.said ~drift claim capture third
+  | ["--help"] | ["-h"] -> Line (0, String.sub usage 0 (String.length usage - 1))
+  | _ -> Unjudged "three files, and --drift or not; --help says more"
+
+let () =
+  Gc.set { (Gc.get ()) with minor_heap_size = 1 lsl 20; space_overhead = 60 };
+  set_binary_mode_in stdin true;
+  let said =
+    try judged (List.tl (Array.to_list Sys.argv)) with
+    | Unreadable why -> Answers.Unjudged why
+    | Out_of_memory -> Unjudged "out of memory"
+    | Stack_overflow -> Unjudged "out of stack" in
+  let printable sign = if ' ' <= sign && sign <= '~' then sign else '?' in
+  match said with
+  | Line (status, line) ->
+    (try print_string line; print_newline (); exit status with Sys_error why ->
+       prerr_endline ("ntpaudit-judge: standard output: " ^ why);
+       exit 2)
+  | Unjudged why ->
+    prerr_endline ("ntpaudit-judge: " ^ String.map printable why);
+    exit 2
