@@ -26,7 +26,7 @@ from collections.abc import Callable, Iterator
 from functools import partial
 from pathlib import Path
 
-from tests.support import DATA, ROOT, count, files_in, program, run
+from tests.support import DATA, ROOT, Ran, count, files_in, program, run
 from tests.cases import transcript
 from tests.second.claims import Claim, changed
 from tests.second.columns import TICKS
@@ -63,6 +63,10 @@ class Trial:
     def ask(self, command: str, *words: object) -> tuple[int | str, bytes]:
         return run([PROGRAM, command, self.claim, self.capture, *words])[:2]
 
+    def says(self, *drift: str) -> Ran:
+        """What `recheck` says of the third file."""
+        return recheck(self.claim, self.capture, self.third, *drift)
+
     def judged(self, *drift: str) -> Answer:
         """What the program says of the third file, which is a certificate or a refutation."""
         for command, words in (("check", ()), ("refute", drift)):
@@ -73,14 +77,14 @@ class Trial:
 
     def hold(self, label: str, is_right: Callable[[Answer], bool], *drift: str) -> None:
         """Asks `recheck`, and keeps what it says if that isn't right."""
-        status, out, err = recheck(self.claim, self.capture, self.third, *drift)
+        status, out, err = self.says(*drift)
         said: Answer = status, out.decode().removesuffix("\n")
         self.seen[f"{label}: {re.sub('[0-9]+', 'N', said[1])[:60] or 'refused'}"] += 1
-        if not is_right(said) or (status == 2) != (not out) or (status == 2 and not err.startswith(b"recheck: ")):
+        if not is_right(said) or (status == 2) != (not out) or (status == 2 and not re.match(rb"\S+: ", err)):
             kept = Path(tempfile.mkdtemp(prefix="ntpaudit-second-"))
             for file in (self.claim, self.capture, self.third):
                 shutil.copy(file, kept)
-            self.wrong.append(f"{label} {' '.join(drift)}: recheck says {said} {err[:200]!r}, in {kept}")
+            self.wrong.append(f"{label} {' '.join(drift)}: it says {said} {err[:200]!r}, in {kept}")
 
     def compare(self, label: str, *drift: str) -> None:
         wanted = self.judged(*drift)
@@ -275,7 +279,7 @@ def typed(name: str, trial: Trial) -> None:
         transcript.typed([command for command, _ in transcript.cases()[name]], place, ASKED=str(kept_in),
                          NTPAUDIT=PROGRAM, PATH=f"{bin_folder}:{ROOT / 'tests/tools'}:{os.environ['PATH']}")
     for folder in sorted(kept_in.iterdir()):
-        asked = Trial(trial.name, folder, trial.rng)
+        asked = type(trial)(trial.name, folder, trial.rng)
         if {file.name for file in folder.iterdir()} - {"third", "drift"} == {"claim", "capture"}:
             answer_again(asked)
         trial.seen += asked.seen
@@ -319,10 +323,10 @@ def scenes_of(seed: str, number: int) -> Iterator[tuple[str, Job]]:
         yield f"scene {seed}/{k}", scene
 
 
-def tried(named: tuple[str, Job]) -> tuple[str, dict[str, int], list[str]]:
+def tried(named: tuple[str, Job], kind: type[Trial] = Trial) -> tuple[str, dict[str, int], list[str]]:
     name, job = named
     with tempfile.TemporaryDirectory(prefix="ntpaudit-") as folder:
-        trial = Trial(name, Path(folder), random.Random(name))
+        trial = kind(name, Path(folder), random.Random(name))
         try:
             job(trial)
         except Exception as error:

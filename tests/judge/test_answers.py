@@ -1,0 +1,89 @@
+"""Compares the judge that Coq proves with the program, which shares nothing with it, by all that
+tests/second/test_recheck.py compares recheck by: verdict, piece, reason and status, and of what is refused the fault
+line, number, word and place.
+
+NTPAUDIT_SCENES=4000 NTPAUDIT_SEED=.. asks for more scenes, of another seed: of 4000, some 60,000 answers.
+"""
+import os
+from collections import Counter
+from collections.abc import Callable, Iterator
+from functools import partial
+
+from tests.support import Ran, count, run, skip
+from tests.judge.made import made, missing
+from tests.second import test_recheck
+from tests.second.claims import Claim
+from tests.second.test_recheck import Answer, Job, MET, Trial, is_not_right
+from tests.tools import scenes
+
+SEED, SCENES = os.environ.get("NTPAUDIT_SEED", "judge"), int(os.environ.get("NTPAUDIT_SCENES", "60"))
+FAULTS = [b"claim 1", b"claim 2", b"claim 3", b"claim 4", b"claim 5", b"claim 6", b"claim 8", b"certificate 1", b"certificate 2",
+          b"certificate 3", b"certificate 4", b"certificate 5", b"refutation 1", b"refutation 2", b"capture 1", b"capture 2",
+          b"capture 3", b"capture 4", b"capture 5", b"capture 6", b"capture 7", b"too-big claim", b"too-big refutation"]
+"""What has to be refused somewhere."""
+
+
+class Judged(Trial):
+    """A trial of which the judge is asked."""
+
+    def ask(self, command: str, *words: object) -> tuple[int | str, bytes]:
+        ran = run([test_recheck.PROGRAM, command, self.claim, self.capture, *words])
+        self.refusals = [*getattr(self, "refusals", []), ran[2].removeprefix(b"ntpaudit: ")][-2:]
+        return ran[:2]
+
+    def says(self, *drift: str) -> Ran:
+        self.heard = run([made("ntpaudit-judge"), self.claim, self.capture, self.third, *drift])
+        return self.heard
+
+    def compare(self, label: str, *drift: str) -> None:
+        """Of what both refuse, one of the two lines with which `check` and `refute` do."""
+        super().compare(label, *drift)
+        if self.heard[0] == 2:
+            line = self.heard[2].removeprefix(b"ntpaudit-judge: ")
+            self.seen[f"fault: {line.decode()}"] += 1
+            if line not in self.refusals:
+                self.wrong.append(f"{label}: the judge refuses it by {line!r}, and the program by {self.refusals}")
+
+    def hold_altered(self, claim: Claim, lines: list[str]) -> None:
+        """One line with another word, and none beside it: no conflict, if `settle` doesn't say it of just its
+        records."""
+        k = self.rng.randrange(len(lines))
+        words, at = lines[k].split(), self.rng.randrange(1, 5)
+        words[at] = (self.rng.choice(claim["servers"]) if at in (1, 3)
+                     else str(max(0, int(words[at]) + self.rng.choice([1, -1]))))
+        altered = [*lines[:k], " ".join(words), *lines[k + 1:]]
+        if (is_line := self.is_conflict(claim, words)) is not None:
+            is_shown = is_line and not scenes.are_few(scenes.pairs_of(altered, claim), claim["false_max"])
+            self.third.write_text("".join(f"{line}\n" for line in (*altered, "nothing fits")))
+            right: Answer = 1, "nothing fits"
+            self.hold("nothing fits, with an altered line", right.__eq__ if is_shown else is_not_right)
+
+
+def tried(job: tuple[str, Job]) -> Counter[str]:
+    _, seen, wrong = test_recheck.tried(job, Judged)
+    assert not wrong, "; ".join(wrong[:3])
+    return Counter(seen)
+
+
+def cases() -> Iterator[tuple[str, Callable[[], Counter[str]]]]:
+    if tool := missing():
+        yield "judge.answers.none", partial(skip, "the judge's answers", f"{tool} isn't installed")  # type: ignore
+        return
+    made("ntpaudit-judge")
+    for job in [*test_recheck.jobs(), *test_recheck.scenes_of(SEED, SCENES)]:
+        yield f"judge.answers.{job[0]}", partial(tried, job)
+
+
+def together(seen: list[Counter[str]]) -> None:
+    found = sum(filter(None, seen), Counter[str]())
+    answers = Counter[str]()
+    for name, number in found.items():
+        answers[name.split(": ", 1)[1]] += 0 if name.startswith("fault: ") else number
+    print(f"{answers.total()} answers compared")
+    for answer in MET:
+        count(f"something is {answer}", "" if answers[answer] else "never")
+    for fault in FAULTS:
+        is_met = any(name.startswith(f"fault: {fault.decode()}") for name in found)
+        count(f"something is refused by {fault.decode()}", "" if is_met else "never")
+
+
