@@ -33,7 +33,6 @@ from .twins import Seen
 
 SHOWN, MOST_OF_A_DISPUTE, MOST_DAYS = 80, 1000, 1_000_000
 """Characters of a value that are shown of a difference, and of what is disputed; and days that are verified at once."""
-TWICE_JUDGED = "judged by two programs"
 OPEN_ONCE = f"what is {OPEN} was judged by one program: it states nothing that the second could judge"
 
 
@@ -119,7 +118,7 @@ class Verifier:
             raise faults[0]
         if closed:
             self.known.judge(made, self.second.sha256, now(), "; ".join(disputes)[:MOST_OF_A_DISPUTE])
-        said = [TWICE_JUDGED] if closed and not disputes else []
+        said = [self.second.judged] if closed and not disputes else []
         return said + [OPEN_ONCE] * (len(closed) < len(made.entries))
 
     def compared(self, folder: Folder, record: Record, made: Record, is_other: bool, is_older: bool) -> str:

@@ -20,7 +20,7 @@ FILE, JUDGED, ANSWERS, LOCKS = "audits", "judged", "answers", "locks"
 
 class Judgement(NamedTuple):
     """What the second program said last of a claim and its captures: the sum of these and that of the answers, the sum
-    of the program, when, and what it disputes, nothing if it says the same."""
+    of the program, when, and what it disputes, nothing if it says the same. The judge's sum comes behind a plus."""
 
     question: str
     answers: str

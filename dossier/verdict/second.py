@@ -1,4 +1,5 @@
-"""The second program, ntpaudit-recheck, which shares nothing with the first and judges the answers that it left."""
+"""The second program, ntpaudit-recheck, and the third, ntpaudit-judge: they share nothing with the first or each other,
+and judge the answers that it left."""
 import os
 import shutil
 from collections.abc import Iterator
@@ -11,12 +12,15 @@ from ..folder.jobs import ENVIRONMENT, stream
 from ..folder.program import BESIDE, IS_REPOSITORY, ROOT, lines_of
 from ..text import plain
 
-NAME = "ntpaudit-recheck"
+NAME, JUDGE = "ntpaudit-recheck", "ntpaudit-judge"
+COUNTS = "one", "two", "three"
 MOST = 1000
-"""Bytes that it may say of an answer: it says a line."""
+"""Bytes that one may say of an answer: it says a line."""
 
 
-class Second(NamedTuple):
+class Other(NamedTuple):
+    """Another program, which judges an answer."""
+    name: str
     path: str
     sha256: str
 
@@ -26,7 +30,7 @@ class Second(NamedTuple):
         for claim, answer, wanted in answers_of(entry):
             status, said = self.says(claim, capture, answer)
             if said != wanted or status != (0 if wanted.endswith(" yes") else 1):
-                yield f'of {answer} the program says "{wanted}", and the second program "{said}" (status {status})'
+                yield f'of {answer} the program says "{wanted}", and the {self.name} "{said}" (status {status})'
 
     def says(self, claim: str, capture: str, answer: str) -> tuple[int, str]:
         """The status and the line that it gives."""
@@ -35,12 +39,29 @@ class Second(NamedTuple):
         def take(block: bytes) -> None:
             said.extend(block)
             if len(said) > MOST:
-                raise fault(f"the second program says more of {answer} than a line")
+                raise fault(f"the {self.name} says more of {answer} than a line")
         status, error = stream([self.path, claim, capture, answer, "--drift"], take)
         if status not in (0, 1):
             why = plain((lines_of(error) or [f"status {status}, and no line"])[0][:MOST])
-            raise fault(f"the second program doesn't judge {answer} ({why})")
+            raise fault(f"the {self.name} doesn't judge {answer} ({why})")
         return status, plain(said.decode("utf-8", "replace").removesuffix("\n"))
+
+
+class Second(NamedTuple):
+    """The second program; and the judge that Coq proves, if it is there."""
+    programs: list[Other]
+
+    @property
+    def sha256(self) -> str:
+        return "+".join(program.sha256 for program in self.programs)
+
+    @property
+    def judged(self) -> str:
+        return f"judged by {COUNTS[len(self.programs)]} programs"
+
+    def disputes(self, entry: Entry, capture: str) -> Iterator[str]:
+        for program in self.programs:
+            yield from program.disputes(entry, capture)
 
 
 def answers_of(entry: Entry) -> Iterator[tuple[str, str, str]]:
@@ -56,14 +77,23 @@ def answers_of(entry: Entry) -> Iterator[tuple[str, str, str]]:
         yield entry.within(CLAIM), report, own_data(report).decode().splitlines()[-1]
 
 
+def found(name: str, variable: str, own: str) -> str | None:
+    """The path of a program: of the file that the environment names (from the repository's root), or the repository's;
+    or of the one that was installed or copied with this; or on the PATH."""
+    named = os.environ.get(variable)
+    if named:
+        return os.path.realpath(os.path.join(ROOT, named))
+    own = f"{ROOT}/{own}" if IS_REPOSITORY and own else f"{BESIDE}/{name}"
+    return own if os.path.isfile(own) else shutil.which(name, path=ENVIRONMENT["PATH"])
+
+
 def find_second() -> Second:
-    """The file that the environment's NTPAUDIT_SECOND names (from the repository's root), or the repository's; or the
-    one that was installed or copied with this; or `ntpaudit-recheck` on the PATH."""
-    named = os.environ.get("NTPAUDIT_SECOND")
-    own = f"{ROOT}/second/recheck" if IS_REPOSITORY else f"{BESIDE}/{NAME}"
-    path: str | None = os.path.realpath(os.path.join(ROOT, named)) if named else own
-    if not named and not os.path.isfile(own):
-        path = shutil.which(NAME, path=ENVIRONMENT["PATH"])
+    path, judge = found(NAME, "NTPAUDIT_SECOND", "second/recheck"), found(JUDGE, "NTPAUDIT_JUDGE", "")
     if not path or not os.access(path, os.X_OK):
         raise fault(f"the second program, {NAME}, isn't there: NTPAUDIT_SECOND is the path to it", MISSING)
-    return Second(path, sum_of_file(path))
+    programs = [Other("second program", path, sum_of_file(path))]
+    if judge:
+        if not os.access(judge, os.X_OK):
+            raise fault(f"the judge, {JUDGE}, isn't there: NTPAUDIT_JUDGE is the path to it", MISSING)
+        programs.append(Other("judge", judge, sum_of_file(judge)))
+    return Second(programs)

@@ -186,3 +186,25 @@ def test_second_on_the_path(place: Path) -> None:
     status, _, err = run([script, "verify", "--second", "."], cwd=folder,
                          env={**ENVIRONMENT, "PATH": f".:{place}/python"})
     check("a second program in the folder", run=((status, b"isn't there" in err), (70, True)))
+
+
+def test_third(place: Path) -> None:
+    """The judge is asked too, where it is there: recheck by another name stands in for it here."""
+    state, folder = ("--state", place / "state"), folder_of(place, "host")
+    dossier("audit", *state, folder)
+    judge = shutil.copy(RECHECK, place / "ntpaudit-judge")
+    three = {**ENVIRONMENT, "NTPAUDIT_JUDGE": str(judge)}
+    line = f"{folder}: verified: yes\n{folder}: (judged by three programs)\n"
+    check("three programs", run=(dossier("verify", *state, "--second", folder, env=three), (0, line.encode(), b"")))
+    page = "".join(check_page("a page, judged by three", dossier("page", *state, folder)[1].decode()).words)
+    check("three programs, on the page", said=("Judged by three programs: at " in page, True))
+    with_bug = {**ENVIRONMENT, "NTPAUDIT_JUDGE": planted(place / "planted", "-claim.bound <= hull[0]", "False")["NTPAUDIT_SECOND"]}
+    words = 'of certificate.json the program says "verdict yes", and the judge "verdict no piece 0 exceeds" (status 1)'
+    check("a judge that disputes", run=(dossier("verify", *state, "--second", folder, env=with_bug)[:2],
+                                        (1, f"{folder}: disputed: {words}\n".encode())))
+    check("and two that agree", run=(dossier("verify", *state, "--second", folder)[0], 0),
+          shown=(shown(folder, *state), ("yes", True)))
+    missing = {**ENVIRONMENT, "NTPAUDIT_JUDGE": str(place / "nowhere")}
+    status, out, err = dossier("verify", *state, "--second", folder, env=missing)
+    check("no judge where one is named", run=((status, out), (70, b"")),
+          said=(b"the judge, ntpaudit-judge, isn't there" in err, True))
