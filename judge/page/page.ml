@@ -5,7 +5,7 @@ external byte : int -> Whole.t -> Whole.t = "page_byte"
 external give : (int -> string) -> unit = "page_give"
 
 let judged _ =
-  let file number = { Judge.size = size number; at = byte number } in
+  let file number = { Judge.size = size number; byte_at = byte number } in
   match Answers.said ~drift:true (file 0) (file 1) (file 2) with
   | Line (status, line) -> string_of_int status ^ line
   | Unjudged why -> "2" ^ why

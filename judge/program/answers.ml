@@ -62,7 +62,7 @@ let refuted_line stands = if stands then Line (0, "refuted yes") else Line (1, "
 
 let text_of bytes most =
   let size = Whole.to_int bytes.size in
-  String.init (min size most) (fun place -> Char.chr (Whole.to_int (bytes.at (Whole.of_int place))))
+  String.init (min size most) (fun place -> Char.chr (Whole.to_int (bytes.byte_at (Whole.of_int place))))
 
 let begins word text = String.length word <= String.length text && String.sub text 0 (String.length word) = word
 

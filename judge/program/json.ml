@@ -51,7 +51,7 @@ let name_of text =
 
 let value_of (bytes : bytes) =
   let size = Whole.to_int bytes.size and place = ref 0 and buffer = Buffer.create 64 in
-  let peek () = if !place < size then Whole.to_int (bytes.at (Whole.of_int !place)) else -1 in
+  let peek () = if !place < size then Whole.to_int (bytes.byte_at (Whole.of_int !place)) else -1 in
   let take () = let sign = peek () in if sign < 0 then raise No_text; incr place; sign in
   let is sign = peek () = Char.code sign in
   let skip sign = if is sign then (incr place; true) else false in
@@ -156,8 +156,8 @@ let value_of (bytes : bytes) =
     | 123 (* { *) -> opened level; Members (several '}' (member (level + 1)))
     | 91 (* [ *) -> opened level; Items (several ']' (fun () -> value (level + 1)))
     | 34 -> Text (byte_list (text ()))
-    | 116 -> word "true" True
-    | 102 -> word "false" False
+    | 116 -> word "true" Boolean
+    | 102 -> word "false" Boolean
     | 110 -> word "null" Null
     | _ -> number ()
   and opened level = if level = levels then raise No_text; incr place

@@ -30,10 +30,10 @@ let read what path =
     let found, size = blocks_of channel in
     if path <> "-" then close_in channel;
     let blocks = Array.of_list (List.rev found) in
-    let at place =
+    let byte_at place =
       let place = Whole.to_int place in
       Whole.of_int (Char.code (Bytes.unsafe_get blocks.(place lsr 20) (place land (block - 1)))) in
-    { Judge.size = Whole.of_int size; at }
+    { Judge.size = Whole.of_int size; byte_at }
   with Sys_error why -> raise (Unreadable (what ^ ": " ^ why))
 
 let judged words =
