@@ -1,0 +1,155 @@
+"""Plants a bug in the judge's definitions, one after another, and says whether what tests/judge/test_answers.py compares
+sees it. Not part of the gate.
+
+A theorem holds the judge to its definitions, and nothing but the program and whoever reads them holds these to the
+world. So each bug stands in the definitions and in the functions alike, as with somebody who took the pages wrong; the
+proofs are passed over (`coqc -vos`), as they would be proved again.
+"""
+import multiprocessing
+import os
+import shutil
+import tempfile
+from collections.abc import Callable
+from concurrent.futures import ProcessPoolExecutor
+from pathlib import Path
+from typing import Any
+
+from tests.support import ROOT, count, run, skip
+from tests.judge.made import missing
+from tests.judge.test_answers import Judged
+from tests.second import test_recheck
+
+SCENES = 40
+"""How many scenes are tried beside what is directed."""
+
+Edit = tuple[str, str, str]
+"""A file, what stands in it, and what stands there then."""
+
+PLANTS: dict[str, list[Edit]] = {
+    "the end of a window rounded down": [
+        ("Definitions", "ceiling ((seconds * units + fraction + 1) * second) units",
+         "(seconds * units + fraction + 1) * second / units")],
+    "a window that ends where its unit begins": [
+        ("Definitions", "(seconds * units + fraction + 1) * second", "(seconds * units + fraction) * second")],
+    "the bound in ticks rounded up": [
+        ("Definitions", "Definition ticks_down nanoseconds := nanoseconds * second / billion.",
+         "Definition ticks_down nanoseconds := ceiling (nanoseconds * second) billion.")],
+    "the allowance in ticks rounded down": [
+        ("Definitions", "Definition ticks_up nanoseconds := ceiling (nanoseconds * second) billion.",
+         "Definition ticks_up nanoseconds := nanoseconds * second / billion.")],
+    "the widening rounded down": [
+        ("Definitions", "ceiling (ppb * d) (billion - ppb)", "ppb * d / (billion - ppb)")],
+    "the widening by true time": [
+        ("Definitions", "ceiling (ppb * d) (billion - ppb)", "ceiling (ppb * d) billion")],
+    "the root delay is taken whole": [
+        ("Definitions", "root_delay p * 32768", "root_delay p * 65536"),
+        ("Reading", "root_delay p * n32768", "root_delay p * n65536")],
+    "stratum 16 is usable": [
+        ("Definitions", "1 <= stratum p <= 15", "1 <= stratum p <= 16"),
+        ("Pairing", "stratum p <=? n15", "stratum p <=? n16")],
+    "an unsynchronized server is usable": [
+        ("Definitions", "version p = 4 /\\ leap p <> 3 /\\", "version p = 4 /\\"),
+        ("Pairing", "negb (leap p =? n3) && ", "")],
+    "the receive timestamp may be zero": [
+        ("Definitions", "receive p <> 0 /\\ ", ""),
+        ("Pairing", "negb (receive p =? 0) && ", "")],
+    "a timestamp half an era away is the later one": [
+        ("Definitions", "near - half_era <= unix < near + half_era", "near - half_era < unix <= near + half_era"),
+        ("Pairing", "near - half_era + (stamp - unix_begin - near + half_era) mod era",
+         "near + half_era - (near + half_era - stamp + unix_begin) mod era")],
+    "a point at an interval's low end is left out": [
+        ("Definitions", "(e <? fst i) || (snd i <? e)", "(e <=? fst i) || (snd i <? e)"),
+        ("Verdict", "(if (e <? fst i) || (snd i <? e) then Z.succ n else n)",
+         "(if (e <=? fst i) || (snd i <? e) then Z.succ n else n)")],
+    "the bound itself counts as beyond it": [
+        ("Definitions", "(low < - bound c \\/ bound c < high)", "(low <= - bound c \\/ bound c <= high)"),
+        ("Definitions", "- bound c <= low /\\ high <= bound c", "- bound c < low /\\ high < bound c"),
+        ("Verdict", "(- n <=? low) && (high <=? n)", "(- n <? low) && (high <? n)")],
+    "as many groups as may be wrong are enough": [
+        ("Definitions", "| HullUnbounded => Z.of_nat (length is) <= f", "| HullUnbounded => Z.of_nat (length is) < f"),
+        ("Verdict", "if long is 0 <=? f then HullUnbounded", "if long is 0 <? f then HullUnbounded")],
+    "an empty hull is within every bound": [
+        ("Verdict", "| HullEmpty => Some Contradiction", "| HullEmpty => None")],
+    "a server may be named twice": [
+        ("Definitions", "Forall2 (IsPart c xs p q) es parts /\\ NoDup (map fst parts)",
+         "Forall2 (IsPart c xs p q) es parts"),
+        ("Verdict", "if among (its_server x) before then inl RepeatedServer", "if false then inl RepeatedServer")],
+    "the nearest distance": [
+        ("Definitions", "Z.max (q - request_begin c x) (request_end c x - p)",
+         "Z.min (q - request_begin c x) (request_end c x - p)"),
+        ("Verdict", "Z.max (q - from_request s) (to_request s - p)", "Z.min (q - from_request s) (to_request s - p)")],
+    "T3 for T2 at the request": [
+        ("Definitions", "Definition sample_low c x := request_begin c x - t2 x - distance x.",
+         "Definition sample_low c x := request_begin c x - t3 x - distance x."),
+        ("Verdict", "its_low := u - t2 x - distance x", "its_low := u - t3 x - distance x")],
+    "the pieces needn't reach the span's end": [
+        ("Definitions", "| is_uncovered k p : k = 0 \\/ p < last c ->", "| is_uncovered k p : k = 0 ->"),
+        ("Verdict", "if (k =? 0) || (p <? last c) then No k Uncovered", "if k =? 0 then No k Uncovered")],
+    "the last fragment holds a datagram": [
+        ("Definitions", "flags mod 16384 = 0", "flags / 8192 mod 2 = 0"),
+        ("Reading", "(read16 b (ip + n6) mod n16384 =? 0)", "((read16 b (ip + n6) / (n128 * n64)) mod n2 =? 0)")]}
+
+SEEN = multiprocessing.Array("b", len(PLANTS))
+"""Which plants something has seen."""
+
+
+def built(place: Path, edits: list[Edit]) -> str:
+    """Makes ntpaudit-judge with these edits in a folder of its own; what is wrong, if that can't be."""
+    shutil.copytree(ROOT / "judge", place, ignore=shutil.ignore_patterns("*.vo*", "*.glob", "*.aux", "extracted"))
+    (place / "extracted").mkdir()
+    for name, old, new in edits:
+        file = place / f"{name}.v"
+        text = file.read_text("utf-8")
+        if text.count(old) != 1:
+            return f"{old} stands {text.count(old)} times in {name}.v"
+        file.write_text(text.replace(old, new))
+    listed = next(line for line in (place / "build").read_text().splitlines() if line.startswith("files="))
+    names = listed.split("'")[1].split()
+    for name in names:
+        status, out, err = run(["coqc", "-q", "-vok" if name == "Extract" else "-vos", "-R", ".", "Judge", f"{name}.v"],
+                               cwd=place)
+        if status:
+            return (out + err).decode()[-300:]
+    status, out, err = run([place / "make", place])
+    return (out + err).decode()[-300:] if status else ""
+
+
+class Watched(Judged):
+    """A trial of which each planted judge is asked too, until something sees it."""
+    planted: list[Path] = []
+
+    def hold(self, label: str, is_right: Callable[[Any], bool], *drift: str) -> None:
+        super().hold(label, is_right, *drift)
+        for number, path in enumerate(self.planted):
+            if not SEEN[number]:
+                status, out, _ = run([path, self.claim, self.capture, self.third, *drift])
+                if not is_right((status, out.decode().removesuffix("\n"))) and not SEEN[number]:
+                    SEEN[number] = 1
+                    print(f"{[*PLANTS][number]}: {self.name} ({label.split(',')[0]})", flush=True)
+
+
+def share(numbers: tuple[int, int, list[Path]]) -> list[str]:
+    """Part k of n of the jobs, until each plant is seen: what was wrong without a plant."""
+    k, n, Watched.planted = numbers
+    jobs = [job for job in test_recheck.jobs() if "/" not in job[0]]
+    wrong: list[str] = []
+    for job in [*jobs, *test_recheck.scenes_of("planted", SCENES)][k::n]:
+        if not all(SEEN[number] for number in range(len(PLANTS))):
+            wrong += test_recheck.tried(job, Watched)[2]
+    return wrong
+
+
+def test_plants() -> None:
+    if tool := missing():
+        skip("bugs in the judge's definitions", f"{tool} isn't installed")
+        return
+    cores = int(os.environ.get("NTPAUDIT_JOBS", os.cpu_count() or 1))
+    with tempfile.TemporaryDirectory(prefix="ntpaudit-planted-") as folder, ProcessPoolExecutor(cores) as pool:
+        places = [Path(folder, str(number)) for number in range(len(PLANTS))]
+        for name, wrong in zip(PLANTS, pool.map(built, places, PLANTS.values())):
+            count(f"planted: {name}", wrong)
+        programs = [place / "ntpaudit-judge" for place in places]
+        for told in pool.map(share, [(k, cores, programs) for k in range(cores)]):
+            count("without a plant", "; ".join(told[:3]))
+    for number, name in enumerate(PLANTS):
+        count(name, "" if SEEN[number] else "nothing sees it")
