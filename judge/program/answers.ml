@@ -94,7 +94,9 @@ let in_words parse claim capture text =
   let line is_right = Line (1, if is_right then last else "not right: " ^ last) in
   match lines, String.split_on_char ' ' last with
   | [_], ["no"; "evidence"; "groups"; heard; "of"; groups; "false_max"; most] ->
-    told line (no_evidence parse claim capture (count heard) (count groups) (count most))
+    let least = Whole.neg Whole.one in
+    let whole word = try count word with Unreadable _ -> least in
+    told line (no_evidence parse claim capture (whole heard) (whole groups) (whole most))
   | _, ["nothing"; "fits"] ->
     let conflicts = List.rev_map conflict (List.tl (List.rev lines)) in
     told line (nothing_fits parse claim capture conflicts)

@@ -17,7 +17,7 @@ from tests.second.test_recheck import Answer, Job, MET, Trial, is_not_right
 from tests.tools import scenes
 
 SEED, SCENES = os.environ.get("NTPAUDIT_SEED", "judge"), int(os.environ.get("NTPAUDIT_SCENES", "60"))
-FAULTS = [b"claim 1", b"claim 2", b"claim 3", b"claim 4", b"claim 5", b"claim 6", b"claim 8", b"certificate 1", b"certificate 2",
+FAULTS = [b"claim 1", b"claim 2", b"claim 3", b"claim 4", b"claim 5", b"claim 6", b"claim 8", b"certificate 2",
           b"certificate 3", b"certificate 4", b"certificate 5", b"refutation 1", b"refutation 2", b"capture 1", b"capture 2",
           b"capture 3", b"capture 4", b"capture 5", b"capture 6", b"capture 7", b"too-big claim", b"too-big refutation"]
 """What has to be refused somewhere."""
