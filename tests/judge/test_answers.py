@@ -17,9 +17,9 @@ from tests.second.test_recheck import Answer, Job, MET, Trial, is_not_right
 from tests.tools import scenes
 
 SEED, SCENES = os.environ.get("NTPAUDIT_SEED", "judge"), int(os.environ.get("NTPAUDIT_SCENES", "60"))
-FAULTS = [b"claim 1", b"claim 2", b"claim 3", b"claim 4", b"claim 5", b"claim 6", b"claim 8", b"certificate 2",
-          b"certificate 3", b"certificate 4", b"certificate 5", b"refutation 1", b"refutation 2", b"capture 1", b"capture 2",
-          b"capture 3", b"capture 4", b"capture 5", b"capture 6", b"capture 7", b"too-big claim", b"too-big refutation"]
+FAULTS = [*(f"claim {number}" for number in (1, 2, 3, 4, 5, 6, 8)),
+          *(f"certificate {number}" for number in (2, 3, 4, 5)), "refutation 1", "refutation 2",
+          *(f"capture {number}" for number in range(1, 8)), "too-big claim", "too-big refutation"]
 """What has to be refused somewhere."""
 
 
@@ -83,7 +83,5 @@ def together(seen: list[Counter[str]]) -> None:
     for answer in MET:
         count(f"something is {answer}", "" if answers[answer] else "never")
     for fault in FAULTS:
-        is_met = any(name.startswith(f"fault: {fault.decode()}") for name in found)
-        count(f"something is refused by {fault.decode()}", "" if is_met else "never")
-
-
+        is_met = any(name.startswith(f"fault: {fault}") for name in found)
+        count(f"something is refused by {fault}", "" if is_met else "never")

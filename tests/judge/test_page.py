@@ -12,7 +12,7 @@ from pathlib import Path
 from tests.support import DATA, check, is_here, program, run, skip, sum_of
 from tests.judge.made import made, missing
 from tests.tools import browser
-from tests.tools.browser import Browser, Chromium
+from tests.tools.browser import Browser
 
 KINDS = "claim", "capture", "answer"
 YES = DATA / "vlan-ns.claim.json", DATA / "vlan-ns.pcap", DATA / "vlan-ns.settle.txt"
@@ -103,8 +103,8 @@ def test_chromium(folder: Path) -> None:
         check("by keyboard", verdict=(verdicts(page), ["Yes"]),
               focus=(page.run("document.activeElement.tagName"), "H2"))
         said, claim = text(page), json.loads(YES[0].read_text())
-        for words in (f"The clock of {claim['client']} was within 5 ms of UTC from 2026-11-22 06:58:54 UTC to 2026-11-22 "
-                      "06:59:32 UTC", "100 ppm", "more than 0.1 ms before", "At most 1 of 4 groups", "no leap second"):
+        for words in (f"The clock of {claim['client']} was within 5 ms of UTC from 2026-11-22 06:58:54 UTC to "
+                      "2026-11-22 06:59:32 UTC", "100 ppm", "more than 0.1 ms before", "At most 1 of 4 groups", "no leap second"):
             check(f"a yes says: {words}", said=(words in said, True))
         page.run(f"document.getElementById('sums').value = {json.dumps(sums(page)[1].upper() + '  f.pcap')}")
         page.run("document.getElementById('sums').oninput()")
@@ -139,17 +139,20 @@ def test_dropped(folder: Path) -> None:
               said=("Still missing: answer." in text(page), True))
         page.drop(YES[2])
         check("and the third", verdict=(verdicts(page), ["Yes"]))
-        for name, wanted in (("yes", ["Yes", "It stands"]), ("refuted", ["It stands"]), ("nothing-fits", ["Nothing fits"])):
+        for name, wanted in (("yes", ["Yes", "It stands"]), ("refuted", ["It stands"]),
+                             ("nothing-fits", ["Nothing fits"])):
             page.open(url())
             page.drop(DATA / "older/1.0.0" / name)
             check(f"a folder of an audit, dropped: {name}", verdicts=(verdicts(page, len(wanted)), wanted))
         page.open(url())
         page.drop(DATA / "older/1.0.0")
-        check("a folder of folders, dropped", verdicts=(verdicts(page, 4), ["Nothing fits", "It stands", "Yes", "It stands"]))
+        check("a folder of folders, dropped",
+              verdicts=(verdicts(page, 4), ["Nothing fits", "It stands", "Yes", "It stands"]))
         page.open(url())
         page.drop(strange)
         check("a folder with a strange name", verdicts=(verdicts(page, 2), ["Yes", "It stands"]),
-              images=(page.run("document.images.length"), 0), shown=("\\u{202e}pacp.exe/certificate.json" in text(page), True))
+              images=(page.run("document.images.length"), 0),
+              shown=("\\u{202e}pacp.exe/certificate.json" in text(page), True))
         page.open(url())
         page.drop(DATA / "README.md")
         check("something else, dropped", warned=(page.wait("!document.getElementById('warning').hidden"), True))
@@ -203,7 +206,8 @@ def test_no_way_out(folder: Path) -> None:
         (folder / "empty.html").write_text("<p id=form>")
         page.open((folder / "empty.html").as_uri())
         ways = (f"fetch('{at}/fetch', {{mode: 'no-cors'}}).then(() => 'out', () => 'kept')",
-                f"new Promise((say) => {{ const i = new Image(); i.onload = i.onerror = () => say('kept'); i.src = '{at}/image'; }})",
+                "new Promise((say) => { const image = new Image(); image.onload = image.onerror = () => say('kept'); "
+                f"image.src = '{at}/image'; }})",
                 f"navigator.sendBeacon('{at}/beacon') ? 'out' : 'kept'")
         for way in ways:
             page.run(way)

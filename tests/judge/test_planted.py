@@ -1,5 +1,5 @@
-"""Plants a bug in the judge's definitions, one after another, and says whether what tests/judge/test_answers.py compares
-sees it. Not part of the gate.
+"""Plants a bug in the judge's definitions, one after another, and says whether what tests/judge/test_answers.py
+compares sees it. Not part of the gate.
 
 A theorem holds the judge to its definitions, and nothing but the program and whoever reads them holds these to the
 world. So each bug stands in the definitions and in the functions alike, as with somebody who took the pages wrong; the
@@ -100,8 +100,8 @@ def built(place: Path, edits: list[Edit]) -> str:
     for name, old, new in edits:
         file = place / f"{name}.v"
         text = file.read_text("utf-8")
-        if text.count(old) != 1:
-            return f"{old} stands {text.count(old)} times in {name}.v"
+        if old not in text:
+            return f"{old} doesn't stand in {name}.v"
         file.write_text(text.replace(old, new))
     listed = next(line for line in (place / "build").read_text().splitlines() if line.startswith("files="))
     names = listed.split("'")[1].split()
@@ -110,7 +110,7 @@ def built(place: Path, edits: list[Edit]) -> str:
                                cwd=place)
         if status:
             return (out + err).decode()[-300:]
-    status, out, err = run([place / "make", place])
+    status, out, err = run([place / "make", place], env={**os.environ, "JUDGE_EXTRACTED": str(place / "extracted")})
     return (out + err).decode()[-300:] if status else ""
 
 

@@ -22,6 +22,14 @@ QUIET = ["--headless=new", "--no-sandbox", "--disable-gpu", "--no-first-run", "-
 class Browser:
     """What both can do."""
 
+    def open(self, url: str) -> None:
+        """Shows the page of a URL."""
+        raise NotImplementedError
+
+    def choose(self, element: str, path: Path) -> None:
+        """Gives a file to an element of the page."""
+        raise NotImplementedError
+
     def run(self, script: str) -> Any:
         """The value of an expression in the page."""
         raise NotImplementedError
@@ -79,9 +87,9 @@ class Chromium(Browser):
             raise RuntimeError(json.dumps(said["exceptionDetails"])[:500])
         return said["result"].get("value")
 
-    def choose(self, element: str, *paths: Path) -> None:
+    def choose(self, element: str, path: Path) -> None:
         found = self.call("DOM.querySelector", nodeId=self.call("DOM.getDocument")["root"]["nodeId"], selector=element)
-        self.call("DOM.setFileInputFiles", nodeId=found["nodeId"], files=[str(path) for path in paths])
+        self.call("DOM.setFileInputFiles", nodeId=found["nodeId"], files=[str(path)])
 
     def drop(self, *paths: Path) -> None:
         """Files or folders let go over the page, as from a file manager."""
