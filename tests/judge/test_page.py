@@ -9,7 +9,7 @@ from collections.abc import Callable
 from functools import wraps
 from pathlib import Path
 
-from tests.support import DATA, check, is_here, program, run, skip, sum_of
+from tests.support import DATA, ROOT, check, is_here, program, run, skip, sum_of
 from tests.judge.made import made, missing
 from tests.tools import browser
 from tests.tools.browser import Browser
@@ -104,7 +104,8 @@ def test_chromium(folder: Path) -> None:
               focus=(page.run("document.activeElement.tagName"), "H2"))
         said, claim = text(page), json.loads(YES[0].read_text())
         for words in (f"The clock of {claim['client']} was within 5 ms of UTC from 2026-11-22 06:58:54 UTC to "
-                      "2026-11-22 06:59:32 UTC", "100 ppm", "more than 0.1 ms before", "At most 1 of 4 groups", "no leap second"):
+                      "2026-11-22 06:59:32 UTC", "100 ppm", "more than 0.1 ms before", "At most 1 of 4 groups",
+                      "no leap second"):
             check(f"a yes says: {words}", said=(words in said, True))
         page.run(f"document.getElementById('sums').value = {json.dumps(sums(page)[1].upper() + '  f.pcap')}")
         page.run("document.getElementById('sums').oninput()")
@@ -229,8 +230,9 @@ def test_made_again(folder: Path) -> None:
     if tool := missing():
         skip("the page, made again", f"{tool} isn't installed")
         return
-    from tests.support import ROOT
     status, _, err = run([ROOT / "judge/make", "--page", folder])
     page = (folder / "judge.html").read_bytes()
-    check("made again", status=(status, 0), said=(err, b""), same=(page, made("judge.html").read_bytes()),
+    check("made again", status=(status, 0), same=(page == made("judge.html").read_bytes(), True), said=(err, b""),
           small=(len(page) <= 300_000, True))
+    check("dist/judge.html is another page than what is made: call judge/make --page dist",
+          same=(page == (ROOT / "dist/judge.html").read_bytes(), True))
