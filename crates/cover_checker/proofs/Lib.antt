@@ -5,3 +5,5 @@ mod Stretches
 mod Named
 mod Pieces
 mod Theorem
+mod Acceptance
+mod Verdicts
