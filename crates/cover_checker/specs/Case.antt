@@ -41,4 +41,5 @@ case_why claim before case =
 abbrev pub cases_why : ClaimData → List CaseData → List CaseData → Option (ℕ × CaseWhy)
 cases_why claim before [] = None
 cases_why claim before (case ∷ cases) =
-    first_of (length before) (case_why claim before case) (cases_why claim (before ++ case ∷ []) cases)
+    first_of (length before) (case_why claim before case)
+    (cases_why claim (before ++ case ∷ []) cases)

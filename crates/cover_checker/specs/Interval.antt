@@ -1,7 +1,7 @@
 -- What a low mark and a high mark say about the client's error throughout a stretch.
 --
--- Of what the clock advances the error falls by at most P/(B-P) and rises by at most P/(B+P), with P
--- the rate of the drift in parts of B. At its place the error is at least a low mark's. Behind the
+-- Of what the clock advances the error falls by at most P/(B-P) and rises by at most P/(B+P), with
+-- P the rate of the drift in parts of B. At its place the error is at least a low mark's. Behind the
 -- place it may have fallen since; before the place it may have had to rise to it. So a low mark is
 -- moved down by the greater of two changes: of the fall from its place to the stretch's end, and of
 -- the rise from the stretch's begin to its place. A high mark is moved up likewise.

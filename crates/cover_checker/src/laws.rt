@@ -29,8 +29,8 @@ pub fn marks_hold_over_a_stretch()
 }
 
 /// Where a certificate by covers is accepted, the error of the client's clock is within the claimed
-/// bound at every moment whose reading lies in the claimed span, in every course of events that fits
-/// the exchanges that it names.
+/// bound at every moment whose reading lies in the claimed span, in every course of events that
+/// fits the exchanges that it names.
 ///
 /// Whatever groups hold false servers have an end of each conflict, so they hold all groups of some
 /// case. The others that are wrong are as many fewer as that case has groups, and its pieces hold
