@@ -8,6 +8,14 @@
 //! An accepted certificate shows the claim in every course of events that fits the exchanges that
 //! it names: the false groups have an end of each conflict, so they hold all groups of some case,
 //! and as many fewer of the others are false. [`laws`] has that, and why.
+//!
+//! How one law stands on others, from `verdicts_are_exact` of `cover_checker/src/laws.rt`:
+//!
+//! ```text
+//! covers_are_traceable();
+//! every_list_has_a_hull();
+//! hull_is_one_answer();
+//! ```
 
 #![tactic(auto)]
 
