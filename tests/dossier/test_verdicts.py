@@ -135,7 +135,7 @@ def test_no_audit(place: Path) -> None:
     status, out, err = dossier("--version")
     program = run([PROGRAM, "--version"])[1].splitlines()[0]
     check("version", run=((status, err), (0, b"")),
-          lines=(out.splitlines()[0], b"ntpaudit-dossier, form 9 of audit.json"),
+          lines=(out.splitlines()[0], b"ntpaudit-dossier, form 10 of audit.json"),
           program=(out.splitlines()[1].startswith(program + b", SHA-256 "), True))
 
 
