@@ -59,9 +59,9 @@ class Opened(NamedTuple):
     extent: Extent
 
 
-def audited(copies: dict[str, str]) -> Audited:
+def audited(copies: dict[str, str], program: Program | None = None) -> Audited:
     """One capture of all, given by their names and their copies."""
-    return joined({name: open_capture(name, copy) for name, copy in copies.items()}, copies)
+    return joined({name: open_capture(name, copy) for name, copy in copies.items()}, copies, program)
 
 
 def joined(opened: dict[str, Opened], copies: dict[str, str], program: Program | None = None) -> Audited:
