@@ -5,5 +5,5 @@ printed, at most converted from ticks of 2^-32 s to milliseconds and from Unix s
 up, measured or read for a premise stands beside it, as what it is. It can take a yes away, and never gives one.
 """
 
-VERSION = 9
+VERSION = 10
 """The form of audit.json. An audit.json of another form is of another dossier, and its folder is audited again."""

@@ -393,7 +393,8 @@ def tidy(folder: str) -> str:
 
 def correction_of(given: argparse.Namespace) -> "Correction | None":
     """What the client's configuration and log say, if they are given."""
-    from .premise.client import configuration
+    from .folder.files import piped_or_named
+    from .premise.client import MOST_BYTES, configuration
     from .premise.correction import correction
     from .premise.tracking import read_tracking
     if (given.tracking and not given.chrony) or (given.evidence and not (given.chrony or given.ntpd)):
@@ -401,7 +402,8 @@ def correction_of(given: argparse.Namespace) -> "Correction | None":
     found = configuration(given.chrony, given.ntpd)
     if found is None:
         return None
-    log = read_tracking(given.tracking, found.step_s) if given.tracking else None
+    logs = {os.path.basename(path): piped_or_named(path, MOST_BYTES) for path in given.tracking or ()}
+    log = read_tracking(logs, found.step_s, now()) if logs else None
     return correction(given.oscillator_ppb, found, log, now())
 
 

@@ -12,6 +12,8 @@ TICKS = 2**32
 EPOCH = datetime(1970, 1, 1)
 FORM = "%Y-%m-%dT%H:%M:%SZ"
 DAY = 86_400
+LAST_SECOND = 2**32 - 1
+"""The last that a claim can name."""
 SECOND = 10**9
 """Nanoseconds in a second: times of records are held in nanoseconds."""
 
@@ -107,6 +109,11 @@ def two_times(word: str, begin: int, other: str, end: int) -> str:
 def outward(before: int, after: int) -> tuple[int, int]:
     """Two times in nanoseconds as the whole seconds around them."""
     return before // SECOND, ceil_div(after, SECOND)
+
+
+def inward(before: int, after: int) -> tuple[int, int]:
+    """Two times in nanoseconds as the whole seconds between them, or as the second of the first."""
+    return (first, last) if (first := ceil_div(before, SECOND)) <= (last := after // SECOND) else (last, last)
 
 
 def span_of_seconds(seconds: float) -> str:

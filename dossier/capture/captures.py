@@ -1,13 +1,19 @@
 """What people have: captures that are packed, in pcapng, cut off or in several files, made into one that the program
 takes. The copies are private ones in the current folder, and what was recorded stays the evidence.
 """
+from __future__ import annotations
+
 import re
 import zlib
+from array import array
+from bisect import bisect_left, bisect_right
+from collections import deque
 from collections.abc import Callable, Iterator
 from contextlib import suppress
 from functools import partial
 from hashlib import sha256
-from itertools import islice
+from itertools import chain, islice
+from statistics import median_low
 from typing import NamedTuple
 
 from ..fault import Fault, fault
@@ -19,7 +25,8 @@ from ..folder.placing import Copy, cut_off, keep, move
 from ..folder.program import Program
 from ..units import SECOND
 from . import classic, pcapng
-from .classic import HEADER, Classic, Extent, Runs, join, runs_of, write
+from .classic import (AT_ENDS, HEADER, Classic, Extent, Runs, Times, do_rise, join, new_header, runs_of, write)
+from .recording import closing_of
 
 GZIP, ZSTD = bytes.fromhex("1f8b"), bytes.fromhex("28b52ffd")
 MARGIN = 3600
@@ -29,6 +36,8 @@ MANY = 1_000_000
 MOST_AT_ONCE = 1 << 26
 """Bytes of a capture that is unpacked with others by one call."""
 NO_ZSTD = "is packed by zstd, which isn't installed to unpack it"
+NEXT, MOST_FALLS = 160, 1000
+"""Records that are next to others, for each server; and how often the times of a capture may fall back for that."""
 PART, THINNED, CUT = "part.pcap", "thinned.pcap", "cut.pcap"
 
 
@@ -50,13 +59,14 @@ class Opened(NamedTuple):
     extent: Extent
 
 
-def audited(copies: dict[str, str]) -> Audited:
+def audited(copies: dict[str, str], program: Program | None = None) -> Audited:
     """One capture of all, given by their names and their copies."""
-    return joined({name: open_capture(name, copy) for name, copy in copies.items()}, copies)
+    return joined({name: open_capture(name, copy) for name, copy in copies.items()}, copies, program)
 
 
-def joined(opened: dict[str, Opened], copies: dict[str, str]) -> Audited:
-    """One capture of those that are opened, which may be fewer than all copies."""
+def joined(opened: dict[str, Opened], copies: dict[str, str], program: Program | None = None) -> Audited:
+    """One capture of those that are opened, which may be fewer than all copies; in the order in which they were made by
+    the servers' time, if the program can be asked for that."""
     torn = [(name, one.torn) for name, one in opened.items() if one.torn is not None]
     alerts = [Alert("torn", len(torn), file=torn[0][0], place=torn[0][1])] if torn else []
     (name, one), *others = opened.items()
@@ -64,12 +74,40 @@ def joined(opened: dict[str, Opened], copies: dict[str, str]) -> Audited:
     whole = {name: Classic(each.path, each.extent) for name, each in opened.items() if size_of(each.path)} \
         if others else {}
     if whole:
-        extent = join(whole, JOINED)
+        extent = join(whole, JOINED, times_of(whole, program) if program else None)
     elif one.path != copies[name] or one.torn is not None or len(opened) < len(copies):
         move(one.path, JOINED)
     else:
         return Audited(one.path, False, alerts, extent)
     return Audited(JOINED, True, alerts, extent)
+
+
+def times_of(captures: dict[str, Classic], program: Program) -> Times | None:
+    """When captures begin and end by what servers say at their ends, in the median; None if that isn't known of all, or
+    they can't be joined."""
+    first = next(iter(captures.values()))
+    if any(not capture.is_one or capture.kind != first.kind for capture in captures.values()):
+        return None
+    unit, some, owners = min(capture.unit for capture in captures.values()), list[bytes](), list[tuple[str, int]]()
+    for name, capture in captures.items():
+        rows = capture.rows()
+        ends = [list(islice(rows, AT_ENDS))]
+        ends.append(list(deque(rows, AT_ENDS)) or ends[0])
+        for side, rows_of_it in enumerate(ends):
+            some += (capture.renewed(begin, end, unit) for _, begin, end in rows_of_it)
+            owners += [(name, side)] * len(rows_of_it)
+    write(PART, [new_header(unit, first.kind), *some])
+    said = dict[tuple[str, int], list[int]]()
+
+    def take(block: bytes) -> None:
+        for words in (line.split() for line in block.splitlines()):
+            if words[5] == b"m4" and words[-1] != b"-":
+                said.setdefault(owners[int(words[0])], []).append(int(words[-1]))
+    program.blocks(lambda block: take(block[:closing_of(block)]), "list", PART)
+    if len(said) < 2 * sum(size_of(capture.path) > HEADER for capture in captures.values()):
+        return None
+    found = {name: [median_low(said.get((name, side), [0])) for side in (0, 1)] for name in captures}
+    return {name: (min(ends), max(ends)) for name, ends in found.items()}
 
 
 def thinned(whole: Audited, claim: Claim, program: Program) -> Audited:
@@ -226,6 +264,35 @@ def cut(path: str, parts: list[Part], extent: Extent | None, margin: int = MARGI
             return
     for runs in runs_of(whole, spans):
         yield partial(put, whole, runs)
+
+
+def around(whole: Classic, falls: list[int], part: Part) -> Callable[[str], bool]:
+    """A way to write what `cut` writes of a part, and the records that were made next to any of it, before and after;
+    False if there are no more: a clock that shows other hours may have come to them in between."""
+    stamps, more = whole.extent.stamps, NEXT * len(part.claim.servers)
+    first, last = ((second << 32) for second in (max(0, part.claim.first - MARGIN), part.claim.last + MARGIN))
+    found, runs, begin = 0, list[list[int]](), 0
+    for end in [*falls, len(stamps)]:
+        own = [bisect_left(stamps, first, begin, end), bisect_right(stamps, last, begin, end)]
+        if own[0] < own[1]:
+            found += own[1] - own[0]
+            runs.append([max(0, own[0] - more), min(len(stamps), own[1] + more)])
+        begin = end
+    kept = sorted({record for begin, end in runs for record in range(begin, end)})
+    if not found or len(kept) == found:
+        return lambda _: False
+    begins = [begin for _, begin, _ in whole.rows()] + [whole.extent.end]
+
+    def write_to(path: str) -> bool:
+        write(path, chain([whole.data[:HEADER]], (whole.data[begins[k] : begins[k + 1]] for k in kept)))
+        return True
+    return write_to
+
+
+def falls_in(stamps: array[int]) -> list[int]:
+    """The records whose times are before those of the records before them; none if there are many."""
+    found = [] if do_rise(stamps) else [k for k in range(1, len(stamps)) if stamps[k] < stamps[k - 1]]
+    return found if len(found) <= MOST_FALLS else []
 
 
 def put(whole: Classic, runs: Runs, path: str) -> bool:

@@ -30,11 +30,17 @@ MOST_ALIKE = 4096
 """Records of one length that are read at once."""
 MOST_RUNS = 1 << 19
 """Of records that follow one another in time there are some for each day, however long a capture is."""
+AT_ONCE = 1 << 16
+"""Records whose times are compared together."""
+AT_ENDS = 100
+"""Records at either end of a capture, by which it is known when it was made, and whether the next has them too."""
 NEW_HEADER, NEW_HEAD = Struct("<IHHIIII"), Struct("<IIII")
 NEW_MAGIC = {10**6: 0xA1B2C3D4, 10**9: 0xA1B23C4D}
 
 Row = tuple[int, int, int]
 """A record: its time in units since 1970, and where it begins and ends."""
+Timed = tuple[int, int, bytes]
+"""A record that is joined with others: its time in nanoseconds, which capture it is of, and what is written."""
 Runs = list[list[int]]
 """Where records that follow one another begin and end."""
 
@@ -51,7 +57,7 @@ class Classic:
     """A capture in a file of one's own; nothing has to be one. Its extent may be known already."""
 
     def __init__(self, path: str, extent: Extent | None = None):
-        self.found, self.data = extent, mapped(path)
+        self.path, self.found, self.data = path, extent, mapped(path)
         self.size = len(self.data)
         self.order, self.unit = MAGICS.get(self.data[:4], ("<", 0))
         self.is_one = self.unit > 0 and self.size >= HEADER
@@ -132,6 +138,12 @@ class Classic:
         return NEW_HEAD.pack(seconds, part * unit // self.unit, captured, length) + self.data[begin + HEAD : end]
 
 
+def do_rise(stamps: array[int]) -> bool:
+    """Whether none is less than the one before it."""
+    parts = (stamps[k : k + AT_ONCE + 1].tolist() for k in range(0, len(stamps), AT_ONCE))
+    return all(part == sorted(part) for part in parts)
+
+
 def new_header(unit: int, kind: tuple[int, int, int]) -> bytes:
     major, minor, link = kind
     return NEW_HEADER.pack(NEW_MAGIC[unit], major, minor, 0, 0, MOST_CAPTURED, link)
@@ -150,9 +162,14 @@ def write(path: str, blocks: Iterable[bytes]) -> None:
         copy.take(b"".join(held))
 
 
-def join(captures: dict[str, Classic], path: str) -> Extent | None:
+Times = dict[str, tuple[int, int]]
+"""Of captures by their names when they begin and end, by a clock that doesn't go back."""
+
+
+def join(captures: dict[str, Classic], path: str, times: Times | None = None) -> Extent | None:
     """Joins captures, by their names, in order of time. Of records of one time those of the first capture come first.
-    The extent of what is written, if it is known."""
+    If it is known when they begin and end, those that follow one another stay whole, whatever their records' times; and
+    a record that stands in both of two that don't is one record. The extent of what is written, if it is known."""
     first = next(iter(captures.values()))
     for name, capture in captures.items():
         if not capture.is_one:
@@ -160,7 +177,8 @@ def join(captures: dict[str, Classic], path: str) -> Extent | None:
         if capture.kind != first.kind:
             raise fault(f"{name} has other frames than {next(iter(captures))}, so it can't be joined with it")
     unit = min(capture.unit for capture in captures.values())
-    if (row := in_a_row(list(captures.values()))) is not None:
+    known = sorted(times, key=lambda name: times[name]) if times else []  # type: ignore
+    if (row := in_a_row([captures[name] for name in known or captures], bool(known))) is not None:
         write(path, chain([new_header(unit, first.kind)], *map(Classic.blocks, row)))
         stamps = b"".join(capture.extent.stamps.tobytes() for capture in row)
         return Extent(HEADER + sum(capture.size - HEADER for capture in row), array("Q", stamps))
@@ -171,13 +189,42 @@ def join(captures: dict[str, Classic], path: str) -> Extent | None:
             yield time * of, number, capture.renewed(begin, end, unit)
         if end != capture.size:
             raise fault(f"{name} is damaged from byte {end} on, so it can't be joined with the others")
-    rows = merge(*(records(number, *each) for number, each in enumerate(captures.items())), key=itemgetter(0, 1))
+    found = [records(number, name, captures[name]) for number, name in enumerate(known or captures)]
+    rows: Iterable[Timed] = woven(found, [times[name] for name in known]) if times is not None else \
+        merge(*found, key=itemgetter(0, 1))
     write(path, chain([new_header(unit, first.kind)], map(itemgetter(2), rows)))
     return None
 
 
-def in_a_row(captures: list[Classic]) -> list[Classic] | None:
-    """Captures one after the other in time, if they are such: all of one form and whole, each earlier than the next."""
+def woven(captures: Iterable[Iterable[Timed]], times: list[tuple[int, int]]) -> list[Timed]:
+    """The records of captures in the order in which these begin."""
+    found, end = list[Timed](), 0
+    for capture, (begin, last) in zip(captures, times):
+        own = list(capture)
+        do_share = found and not {record[2] for record in own[:AT_ENDS]}.isdisjoint(record[2] for record in found)
+        found = [*found, *own] if begin >= end and not do_share else both(found, own)
+        end = max(end, last)
+    return found
+
+
+def both(one: list[Timed], other: list[Timed]) -> list[Timed]:
+    """Records of two, in the order of both, those that both have once; between these in order of time."""
+    places, found = dict[bytes, list[int]](), list[Timed]()
+    for number, record in enumerate(one):
+        places.setdefault(record[2], []).append(number)
+    i = j = 0
+    for number, record in enumerate(other):
+        own = places.get(record[2], [])
+        if (at := bisect_left(own, i)) < len(own):
+            found += merge(one[i : own[at]], other[j:number], key=itemgetter(0, 1))
+            found.append(record)
+            i, j = own[at] + 1, number + 1
+    return [*found, *merge(one[i:], other[j:], key=itemgetter(0, 1))]
+
+
+def in_a_row(captures: list[Classic], is_known: bool) -> list[Classic] | None:
+    """Captures one after the other in time, if they are such: all of one form and whole, each earlier than the next;
+    and in the order that is known, if one is."""
     if len({(capture.order, capture.unit) for capture in captures}) > 1 or captures[0].order != "<":
         return None
     if any(capture.extent.end != capture.size or (capture.size > HEADER and not capture.extent.stamps)
@@ -185,6 +232,8 @@ def in_a_row(captures: list[Classic]) -> list[Classic] | None:
         return None
     row = sorted((capture for capture in captures if capture.extent.stamps), key=lambda one: min(one.extent.stamps))
     if any(max(one.extent.stamps) >= min(next_.extent.stamps) for one, next_ in pairwise(row)):
+        return None
+    if is_known and row != [capture for capture in captures if capture.extent.stamps]:
         return None
     return row if sum(len(capture.extent.stamps) for capture in row) < MOST_RECORDS else None
 

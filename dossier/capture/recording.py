@@ -14,16 +14,13 @@ from functools import cached_property
 from ..folder.answers import read_counts
 from ..folder.program import Program
 from ..units import SECOND
-from .classic import Classic, Extent
+from .classic import Classic, Extent, do_rise
 
 SAMPLE = re.compile(rb"(?m)^[^ ]+ ([^ ]+ [^ ]+ [^ ]+) .*")
 """A line of `samples`: its number, the server, the records of request and reply, and then its figures."""
 
 PACKET = re.compile(rb"(?m)^([^ ]+) (?s:.{120}).*")
 """A line of `list`: the record's number, and then the packet, of 120 bytes at least, which are passed over at once."""
-
-AT_ONCE = 1 << 16
-"""Records whose times are compared together."""
 
 
 class Recording:
@@ -40,11 +37,18 @@ class Recording:
         self.falls = len(falls)
         self.fall = next(((packets[k] if packets else k, *at(own[k - 1 : k + 1])) for k in falls), None)
         """The first record whose time falls back: its number, the time before it, and its own."""
-        self.first_request = next(iter(at(stamps[k] for k in samples.first)), None)
-        """The time of the first request that has a sample."""
+        self.requests = at(map(stamps.__getitem__, sorted(samples.requests)))
+        """When the requests that have samples were recorded, in this order."""
+        self.first_request = next(iter(self.requests), None)
         self.replies = at(map(stamps.__getitem__, samples.replies))
         """When each sample's reply was recorded."""
-        self.at, self.packets = at, own
+        self.at, self.packets, self.pairs, self.stamps = at, own, samples.pairs, stamps
+
+    @cached_property
+    def by_address(self) -> dict[str, list[tuple[int, int]]]:
+        """When the request and the reply of each server's samples were recorded."""
+        times = {server: self.at(map(self.stamps.__getitem__, own)) for server, own in self.pairs.items()}
+        return {server.decode("ascii"): list(zip(own[::2], own[1::2])) for server, own in times.items()}
 
     @cached_property
     def times(self) -> list[int]:
@@ -97,12 +101,6 @@ def read_recording(program: Program, claim: str, capture: str, extent: Extent | 
     return Recording(samples, whole, packets)
 
 
-def do_rise(stamps: array[int]) -> bool:
-    """Whether none is less than the one before it."""
-    parts = (stamps[k : k + AT_ONCE + 1].tolist() for k in range(0, len(stamps), AT_ONCE))
-    return all(part == sorted(part) for part in parts)
-
-
 def closing_of(block: bytes) -> int:
     """Where the closing line begins, which has counts; the block's end if it isn't there yet."""
     last = block.rfind(b"\n", 0, -1) + 1
@@ -110,13 +108,12 @@ def closing_of(block: bytes) -> int:
 
 
 class Samples:
-    """What `samples` says: the counts, how many samples each server has, the record of the first request, and those of
-    all replies."""
+    """What `samples` says: the counts, how many samples each server has, and the records of requests and replies."""
 
     def __init__(self) -> None:
         self.by_server = Counter[bytes]()
-        self.first: list[int] = []
-        self.replies = array("I")
+        self.requests, self.replies = array("I"), array("I")
+        self.pairs: dict[bytes, array[int]] = {}
         self.counts: dict[str, int] = {}
 
     def take(self, block: bytes) -> None:
@@ -125,4 +122,6 @@ class Samples:
         words = b" ".join(SAMPLE.findall(block, 0, end)).split()
         self.by_server.update(words[::3])
         self.replies.extend(map(int, words[2::3]))
-        self.first = sorted([*self.first, *map(int, words[1::3])])[:1]
+        self.requests.extend(map(int, words[1::3]))
+        for server, *records in zip(words[::3], map(int, words[1::3]), map(int, words[2::3])):
+            self.pairs.setdefault(server, array("I")).extend(records)

@@ -17,7 +17,7 @@ def once(copies: dict[str, str], program: Program) -> Audited:
     """One capture of all, given by their names and their copies, in which each packet is there once, if that can be
     had by leaving out files."""
     opened = {name: open_capture(name, copy) for name, copy in copies.items()}
-    whole, seen = joined(dict(opened), copies), Samples()
+    whole, seen = joined(dict(opened), copies, program), Samples()
     if len(copies) > 1:
         program.blocks(seen.take, "samples", CLAIM, whole.path)
     if not are_twice(seen.counts):
@@ -26,7 +26,7 @@ def once(copies: dict[str, str], program: Program) -> Audited:
     if not again:
         return whole
     left = {name: one for name, one in opened.items() if name not in again}
-    whole = joined(left, copies)
+    whole = joined(left, copies, program)
     first = min(again)
     return whole._replace(alerts=[*whole.alerts, Alert("twice", len(again), file=first, beside=again[first])])
 

@@ -207,7 +207,6 @@ def told_of(name: str, entry: Entry, record: Record, by: str, dispute: str) -> F
 def known_error(entry: Entry) -> int:
     """The largest distance from UTC, in ticks, that the clock had at least at some time: of what the hull left on one
     side of zero."""
-    found = entry.reason
-    hulls = [entry.worst.hull, *([found.piece.hull] if found and found.piece else []),
-             *(stretch.hull for stretch in (found.stretches if found else ()))]
+    hulls = [entry.worst.hull, *(part.hull for part in entry.parts),
+             *(time.hull for part in entry.parts for time in part.beyond)]
     return max((max(hull[0], -hull[1], 0) for hull in hulls if not isinstance(hull, str)), default=0)

@@ -9,7 +9,7 @@ from ..capture.captures import audited
 from ..fault import REFUSED, Fault
 from ..folder.answers import read_counts
 from ..folder.claim import Claim
-from ..folder.entry import REFUTED, UNSUPPORTED, YES, Entry, LeapList, Record, Refutation
+from ..folder.entry import AGAINST, REFUTED, UNSUPPORTED, YES, Entry, LeapList, Record, Refutation
 from ..folder.files import CERTIFICATE, CLAIM, CLAIM_OF_0, JOINED, REFUTATION, REPORT, Folder, own_data, sum_of
 from ..folder.placing import copy_of
 from ..folder.program import Program
@@ -65,7 +65,7 @@ class Judging:
 
     def capture_of(self, record: Record, taken: Inputs) -> str:
         """The capture that was audited: the one input, or all of them joined."""
-        whole = audited(taken.copies)
+        whole = audited(taken.copies, self.program)
         if (JOINED if whole.is_made else next(iter(taken.copies))) != record.capture:
             raise Other
         return whole.path
@@ -75,8 +75,8 @@ class Judging:
         claim = entry.claim
         margin = 1 + claim.bound_ns // 10**9
         leap = look_up(self.leaps, min(entry.leap.from_, claim.first - margin), max(entry.leap.to, claim.last + margin))
-        speaks = [*alerts_of(leap, self.leaps), *against(backing(self.folder, taken.sums), claim, leap)]
-        return UNSUPPORTED if speaks else YES
+        said = [*alerts_of(leap, self.leaps), *against(backing(self.folder, taken.sums), claim, leap, entry.moves)]
+        return UNSUPPORTED if any(alert.kind in AGAINST for alert in said) else YES
 
     def difference(self, entry: Entry, capture: str, record: Record) -> str:
         """Has the program judge each answer. The first that it doesn't accept, or of which it says something else."""

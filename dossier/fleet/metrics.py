@@ -61,7 +61,7 @@ def of_entry(folder: str, entry: Entry) -> Iterator[Sample]:
     day = "" if entry.part == "." else entry.part
     labels = labels_of_folder(folder, day)
     yield from of_verdict(folder, entry.verdict, day)
-    yield "clock_off", labels, int(entry.reason is not None and entry.reason.why == "off")
+    yield "clock_off", labels, int(entry.is_off)
     yield "claimed_bound_seconds", labels, entry.claim.bound_ns
     if entry.least_ns is not None:
         yield "least_bound_seconds", labels, entry.least_ns

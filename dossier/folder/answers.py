@@ -1,4 +1,5 @@
 """What the program prints, taken apart by the names of its fields. A number stays the number that was printed."""
+import re
 from typing import NamedTuple
 
 from ..schema import read_typed
@@ -88,6 +89,26 @@ def read_envelope(text: bytes) -> Envelope:
     return Envelope([int(piece["begin"]) for piece in pieces], [int(piece["end"]) for piece in pieces],
                     [read_hull([piece["low"], piece.get("high", "")]) for piece in pieces], servers,
                     int(least["bound"]) if has_least else None, int((least if has_least else bound)["piece"]))
+
+
+def read_envelopes(text: bytes) -> list[Envelope]:
+    """Takes envelopes apart that stand one behind the other."""
+    return [read_envelope(one) for one in re.findall(rb"(?:\d.*\n)+(?:[a-z].*\n)+", text)]
+
+
+def joined(envelopes: list[Envelope]) -> Envelope:
+    """Envelopes as one, in the order of their begins, for a picture: a server that one of them hasn't has an interval
+    there that holds nothing."""
+    pieces = sorted((envelope.begins[k], number, k) for number, envelope in enumerate(envelopes)
+                    for k in range(len(envelope.begins)))
+    servers = dict.fromkeys(server for envelope in envelopes for server in envelope.servers)
+
+    def ends_of(server: str, side: int) -> list[int]:
+        return [envelopes[number].servers[server][side][k] if server in envelopes[number].servers else 1 - side
+                for _, number, k in pieces]
+    return Envelope([begin for begin, _, _ in pieces], [envelopes[number].ends[k] for _, number, k in pieces],
+                    [envelopes[number].hulls[k] for _, number, k in pieces],
+                    {server: (ends_of(server, 0), ends_of(server, 1)) for server in servers}, None, 0)
 
 
 def lines_of(text: bytes) -> tuple[list[str], dict[str, dict[str, str]]]:

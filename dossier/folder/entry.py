@@ -84,23 +84,96 @@ Gap = tuple[Nanoseconds, Nanoseconds]
 
 
 @dataclass(frozen=True)
-class Step:
-    """Two Unix nanoseconds between which a server, or several, contradict themselves."""
+class Silence:
+    """Unix nanoseconds between which nothing was recorded that says something of the clock; and how many requests of
+    the client, and replies to it, were recorded in between."""
 
     after: Nanoseconds
     by: Nanoseconds
-    servers: list[Address]
+    requests: Count = 0
+    replies: Count = 0
+
+
+@dataclass(frozen=True)
+class Move:
+    """Between two records, in the order in which they were made, the clock was stepped, or moved faster than the claim
+    grants."""
+
+    after: Nanoseconds
+    by: Nanoseconds
+    """The times of the two, of which the second may be the earlier."""
+    low: Ticks
+    high: Ticks
+    """By how much its error changed."""
+    rate_ppb: Count
+    """How fast it moved at the least, in parts of 10^9, if it wasn't stepped."""
+    is_step: bool = False
+    """Whether no drift that a claim may grant does that."""
+    until: Seconds = 0
+    since: Seconds = 0
+    """Up to which reading nothing was shown behind it, and from which on nothing before it; 0 if that isn't known."""
+
+    @property
+    def around(self) -> tuple[int, int]:
+        """The two times, the earlier first."""
+        return min(self.after, self.by), max(self.after, self.by)
+
+
+@dataclass(frozen=True)
+class Beyond:
+    """From and to in Unix seconds between which the whole hull lay beyond the bound, on one side; its outermost
+    ends."""
+
+    from_: Seconds
+    to: Seconds
+    low: Ticks
+    high: Ticks
+
+    @property
+    def hull(self) -> tuple[int, int]:
+        return self.low, self.high
 
 
 @dataclass(frozen=True)
 class Stretch:
-    """A stretch of the span without a step: its ends in Unix seconds, the outermost ends of the hull in it, and the
-    servers that stand apart in it."""
+    """A part of the span between steps and gaps: its ends in Unix seconds, the outermost ends of the hull in it, what
+    lies before it, when the clock was beyond the bound for longest, and the servers that stand apart in all of it."""
 
     from_: Seconds
     to: Seconds
     hull: Hull
+    begins: Literal["", "gap", "step"] = ""
+    beyond: Annotated[list[Beyond], length(0, FEW)] = field(default_factory=list)
     apart: list[Address] = field(default_factory=list)
+    moves: Count = 0
+    """How many moves of the clock lie before it."""
+
+
+@dataclass(frozen=True)
+class Conflict:
+    """Two exchanges that can't both be with right servers: by the one the clock's error was at least so much when the
+    request was recorded, by the other at most so much when the reply was."""
+
+    low: Address
+    request: Count
+    asked: Nanoseconds
+    least: Ticks
+    high: Address
+    reply: Count
+    answered: Nanoseconds
+    most: Ticks
+
+
+@dataclass(frozen=True)
+class Camp:
+    """Servers that agree with one another, and the outermost ends of what they say of the error where no other camp
+    agrees with them; and the first and the last of these Unix seconds."""
+
+    servers: list[Address]
+    low: Ticks
+    high: Ticks
+    from_: Seconds
+    to: Seconds
 
 
 @dataclass(frozen=True)
@@ -109,25 +182,18 @@ class Reason:
 
     why: Literal["exceeds", "unbounded", "off", "gap", "apart", "drift", "step", "many", "tick", "silent", "twice",
                  "beside", "evidence"]
-    piece: Piece | None = None
-    """`off`: the longest run of pieces whose hulls lie beyond the bound as a whole, by the first of them, with the
-    outermost ends of all."""
     tick: Ticks = 0
     hull: Hull | None = None
-    """`tick`: that the claim stays open at a Unix tick, and its hull. `gap`: the outermost ends of the hull outside of
-    the gaps, if anything is."""
-    gaps: Annotated[list[Gap], length(0, FEW)] = field(default_factory=list)
+    """`tick`: that the claim stays open at a Unix tick, and its hull."""
+    gaps: Annotated[list[Silence], length(0, FEW)] = field(default_factory=list)
     count: Count = 0
     """`gap`: the longest gaps, in order of time, and how many there are."""
     drift_ppb: Count = 0
-    conflicts: list[tuple[Address, Count, Address, Count]] = field(default_factory=list)
+    conflicts: list[Conflict] = field(default_factory=list)
     apart: list[Address] = field(default_factory=list)
-    """Where nothing fits: the drift that was tried; each conflict, with the server and the record of a request and
-    those of a reply; and the servers that are apart."""
-    steps: Annotated[list[Step], length(0, FEW)] = field(default_factory=list)
-    stretches: Annotated[list[Stretch], length(0, FEW + 1)] = field(default_factory=list)
-    """When servers contradict themselves; and, if most of them do at these times, what holds before, between and
-    after."""
+    camps: Annotated[list[Camp], length(0, 32)] = field(default_factory=list)
+    """Where nothing fits: the drift that was tried, if a course fits with it; the conflicts; the servers that are
+    apart; or the camps into which the servers fall."""
     heard: Count = 0
     asking: Few = field(default_factory=list)
     asked: Few = field(default_factory=list)
@@ -161,7 +227,8 @@ class Alert:
 
     kind: Literal["outside", "no-drift", "falls", "silence", "far", "leap", "leap-second", "leap-ends", "sources",
                   "reference", "apart", "apart-for-a-time", "drift", "reading", "step", "oscillator", "torn",
-                  "interleaved", "no-list", "flood", "slip", "twice", "contrary"]
+                  "interleaved", "no-list", "flood", "slip", "twice", "address", "unread", "rate",
+                  "offset", "unlogged", "logged"]
     count: Count = 0
     record: Count = 0
     before: Nanoseconds = 0
@@ -173,6 +240,9 @@ class Alert:
     servers: list[Address] = field(default_factory=list)
     file: Annotated[str, or_nothing(is_name)] = ""
     place: Count = 0
+    requests: Count = 0
+    replies: Count = 0
+    """`silence`: what was recorded then."""
     beside: Annotated[str, or_nothing(is_name)] = ""
     """`twice`: of the files that have the packets of others once more the first, and which has them too."""
 
@@ -180,7 +250,8 @@ class Alert:
 OF_LEAPS = {"leap-second": "a leap second", "leap-ends": "the list of leap seconds has ended",
             "no-list": "no list of leap seconds"}
 AGAINST = {"drift": "more drift than is granted", "reading": "a greater allowance than is granted",
-           "step": "a logged step", **OF_LEAPS}
+           "step": "a logged step", "rate": "a logged frequency", "offset": "a logged offset",
+           "logged": "another logged step", **OF_LEAPS}
 """The warnings that take a yes away, in short: by the folder's own evidence or by the list of leap seconds something
 that the claim grants isn't so, or isn't known."""
 
@@ -228,6 +299,10 @@ class Entry:
     refutation: Refutation | None = None
     """That of the claim; or, at a yes, of the same claim with the bound 0."""
     warnings: Annotated[list[Alert], length(0, 20)] = field(default_factory=list)
+    moves: Annotated[list[Move], length(0, FEW)] = field(default_factory=list)
+    """When the clock was stepped, if just so often, or moved faster than is granted."""
+    parts: Annotated[list[Stretch], length(0, 100)] = field(default_factory=list)
+    """What holds between steps and gaps, in the order in which it was recorded."""
     outputs: dict[Left, Sum] = field(default_factory=dict)
     """The SHA-256 of each file that the audit left, by its name seen from the record's folder."""
 
@@ -238,6 +313,16 @@ class Entry:
     def within(self, name: str) -> str:
         """A file of this audit, by its name seen from the record's folder."""
         return name if self.part == "." else f"{self.part}/{name}"
+
+    @property
+    def is_off(self) -> bool:
+        """Whether the clock was beyond its bound in the last part, if it isn't known to have moved since."""
+        is_last = self.verdict != NOTHING_FITS or not self.parts or self.parts[-1].moves == len(self.moves)
+        return bool(is_last and self.parts and self.parts[-1].beyond)
+
+    @property
+    def ends_off(self) -> bool:
+        return self.is_off and self.parts[-1].beyond[-1].to == self.parts[-1].to
 
     @property
     def answer(self) -> Answer:

@@ -19,6 +19,7 @@ EVIDENCE = "evidence.json"
 CERTIFICATE = "certificate.json"
 REPORT = "report.txt"
 ENVELOPE = "envelope.txt"
+PARTS = "parts.txt"
 REFUTATION = "refutation.json"
 CLAIM_OF_0 = "bound-0.claim.json"
 CLAIM_OF_DRIFT = "more-drift.claim.json"
@@ -26,7 +27,7 @@ AUDIT = "audit.json"
 SIGNATURE = f"{AUDIT}.sig"
 YEAR = "year.json"
 JOINED = "joined.pcap"
-LEFT = frozenset({CERTIFICATE, REPORT, ENVELOPE, REFUTATION, CLAIM_OF_0, CLAIM_OF_DRIFT, JOINED})
+LEFT = frozenset({CERTIFICATE, REPORT, ENVELOPE, PARTS, REFUTATION, CLAIM_OF_0, CLAIM_OF_DRIFT, JOINED})
 """What an audit leaves of each claim."""
 OWN = LEFT | {AUDIT, SIGNATURE}
 """What stands in a folder besides the inputs."""
@@ -36,7 +37,7 @@ CAPTURE = re.compile(r"[^.].*\.(pcap|pcapng|cap)[0-9]*(\.(gz|zst))?", re.DOTALL)
 
 SMALL, JSON, LARGE = 1 << 16, 1 << 24, 1 << 30
 LIMITS = {CLAIM: SMALL, EVIDENCE: SMALL, CLAIM_OF_0: SMALL, CLAIM_OF_DRIFT: SMALL, REFUTATION: SMALL, SIGNATURE: SMALL,
-          REPORT: JSON, AUDIT: JSON, CERTIFICATE: 1 << 27, ENVELOPE: LARGE}
+          REPORT: JSON, AUDIT: JSON, CERTIFICATE: 1 << 27, ENVELOPE: LARGE, PARTS: LARGE}
 """Bytes that a file may have by its name."""
 MOST_OF_A_CAPTURE, MOST_NAMES = 1 << 32, 100_000
 """The program holds a capture in memory for as long as it takes to hold it to its sum."""

@@ -5,7 +5,7 @@ from typing import Any
 
 from ..fleet.signature import Signature, in_words
 from ..folder import files
-from ..folder.answers import read_envelope
+from ..folder.answers import joined, read_envelope, read_envelopes
 from ..folder.entry import NOTHING_FITS, OPEN, REFUTED, YES, Entry, Record, is_made_anew
 from ..folder.evidence import evidence
 from ..folder.files import Folder
@@ -14,12 +14,12 @@ from ..folder.result import Row
 from ..premise.backing import backing
 from ..premise.premises import premises, support
 from ..text import label
-from ..units import SECOND
+from ..units import SECOND, high_ms, low_ms, shown_time
 from ..verdict.apart import ranges_of
 from ..verdict.making import packed_in
 from ..verdict.sentences import fit, sentence, span, to_do, warned
 from .figure import legend, picture, stroke
-from .templates import templates
+from .templates import minus, templates
 
 COUNTS = {
     "records": "records in the capture",
@@ -60,19 +60,25 @@ def seen(name: str, folder: Folder, record: Record, entry: Entry) -> dict[str, o
     """What the rest of an article shows besides the entry's own figures."""
     claim, reason = entry.claim, entry.reason
     envelope = read_envelope(folder.data(entry.within(files.ENVELOPE)))
+    drawn_of = read_envelopes(folder.data(entry.within(files.PARTS))) if has_parts(entry) else [envelope]
     label = (f"The clock's error in ms, {span(claim)}, in pieces of {entry.envelope_step} s. Above 0 the clock "
              "is ahead of UTC. The band is the hull: what is left if no more were wrong than granted.")
-    drawn, backed, packed = ranges_of(envelope), backing(folder, record.inputs), packed_in(folder.names(), record)
+    packed = packed_in(folder.names(), record)
+    is_beside = reason is not None and reason.why == "beside"  # (what nothing recorded says isn't drawn)
+    drawn, backed = {} if is_beside else ranges_of(joined(drawn_of)), backing(folder, record.inputs)
     kept = evidence(folder) if files.EVIDENCE in record.inputs else {}
     strokes = {address: stroke(place) for place, address in enumerate(drawn)}
     apart = {server for warning in entry.warnings if warning.kind == "apart" for server in warning.servers}
     return {
         "remarks": [to_do(entry), fit(entry)], "warnings": warned(entry),
-        "conflicts": reason.conflicts if entry.verdict == NOTHING_FITS and reason else [],
-        "label": label, "picture": picture(envelope, claim.bound_ns, name, label, steps_of(entry)),
-        "legend": legend(envelope, claim.bound_ns),
+        "conflicts": [(one.low, one.request, shown_time(one.asked // SECOND), minus(low_ms(one.least)),
+                       one.high, one.reply, shown_time(one.answered // SECOND), minus(high_ms(one.most)))
+                      for one in reason.conflicts] if entry.verdict == NOTHING_FITS and reason else [],
+        "label": label, "picture": "" if is_beside else
+        picture(joined(drawn_of), claim.bound_ns, name, label, steps_of(entry)),
+        "legend": legend(joined(drawn_of), claim.bound_ns),
         "servers": [(server, drawn.get(server.address), strokes.get(server.address, "")) for server in entry.servers],
-        "apart": apart | set(reason.apart) if reason and reason.stretches else apart,
+        "apart": apart,
         "premises": [(premise, list(support(premise.name, backed, record, entry)), kept.get(premise.name, ""))
                      for premise in premises(claim)],
         "counts": [(what, f"{number:,}", COUNTS.get(what, "")) for what, number in entry.counts.items()],
@@ -84,10 +90,13 @@ def seen(name: str, folder: Folder, record: Record, entry: Entry) -> dict[str, o
                  (record.program.version or "ntpaudit", "the program", record.program.sha256)]}
 
 
+def has_parts(entry: Entry) -> bool:
+    return entry.within(files.PARTS) in entry.outputs
+
+
 def steps_of(entry: Entry) -> list[int]:
     """When the clock was stepped, in Unix seconds: by what the capture shows, or by what the client logged."""
-    found = entry.reason
-    shown = [step.by // SECOND for step in found.steps] if found and found.stretches else []
+    shown = [move.by // SECOND for move in entry.moves]
     return shown + [warning.before // SECOND for warning in entry.warnings if warning.kind == "step"]
 
 

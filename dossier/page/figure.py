@@ -18,8 +18,8 @@ from ..folder.placing import copy_named
 from ..folder.program import Program
 from ..folder.result import Told, Year
 from ..schema import read_typed
-from ..text import count, plain
-from ..units import bound_ticks, ns_ms, range_ms, shown_time
+from ..text import count, listed, plain
+from ..units import bound_ticks, from_to, ns_ms, range_ms, shown_time
 from ..verdict.judgement import is_beyond
 from .columns import Cell, cells_of, ms_marks, time_marks
 from .templates import minus, text_of
@@ -225,9 +225,10 @@ def beside(height: float, text: str, kind: str = "") -> str:
 
 def described(envelope: Envelope, bound_ns: int) -> str:
     """The picture in words, for whoever doesn't see it."""
-    first, last, bound = envelope.begins[0], envelope.ends[-1], bound_ticks(bound_ns)
+    bound = bound_ticks(bound_ns)
     bounded = [hull for hull in envelope.hulls if not isinstance(hull, str)]
-    said = [f"The clock's error from {shown_time(first)} to {shown_time(last)} UTC, in {len(envelope.hulls)} pieces."]
+    times = listed([from_to(*run) for run in runs_in(envelope)])
+    said = [f"The clock's error {times} UTC, in {count(len(envelope.hulls), 'piece')}."]
     if bounded:
         ends = range_ms(min(hull[0] for hull in bounded), max(hull[1] for hull in bounded))
         said.append(f"The hull lies within {ends}.")
@@ -235,6 +236,17 @@ def described(envelope: Envelope, bound_ns: int) -> str:
     fails = {"beyond the bound": sum(is_beyond(hull, bound) for hull in bounded)}
     fails |= {word: sum(hull == word for hull in envelope.hulls) for word in ("empty", "unbounded")}
     return " ".join([*said, *(f"{count(number, 'piece')} {word}." for word, number in fails.items() if number)])
+
+
+def runs_in(envelope: Envelope) -> list[tuple[int, int]]:
+    """From and to of pieces that follow one another without a gap."""
+    runs = [(envelope.begins[0], envelope.ends[0])]
+    for begin, end in zip(envelope.begins[1:], envelope.ends[1:]):
+        if begin <= runs[-1][1]:
+            runs[-1] = runs[-1][0], max(end, runs[-1][1])
+        else:
+            runs.append((begin, end))
+    return runs
 
 
 def stroke(place: int) -> str:

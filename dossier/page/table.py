@@ -4,14 +4,14 @@ import io
 import re
 
 from ..fleet.signature import Signature
-from ..folder.entry import OPEN, WORST_FIRST, Entry
+from ..folder.entry import NOTHING_FITS, OPEN, WORST_FIRST, Entry
 from ..folder.registry import Judgement
 from ..folder.result import Row
 from ..records import asdict, replace
 from ..text import label, plain
 from ..units import civil
 from ..verdict.alerts import warning_words
-from ..verdict.sentences import reason, to_do
+from ..verdict.sentences import presumed, reason, to_do
 
 
 def badness_of(row: Row) -> tuple[int, int]:
@@ -26,13 +26,15 @@ def row_without_verdict(folder: str, verdict: str, why: str, what: str, signatur
 
 
 def row_of(folder: str, entry: Entry, signature: Signature, judged: Judgement | None) -> Row:
-    claim, worst = entry.claim, entry.worst
+    claim, worst, has_worst = entry.claim, entry.worst, entry.verdict != NOTHING_FITS
     return replace(
         row_without_verdict(folder, entry.verdict, reason(entry), to_do(entry), signature),
-        day="" if entry.part == "." else entry.part, warnings=[warning_words(warning) for warning in entry.warnings],
+        day="" if entry.part == "." else entry.part,
+        warnings=presumed(entry) + [warning_words(warning) for warning in entry.warnings],
         client=claim.client, begin=claim.from_, end=claim.to, bound_ns=claim.bound_ns, least_bound_ns=entry.least_ns,
-        worst_begin=civil(worst.from_), worst_end=civil(worst.to), samples=entry.counts["samples"],
-        servers=len(claim.servers), groups=len(claim.grouped), false_max=claim.false_max,
+        worst_begin=civil(worst.from_) if has_worst else "", worst_end=civil(worst.to) if has_worst else "",
+        samples=entry.counts["samples"], servers=len(claim.servers), groups=len(claim.grouped),
+        false_max=claim.false_max,
         leap_seconds=entry.leap.says, judged_twice_at=judged.at if judged and entry.answer != OPEN else "")
 
 

@@ -38,6 +38,8 @@ class Configuration:
     step_s: Text | None = None
     """Seconds from which the client steps the clock; None if it never does."""
     leapsecmode: Text | None = None
+    maxdrift: Text | None = None
+    """Of chronyd: how far it may set the frequency, in ppm."""
     hwtimestamp: Text | None = None
     not_read: Text | None = None
     """Files that the configuration takes in, which weren't read."""
@@ -72,7 +74,8 @@ def read_chrony(paths: list[str]) -> Configuration:
     return Configuration(
         CHRONY, files, math.ceil(slew), maxslewrate=rate[0] if rate else None,
         makestep=" ".join(step) if step else None, step_s=step[0] if step else None,
-        leapsecmode=" ".join(said.get("leapsecmode", ())) or None, hwtimestamp=" ".join(cards) or None,
+        leapsecmode=" ".join(said.get("leapsecmode", ())) or None,
+        maxdrift=" ".join(said.get("maxdrift", ())) or None, hwtimestamp=" ".join(cards) or None,
         not_read=" ".join(others) or None)
 
 
@@ -110,7 +113,8 @@ def in_words(found: Configuration) -> str:
         return f"{names}: ntpd slews by {found.slew_ppb:,} parts in 10^9 at the most; {steps}."
     rate = "maxslewrate isn't set" if found.maxslewrate is None else f"maxslewrate {found.maxslewrate}"
     rest = [f"{name} {value}" if value else f"no {name}" for name, value in
-            (("makestep", found.makestep), ("leapsecmode", found.leapsecmode), ("hwtimestamp", found.hwtimestamp))]
+            (("makestep", found.makestep), ("leapsecmode", found.leapsecmode), ("maxdrift", found.maxdrift),
+             ("hwtimestamp", found.hwtimestamp))]
     return f"{names}: {rate}, so chronyd slews by {found.slew_ppb:,} parts in 10^9 at the most; {'; '.join(rest)}."
 
 
@@ -125,6 +129,9 @@ def cautions(found: Configuration) -> list[str]:
         said.append(f"ntpd steps the clock if it is off by more than {found.step_s} s, or by what its option -x says.")
     if found.step_s:
         said.append("No drift covers a step: see in the client's messages that there was none.")
+    if found.client == CHRONY and not found.maxdrift:
+        said.append("maxdrift isn't set, so chronyd may set the frequency by up to 500,000 ppm, whatever the "
+                    "oscillator does: `maxdrift 100` holds it to 100 ppm.")
     if found.not_read:
         said.append(f"The configuration takes in {found.not_read} besides, which wasn't read: name these files too, or "
                     "what `chronyd -p` prints.")

@@ -36,10 +36,9 @@ class Correction:
                  f"With {self.oscillator_ppb:,} of the oscillator that is a drift of {self.drift_ppb:,}."]
         return words + ([tracking.in_words(self.tracking)] if self.tracking else [])
 
-    def steps_within(self, first: int, last: int) -> list[int]:
-        """The Unix seconds of the steps in a span, as the client logged them."""
-        steps = tracking.within(self.tracking, first, last) if self.tracking else []
-        return [seconds_of(time) for time, _, _ in steps]
+    @property
+    def logs(self) -> list[Tracking]:
+        return [self.tracking] if self.tracking else []
 
     def cautions(self, first: int, last: int) -> list[str]:
         """What a person has to look at, over a span of Unix seconds."""
@@ -48,6 +47,8 @@ class Correction:
 
 
 def correction(oscillator_ppb: int, found: Configuration, log: Tracking | None, made: str) -> Correction:
+    if log:  # (what it shows, is granted)
+        oscillator_ppb = max(oscillator_ppb, tracking.greatest(log, 0, seconds_of(log.last))[0])
     drift = oscillator_ppb + found.slew_ppb
     if drift > GREATEST_DRIFT:
         raise fault(f"a drift of {drift} by the configuration is more than a claim can grant")

@@ -9,6 +9,7 @@ from ..records import dataclass
 from ..units import civil, ns_ms, shown_time
 from .backing import Backing
 from .leap import EXPIRED, NONE
+from .tracking import in_words as log_in_words
 
 
 @dataclass(frozen=True)
@@ -57,6 +58,9 @@ def support(name: str, found: Backing, record: Record, entry: Entry) -> Iterator
         yield ("Measured:", measured.sentence())
         if measured.greatest_ns > entry.claim.reading_ns:
             yield MORE
+    for log in found.logs if name == "drift" else ():
+        if not any(read.tracking is log for read in found.read):
+            yield ("Read:", log_in_words(log))
     for read in found.read if name == "drift" else ():
         yield ("Read:", " ".join(read.sentences()))
         if read.drift_ppb > entry.claim.drift_ppb:

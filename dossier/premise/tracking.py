@@ -1,29 +1,41 @@
-"""What chronyd's tracking.log says: how its frequency changed, and where the clock was stepped.
+"""What chronyd's tracking.log and its messages say: its frequency, its offset, and where the clock was stepped.
 
 It is the client's own opinion, and stands as such wherever it is shown. tracking.log doesn't mark steps: an update
-whose offset is more than makestep's threshold is taken for one. chronyd's messages name them, if they are given too.
+whose offset is more than makestep's threshold is taken for one. chronyd's messages name them. A line of another form
+says nothing that is known, and is counted.
 """
-import os
 import re
+from contextlib import suppress
 from datetime import datetime
 from fractions import Fraction
 
 from ..fault import fault
 from ..folder.files import sum_of
-from ..records import dataclass
+from ..records import dataclass, field
 from ..schema import Count, Sum, Text, Time, is_time
 from ..text import count
-from ..units import EPOCH, FORM, seconds_of, shown_time
-from .client import lines_of
+from ..units import DAY, EPOCH, FORM, civil, seconds_of, shown_time
 
 UPDATE = re.compile(r"(\d{4}-\d\d-\d\d) (\d\d:\d\d:\d\d) +\S+ +(\d+) +(-?\d{1,9}\.\d{1,9}) +\d+\.\d+ +"
                     r"(-?\d\.\d{1,9}e[+-]\d\d) ", re.ASCII)
-STEPPED = re.compile(r"(\d{4}-\d\d-\d\d[T ]\d\d:\d\d:\d\d(?:\.\d+)?(?:Z|[+-]\d\d:?\d\d)) .*"
-                     r"System clock was stepped by (-?\d{1,12}\.\d{1,12}) seconds", re.ASCII)
+HEADS = re.compile(r"=+$|   Date \(UTC\) Time |$")
+MESSAGE = re.compile(r"(?:(\d{4}-\d\d-\d\d[T ]\d\d:\d\d:\d\d(?:[.,]\d+)?(?:Z|[+-]\d\d:?\d\d)?)"
+                     r"|([A-Z][a-z]{2} [ \d]\d \d\d:\d\d:\d\d(?:\.\d+)?)) (?:.*?\bchronyd(?:\[\d+\])?: )?(.*)",
+                     re.ASCII)
+"""A message by its time, as syslog and journalctl write it, and what it says."""
+STEPPED = re.compile(r"System clock was stepped by (-?\d{1,12}\.\d{1,12}) seconds", re.ASCII)
+WRONG = re.compile(r"System clock wrong by (-?\d{1,12}\.\d{1,12}) seconds", re.ASCII)
+ABOUT_STEPS = re.compile("stepp|step time|jump|set the (system )?(clock|time)|clock (was )?(set|wrong|changed)"
+                         "|time (has been |was )?(set|changed)", re.IGNORECASE)
+"""What a message may say that is of a step, in words that aren't chronyd's."""
 HAPPENED, OFFSET, FALLS = "it says so", "an offset beyond makestep's threshold", "the times of the log fall back"
+TOGETHER = 600
+"""Seconds of which a log's extremes are kept."""
 
 Step = tuple[Time, Text, Text]
 """The time of a step, its seconds (nothing if they aren't known), and how it is seen."""
+Extremes = tuple[Time, Text, Text, Text]
+"""Since a time, for ten minutes at most: the least and the greatest frequency in ppm, and the greatest offset in s."""
 
 
 @dataclass(frozen=True)
@@ -38,45 +50,93 @@ class Tracking:
     """The greatest change of frequency from one update to the next."""
     steps: list[Step]
     """Of each step its time, its seconds (nothing if they aren't known), and how it is seen."""
+    extremes: list[Extremes] = field(default_factory=list)
+    unread: Count = 0
+    """Lines that aren't understood."""
 
 
-def read_tracking(paths: list[str], step_s: str | None) -> Tracking:
-    """What the logs say, for a client that steps from so many seconds on."""
-    files: dict[str, str] = {}
-    seen: list[tuple[str, Fraction]] = []
-    steps: list[Step] = []
-    for path in paths:
-        data, lines = lines_of(path)
-        files[os.path.basename(path)] = sum_of(data)
-        for line in lines:
-            if update := UPDATE.match(line):
-                take(update, step_s, seen, steps)
-            elif stepped := STEPPED.match(line):
-                steps.append((in_utc(stepped[1]), stepped[2], HAPPENED))
-    if not seen and not steps:
+class Reading:
+    """What was read so far."""
+
+    def __init__(self, step_s: str | None, now: str, known: str):
+        """Of a log that ends by a time; or near one that is known."""
+        self.step_s, self.now, self.known = step_s, now, known
+        self.rates: list[tuple[str, Fraction]] = []
+        self.offsets: list[tuple[str, Fraction]] = []
+        self.steps: list[Step] = []
+        self.last, self.unread = "", 0
+
+    def take(self, line: str) -> None:
+        if update := UPDATE.match(line):
+            self.update(update)
+        elif (message := MESSAGE.match(line)) and (time := self.time_of(message)):
+            if stepped := STEPPED.search(message[3]):
+                self.steps.append((time, stepped[1], HAPPENED))
+            elif wrong := WRONG.search(message[3]):
+                self.offsets.append((time, Fraction(wrong[1])))
+            else:
+                self.unread += bool(ABOUT_STEPS.search(message[3]))
+        else:
+            self.unread += not HEADS.match(line)
+
+    def update(self, update: re.Match[str]) -> None:
+        """Takes an update. One of no source (its stratum is 0) says nothing of the frequency."""
+        time = f"{update[1]}T{update[2]}Z"
+        if not is_time(time):
+            raise fault("the log has a time that is none")
+        if self.rates and time < self.rates[-1][0]:
+            self.steps.append((time, "", FALLS))
+        if self.step_s is not None and abs(Fraction(update[5])) > Fraction(self.step_s):
+            self.steps.append((time, f"{float(update[5]):.6f}", OFFSET))
+        self.offsets.append((time, Fraction(update[5])))
+        if update[3] != "0":
+            self.rates.append((time, Fraction(update[4])))
+
+    def time_of(self, message: re.Match[str]) -> str:
+        """The time of a message in UTC. Without a zone it is taken for UTC, without a year for the day nearest to what
+        is known, else for the last such day."""
+        if message[1]:
+            return in_utc(message[1].replace(",", "."))
+        near, found = seconds_of(self.known or self.now), list[str]()
+        for year in range(int(civil(near)[:4]) - 4, int(civil(near)[:4]) + 2):
+            with suppress(ValueError):  # (29 February of another year, or no day at all)
+                found.append(datetime.strptime(f"{year} {message[2][:15]}", "%Y %b %d %H:%M:%S").strftime(FORM))
+        times = [time for time in found if self.known or seconds_of(time) <= near + DAY]
+        return min(times, key=lambda time: abs(seconds_of(time) - near), default="")
+
+
+def read_tracking(logs: dict[str, bytes], step_s: str | None, now: str) -> Tracking:
+    """What logs say, by their names, for a client that steps from so many seconds on."""
+    lines = [line for data in logs.values() for line in data.decode("utf-8", "replace").splitlines()]
+    known = max((f"{update[1]}T{update[2]}Z" for line in lines if (update := UPDATE.match(line))), default="")
+    reading = Reading(step_s, now, known if is_time(known) else "")
+    for line in lines:
+        reading.take(line)
+    if not reading.offsets and not reading.steps:
         raise fault("the log has no update of chronyd's tracking.log in it")
-    rates = [rate for _, rate in seen] or [Fraction(0)]
+    rates = [rate for _, rate in reading.rates] or [Fraction(0)]
     change = max((abs(b - a) for a, b in zip(rates, rates[1:])), default=Fraction(0))
-    times = sorted([time for time, _ in seen] + [step[0] for step in steps])
-    return Tracking(files, len(seen), times[0], times[-1], ppm(min(rates)), ppm(max(rates)), ppm(change), sorted(steps))
+    times = sorted([time for time, _ in reading.rates or reading.offsets] + [step[0] for step in reading.steps])
+    return Tracking({name: sum_of(data) for name, data in logs.items()}, len(reading.rates), times[0], times[-1],
+                    ppm(min(rates)), ppm(max(rates)), ppm(change), sorted(reading.steps), extremes_of(reading),
+                    reading.unread)
 
 
-def take(update: re.Match[str], step_s: str | None, seen: list[tuple[str, Fraction]], steps: list[Step]) -> None:
-    """Takes an update. One of no source (its stratum is 0) says nothing of the frequency."""
-    time = f"{update[1]}T{update[2]}Z"
-    if not is_time(time):
-        raise fault("the log has a time that is none")
-    if seen and time < seen[-1][0]:
-        steps.append((time, "", FALLS))
-    if step_s is not None and abs(Fraction(update[5])) > Fraction(step_s):
-        steps.append((time, f"{float(update[5]):.6f}", OFFSET))
-    if update[3] != "0":
-        seen.append((time, Fraction(update[4])))
+def extremes_of(reading: Reading) -> list[Extremes]:
+    """The extremes of ten minutes each."""
+    rates, offsets = dict[int, list[Fraction]](), dict[int, list[Fraction]]()
+    for known, own in ((rates, reading.rates), (offsets, reading.offsets)):
+        for time, value in own:
+            known.setdefault(seconds_of(time) // TOGETHER, []).append(value)
+    none = [Fraction(0)]
+    return [(civil(at * TOGETHER), ppm(min(rates.get(at, none))), ppm(max(rates.get(at, none))),
+             f"{float(max(abs(offset) for offset in offsets.get(at, none))):.9f}")
+            for at in sorted(rates.keys() | offsets)]
 
 
 def in_utc(time: str) -> str:
     try:
-        moment = datetime.fromisoformat(time)
+        moment = datetime.fromisoformat(time if re.search(r"(Z|[+-]\d\d:?\d\d)$", time[19:]) else f"{time}+00:00")
         return (EPOCH + (moment - datetime.fromisoformat("1970-01-01T00:00:00+00:00"))).strftime(FORM)
     except (ValueError, OverflowError):
         raise fault("the log has a time that is none") from None
@@ -92,9 +152,11 @@ def in_words(found: Tracking) -> str:
     steps = count(len(found.steps), "step") if found.steps else "no step"
     updates = count(found.updates, "update")
     span = f"from {shown(found.first)} to {shown(found.last)}"
+    unread = f" {count(found.unread, 'line')} of another form {'says' if found.unread == 1 else 'say'} nothing that " \
+        "is known." if found.unread else ""
     return (f"{', '.join(found.files)}, as chronyd wrote it: {updates} {span}, its frequency from "
             f"{found.least_ppm} to {found.greatest_ppm} ppm, with {found.change_ppm} ppm at the most from one to the "
-            f"next; {steps}.")
+            f"next; {steps}.{unread}")
 
 
 def shown(time: str) -> str:
@@ -104,6 +166,16 @@ def shown(time: str) -> str:
 def within(found: Tracking, first: int, last: int) -> list[Step]:
     """The steps inside a span of Unix seconds. The log's times are cut to seconds."""
     return [step for step in found.steps if first - 1 <= seconds_of(step[0]) <= last + 1]
+
+
+def greatest(found: Tracking, first: int, last: int) -> tuple[int, int]:
+    """The greatest frequency, or difference of two, in parts of 10^9, and the greatest offset in nanoseconds, that were
+    logged inside a span of Unix seconds or within ten minutes of it."""
+    own = [row for row in found.extremes if first - TOGETHER <= seconds_of(row[0]) <= last]
+    if not own:
+        return 0, 0
+    least, most = min(Fraction(row[1]) for row in own), max(Fraction(row[2]) for row in own)
+    return int(max(abs(least), abs(most), most - least) * 1000), int(max(Fraction(row[3]) for row in own) * 10**9)
 
 
 def cautions(found: Tracking, first: int, last: int) -> list[str]:

@@ -1,11 +1,11 @@
 """Warnings in words: what stands beside a verdict, for a reader who may not know the terms."""
 from collections.abc import Callable
 
-from ..folder.entry import Alert
+from ..folder.entry import Alert, Silence
 from ..premise import allowance
 from ..premise.premises import named
 from ..text import capital, count, is_or_are, listed, plain, reference
-from ..units import SECOND, between, civil, from_to, ns_ms, outward, shown_time, span_of_seconds
+from ..units import SECOND, between, civil, from_to, inward, ns_ms, outward, shown_time, span_of_seconds
 
 ON_DRIFT = "There it rests on the drift that the claim grants, and on nothing recorded."
 
@@ -34,11 +34,20 @@ def falls(found: Alert) -> str:
 
 
 def silence(found: Alert) -> str:
-    more = f", the longest of {found.count:,} such times" if found.count > 1 else ""
-    first, last = map(shown_time, outward(found.before, found.after))
-    by = length(found.after - found.before)
-    return (f"No server was heard from {first} to {last} ({by}){more}: the machine, its recorder or the network was "
-            f"off, or nobody answered. {ON_DRIFT}")
+    more = f" There are {found.count:,} such times, of which this is the longest." if found.count > 1 else ""
+    return f"{silent(Silence(found.before, found.after, found.requests, found.replies))}{more} {ON_DRIFT}"
+
+
+def silent(gap: Silence) -> str:
+    """What was recorded in a gap."""
+    first, last = map(shown_time, inward(gap.after, gap.by))
+    when = f"from {first} to {last} ({length(gap.by - gap.after)})"
+    if not gap.requests:
+        return f"No server was heard {when}: nothing of this client was recorded."
+    asked = count(gap.requests, "request")
+    if not gap.replies:
+        return f"No server was heard {when}: nobody answered, of {asked}."
+    return f"No server was heard {when}: no reply was of use, of {gap.replies:,} to {asked}."
 
 
 def far(found: Alert) -> str:
@@ -62,7 +71,7 @@ def twice(found: Alert) -> str:
 
 
 def apart_for_a_time(found: Alert) -> str:
-    more = f"; so {'does' if found.count == 1 else 'do'} servers at {count(found.count, 'other time')}"
+    more = f"; so {'does a server' if found.count == 1 else 'do servers'} at {count(found.count, 'other time')}"
     return (f"{listed(found.servers)} {number(found, 'stands', 'stand')} apart "
             f"{from_to(*outward(found.before, found.after))}: {number(found, 'its', 'their')} samples then miss the "
             f"hull{more if found.count else ''}.")
@@ -92,14 +101,24 @@ WORDS: dict[str, Callable[[Alert], str]] = {
     "oscillator": lambda found: f"The claim grants {found.count:,} parts in 10^9, which is an oscillator alone. The "
                                 "client's own corrections are NOT in it, unless evidence of its configuration says "
                                 "how small they are.",
-    "contrary": lambda found: f"The clock was stepped {between(*outward(found.before, found.after))}, outside of the "
-                              "span: what was recorded beside the span is left out.",
     "flood": lambda found: f"{count(found.count, 'record')} of the capture {is_or_are(found.count)} of others than "
                            "the claim's client and servers, and left out of what is audited: the recorder's filter "
                            "may name these servers.",
     "step": lambda found: f"The client logged a step of the clock at {shown_time(found.before // SECOND)}"
                           f"{f', the first of {found.count:,} steps' if found.count > 1 else ''}. No drift covers a "
                           "step.",
+    "rate": lambda found: f"The client logged a frequency, or a change of it, of {found.count:,} parts in 10^9 in the "
+                          "span or near it. That is more than the claim grants (`drift_ppb`).",
+    "offset": lambda found: f"The client logged an offset of {ns_ms(found.count)} ms in the span or near it. That is "
+                            "beyond the bound.",
+    "logged": lambda found: "The client logged a step of the clock at "
+                            f"{shown_time(found.before // SECOND)}, where none is presumed.",
+    "unlogged": lambda found: f"The client's log has no step {between(*outward(found.before, found.after))}, where one "
+                              "is presumed.",
+    "unread": lambda found: f"{count(found.count, 'line')} of {plain(found.file) or 'logs'} "
+                            f"{'is' if found.count == 1 else 'are'} of no known form: nothing in them was read.",
+    "address": lambda found: f"By the folder's own evidence the recorder had the address {found.servers[0]}, and not "
+                             "the claim's client's: another machine's stamps say nothing of this clock.",
     "apart": lambda found: f"{listed(found.servers)} {number(found, 'stands', 'stand')} apart: "
                            f"{number(found, 'its range never meets', 'their ranges never meet')} the hull.",
     "interleaved": lambda found: f"{listed(found.servers)} mostly {number(found, 'answers', 'answer')} in interleaved "
@@ -111,6 +130,10 @@ WORDS: dict[str, Callable[[Alert], str]] = {
 }
 TO_DO = {
     "drift": "Grant as much drift as the evidence has, and audit again.",
+    "rate": "Grant as much drift as the log shows, and audit again.",
+    "offset": "See in the log how far off the client took the clock to be, and when. Claim a wider bound, or the other "
+              "times.",
+    "logged": "See in the log when the clock was stepped, and claim the time between two steps by itself.",
     "reading": "Grant as much as was measured, and audit again.",
     "step": "Claim the time before the step and the time after it by themselves.",
     "leap-second": "Claim another span.",

@@ -44,6 +44,12 @@ def outermost(hulls: list[Hull]) -> Hull:
     return (min(low for low, _ in ends), max(high for _, high in ends)) if ends else "empty"
 
 
+def pieces_of(envelope: Envelope, begin: int, end: int) -> Envelope:
+    """Some pieces of an envelope."""
+    servers = {address: (lows[begin:end], highs[begin:end]) for address, (lows, highs) in envelope.servers.items()}
+    return Envelope(envelope.begins[begin:end], envelope.ends[begin:end], envelope.hulls[begin:end], servers, None, 0)
+
+
 def are_in(envelope: Envelope, gaps: list[Gap]) -> list[bool]:
     """Of each piece whether some of it lies in a gap, of those in order of time."""
     lasts, found = [last for _, last in gaps], []
@@ -59,6 +65,8 @@ class Time(NamedTuple):
     server: str
     first: int
     last: int
+    samples: int = 1
+    """How many they are."""
 
 
 class Seen(NamedTuple):
@@ -110,8 +118,8 @@ class Search:
             if isinstance(first, str) or isinstance(last, str):
                 continue
             if int(fields[11]) > first[1] or int(fields[13]) < last[0]:
-                begin = self.open[fields[1]].first if fields[1] in self.open else asked
-                self.open[fields[1]] = Time(fields[1], begin, answered)
+                before = self.open.get(fields[1], Time(fields[1], asked, answered, 0))
+                self.open[fields[1]] = Time(fields[1], before.first, answered, before.samples + 1)
                 continue
             self.met.add(fields[1])
             if fields[1] in self.open:
@@ -126,14 +134,14 @@ class Search:
 def seen_apart(program: Program, part: Part, capture: str, extent: Extent | None, envelope: Envelope,
                gaps: list[Gap]) -> Seen:
     """Which servers stand apart, and when, by their samples where their intervals don't tell."""
-    always, suspects = apart_of(envelope, gaps), suspects_of(envelope, gaps)
+    always = apart_of(envelope, gaps)
+    suspects = list(dict.fromkeys([*always, *suspects_of(envelope, gaps)]))
     if not suspects:
-        return Seen(always, [])
+        return Seen([], [])
     keep(SUSPECTS, replace(part.claim, servers=suspects, false_max=0, groups=[]).text)
     search = Search(envelope, gaps, Classic(capture, extent))
     program.blocks(search.take, "samples", SUSPECTS, capture)
     missed = [*search.times, *search.open.values()]
     times = [time for time in missed if time.server in search.met]
-    own, named = {time.server for time in missed} - search.met, {time.server for time in times}
-    return Seen([server for server in part.claim.servers
-                 if server in own or server in always and server not in named], times)
+    own = {time.server for time in missed} | {*always}
+    return Seen([server for server in part.claim.servers if server in own - search.met], times)

@@ -10,7 +10,7 @@ from ..capture.traffic import Traffic, number_of, read_traffic
 from ..capture.twice import are_twice
 from ..fault import USAGE, fault
 from ..folder.answers import read_envelope, read_settled
-from ..folder.claim import Claim, Part
+from ..folder.claim import Claim
 from ..folder.entry import NOTHING_FITS, Alert, LeapList
 from ..folder.files import CLAIM
 from ..folder.placing import copy_named, keep
@@ -20,9 +20,10 @@ from ..premise.leap import alerts_of, look_up
 from ..records import dataclass, replace
 from ..schema import said
 from ..text import count, listed, plain, reference as letters
-from ..units import DAY, SECOND, between, civil, ns_ms, ns_up_ms, outward, round_up
+from ..units import DAY, SECOND, civil, ns_ms, ns_up_ms, round_up
 from .alerts import TO_DO, warning_words
-from .steps import Search
+from .parts import Parting
+from .sentences import moved
 
 MOST_SERVERS = 32
 LONGEST = "86400"
@@ -168,11 +169,9 @@ class Draft:
 
     def why_nothing_fits(self, claim: Claim) -> str:
         """That no course of events fits the draft, and when the clock was stepped, if that is why."""
-        found = Search(self.program, Part(".", claim), self.capture, None).found()
-        steps = listed([between(*outward(step.after, step.by)) for step in found.of_clock])
-        keep(CLAIM, claim.text)
-        return (f"Nothing fits this draft, so no claim by it is shown: the clock was stepped {steps}, or moved faster "
-                "than drift_ppb. Claim what came before and after by itself." if steps else
+        moves = Parting(self.program, claim, self.capture, None).moves
+        return ("Nothing fits this draft, so no claim by it is shown: the clock was "
+                f"{listed(list(map(moved, moves)))}. Claim what came before and after by itself." if moves else
                 "Nothing fits this draft, so no claim by it is shown: `audit` says why.")
 
     def bound(self, claim: Claim, wanted: int | None) -> int:

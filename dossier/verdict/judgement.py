@@ -3,8 +3,7 @@
 This is a function of texts that the program printed; `verify` calls it again on texts of its own.
 """
 from collections.abc import Iterator
-from itertools import groupby, pairwise
-from operator import sub
+from itertools import pairwise
 from typing import NamedTuple
 
 from ..capture.recording import Recording
@@ -12,19 +11,18 @@ from ..capture.traffic import Traffic, number_of
 from ..capture.twice import are_twice
 from ..folder.answers import Envelope, Settled, read_advice, read_settled
 from ..folder.claim import GREATEST_DRIFT, OSCILLATOR, Claim, Part
-from ..folder.entry import (FEW, NO_EVIDENCE, NOTHING_FITS, OPEN, REFUTED, YES, Alert, Entry, Gap, Hull,
-                            LeapList, Piece, Reason, Server, Stretch, side_of)
+from ..folder.entry import (FEW, NO_EVIDENCE, NOTHING_FITS, OPEN, REFUTED, YES, Alert, Conflict, Entry, Gap, Hull,
+                            LeapList, Move, Piece, Reason, Server, Silence, Stretch)
 from ..premise.allowance import slip
 from ..premise.backing import Backing, against
 from ..premise.leap import entry_by, look_up, stretch
 from ..units import SECOND, bound_ticks
-from .apart import Seen as Apart, Time, are_in, outermost
-from .steps import Found
+from .apart import Seen as Apart, Time, are_in
+from .parts import gaps_of, inner_gaps, longest_of, told_of
+from .seen import camps_of
 
 FAR = 10
 """A piece is far from the samples if the nearest is farther than this part of the span."""
-SILENCE, UNUSUAL = 60 * SECOND, 10
-"""Servers are silent if none is heard for this time, and for so many times as long as usual."""
 TOLD = "silence", "outside", "far"
 """Warnings that say less than a reason which names the gaps."""
 MORE = 10
@@ -41,13 +39,20 @@ class Texts(NamedTuple):
     other: bytes = b""
     """The answer of `settle` to another claim: at a yes with the bound 0, where nothing fits with more drift and
     the greatest bound."""
-    apiece: bytes = b""
-    """Where nothing fits, the answer of `settle` if each server is by itself and none may be wrong."""
-    found: Found = Found([], [])
-    stretches: list[Stretch] = []
-    """Where nothing fits, when servers contradict themselves, and what lies between these times."""
+    spared: int = 0
+    """Where nothing fits, with how many wrong groups a course of events fits, or the clock's moves are known."""
+    conflicts: list[Conflict] = []
+    moves: list[Move] = []
+    parts: list[Stretch] = []
+    """When the clock moved otherwise than the claim grants, and what holds between."""
     envelope: Envelope = Envelope([], [], [], {}, None, 0)
     apart: Apart = Apart([], [])
+    elsewhere: list[Gap] = []
+    """Of an answer by one stretch, from when to when the others were recorded."""
+    gaps: list[tuple[Gap, str]] | None = None
+    """Where nothing fits and the clock's moves are known, the gaps between them, each with what has its records."""
+    silent: dict[Gap, Silence] = {}
+    """What was recorded in each of the longest gaps."""
     traffic: Traffic | None = None
     """Who asks whom, by `list`, if there is no evidence, or many replies have no request."""
 
@@ -74,18 +79,14 @@ def judge(part: Part, recording: Recording, beside: Beside, texts: Texts, step: 
     settled, envelope = read_settled(texts.settled), texts.envelope
     advice = read_advice(texts.report) if settled.answer == YES else {}
     servers = servers_of(claim, recording)
-    gaps = gaps_of(claim, recording)
+    gaps = told_of(gaps_of(claim, recording), texts.elsewhere)
     warned = [*beside.alerts, *warnings(claim, recording, texts, advice, gaps),
-              *against(beside.backing, claim, leap)]
+              *against(beside.backing, claim, leap, texts.moves)]
     if texts.traffic and (mode := texts.traffic.interleaving(claim.client, claim.servers)):
         warned.insert(0, Alert("interleaved", servers=mode))
     if 0 < claim.drift_ppb <= OSCILLATOR and not beside.backing.read:
         warned.append(Alert("oscillator", claim.drift_ppb))
     reason = reason_of(claim, settled, Seen(servers, recording, gaps, texts, beside.capture))
-    if reason and reason.stretches and reason.apart:
-        known = {server for alert in warned if alert.kind == "apart" for server in alert.servers}
-        warned = [alert for alert in warned if alert.kind != "apart"]
-        warned.append(Alert("apart", servers=[one for one in claim.servers if one in known | set(reason.apart)]))
     if reason and reason.why in ("gap", "beside"):
         warned = [alert for alert in warned if alert.kind not in TOLD]
     return entry_by(beside.leaps, Entry(
@@ -101,6 +102,8 @@ def judge(part: Part, recording: Recording, beside: Beside, texts: Texts, step: 
         reason=reason,
         refutation=read_settled(texts.other).refutation if settled.answer == YES else settled.refutation,
         warnings=warned,
+        moves=texts.moves,
+        parts=texts.parts,
         outputs=outputs,
     ))
 
@@ -134,7 +137,7 @@ def reason_of(claim: Claim, settled: Settled, seen: Seen) -> Reason | None:
             return Reason("twice", file=seen.capture)
         return silent(claim, settled.heard, seen.texts.traffic or Traffic())
     if settled.answer == NOTHING_FITS:
-        return why_nothing_fits(claim, seen.servers, settled, seen.texts)
+        return why_nothing_fits(claim, seen.texts)
     return None
 
 
@@ -152,52 +155,27 @@ def why_refuted(claim: Claim, seen: Seen) -> Reason:
     envelope, bound = seen.texts.envelope, bound_ticks(claim.bound_ns)
     if "unbounded" in envelope.hulls:
         return Reason("unbounded")
-    if off := off_piece(envelope, bound):
-        return Reason("off", off)
+    if any(part.beyond for part in seen.texts.parts):
+        return Reason("off")
     if around := seen.recording.around(claim.first * SECOND, claim.last * SECOND):
         return Reason("beside", recorded=around)
     are_gaps = are_in(envelope, seen.gaps)
     if any(is_in and is_beyond(hull, bound) for hull, is_in in zip(envelope.hulls, are_gaps)):
-        rest = [hull for hull, is_in in zip(envelope.hulls, are_gaps) if not is_in]
-        longest = sorted(seen.gaps, key=lambda gap: gap[0] - gap[1])[:FEW]
-        return Reason("gap", hull=outermost(rest) if rest else None, gaps=sorted(longest), count=len(seen.gaps))
+        longest = sorted(longest_of(seen.gaps))
+        return Reason("gap", gaps=[seen.texts.silent[gap] for gap in longest], count=len(seen.gaps))
     return Reason("exceeds")
 
 
-def off_piece(envelope: Envelope, bound: int) -> Piece | None:
-    """The longest run of pieces whose hulls lie beyond the bound as a whole, all on one side, if there is one."""
-    sides = [side_of(hull, bound) for hull in envelope.hulls]
-    runs, begin = list[tuple[int, int]](), 0
-    for side, own in groupby(sides):
-        end = begin + len(list(own))
-        runs += [(begin, end)] if side else []
-        begin = end
-    if not runs:
-        return None
-    first, last = max(runs, key=lambda run: envelope.ends[run[1] - 1] - envelope.begins[run[0]])
-    return Piece(first, envelope.begins[first], envelope.ends[last - 1], outermost(envelope.hulls[first:last]))
-
-
-def why_nothing_fits(claim: Claim, servers: list[Server], settled: Settled, texts: Texts) -> Reason:
-    """`step` if most servers contradict themselves at the same few times, or `drift` if a course fits with more drift
-    too; `apart` with the servers that are in conflict with themselves or with most others, if these are the minority
-    and in each conflict; `drift` if a course fits with more drift; else `many`."""
-    found, tried, conflicts = texts.found, more_drift(claim), settled.conflicts
-    fits = read_settled(texts.other).answer != NOTHING_FITS
-    if found.of_clock:
-        own = [set(stretch.apart) for stretch in texts.stretches if not isinstance(stretch.hull, str)]
-        always = [server for server in claim.servers if own and all(server in each for each in own)]
-        return Reason("drift" if fits else "step", drift_ppb=tried, conflicts=conflicts, apart=always,
-                      steps=found.of_clock, stretches=texts.stretches)
-    heard = {server.address for server in servers if server.samples}
-    pairs = {(low, high) for low, _, high, _ in read_settled(texts.apiece).conflicts}
-    met = {one: {high if low == one else low for low, high in pairs if one in (low, high)} - {one} for one in heard}
-    apart = [one for one in claim.servers
-             if (one, one) in pairs or one in heard and 2 * len(met[one]) >= len(heard)]
-    steps = [step for step in found.steps if set(step.servers) <= set(apart)][:FEW]
-    if 2 * len(apart) < len(heard) and all(low in apart or high in apart for low, high in pairs):
-        return Reason("apart", drift_ppb=tried, conflicts=conflicts, apart=apart, steps=steps)
-    return Reason("drift" if fits else "many", drift_ppb=tried, conflicts=conflicts, steps=found.steps[:FEW])
+def why_nothing_fits(claim: Claim, texts: Texts) -> Reason:
+    """`step` if the clock's moves are known and are steps, or `drift` if they may be none, or if a course fits with
+    more drift; `apart` if one fits with more wrong servers, with those that are apart; else `many`."""
+    tried = more_drift(claim) if read_settled(texts.other).answer != NOTHING_FITS else 0
+    if texts.moves:
+        return Reason("step" if all(move.is_step for move in texts.moves) else "drift", conflicts=texts.conflicts,
+                      drift_ppb=tried, count=texts.spared)
+    apart = sorted({*texts.apart.always, *(time.server for time in texts.apart.times)}, key=number_of)
+    return Reason("drift" if tried else "apart" if texts.spared else "many", drift_ppb=tried, count=texts.spared,
+                  conflicts=texts.conflicts, apart=apart, camps=camps_of(texts.envelope))
 
 
 def servers_of(claim: Claim, recording: Recording) -> list[Server]:
@@ -210,7 +188,8 @@ def servers_of(claim: Claim, recording: Recording) -> list[Server]:
 def warnings(claim: Claim, recording: Recording, texts: Texts, advice: dict[str, str],
              gaps: list[Gap]) -> Iterator[Alert]:
     """What stands beside a verdict, whatever it is."""
-    if recording.first is not None and recording.last is not None:
+    is_parted = texts.gaps is not None and bool(texts.moves)
+    if recording.first is not None and recording.last is not None and not is_parted:
         before, after = recording.first - claim.first * SECOND, claim.last * SECOND - recording.last
         if before > 0 or after > 0:
             yield Alert("outside", before=max(0, before), after=max(0, after))
@@ -218,13 +197,16 @@ def warnings(claim: Claim, recording: Recording, texts: Texts, advice: dict[str,
         yield Alert("no-drift")
     if slip(claim.reading_ns):
         yield Alert("slip", claim.reading_ns)
-    if recording.fall:
+    if recording.fall and not texts.moves:
         record, before, after = recording.fall
         yield Alert("falls", recording.falls, record, before, after)
-    if inner := inner_gaps(recording, gaps):
-        longest = max(inner, key=lambda gap: (gap[1] - gap[0], gap))
-        yield Alert("silence", len(inner), before=longest[0], after=longest[1])
-    yield from far_pieces(claim, recording, texts.envelope, gaps)
+    if inner := [gap for gap, _ in texts.gaps] if is_parted and texts.gaps else \
+            [] if is_parted else inner_gaps(recording, gaps):
+        longest = longest_of(inner)[0]
+        during = texts.silent[longest]
+        yield Alert("silence", len(inner), before=longest[0], after=longest[1], requests=during.requests,
+                    replies=during.replies)
+    yield from far_pieces(claim, recording, texts.envelope, gaps) if not is_parted else ()
     if recording.counts.get("warnings"):
         yield Alert("leap", recording.counts["warnings"])
     if "sources" in advice:
@@ -243,25 +225,6 @@ def for_a_time(times: list[Time]) -> Iterator[Alert]:
         own = [time for time in times if time.first <= longest.last and longest.first <= time.last]
         yield Alert("apart-for-a-time", len(times) - len(own), before=min(time.first for time in own),
                     after=max(time.last for time in own), servers=sorted({time.server for time in own}, key=number_of))
-
-
-def gaps_of(claim: Claim, recording: Recording) -> list[Gap]:
-    """The times within the span in which no server was heard for longer than usual, its begin and its end among
-    them."""
-    first, last, times = claim.first * SECOND, claim.last * SECOND, recording.times
-    ends = [min(first, times[0]), *times, max(last, times[-1])] if times else []
-    if max(map(sub, ends[1:], ends), default=0) <= SILENCE:
-        return []
-    wide = [(before, after) for before, after in pairwise(ends)
-            if after - before > SILENCE and before < last and first < after]
-    usual = sorted(map(sub, times[1:], times))[(len(times) - 1) // 2] if len(times) > 1 else 0
-    return [(before, after) for before, after in wide if after - before > UNUSUAL * usual]
-
-
-def inner_gaps(recording: Recording, gaps: list[Gap]) -> list[Gap]:
-    """Those between samples."""
-    times = recording.times
-    return [gap for gap in gaps if times[0] <= gap[0] and gap[1] <= times[-1]]
 
 
 def far_pieces(claim: Claim, recording: Recording, envelope: Envelope, gaps: list[Gap]) -> Iterator[Alert]:

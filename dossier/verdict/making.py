@@ -8,7 +8,8 @@ import time
 from collections.abc import Collection
 
 from .. import VERSION
-from ..capture.captures import cut, sum_of_unpacked, thinned, unpacked, unpacked_at_once
+from ..capture.captures import around, cut, falls_in, sum_of_unpacked, thinned, unpacked, unpacked_at_once
+from ..capture.classic import Classic
 from ..capture.twice import once
 from ..fault import DEVICE, Fault, fault
 from ..folder.claim import Claim, parts_of
@@ -123,12 +124,12 @@ def make(taken: Inputs, options: Options, leaps: LeapList, backed: Backing, prog
     taken.capture = JOINED if whole.is_made else name
     made = {JOINED: sum_of_file(JOINED)} if whole.is_made else {}
     sums = {CLAIM: taken.sums[CLAIM], whole.path: made.get(JOINED) or taken.sums[name]}
-    beside = Beside(leaps, backed, whole.alerts, taken.capture)
-    entries = []
+    beside, entries, capture = Beside(leaps, backed, whole.alerts, taken.capture), [], Classic(whole.path, whole.extent)
+    falls = falls_in(capture.extent.stamps)
     for part, cut_to in zip(parts, cut(whole.path, parts, whole.extent)):
         settling = Settling(part, whole, program, options.step, sums, earlier.get(part.name, b""))
         settling.left |= made
-        entries.append(settling.settle(beside, cut_to))
+        entries.append(settling.settle(beside, cut_to, around(capture, falls, part)))
         if JOINED in settling.left:
             taken.capture = JOINED
     return entries

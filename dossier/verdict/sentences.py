@@ -4,15 +4,15 @@ No sentence says more than the program did. A yes is: in every course of events 
 within the bound. Refuted is: in one of them it isn't, so nothing in the capture shows it.
 """
 from ..folder.claim import Claim
-from ..folder.entry import (AGAINST, NO_EVIDENCE, NOTHING_FITS, OPEN, REFUSED, REFUTED, UNSUPPORTED, YES, Entry, Gap,
-                            Reason, Step, side_of)
+from ..folder.entry import (AGAINST, NO_EVIDENCE, NOTHING_FITS, OPEN, REFUSED, REFUTED, UNSUPPORTED, YES, Entry,
+                            Move, Reason, Silence, Stretch)
 from ..folder.files import CLAIM, REFUTATION
 from ..text import capital, count, is_or_are, label, listed, operand, plain
-from ..units import (SECOND, TICKS, between, bound_ticks, civil, from_to, high_ms, low_ms, ns_ms, ns_up_ms, outward,
+from ..units import (SECOND, TICKS, between, civil, from_to, high_ms, inward, low_ms, ns_ms, ns_up_ms, outward,
                      range_ms, shown_time)
+from ..premise.premises import named
 from . import alerts
-from .alerts import warning_words
-from .judgement import is_beyond
+from .alerts import silent, warning_words
 
 TWICE = "Its capture is that of another folder too, so one of them is a copy:"
 
@@ -110,11 +110,17 @@ def why_refuted(entry: Entry, found: Reason) -> str:
 
 def why_off(entry: Entry, found: Reason) -> str:
     """How far the clock was off, and when."""
-    if found.piece is None or isinstance(found.piece.hull, str):
-        return ""
-    when = from_to(found.piece.from_, found.piece.to)
-    return (f"the clock of {entry.claim.client} was {ahead(found.piece.hull)} UTC {when}, and so beyond the bound of "
+    return (f"the clock of {entry.claim.client} was {off_times(entry)}, and so beyond the bound of "
             f"{ns_ms(entry.claim.bound_ns)} ms, {granted(entry.claim)} and what else the claim grants is true.")
+
+
+def off_times(entry: Entry) -> str:
+    """The longest times beyond the bound, of all parts, in their order."""
+    found = [(part, time) for part in entry.parts for time in part.beyond]
+    longest = sorted(found, key=lambda one: one[1].from_ - one[1].to)[:MOST_TIMES]
+    told = listed([f"{ahead(time.hull)} UTC {from_to(time.from_, time.to)}{where(entry, part)}"
+                   for part, time in found if (part, time) in longest])
+    return told + (f" and at {len(found) - MOST_TIMES} other times" if len(found) > MOST_TIMES else "")
 
 
 def ahead(hull: tuple[int, int]) -> str:
@@ -125,67 +131,89 @@ def ahead(hull: tuple[int, int]) -> str:
 
 def why_gap(entry: Entry, found: Reason) -> str:
     """When nothing was heard, and what holds at all other times."""
-    times = [from_to(*outward(*gap)) for gap in found.gaps]
-    more = f" and {found.count - len(times):,} more times" if found.count > len(times) else ""
-    said = f"No server was heard {listed(times)}{more}, and so nothing shows how the clock went on."
-    if found.hull is None or isinstance(found.hull, str):
-        return said
-    is_more = is_beyond(found.hull, bound_ticks(entry.claim.bound_ns))
-    beyond = "; that goes beyond the bound too" if is_more else ""
-    return f"{said} At all other times the error lay within {range_ms(*found.hull)}, {IF_TRUE}{beyond}."
+    told = found.gaps if len(found.gaps) <= MOST_TIMES else sorted(
+        sorted(found.gaps, key=lambda gap: gap.after - gap.by)[:MOST_TIMES], key=lambda gap: gap.after)
+    more = f" And so it was at {found.count - len(told):,} other times." if found.count > len(told) else ""
+    return f"{' '.join(map(silent, told))}{more} Nothing shows how the clock went on then.{in_parts(entry)}"
 
 
+def where(entry: Entry, part: Stretch) -> str:
+    """Before which of the clock's moves a part lies, or behind which, if some of its readings were shown elsewhere
+    too."""
+    if not any(other.moves != part.moves and other.from_ <= part.to and part.from_ <= other.to
+               for other in entry.parts):
+        return ""
+    number = f"{ORDINALS[max(1, part.moves) - 1]} " if len(entry.moves) > 1 else ""
+    return f" {'behind' if part.moves else 'before'} the {number}step"
+
+
+ORDINALS = "first", "second", "third", "fourth", "fifth", "sixth", "seventh", "eighth"
+
+
+def in_parts(entry: Entry) -> str:
+    """What holds in each part."""
+    known = [(part, part.hull) for part in entry.parts if not isinstance(part.hull, str)]
+    if not known:
+        return ""
+    parts = listed([f"{range_ms(*hull)} {from_to(part.from_, part.to)}{where(entry, part)}"
+                    for part, hull in known[:MOST_TIMES]])
+    more = f", and in {len(known) - MOST_TIMES} other parts what audit.json has" if len(known) > MOST_TIMES else ""
+    off = f" It was {off_times(entry)}, and so beyond the bound." if any(part.beyond for part in entry.parts) else ""
+    return f" Its error (below 0 it was behind) lay within {parts}{more}, {IF_TRUE}.{off}"
+
+
+MOST_TIMES = 4
+"""Times that a sentence names."""
 IF_TRUE = "if what the claim grants is true"
 
 
 def why_nothing_fits(entry: Entry, found: Reason) -> str:
-    number = len(found.conflicts)
-    conflicts, drift = count(number, "conflict"), f"with a drift of {found.drift_ppb:,} parts in 10^9"
-    steps = "".join(f" {alone(step)}" for step in found.steps)
-    if found.why == "apart":
-        contradicts = "contradicts itself" if len(found.apart) == 1 else "contradict themselves"
-        all_ = "the one conflict" if number == 1 else f"each of {conflicts}"
-        return f"{listed(found.apart)} {contradicts} or most others, in {all_}.{steps}"
-    if found.stretches:
-        said = f"The clock was stepped {times_of(found)}: there {seen_by(entry, found)}."
-        if found.why == "drift":
-            said += f" Or it moved faster than the claim grants: {drift} a course of events would fit."
-        more = f" {listed(found.apart)} {is_or_are(len(found.apart))} apart all the time." if found.apart else ""
-        return said + around(found) + more
-    if found.why == "drift":
-        return f"{capital(drift)} a course of events would fit: the claim grants too little drift."
-    is_two = " These times don't agree." if len(found.steps) > 1 else ""
-    return f"More servers are in conflict than the claim takes for wrong: there {is_or_are(number)} {conflicts}." \
-        f"{steps}{is_two}"
+    groups = count(len(entry.claim.grouped), "group")
+    if entry.moves:
+        more = f" That takes {found.count} wrong of {groups}, more than the claim grants." if found.count else ""
+        return f"The clock was {moves_of(entry)}.{more}{in_parts(entry)}"
+    wrong = f" (with {found.count} wrong of {groups} a course of events would fit)" if found.count else ""
+    faster = f" (with a drift of {found.drift_ppb:,} parts in 10^9 one would fit)" if found.drift_ppb else ""
+    apart = f" {listed(found.apart)} {is_or_are(len(found.apart))} apart." if found.apart else ""
+    return (f"More servers were wrong than the claim grants{wrong}, or the clock was stepped or moved faster{faster}."
+            f"{apart}{in_camps(found)}{first_conflict(entry, found)}")
 
 
-def times_of(found: Reason) -> str:
-    return listed([between(*outward(step.after, step.by)) for step in found.steps])
+def moves_of(entry: Entry) -> str:
+    return listed(list(map(moved, entry.moves)))
 
 
-def seen_by(entry: Entry, found: Reason) -> str:
-    """Which servers show a step."""
-    servers, heard = {len(step.servers) for step in found.steps}, sum(server.samples > 0 for server in entry.servers)
-    if servers == {heard}:
-        return "every server contradicts what it said before" if heard > 1 else "its server contradicts itself"
-    return f"at least {min(servers)} of {heard} servers contradict what they said before"
+def moved(move: Move) -> str:
+    """What a move is taken for, between which records, in the order in which they were made, and by how much."""
+    how = "stepped" if move.is_step else f"stepped, or moved at {move.rate_ppb // 1000:,} ppm or more,"
+    before, after = move.after // SECOND, -(-move.by // SECOND)
+    return f"{how} {between(before, after)} by {range_ms(move.low, move.high)}"
 
 
-def alone(step: Step) -> str:
-    """A step that only some servers show."""
-    itself = "contradicts itself" if len(step.servers) == 1 else "contradict themselves"
-    return f"{listed(step.servers)} {itself} {between(*outward(step.after, step.by))}."
+def in_camps(found: Reason) -> str:
+    """Which servers agree with which, for the longest time, and what they say then."""
+    if not found.camps:
+        return ""
+    said = [f"{listed(camp.servers)} {'says' if len(camp.servers) == 1 else 'say'} {range_ms(camp.low, camp.high)}"
+            for camp in found.camps]
+    return f" {capital(from_to(found.camps[0].from_, found.camps[0].to))} {listed(said)}."
 
 
-def around(found: Reason) -> str:
-    """How far the clock was off before a step and after it."""
-    own = [(stretch, stretch.hull) for stretch in found.stretches if not isinstance(stretch.hull, str)]
-    parts = [f"{range_ms(*hull)} {from_to(stretch.from_, stretch.to)}" for stretch, hull in own]
-    return f" Its error (below 0 it was behind) lay within {listed(parts)}, {IF_TRUE}." if parts else ""
+def first_conflict(entry: Entry, found: Reason) -> str:
+    """The first conflict in time, with its figures, and how fast the clock would have had to move."""
+    if not found.conflicts:
+        return ""
+    one = min(found.conflicts, key=lambda each: max(each.asked, each.answered))
+    low = f"by {one.low} the error was at least {low_ms(one.least)} ms at {shown_time(one.asked // SECOND)}"
+    high = f"by {one.high} at most {high_ms(one.most)} ms at {shown_time(one.answered // SECOND)}"
+    within, moved = abs(one.asked - one.answered), (one.least - one.most) * SECOND // TICKS
+    rate = f": that takes {moved * 1_000_000 // within:,} ppm, and {entry.claim.drift_ppb // 1000:,} are granted" \
+        if within and moved > 0 else ""
+    return f" The first conflict: {low}, and {high}{rate}."
 
 
-def longest(gaps: list[Gap]) -> Gap:
-    return max(gaps, key=lambda gap: gap[1] - gap[0])
+def longest(gaps: list[Silence]) -> Silence:
+    return max(gaps, key=lambda gap: gap.by - gap.after)
 
 
 def in_short(entry: Entry) -> str:
@@ -193,15 +221,14 @@ def in_short(entry: Entry) -> str:
     found = entry.reason
     if not found or entry.verdict == UNSUPPORTED:
         return ""
-    if found.stretches:
-        apart = f"; {listed(found.apart)} apart" if found.apart else ""
-        return f"stepped {times_of(found)} UTC{', or too little drift granted' if found.why == 'drift' else ''}{apart}"
-    if found.why == "off" and found.piece and not isinstance(found.piece.hull, str):
-        return f"{ahead(found.piece.hull)} UTC {from_to(found.piece.from_, found.piece.to)} UTC"
+    if entry.verdict == NOTHING_FITS and entry.moves:
+        return moves_of(entry)
+    if found.why == "off":
+        return f"{off_times(entry)}"
     if found.why == "gap":
-        more = f", and {found.count - 1:,} more times" if found.count > 1 else ""
-        return f"no server heard {from_to(*outward(*longest(found.gaps)))} UTC{more}"
-    if found.why == "apart":
+        more, gap = f", and {found.count - 1:,} more times" if found.count > 1 else "", longest(found.gaps)
+        return f"no server heard {from_to(*inward(gap.after, gap.by))} UTC{more}"
+    if found.apart:
         return f"{listed(found.apart)} apart"
     if found.why == "twice":
         return f"each packet is there twice in {plain(found.file)}"
@@ -211,7 +238,8 @@ def in_short(entry: Entry) -> str:
     return SHORT.get(found.why, "")
 
 
-SHORT = {"drift": "too little drift granted", "many": "more servers in conflict than granted",
+SHORT = {"drift": "stepped, or too little drift granted",
+         "many": "more servers wrong than granted, or the clock stepped or moved faster",
          "unbounded": "too few servers have a sample", "beside": "no packet within the span"}
 
 
@@ -228,11 +256,11 @@ def to_do(entry: Entry) -> str:
     does_help = entry.least_ns is not None and found.why in ("exceeds", "tick")
     least = f"A bound of {ns_up_ms(entry.least_ns or 0)} ms is the least that a certificate carries. " \
         if does_help else ""
-    if found.stretches:
-        return after_steps(entry.claim, found)
+    if entry.verdict == NOTHING_FITS and entry.moves:
+        return after_moves(entry)
     if found.why == "silent" and not entry.counts.get("requests"):
         return NOT_ASKED
-    logged = journal(*longest(found.gaps)) if found.gaps else ""
+    logged = journal(longest(found.gaps).after, longest(found.gaps).by) if found.gaps else ""
     return least + TO_DO[found.why].format(file=operand(found.file), journal=logged)
 
 
@@ -255,26 +283,60 @@ TO_DO = {
            "before and after by themselves, since no other evidence of these times will come.",
     "tick": TIGHTER,
     "exceeds": TIGHTER,
-    "apart": "See in the table of servers how far off they are. Leave them out of the claim, or grant that they were "
-             "wrong (`false_max`) and name more servers. Those that follow one another belong into one group.",
+    "apart": "See in the warnings when servers were apart, and in the client's log whether the clock was stepped then. "
+             "Leave them out of the claim, or grant that they were wrong (`false_max`) and name more servers. Those "
+             "that follow one another belong into one group.",
     "drift": "Grant as much as the oscillator and the client's corrections can make: `ntpaudit-dossier draft "
              "--chrony` or `--ntpd` reads them of the client's configuration.",
-    "many": "See in the conflicts which servers are in most, and in the picture how far off. Grant that they were "
-            "wrong (`false_max`) and name more; or the claim grants too little of `reading_ns`.",
+    "many": "See in the conflicts which servers are in most, and when; and in the client's log whether the clock was "
+            "stepped then. Grant that servers were wrong (`false_max`) and name more; or claim other times.",
 }
 
 
-def after_steps(claim: Claim, found: Reason) -> str:
-    """Who stepped the clock, and what mends it if that left it off; and how what lies before and after is claimed by
-    itself."""
-    is_off = side_of(found.stretches[-1].hull, bound_ticks(claim.bound_ns)) != 0
-    mend = f" At the end it was beyond the bound. {MEND}" if is_off else ""
-    spans = [f'`"from": "{civil(stretch.from_)}", "to": "{civil(stretch.to)}"`' for stretch in found.stretches]
-    drift = " Or grant as much drift as the client may make (`ntpaudit-dossier draft --chrony`)." \
-        if found.why == "drift" else ""
-    return (f"See who stepped it: {journal(found.steps[0].after, found.steps[-1].by)} (chronyd says `System clock was "
-            f"stepped`).{mend} Claim what came before and after by itself, each in a folder of its own with a copy of "
-            f"the capture: {listed(spans)} in its {CLAIM}.{drift}")
+def after_moves(entry: Entry) -> str:
+    """Who moved the clock, and what mends it if that left it off; and what may be claimed by itself."""
+    times = [time for move in entry.moves for time in move.around]
+    times += [time for move in entry.moves for change in [min(0, move.low * SECOND // TICKS)]
+              for time in (move.after + change, move.by - change)]
+    mend = f" At the end it was beyond the bound. {MEND}" if entry.ends_off else ""
+    spans = [f'`"from": "{civil(first)}", "to": "{civil(last)}"`' for first, last in claimable(entry)]
+    claims = (f" Claim a part of it by itself, in a folder of its own with a copy of the capture: "
+              f"{listed(spans[:MOST_TIMES])} in its {CLAIM}." if spans else "")
+    drift = "" if all(move.is_step for move in entry.moves) else \
+        " Or grant as much drift as the client may make (`ntpaudit-dossier draft --chrony`)."
+    leap = leap_near(entry)
+    return (f"{leap}See who moved it: {journal(min(times), max(times))} (chronyd says `System clock was stepped`)."
+            f"{mend}{claims}{drift}")
+
+
+def claimable(entry: Entry) -> list[tuple[int, int]]:
+    """The readings that were shown between two moves, and surely not before or behind these."""
+    found = list[tuple[int, int]]()
+    for number in range(len(entry.moves) + 1):
+        own = [part for part in entry.parts if part.moves == number]
+        others = [part for part in entry.parts if part.moves != number]
+        if not own or any(not (move.until and move.since) for move in entry.moves):
+            continue
+        first = max([own[0].from_, *(move.since for move in entry.moves[:number][-1:])])
+        last = min([own[-1].to, *(move.until for move in entry.moves[number:][:1])])
+        if first < last and not any(part.from_ <= last and first <= part.to for part in others):
+            found.append((first, last))
+    return found
+
+
+def leap_near(entry: Entry) -> str:
+    """That a leap second was there, if the clock was moved at it by about a second."""
+    for end, sign in entry.leap.seconds:
+        for move in entry.moves:
+            first, last = move.around
+            if first - NEAR_LEAP <= end * SECOND <= last + NEAR_LEAP and \
+                    sign * move.low <= TICKS * 5 // 4 and TICKS * 3 // 4 <= sign * move.high:
+                return f"That is {named([(end, sign)])}. "
+    return ""
+
+
+NEAR_LEAP = 120 * SECOND
+"""How far from a leap second a step of a second may be that is taken for it."""
 
 
 def journal(before: int, after: int) -> str:
@@ -287,8 +349,17 @@ def warned(entry: Entry) -> list[str]:
     """The warnings, but those that the reason tells."""
     against = AGAINST if entry.verdict == UNSUPPORTED else ()
     apart = set(entry.reason.apart) if entry.reason else set()
-    return [warning_words(warning) for warning in entry.warnings if warning.kind not in against
-            and not (warning.kind == "apart" and set(warning.servers) <= apart)]
+    return presumed(entry) + [warning_words(warning) for warning in entry.warnings if warning.kind not in against
+                              and not (warning.kind == "apart" and set(warning.servers) <= apart)]
+
+
+def presumed(entry: Entry) -> list[str]:
+    """What an answer presumes that is by one stretch of a capture that breaks."""
+    if entry.verdict == NOTHING_FITS or not entry.moves:
+        return []
+    number = "once" if len(entry.moves) == 1 else f"{len(entry.moves)} times"
+    return [f"This presumes that the clock was {moves_of(entry)}, just {number}: then no reading of the span was shown "
+            "but between these moves, and only what was recorded there counts. See in the client's log that it was so."]
 
 
 def fit(entry: Entry) -> str:

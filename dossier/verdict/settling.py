@@ -3,25 +3,33 @@ from collections.abc import Callable
 from contextlib import suppress
 
 from ..capture.captures import Audited, cut
+from ..capture.classic import HEADER, Classic, runs_of, write
 from ..capture.recording import Recording, read_recording
 from ..capture.traffic import read_traffic
 from ..fault import MISSING, Fault, fault
 from ..folder import files
-from ..folder.answers import read_envelope, read_settled
+from ..folder.answers import read_counts, read_envelope, read_settled
 from ..folder.claim import GREATEST_BOUND, Part
-from ..folder.entry import NO_EVIDENCE, NOTHING_FITS, OPEN, REFUTED, YES, Alert, Entry
+from ..folder.entry import NO_EVIDENCE, NOTHING_FITS, REFUTED, YES, Entry, Gap, Silence
 from ..folder.files import sum_of, sum_of_file
 from ..folder.placing import keep, make_private, move
 from ..folder.program import Program
 from ..records import replace
-from .apart import Seen, apart_of, seen_apart
-from .judgement import Beside, Texts, gaps_of, judge, more_drift
-from .steps import ALONE, Found, Search, stretches_of
+from ..units import SECOND
+from .apart import Seen, seen_apart
+from .breaks import ANY, SOME
+from .judgement import Beside, Texts, judge, more_drift
+from .parts import ALONE, Parting, gaps_of, in_parts, inner_gaps, longest_of, split, told_of
+from .seen import read_shown
 
 MOST_LINES = 1_000_000
 """Of an envelope: a line for each piece and for each server in it."""
-WITHIN = "within.pcap"
-"""A private file: what was recorded in the span alone."""
+AROUND = "around.pcap"
+"""A private file: what was recorded in the span, beside it, and next to that."""
+MOST_MORE = 3
+"""Groups, more than the claim grants, that are taken for wrong where nothing fits."""
+SEVERAL = 3
+"""Samples of a server, one after the other, by which it is known that it was wrong and not the clock."""
 MANY_PIECES = 10_000
 """The envelope has pieces of 1, 4, 16, .. s, the least with which it has no more than these."""
 
@@ -43,64 +51,110 @@ class Settling:
         self.sums = dict(sums)
         self.left: dict[str, str] = {}
 
-    def settle(self, beside: Beside, cut_to: Callable[[str], bool]) -> Entry:
-        """Makes all calls and leaves all files, by what was recorded in the span and beside it; or in the span alone,
-        if the clock was stepped beside it."""
+    def settle(self, beside: Beside, cut_to: Callable[[str], bool], around_to: Callable[[str], bool]) -> Entry:
+        """Makes all calls and leaves all files, by what was recorded in the span and beside it; or if that breaks, by
+        the one stretch of it that can have shown the span."""
         if self.part.name != ".":
             make_private(self.part.name)
             self.keep(files.CLAIM, self.part.claim.text)
-        own, alerts = self.part.within(files.JOINED), list[Alert]()
+        own = self.part.within(files.JOINED)
         if cut_to(own):
-            self.take(own)
+            self.take(own, own)
         texts = self.decide()
-        if read_settled(texts.settled).answer == NOTHING_FITS:
-            found = Search(self.program, self.part, self.capture, self.extent).found()
-            within = self.settled_within() if found.are_beside(self.part.claim) else None
-            if within:
-                texts, alerts = within, [Alert("contrary", before=found.steps[0].after, after=found.steps[0].by)]
-                move(WITHIN, own)
-                self.take(own)
-            else:
-                texts = self.explained(texts, found)
+        if parting := self.broken(texts, around_to):
+            texts = self.by_parts(parting, texts, own)
         recording = read_recording(self.program, self.claim, self.capture, self.extent)
         if read_settled(texts.settled).answer == NO_EVIDENCE or do_many_miss(recording, len(self.part.claim.servers)):
             with suppress(Fault):  # (too many ask in it)
                 texts = texts._replace(traffic=read_traffic(self.program, self.capture))
         words = ("envelope", self.claim, self.capture, "--servers", "--least", "--step", str(self.step))
         envelope = read_envelope(self.keep(files.ENVELOPE, self.call(*words)))
-        gaps = gaps_of(self.part.claim, recording)
-        apart = Seen(apart_of(envelope, gaps), []) if read_settled(texts.settled).answer == NOTHING_FITS else \
-            seen_apart(self.program, self.part, self.capture, self.extent, envelope, gaps)
-        texts = texts._replace(envelope=envelope, apart=apart)
-        beside = beside._replace(alerts=[*beside.alerts, *alerts])
+        gaps = told_of(gaps_of(self.part.claim, recording), texts.elsewhere)
+        texts = texts._replace(envelope=envelope, silent=self.silent(
+            texts.gaps if texts.moves and texts.gaps is not None else
+            [(gap, self.capture) for gap in {*longest_of(gaps), *longest_of(inner_gaps(recording, gaps))}]))
+        is_fitted, gaps = read_settled(texts.settled).answer != NOTHING_FITS, gaps_of(self.part.claim, recording)
+        if is_fitted:
+            texts = texts._replace(parts=split(envelope, gaps, self.part.claim))
+        if is_fitted or texts.spared and not texts.moves:
+            texts = texts._replace(apart=self.seen_apart(texts, gaps))
         return judge(self.part, recording, beside, texts, self.step, self.left)
 
-    def take(self, capture: str) -> None:
-        """Takes another capture as that of the part, and leaves it."""
-        self.capture, self.extent, self.sums[capture] = capture, None, sum_of_file(capture)
-        self.left[capture] = self.sums[capture]
+    def by_parts(self, parting: Parting, texts: Texts, own: str) -> Texts:
+        """What comes of a capture that breaks: the answer of the stretch that has shown the span, or none."""
+        if (side := parting.shown_by()) and self.is_shown_beside(parting, side.path):
+            cut_to, = cut(side.path, [self.part], None)
+            self.take(own if cut_to(own) else side.path, own)
+            return self.decide()._replace(moves=parting.moves, elsewhere=parting.beside(side))
+        if parting.moves and read_settled(texts.settled).answer != NOTHING_FITS:
+            self.take(AROUND, own)
+            texts = self.decide()
+        if read_settled(texts.settled).answer != NOTHING_FITS:
+            return texts
+        spared = 0 if parting.moves else self.spared()
+        if spared:
+            parting = Parting(self.program, replace(self.part.claim, false_max=spared), self.capture, self.extent)
+        found = in_parts(self.program, parting, texts.settled, self.capture, self.step)
+        if found.texts:
+            self.keep(files.PARTS, b"".join(found.texts))
+        shown = read_shown(self.program, self.claim, self.capture, self.extent, texts.settled)
+        return texts._replace(moves=found.moves, parts=found.parts, conflicts=shown, spared=spared, gaps=found.gaps)
 
-    def settled_within(self) -> Texts | None:
-        """What comes of what was recorded in the span alone; None if that is all there is, or it fits as little."""
-        cut_to, = cut(self.capture, [self.part], self.extent, 0)
-        if not cut_to(WITHIN):
-            return None
-        whole, self.capture, self.sums[WITHIN] = self.capture, WITHIN, sum_of_file(WITHIN)
-        try:
-            if read_settled(self.call("settle", self.claim, WITHIN)).answer in (YES, REFUTED, OPEN):
-                for name in (files.CLAIM_OF_DRIFT, files.REPORT):
-                    self.left.pop(self.part.within(name), None)
-                return self.decide()
-        finally:
-            self.capture = whole
-        return None
+    def spared(self) -> int:
+        """With how many wrong groups, fewer than half, a course of events fits, or it is known how the clock moved; 0
+        if with none."""
+        claim = self.part.claim
+        for most in range(claim.false_max + 1, min(claim.false_max + MOST_MORE, (len(claim.grouped) - 1) // 2) + 1):
+            more = replace(claim, false_max=most, bound_ns=GREATEST_BOUND)
+            keep(ALONE, more.text)
+            if read_settled(self.call("settle", ALONE, self.capture)).answer != NOTHING_FITS or \
+                    Parting(self.program, more, self.capture, self.extent).moves:
+                return most
+        return 0
 
-    def explained(self, texts: Texts, found: Found) -> Texts:
-        """What the program says of each server by itself, where nothing fits, and of what lies between steps."""
-        stretches = stretches_of(self.program, self.part, self.capture, found.of_clock, self.step) \
-            if found.of_clock else []
-        keep(ALONE, replace(self.part.claim, groups=[], false_max=0).text)
-        return texts._replace(apiece=self.call("settle", ALONE, self.capture), found=found, stretches=stretches)
+    def seen_apart(self, texts: Texts, gaps: list[Gap]) -> Seen:
+        """Which servers stand apart, of as many as may be wrong, or have to be."""
+        part, envelope = self.part, texts.envelope
+        if texts.spared:
+            part = Part(part.name, replace(part.claim, false_max=texts.spared))
+            keep(ALONE, part.claim.text)
+            envelope = read_envelope(self.call("envelope", ALONE, self.capture, "--servers", "--step", str(self.step)))
+        found = seen_apart(self.program, part, self.capture, self.extent, envelope, gaps)
+        several = [time for time in found.times if time.samples >= SEVERAL]
+        return found._replace(times=several) if texts.spared else found
+
+    def is_shown_beside(self, parting: Parting, capture: str) -> bool:
+        """Whether a stretch's yes, if it is one, stands with all that a movement beside it may hide."""
+        keep(ALONE, parting.wider(self.part.claim).text)
+        own, wider = (read_settled(self.call("settle", claim, capture)).answer for claim in (self.claim, ALONE))
+        return own != YES or wider == YES
+
+    def broken(self, texts: Texts, around_to: Callable[[str], bool]) -> Parting | None:
+        """Where the capture breaks, with what was recorded next to it, if no course of events fits that."""
+        capture, extent = (AROUND, None) if around_to(AROUND) else (self.capture, self.extent)
+        keep(ANY, replace(self.part.claim, bound_ns=GREATEST_BOUND).text)
+        is_broken = read_settled(texts.settled if capture == self.capture else self.call("settle", ANY, capture)
+                                 ).answer == NOTHING_FITS
+        return Parting(self.program, self.part.claim, capture, extent) if is_broken else None
+
+    def silent(self, gaps: list[tuple[Gap, str]]) -> dict[Gap, Silence]:
+        """What was recorded in gaps, of this client."""
+        found = dict[Gap, Silence]()
+        for gap, capture in sorted(gaps):
+            whole = Classic(capture, self.extent if capture == self.capture else None)
+            runs, = runs_of(whole, [(gap[0] // SECOND + 1, max(gap[0] // SECOND, gap[1] // SECOND - 1))])
+            write(SOME, [whole.data[:HEADER], *(whole.data[begin:end] for begin, end in runs)])
+            counts = read_counts(self.call("samples", self.claim, SOME).splitlines()[-1].decode("ascii"))
+            found[gap] = Silence(*gap, counts["requests"], counts["replies"])
+        return found
+
+    def take(self, capture: str, own: str) -> None:
+        """Takes another capture as that of the part, and leaves it, with what comes of it alone."""
+        if capture != own:
+            move(capture, own)
+        self.capture, self.extent, self.sums[own] = own, None, sum_of_file(own)
+        self.left = {name: sum_ for name, sum_ in self.left.items() if name in (self.claim, files.JOINED)}
+        self.left[own] = self.sums[own]
 
     def keep(self, name: str, data: bytes) -> bytes:
         """Leaves a file of this part."""

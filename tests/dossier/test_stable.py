@@ -19,7 +19,7 @@ from tests.support import DATA, ROOT, check, files_in, is_here, run, sum_of
 from tests.dossier.audits import ENVIRONMENT, PROGRAM, check_page, dossier
 from tests.dossier.leaps import leap_list
 
-OLDER = DATA / "older"
+OLDER, VERSION = DATA / "older", 10
 FORMS = {"0.7.0": 6, "0.8.0": 8, "0.9.0": 9, "0.9.1": 9, "0.10.0": 9, "0.11.0": 9, "0.11.1": 9, "1.0.0": 9}
 """The form of audit.json of each version."""
 VERDICTS = {"nothing-fits": "nothing fits", "refuted": "refuted", "yes": "yes"}
@@ -74,7 +74,7 @@ def test_verify(place: Path) -> None:
             status, out, err = dossier("verify", folder)
             check(f"verify of {version}, {kept.name}", status=(status, int(verdict != "yes")), err=(err, b""),
                   line=(out.decode().splitlines()[0], f"{folder}: verified: {verdict}"),
-                  form=(f"form {form} of audit.json" in out.decode(), form < max(FORMS.values())),
+                  form=(f"form {form} of audit.json" in out.decode(), form < VERSION),
                   left=({path.name: path.read_bytes() for path in folder.iterdir()},
                         {path.name: path.read_bytes() for path in kept.iterdir()}))
 
@@ -199,10 +199,11 @@ def test_schema(place: Path) -> None:
     text = (ROOT / "docs/audit.schema.json").read_text()
     check("docs/audit.schema.json", printed=(run([ROOT / "docs/schema"]), (0, text.encode(), b"")))
     schema = json.loads(text)
-    folder = place / "audited"
-    shutil.copytree(folders(max(FORMS))[2], folder)
+    made = [Path(shutil.copytree(kept, place / kept.name)) for kept in folders(max(FORMS))]
+    dossier("audit", "--again", *made)
+    folder = Path(shutil.copytree(made[2], place / "audited"))
     dossier("audit", "--again", "--days", folder)
-    newest = [json.loads((kept / "audit.json").read_text()) for kept in (*folders(max(FORMS)), folder)]
+    newest = [json.loads((kept / "audit.json").read_text()) for kept in (*made, folder)]
     check("records by the schema", valid=([is_valid(schema, record, schema["$defs"]) for record in newest],
                                           [True] * len(newest)))
     seen, record = 0, newest[-1]

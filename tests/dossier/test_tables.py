@@ -257,11 +257,11 @@ def seen_in_texts(claim: Path, capture: Path) -> dict[str, Any]:
 def test_recordings() -> None:
     """What is read of a capture is what `list` and `samples` say, whether their texts come in small pieces or in large
     ones, and whether the capture holds the claim's packets alone."""
-    from dossier.capture import recording
+    from dossier.capture import classic, recording
     from dossier.folder import jobs
     from dossier.folder.entry import Made
     from dossier.folder.program import Program
-    program, ways = Program(PROGRAM, Made("", "")), [(700, 1), (vars(jobs)["BLOCK"], recording.AT_ONCE)]
+    program, ways = Program(PROGRAM, Made("", "")), [(700, 1), (vars(jobs)["BLOCK"], classic.AT_ONCE)]
     with tempfile.TemporaryDirectory(prefix="ntpaudit-") as place:
         claim = Path(place) / "claim.json"
         claim.write_text(json.dumps(CLAIM_OF_TWO))
@@ -277,7 +277,7 @@ def test_recordings() -> None:
                                *((claim, DATA / f"{claim.name.split('.')[0]}.pcap") for claim in CLAIMS)]:
             wanted = seen_in_texts(claim, capture)
             for block, at_once in ways:
-                with patch.object(jobs, "BLOCK", block), patch.object(recording, "AT_ONCE", at_once):
+                with patch.object(jobs, "BLOCK", block), patch.object(classic, "AT_ONCE", at_once):
                     found = recording.read_recording(program, str(claim), str(capture))
                 check(f"what is read of {capture.name} and {claim.name}",
                       seen=({name: getattr(found, name) for name in wanted}, wanted),
@@ -934,23 +934,23 @@ VERDICTS: dict[str, Any] = {"yes": ({}, [f"1:-{MS}..{MS}@{AT}", f"2:-{2 * MS}..{
             "no evidence silent": ({"false_max": 1}, [f"1:0..9@{AT}"],
                                    "1 of 3 groups of servers has a sample, and 1 may be wrong", "Name more servers"),
             "nothing fits apart": ({}, [f"1:0..9@{AT}", f"2:5..9@{AT}", f"3:{-7 * MS}..{-6 * MS}@{AT}"],
-                                   "192.0.2.3 contradicts itself or most others, in each of 2 conflicts.",
+                                   "(with 1 wrong of 3 groups a course of events would fit)",
                                    "Leave them out of the claim"),
-            "nothing fits many": ({}, [f"1:0..9@{AT}", f"2:{-7 * MS}..{-6 * MS}@{AT}"],
-                                  "More servers are in conflict than the claim takes for wrong: there is 1 conflict.",
-                                  "Grant that they were wrong"),
+            "nothing fits many": ({"servers": ["192.0.2.1", "192.0.2.2"]},
+                                  [f"1:0..9@{AT}", f"2:{-7 * MS}..{-6 * MS}@{AT}"],
+                                  "More servers were wrong than the claim grants, or the clock was stepped or moved "
+                                  "faster.", "Grant that servers were wrong"),
             "nothing fits step": ({},
                                   [f"{k}:{shift * MS}..{shift * MS + 9}@{AT + 9}" for shift in (0, 50) for k in (1, 2)],
-                                  "The clock was stepped between 2001-09-09 01:46:59 and 01:47:00: there every server "
-                                  "contradicts what it said before.", "See who stepped it: "),
+                                  "The clock was stepped between 2001-09-09 01:46:59 and 01:47:00 by ",
+                                  "See who moved it: "),
             "open": ({"from": "2001-09-09T02:03:20Z", "to": "2001-09-09T02:03:20Z", "bound_ns": 119_000_000},
                      [f"1:0..{20 * MS}@{AT}"], "stays open: no certificate shows it",
                      "is the least that a certificate carries"),
             "nothing fits drift": ({},
                                    [f"{k}:{shift * MS}..{shift * MS + 9}@{AT + 4 * shift}" for shift in (0, 3)
                                     for k in (1, 2)],
-                                   "Or it moved faster than the claim grants: with a drift of 1,000,000 parts in 10^9 "
-                                   "a course of events would fit.", "Or grant as much drift as")}
+                                   "stepped, or moved at ", "Or grant as much drift as")}
 """Of each verdict and reason what is changed of a claim of three servers, the exchanges, and what is said."""
 
 
@@ -986,8 +986,9 @@ def test_verdicts(place: Path) -> None:
     lines = (place / "nothing fits apart" / "report.txt").read_text().splitlines()
     check("the conflicts on a page",
           lines=(lines, ["conflict 192.0.2.1 0 192.0.2.3 5", "conflict 192.0.2.2 2 192.0.2.3 5", "nothing fits"]),
-          rows=([row for row in Figures(dossier("page", place / "nothing fits apart")[1].decode()).rows if len(row)
-                 == 4][:2], [line.split()[1:] for line in lines[:2]]))
+          rows=([[row[k] for k in (0, 1, 4, 5)] for row in
+                 Figures(dossier("page", place / "nothing fits apart")[1].decode()).rows if len(row) == 8][:2],
+                [line.split()[1:] for line in lines[:2]]))
 
 
 TICK = 7710888014534666407

@@ -1,0 +1,113 @@
+"""Where a capture breaks into stretches, each of which some course of events fits, by the program's word about parts.
+
+From the left each stretch is as long as a course fits it, and from the right too. If both ways find as many, then in
+every course with just so many steps each step lies in its break: behind the record that ends a stretch from the right,
+and before the one that ends one from the left (design: what a capture settles, cut at a step).
+"""
+from array import array
+from itertools import pairwise
+from typing import NamedTuple
+
+from ..capture.classic import HEADER, Classic, Extent, write
+from ..folder.answers import read_settled
+from ..folder.claim import GREATEST_BOUND, Claim
+from ..folder.entry import FEW, NOTHING_FITS
+from ..folder.placing import ROOM, keep
+from ..folder.program import Program
+from ..records import replace
+
+ANY, SOME = "any.claim.json", "some.pcap"
+"""Private files: the claim with the greatest bound, and a part of the capture."""
+MOST_CALLS, MOST_BYTES = 1000, 1 << 33
+"""Of the program, to find all breaks; and bytes that it is given for that."""
+
+
+class Break(NamedTuple):
+    """The records, in the order in which they were made, between which the clock was stepped, if it was just once
+    there; and whether they are as far apart as the two ways say, so that a step lies between them."""
+
+    after: int
+    by: int
+    is_met: bool
+
+
+class Search:
+    """Looks for the breaks of a capture."""
+
+    def __init__(self, program: Program, claim: Claim, capture: str, extent: Extent | None):
+        self.program, self.calls, self.bytes = program, MOST_CALLS, MOST_BYTES
+        self.whole = Classic(capture, extent)
+        self.begins = array("Q", (begin for _, begin, _ in self.whole.rows()))
+        self.number = len(self.begins)
+        self.begins.append(self.whole.extent.end)
+        keep(ANY, replace(claim, bound_ns=GREATEST_BOUND).text)
+
+    def found(self) -> list[Break]:
+        """None if there are many, or they can't be told: then it isn't steps."""
+        left = self.from_left()
+        right = self.from_right(left) if 0 < len(left) <= FEW else []
+        if self.calls <= 0 or self.bytes <= 0 or len(left) != len(right) or not left:
+            return []
+        breaks = [self.narrowed(Break(min(m, n) - 1, max(m, n) + 1, m < n)) for m, n in zip(right, left)]
+        return breaks if all(one.by <= other.after for one, other in pairwise(breaks)) else []
+
+    def narrowed(self, one: Break) -> Break:
+        """A break in which the times of the records fall back once by more than a second: there it was, if it was a
+        step."""
+        stamps = self.whole.extent.stamps
+        falls = [k for k in range(max(1, one.after + 1), min(one.by, self.number - 1) + 1)
+                 if (stamps[k] >> 32) + 1 < stamps[k - 1] >> 32]
+        return Break(falls[0] - 1, falls[0], one.is_met) if len(falls) == 1 else one
+
+    def from_left(self) -> list[int]:
+        """The record with which each stretch is fitted no more, if it is as long as may be."""
+        found, first = list[int](), 0
+        while len(found) <= FEW and (seen := self.conflict(first, self.number)):
+            low, high, back = first, seen[1] + 1, 1
+            while high - low > 1:
+                middle, back = max((low + high) // 2, high - back), 2 * back
+                if closer := self.conflict(first, middle):
+                    high = closer[1] + 1
+                else:
+                    low = middle
+            first = high - 1
+            found.append(first)
+        return found
+
+    def from_right(self, near: list[int]) -> list[int]:
+        """The record from which on each stretch isn't fitted, seen from the end; near others, most likely."""
+        found, end, hints = list[int](), self.number, list(near)
+        while len(found) <= FEW and (seen := self.conflict(0, end)):
+            low, high, back, hint = seen[0], end, 1, hints.pop() if hints else 0
+            while high - low > 1:
+                middle, back = max((low + high) // 2, high - back), 2 * back
+                if low < hint < high:
+                    middle, back, hint = hint, 1, 0
+                if closer := self.conflict(middle, end):
+                    low = closer[0]
+                else:
+                    high = middle
+            end = low + 1
+            found.insert(0, low)
+        return found
+
+    def conflict(self, first: int, end: int) -> tuple[int, int] | None:
+        """Between which records the conflicts lie for which no course fits those from the first to before the end, if
+        none does."""
+        if first >= end or self.calls <= 0 or self.bytes <= 0:
+            return None
+        self.calls -= 1
+        self.bytes -= self.cut(first, end, SOME)
+        settled = read_settled(self.program.run("settle", ANY, SOME).text)
+        if settled.answer != NOTHING_FITS:
+            return None
+        records = [first + record for _, request, _, reply in settled.conflicts for record in (request, reply)]
+        return min(records), max(records)
+
+    def cut(self, first: int, end: int, path: str) -> int:
+        """Writes records to a private file. How many bytes that are."""
+        begin, size = self.begins[first], self.begins[end] - self.begins[first]
+        write(path, [self.whole.data[:HEADER], self.whole.data[begin : begin + size]])
+        if path == SOME:
+            ROOM.take(-size)  # (the next part takes the same room)
+        return size
