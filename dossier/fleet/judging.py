@@ -9,9 +9,9 @@ from ..capture.captures import audited
 from ..fault import REFUSED, Fault
 from ..folder.answers import read_counts
 from ..folder.claim import Claim
-from ..folder.entry import AGAINST, REFUTED, UNSUPPORTED, YES, Entry, LeapList, Record, Refutation
-from ..folder.files import (CERTIFICATE, CLAIM, CLAIM_OF_0, JOINED, REFUTATION, REPORT, Folder, own_data, sum_of,
-                            sum_of_file)
+from ..folder.entry import REFUTED, UNSUPPORTED, YES, Entry, LeapList, Record, Refutation
+from ..folder.files import CERTIFICATE, CLAIM, CLAIM_OF_0, JOINED, REFUTATION, REPORT, Folder, own_data, sum_of
+from ..folder.files import sum_of_file
 from ..folder.placing import copy_of
 from ..folder.program import Program
 from ..premise.backing import against, backing
@@ -80,7 +80,7 @@ class Judging:
         margin = 1 + claim.bound_ns // 10**9
         leap = look_up(self.leaps, min(entry.leap.from_, claim.first - margin), max(entry.leap.to, claim.last + margin))
         speaks = [*alerts_of(leap, self.leaps), *against(backing(self.folder, taken.sums), claim, leap)]
-        return UNSUPPORTED if any(alert.kind in AGAINST for alert in speaks) else YES
+        return UNSUPPORTED if speaks else YES
 
     def difference(self, entry: Entry, capture: str, record: Record) -> str:
         """Has the program judge each answer. The first that it doesn't accept, or of which it says something else."""
