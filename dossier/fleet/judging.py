@@ -11,6 +11,7 @@ from ..folder.answers import read_counts
 from ..folder.claim import Claim
 from ..folder.entry import AGAINST, REFUTED, UNSUPPORTED, YES, Entry, LeapList, Record, Refutation
 from ..folder.files import CERTIFICATE, CLAIM, CLAIM_OF_0, JOINED, REFUTATION, REPORT, Folder, own_data, sum_of
+from ..folder.files import sum_of_file
 from ..folder.placing import copy_of
 from ..folder.program import Program
 from ..premise.backing import against, backing
@@ -67,6 +68,9 @@ class Judging:
         """The capture that was audited: the one input, or all of them joined."""
         whole = audited(taken.copies, self.program)
         if (JOINED if whole.is_made else next(iter(taken.copies))) != record.capture:
+            raise Other
+        entry, = record.entries  # (a certificate's capture is held to its sum when it is judged)
+        if whole.is_made and entry.answer != YES and sum_of_file(JOINED) != entry.outputs.get(JOINED):
             raise Other
         return whole.path
 

@@ -1,8 +1,6 @@
 """A year later, or at a stranger's: does an audit of the inputs alone come to what stands in the folder?"""
-import os
 from collections import Counter
 from collections.abc import Callable
-from contextlib import suppress
 from typing import NamedTuple
 
 from .. import VERSION
@@ -10,7 +8,7 @@ from ..fault import DEVICE, NOT_SHOWN, Fault, fault, summed
 from ..folder import files
 from ..folder.entry import DISPUTED, OPEN, UNSUPPORTED, YES, Entry, LeapList, Record, is_made_anew, read_record
 from ..folder.files import Folder, own, sum_of
-from ..folder.jobs import run_all, run_one
+from ..folder.jobs import run_all
 from ..folder.older import differs as differs_from_older, form_of, read_any
 from ..folder.program import Program
 from ..folder.registry import Known
@@ -18,21 +16,22 @@ from ..folder.result import Result
 from ..premise.leap import record_by
 from ..records import replace
 from ..schema import first_difference, said
-from ..text import count, label, plain
+from ..text import label, plain
 from ..units import now
 from ..verdict.alerts import warning_words
 from ..verdict.making import Making
 from ..verdict.second import Second
 from ..verdict.sentences import reason
 from .audit import change_of
-from .days import is_day
+from .drawing import drawn_of, likelihoods
 from .judging import ONLY_MADE, Judging, Other
+from .planning import is_of_days, names_of, planned
 from .signature import GOOD, NONE, UNSEEN, Signers, in_words, signed_in
-from .statements import compared as year_compared, days_of, folders_above
+from .statements import compared as year_compared, days_of
 from .twins import Seen
 
-SHOWN, MOST_OF_A_DISPUTE, MOST_DAYS = 80, 1000, 1_000_000
-"""Characters of a value that are shown of a difference, and of what is disputed; and days that are verified at once."""
+SHOWN, MOST_OF_A_DISPUTE = 80, 1000
+"""Characters of a value that are shown of a difference, and of what is disputed."""
 OPEN_ONCE = f"what is {OPEN} was judged by one program: it states nothing that the second could judge"
 
 
@@ -217,7 +216,8 @@ def verify_all(folders: list[str], verifier: Verifier, signers: Signers, seconds
             if refusal := plan.beside[path].refusal:
                 raise Fault(refusal.line, refusal.status)
             return Result(lines=["(a year's days are in it)"], is_same=True)
-        who = signers if files.absolute(path) in named else Signers(None)
+        is_signed = files.absolute(path) in named or (how.as_signed and path not in plan.stated)
+        who = signers if is_signed else Signers(None)
         return verify(verifier, signers, who, path, named, how._replace(answers=how.answers and path not in drawn))
     for path, found in run_all([path for path in plan.every if not is_left(path)], work, seconds):
         if how.answers and found.text and found.is_same:
@@ -231,80 +231,13 @@ def verify_all(folders: list[str], verifier: Verifier, signers: Signers, seconds
     return told.end()
 
 
-class Plan(NamedTuple):
-    """The folders that are looked at, in order; those of days on which a year's statements rest, each with its name for
-    good; and of folders with a year's machines all days in them."""
-
-    every: list[str]
-    stated: dict[str, str]
-    beside: dict[str, Result]
-
-
-def planned(folders: list[str], named: set[str], seconds: int) -> Plan:
-    stated, below = dict[str, str](), dict[str, list[str]]()
-    for folder in folders:
-        days = dict(line.split(" ", 1)[::-1] for line in days_below(folder, named, seconds))
-        below[folder], stated = list(days), {**stated, **days}
-    machines = dict[str, list[str]]()
-    for machine in {os.path.dirname(day) for day in stated}:
-        for path in named & folders_above(machine):
-            machines.setdefault(path, []).append(machine)
-    beside = {folder: days_beside(folder, machines[files.absolute(folder)], seconds)
-              for folder in folders if files.absolute(folder) in machines}
-    counted = named.union(map(files.absolute, stated))
-    for folder, found in beside.items():
-        others = [day for day in found.lines if files.absolute(day) not in counted]
-        below[folder] += others
-        counted.update(map(files.absolute, others))
-        found.lines.clear()
-    return Plan([each for folder in folders for each in (*below[folder], folder)], stated, beside)
-
-
-def names_of(plan: Plan, seconds: int) -> dict[str, str]:
-    """The days of which some are drawn, each with its name for good: as a year states it, else as audit.json does."""
-    def work(path: str, _: int) -> Result:
-        with Folder(path) as folder:
-            return Result(text=read_any(audit_json(folder)).name)
-    others = [path for path in plan.every if path not in plan.stated]
-    return plan.stated | {path: found.text for path, found in run_all(others, work, seconds) if found.text}
-
-
-def drawn_of(names: dict[str, str], number: int, seed: str) -> set[str]:
-    """So many days: those for which the SHA-256 of the seed, a blank and the day's name is the least."""
-    return set(sorted(names, key=lambda path: (sum_of(f"{seed} {names[path]}".encode()), path))[:number])
-
-
-SHARES = (1, 5)
-"""Per cent of the days."""
-
-
-def likelihoods(drawn: int, days: int) -> str:
-    """How likely one bad day would have been drawn, if there were so many."""
-    said = [f"had {share} % of all been bad ({max(1, days * share // 100):,}), one would have been drawn with "
-            f"{percent(likelihood(drawn, days, max(1, days * share // 100)))}" for share in SHARES]
-    return f"({drawn:,} of {count(days, 'day')} were drawn and made again: {'; '.join(said)})"
-
-
-def likelihood(drawn: int, days: int, bad: int) -> float:
-    """That of so many days that are drawn one is bad, if so many of all are."""
-    missed = 1.0
-    for k in range(min(bad, days)):
-        missed *= max(0, days - drawn - k) / (days - k)
-    return 1 - missed if days else 0.0
-
-
-def percent(part: float) -> str:
-    """A part in per cent, rounded down."""
-    return f"{int(part * 1000) / 10} %" if part < 1 else "certainty"
-
-
 class Told:
     """What is printed of folders, and what comes of all."""
 
     def __init__(self, as_signed: bool):
         self.as_signed, self.worst = as_signed, 0
-        self.others, self.hidden, self.of_years = list[str](), list[tuple[str, str]](), list[str]()
-        self.stated = dict[str, str]()
+        self.others, self.of_years = list[str](), list[str]()
+        self.hidden: dict[bool, list[str]] = {False: [], True: []}
 
     def say(self, line: str) -> None:
         print(plain(line), flush=True)
@@ -318,61 +251,19 @@ class Told:
         if not found.is_same:
             self.others.append(label(path))
         self.of_years += found.earlier
-        if (verdicts := {verdict for verdict in found.verdicts if verdict != YES}) and path not in stated:
-            self.hidden.append((label(path), ", ".join(sorted(verdicts))))
+        if verdicts := {verdict for verdict in found.verdicts if verdict != YES}:
+            self.hidden[path in stated].append(f"{label(path)} {' and '.join(sorted(verdicts))}")
 
     def end(self) -> int:
         """The status. With `--as-signed` the last line says whether all is as it was signed, and what isn't shown."""
         if self.as_signed:
-            shown = [*self.of_years, *(f"{path} {verdict}" for path, verdict in self.hidden)]
-            words = f"not shown: {', '.join(shown)}" if shown else "all is shown"
-            self.say(f"{f'not as it was signed: {chr(44).join(self.others)}' if self.others else AS_SIGNED}; {words}")
+            hidden = [*(self.of_years or self.hidden[True]), *self.hidden[False]]
+            first = f"not as it was signed: {', '.join(self.others)}" if self.others else AS_SIGNED
+            self.say(f"{first}; not shown: {', '.join(hidden) or 'nothing, all is shown'}")
         return self.worst
 
 
 AS_SIGNED = "all is as it was signed"
-
-
-def days_below(path: str, named: set[str], seconds: int) -> list[str]:
-    """The names for good of the days on which a year's statements rest, if there are such in a folder, each with its
-    folder, if that is there."""
-    def work(path: str, _: int) -> Result:
-        with Folder(path) as folder:
-            days = days_of(folder, named) if signed_in(folder) == files.YEAR else {}
-            return Result(lines=[f"{name} {day}" for day, name in days.items() if is_there(day)])
-    return run_one(path, work, seconds).lines
-
-
-def days_beside(path: str, machines: list[str], seconds: int) -> Result:
-    """The folders of all days in a folder, in those in it, and in those of machines below it; and the folders among
-    these that can't be looked into."""
-    def work(path: str, _: int) -> Result:
-        with Folder(path) as folder:
-            inner = {os.path.join(path, name) for name in folder.names() if folder.is_folder(name) and not is_day(name)}
-        found = list[str]()
-        for place in sorted({files.absolute(place): place for place in (path, *inner, *machines)}.values()):
-            try:
-                with Folder(place) as folder:
-                    found += [os.path.join(place, name) for name in folder.names()
-                              if is_day(name) and folder.is_folder(name)]
-            except Fault:
-                found.append(place)
-            if len(found) > MOST_DAYS:
-                raise fault(f"more than {MOST_DAYS:,} days are in the folder")
-        return Result(lines=found)
-    return run_one(path, work, seconds)
-
-
-def is_there(path: str) -> bool:
-    with suppress(Fault), Folder(path):
-        return True
-    return False
-
-
-def is_of_days(path: str) -> bool:
-    """Whether a folder holds folders of days, and no audit or year of its own."""
-    with Folder(path) as folder:
-        return not folder.has(files.AUDIT) and not folder.has(files.YEAR)
 
 
 def before(verifier: Verifier, folder: Folder, how: How) -> Verified | None:

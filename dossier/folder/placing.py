@@ -322,7 +322,7 @@ class Journal:
 
     def __init__(self, folder: str, name: str, writes: bool):
         """Reads it. What will be written has to be writable before anything is begun."""
-        self.text = ""
+        self.text = b""
         try:
             if writes:
                 os.makedirs(os.path.join(f"/proc/self/fd/{HOME}", folder), 0o700, exist_ok=True)
@@ -335,10 +335,10 @@ class Journal:
         except FileNotFoundError:
             pass
 
-    def again(self) -> str:
+    def again(self) -> bytes:
         """All lines, as they stand there now."""
         with own(f"/proc/self/fd/{self.file}") as opened:
-            return opened.read().decode("utf-8", "replace")
+            return opened.read()
 
     def append(self, line: str) -> None:
         """Adds a line, whole or not at all."""

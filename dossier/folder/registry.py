@@ -40,8 +40,8 @@ class Lines:
     """The lines of a file that are whole, the last of each sum that one begins with. Where a line begins is kept in 12
     bytes, however many there are."""
 
-    def __init__(self, text: str):
-        self.text, self.table, self.more, at = text.encode(), Table(), dict[str, str](), 0
+    def __init__(self, text: bytes):
+        self.text, self.table, self.more, at = text, Table(), dict[str, str](), 0
         while (end := self.text.find(b"\n", at)) >= 0:
             if self.text.count(b" ", at, end) >= 4:
                 self.table.put(key_of(self.text[at:at + 16]), at)
@@ -73,7 +73,7 @@ class Known:
             raise fault(f"{why}: --state names another folder", DEVICE) from None
         self.lines, self.judgements = Lines(self.journal.text), Lines(self.judged.text)
         self.answers = Lines(self.by_answers.text)
-        self.journal.text = self.judged.text = self.by_answers.text = ""
+        self.journal.text = self.judged.text = self.by_answers.text = b""
         self.believed, self.believes = set[bytes](), False
 
     def renew(self) -> None:

@@ -123,7 +123,7 @@ def test_sample(place: Path) -> None:
           said=(f"{drawn}: report.txt was changed" in out.decode(), True))
     for option, value in (("--sample", "3"), ("--seed", "x")):
         check(f"verify {option} alone", status=(dossier("verify", option, value, own)[0], 5))
-    from dossier.fleet.verify import likelihood
+    from dossier.fleet.drawing import likelihood
     for number, all_, bad in ((300, 18_250, 182), (3, 8, 1), (8, 8, 1), (1, 8, 8), (0, 8, 3), (300, 365_000, 3_650)):
         missed = Fraction(comb(all_ - bad, number), comb(all_, number))
         check(f"{number} of {all_}", seen=(abs(likelihood(number, all_, bad) - float(1 - missed)) < 1e-9, True))

@@ -1,0 +1,34 @@
+"""Which days are drawn to be made again, by a rule that anybody can follow by hand, and how likely a bad one is among
+them.
+"""
+from ..folder.files import sum_of
+from ..text import count
+
+
+def drawn_of(names: dict[str, str], number: int, seed: str) -> set[str]:
+    """So many days: those for which the SHA-256 of the seed, a blank and the day's name is the least."""
+    return set(sorted(names, key=lambda path: (sum_of(f"{seed} {names[path]}".encode()), path))[:number])
+
+
+SHARES = (1, 5)
+"""Per cent of the days."""
+
+
+def likelihoods(drawn: int, days: int) -> str:
+    """How likely one bad day would have been drawn, if there were so many."""
+    said = [f"had {share} % of all been bad ({max(1, days * share // 100):,}), one would have been drawn with "
+            f"{percent(likelihood(drawn, days, max(1, days * share // 100)))}" for share in SHARES]
+    return f"({drawn:,} of {count(days, 'day')} were drawn and made again: {'; '.join(said)})"
+
+
+def likelihood(drawn: int, days: int, bad: int) -> float:
+    """That of so many days that are drawn one is bad, if so many of all are."""
+    missed = 1.0
+    for k in range(min(bad, days)):
+        missed *= max(0, days - drawn - k) / (days - k)
+    return 1 - missed if days else 0.0
+
+
+def percent(part: float) -> str:
+    """A part in per cent, rounded down."""
+    return f"{int(part * 1000) / 10} %" if part < 1 else "certainty"

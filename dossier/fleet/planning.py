@@ -1,0 +1,102 @@
+"""Which folders are looked at when some are verified: those that are named, the days on which a year's statements
+rest, and all days beside these.
+"""
+import os
+from contextlib import suppress
+from typing import NamedTuple
+
+from ..fault import Fault, fault
+from ..folder import files
+from ..folder.files import Folder
+from ..folder.jobs import run_all, run_one
+from ..folder.older import read_any
+from ..folder.result import Result
+from .days import is_day
+from .signature import signed_in
+from .statements import days_of, folders_above
+
+MOST_DAYS = 1_000_000
+"""Days that are verified at once."""
+
+
+class Plan(NamedTuple):
+    """The folders that are looked at, in order; those of days on which a year's statements rest, each with its name for
+    good; and of folders with a year's machines all days in them."""
+
+    every: list[str]
+    stated: dict[str, str]
+    beside: dict[str, Result]
+
+
+def planned(folders: list[str], named: set[str], seconds: int) -> Plan:
+    stated, below = dict[str, str](), dict[str, list[str]]()
+    for folder in folders:
+        below[folder] = []
+        for line in days_below(folder, named, seconds):
+            name, day = line.split(" ", 1)
+            stated[day] = name
+            below[folder].append(day)
+    machines = dict[str, list[str]]()
+    for machine in {os.path.dirname(day) for day in stated}:
+        for path in named & folders_above(machine):
+            machines.setdefault(path, []).append(machine)
+    beside = {folder: days_beside(folder, machines[files.absolute(folder)], seconds)
+              for folder in folders if files.absolute(folder) in machines}
+    counted = named.union(map(files.absolute, stated))
+    for folder, found in beside.items():
+        others = [day for day in found.lines if files.absolute(day) not in counted]
+        below[folder] += others
+        counted.update(map(files.absolute, others))
+        found.lines.clear()
+    return Plan([each for folder in folders for each in (*below[folder], folder)], stated, beside)
+
+
+def names_of(plan: Plan, seconds: int) -> dict[str, str]:
+    """The days of which some are drawn, each with its name for good: as a year states it, else as audit.json does."""
+    def work(path: str, _: int) -> Result:
+        with Folder(path) as folder:
+            return Result(text=read_any(folder.data(files.AUDIT)).name)
+    others = [path for path in plan.every if path not in plan.stated]
+    return plan.stated | {path: found.text for path, found in run_all(others, work, seconds) if found.text}
+
+
+def days_below(path: str, named: set[str], seconds: int) -> list[str]:
+    """The names for good of the days on which a year's statements rest, if there are such in a folder, each with its
+    folder, if that is there."""
+    def work(path: str, _: int) -> Result:
+        with Folder(path) as folder:
+            days = days_of(folder, named) if signed_in(folder) == files.YEAR else {}
+            return Result(lines=[f"{name} {day}" for day, name in days.items() if is_there(day)])
+    return run_one(path, work, seconds).lines
+
+
+def days_beside(path: str, machines: list[str], seconds: int) -> Result:
+    """The folders of all days in a folder, in those in it, and in those of machines below it; and the folders among
+    these that can't be looked into."""
+    def work(path: str, _: int) -> Result:
+        with Folder(path) as folder:
+            inner = {os.path.join(path, name) for name in folder.names() if folder.is_folder(name) and not is_day(name)}
+        found = list[str]()
+        for place in sorted({files.absolute(place): place for place in (path, *inner, *machines)}.values()):
+            try:
+                with Folder(place) as folder:
+                    found += [os.path.join(place, name) for name in folder.names()
+                              if is_day(name) and folder.is_folder(name)]
+            except Fault:
+                found.append(place)
+            if len(found) > MOST_DAYS:
+                raise fault(f"more than {MOST_DAYS:,} days are in the folder")
+        return Result(lines=found)
+    return run_one(path, work, seconds)
+
+
+def is_there(path: str) -> bool:
+    with suppress(Fault), Folder(path):
+        return True
+    return False
+
+
+def is_of_days(path: str) -> bool:
+    """Whether a folder holds folders of days, and no audit or year of its own."""
+    with Folder(path) as folder:
+        return not folder.has(files.AUDIT) and not folder.has(files.YEAR)
