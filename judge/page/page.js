@@ -29,6 +29,15 @@ function warn(text) {
 function choose(kind, file) {
   chosen[kind] = file;
   $(`${kind}-says`).textContent = file ? nameOf(file) : "";
+  $("results").replaceChildren();
+  $("status").textContent = "";
+}
+
+// Shows a dropped file where it might have been chosen.
+function show(kind, file) {
+  const list = new DataTransfer();
+  list.items.add(file);
+  $(kind).files = list.files;
 }
 
 async function kindOf(file) {
@@ -78,7 +87,10 @@ async function take(files) {
     const kind = await kindOf(file);
     if (kind && (!found[kind] || file.name === `${kind}.json`)) found[kind] = file;
   }
-  Object.entries(found).forEach(([kind, file]) => choose(kind, file));
+  for (const [kind, file] of Object.entries(found)) {
+    choose(kind, file);
+    show(kind, file);
+  }
   if (!Object.keys(found).length) warn("In what was dropped is no claim, no capture and no answer that this page knows.");
   else if (KINDS.every((kind) => chosen[kind])) judgeAll([{...chosen}]);
   else warn(`Still missing: ${KINDS.filter((kind) => !chosen[kind]).join(", ")}.`);
@@ -158,8 +170,8 @@ async function judgeAll(questions) {
     $("results").append(shown(judged[number], number, questions.length));
   }
   stop();
-  const yes = judged.filter(({status}) => status === 0).length;
-  $("status").textContent = judged.length > 1 ? `${judged.length} answers judged, ${yes} of them stand` : "Judged";
+  const right = judged.filter(({status, line}) => status < 2 && !/^(verdict no|refuted no|not right)/.test(line)).length;
+  $("status").textContent = judged.length > 1 ? `${right} of ${judged.length} answers are right` : "Judged";
   $("compare").hidden = false;
   compare();
   $("results").querySelector("h2").focus();
@@ -250,8 +262,8 @@ function wordsOf(result) {
   if (words[0] === "refuted") return [status ? "no" : "yes", status ? "It doesn't stand" : "It stands", refuted(result), ""];
   if (words[0] === "not") return ["no", "Not right", `The capture doesn't bear out “${line.slice(11)}”.`, ""];
   if (words[0] === "nothing")
-    return ["other", "Nothing fits", `That is right: in no course of events were at most
-      ${plural(claim.false_max, "group", "groups")} of servers wrong and the other premises true. One of them fails.`, ""];
+    return ["other", "Nothing fits", `That is right: with at most ${plural(claim.false_max, "group", "groups")} of servers
+      wrong, no course of events fits this capture. So one of the claim's premises is false.`, ""];
   return ["other", "No evidence", `That is right: no more groups of servers answered (${words[3]} of ${words[5]}) than may be
     wrong (${words[7]}), so the capture says nothing of this clock.`, ""];
 }

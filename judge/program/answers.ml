@@ -104,9 +104,10 @@ let in_words parse claim capture text =
 
 (* ---- any of them *)
 
-(* A refutation has no name `pieces`, and fewer bytes. *)
+(* A refutation has no such name, and fewer bytes. *)
 let is_certificate third = function
-  | Some (Members members) -> List.mem_assoc (Json.byte_list "pieces") members
+  | Some (Members members) ->
+    List.exists (fun name -> List.mem_assoc (Json.byte_list name) members) ["pieces"; "cases"]
   | _ -> Whole.ltb (Whole.of_int most_refutation) third.size
 
 let said ~drift claim capture third =

@@ -3,6 +3,8 @@ import fcntl
 import functools
 import os
 import shutil
+from collections.abc import Iterator
+from contextlib import contextmanager
 from pathlib import Path
 
 from tests.support import ROOT, run, sum_of
@@ -25,14 +27,21 @@ def sources() -> str:
     return sum_of(b"".join(str(file.relative_to(ROOT)).encode() + file.read_bytes() for file in files))
 
 
+@contextmanager
+def alone() -> Iterator[None]:
+    """While no other test makes anything."""
+    FOLDER.mkdir(parents=True, exist_ok=True)
+    with open(FOLDER / "lock", "w") as lock:
+        fcntl.flock(lock, fcntl.LOCK_EX)
+        yield
+
+
 @functools.cache
 def made(name: str) -> Path:
     """The path of what has this name."""
     if named := os.environ.get("NTPAUDIT_JUDGE"):
         return (ROOT / named).parent / name
-    FOLDER.mkdir(parents=True, exist_ok=True)
-    with open(FOLDER / "lock", "w") as lock:
-        fcntl.flock(lock, fcntl.LOCK_EX)
+    with alone():
         stamp, now = FOLDER / f"{name}.sources", sources()
         if not stamp.exists() or stamp.read_text() != now:
             status, out, err = run([ROOT / "judge/make", *NAMES[name], FOLDER])

@@ -2,7 +2,7 @@
 tests/second/test_recheck.py compares recheck by: verdict, piece, reason and status, and of what is refused the fault
 line, number, word and place.
 
-NTPAUDIT_SCENES=4000 NTPAUDIT_SEED=.. asks for more scenes, of another seed: of 4000, some 60,000 answers.
+NTPAUDIT_SCENES=2400 NTPAUDIT_SEED=.. asks for more scenes, of another seed: of 2400, some 50,000 answers.
 """
 import os
 from collections import Counter

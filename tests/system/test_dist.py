@@ -14,7 +14,7 @@ SHIPPED = ROOT / "dist/ntpaudit"
 
 def test_manifest() -> None:
     listed = dict(line.split(" ", 1) for line in (ROOT / "dist/MANIFEST").read_text().splitlines())
-    check("dist/MANIFEST has four lines", names=(list(listed), ["program", "sources", "toolchain", "page"]))
+    check("dist/MANIFEST has four lines", names=(list(listed), ["program", "page", "sources", "toolchain"]))
     check("dist/MANIFEST names another page than dist/judge.html: call dist/renew",
           sum=(listed.get("page"), sum_of((ROOT / "dist/judge.html").read_bytes())))
     check("dist/MANIFEST names other sources than those that are here: call dist/renew",
