@@ -4,7 +4,7 @@ evidence.json names it, so that a draft can know of what kind their stamps are.
 import os
 import re
 from collections.abc import Iterable, Iterator
-from typing import Annotated, Literal
+from typing import Annotated, Literal, NamedTuple
 
 from ..fault import DEVICE, Fault, fault
 from ..folder.claim import Claim
@@ -123,14 +123,27 @@ def read_recorder(folder: Folder, name: str) -> Recorder | None:
         return None
 
 
-def begun_files(folder: Folder) -> Iterator[tuple[str, str, int, str]]:
-    """Of each file that a recorder began what stands before the time in its name and behind it, the time, and the
-    name."""
+class Written(NamedTuple):
+    """A file that a recorder began: what stands before the time in its name and behind it, the time, and the name."""
+
+    before: str
+    behind: str
+    begun: int
+    name: str
+
+    @property
+    def number(self) -> int:
+        """The number that tcpdump put behind it, of files that it began in one hour."""
+        return int(re.sub(r"\D", "", self.behind.removesuffix(".gz").removesuffix(".zst")) or "0")
+
+
+def begun_files(folder: Folder) -> Iterator[Written]:
+    """The files that recorders began."""
     for name in filter(is_capture, folder.names()):
         match = BEGUN.fullmatch(name)
         begun = f"{match[2]}:{match[3]}:{match[4]}Z" if match else ""
         if match and is_time(begun):
-            yield match[1], match[5], seconds_of(begun), name
+            yield Written(match[1], match[5], seconds_of(begun), name)
 
 
 def recorders_of(captures: list[str]) -> list[Recorder] | None:

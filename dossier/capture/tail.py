@@ -6,9 +6,12 @@ one is where a record begins; each is followed from one head to the next, and wh
 together, a record begins whatever stands in the packets.
 """
 import re
+from array import array
+from collections import deque
 from collections.abc import Iterator
 from heapq import heapify, heappop, heappush
 from struct import Struct
+from typing import NamedTuple
 
 from ..fault import fault
 from ..folder.files import Folder
@@ -54,14 +57,24 @@ class Heads:
                 heappush(ways, end)
         return None
 
-    def walk(self, data: bytes, at: int) -> Iterator[tuple[int, int]]:
-        """Of each whole record from a place on its Unix second, and where it begins."""
+    def walk(self, data: bytes, at: int) -> Iterator[tuple[int, int, int]]:
+        """Of each whole record from a place on its Unix second, where it begins, and where it ends."""
         while at + HEAD <= len(data):
             end = self.after(data, at)
             if end is None or end > len(data):
                 return
-            yield self.unpack(data, at)[0], at
+            yield self.unpack(data, at)[0], at, end
             at = end
+
+
+class Ending(NamedTuple):
+    """The last records of a file; how many seconds went by in them; and the Unix seconds of the last, and of the
+    latest."""
+
+    data: bytes
+    seconds: int
+    last: int
+    latest: int
 
 
 class Growing:
@@ -73,30 +86,50 @@ class Growing:
         order, unit = MAGICS.get(self.header[:4], ("", 0))
         if len(self.header) < HEADER or not order:
             raise fault(f"{name} is no classic capture, as tcpdump writes it")
+        if self.header[20:24] != (1).to_bytes(4, "little" if order == "<" else "big"):
+            raise fault(f"{name} has other frames than Ethernet's")
         self.heads = Heads(order, unit)
 
-    def endings(self) -> Iterator[tuple[bytes, int, bool]]:
-        """Ends of the file, each longer than the one before, down to all of it: the bytes, where a record begins in
-        them, and whether no record lies before."""
+    def endings(self, most: int) -> Iterator[tuple[bytes, int, bool]]:
+        """Ends of the file, each longer than the one before, down to all of it, or to as many bytes as are read at
+        most: the bytes, where a record begins in them, and whether no record lies before."""
         length = FIRST
-        while HEADER + length < self.size and self.heads.left > 0:
+        while HEADER + length < self.size and length <= most and self.heads.left > 0:
             data = self.folder.part(self.name, self.size - length, self.size)
             if (begin := self.heads.meeting(data)) is not None:
                 yield data, begin, False
             length *= 2
-        yield self.folder.part(self.name, HEADER, self.size), 0, True
+        if self.size <= HEADER + most:
+            yield self.folder.part(self.name, HEADER, self.size), 0, True
 
-    def last(self, latest: float) -> int:
-        """The last Unix second of its whole records, but for those that are later than some time; 0 if it has none."""
-        data, begin, _ = next(self.endings())
-        return max((second for second, _ in self.heads.walk(data, begin) if second <= latest), default=0)
+    def last(self, most: int = 1 << 30) -> int:
+        """The Unix second of its last whole record; 0 if it has none."""
+        data, begin, _ = next(self.endings(most), (b"", 0, True))
+        return next(iter(deque((second for second, _, _ in self.heads.walk(data, begin)), 1)), 0)
 
-    def since(self, second: int) -> tuple[bytes, bool]:
-        """A capture of its records since a Unix second, torn at its end if the file is; and whether the file begins
-        earlier than that."""
-        for data, begin, is_all in self.endings():
-            first = next(((time, at) for time, at in self.heads.walk(data, begin) if time >= second), None)
-            if is_all or first is None or first[1] > begin:
+    def ending(self, seconds: int, longest: int, most: int, bad: list[str]) -> Ending | None:
+        """The records of its last seconds, as far as so many bytes have them; None if it has none. What went by is the
+        time from each record to the next, but none where the clock fell back, and so much at the longest. Where it is
+        damaged is said."""
+        found = None
+        for data, begin, is_all in self.endings(most):
+            times, places, end = array("Q"), array("Q"), begin
+            for second, at, end in self.heads.walk(data, begin):
+                times.append(second)
+                places.append(at)
+            if is_damaged := self.is_damaged(data, end):
+                bad.append(fault(f"{self.name} is damaged from byte {self.size - len(data) + end} on").line)
+            gone, first = 0, len(times) - 1
+            while first > 0 and gone <= seconds:
+                gone += min(max(0, times[first] - times[first - 1]), longest)
+                first -= gone <= seconds
+            if times:
+                found = Ending(data[places[first] : end], gone, times[-1], max(times[first:]))
+            if first > 0 or is_damaged:
                 break
-        at = len(data) if first is None else first[1]
-        return self.header + data[at:], not is_all or at > begin
+        return found
+
+    def is_damaged(self, data: bytes, end: int) -> bool:
+        """Whether what stands there is no record that was cut off."""
+        after = self.heads.after(data, end) if end + HEAD <= len(data) else None
+        return end + HEAD <= len(data) and (after is None or after <= len(data))

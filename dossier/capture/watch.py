@@ -11,14 +11,14 @@ import signal
 import time
 from contextlib import suppress
 from struct import Struct
-from typing import Literal, NamedTuple
+from typing import Annotated, Literal, NamedTuple
 
 from ..fault import DEVICE, USAGE, Fault, Stopped, fault
 from ..folder.files import Folder
 from ..folder.jobs import ENVIRONMENT, GRACE, Beside, find_tool
 from ..folder.placing import Begun, Slate, make_folder, undisturbed
 from ..records import dataclass, field
-from ..schema import Count, Text, json_text
+from ..schema import Count, Text, json_text, length, read_typed
 from ..text import note, plain
 from ..units import now
 from .classic import HEAD, HEADER, MAGICS
@@ -43,7 +43,7 @@ BUFFER = "16384"
 """KiB in which the kernel holds packets while this process is busy."""
 COUNTED = re.compile(r"(\d+) packets? captured(?:, (\d+) packets? received by filter, (\d+) packets? dropped)?")
 OF_ROOT = "name one of root's own, such as /srv/web-1, since tcpdump needs root"
-ENDING = ".recording"
+ENDING, MOST_NAMED = ".recording", 20
 
 
 @dataclass(frozen=True)
@@ -54,14 +54,24 @@ class State:
     at: Count
     last: Count
     """When its last packet came; 0 if none did."""
-    file: Text
-    """The file that is written; nothing if there is none."""
+    files: Annotated[list[Text], length(0, 20)]
+    """The last files, in the order in which they were begun."""
     kept: Count
     left_out: Count
     """Packets of more than are kept of a minute that aren't of an exchange."""
     lost: Count
     """Packets that had no room, or that the kernel or tcpdump dropped."""
     troubles: list[Text] = field(default_factory=list)
+
+
+def read_state(folder: Folder, interface: str) -> State | None:
+    """What the recorder of an interface says of itself in a folder, if one does."""
+    name = f"{interface}{ENDING}"
+    try:
+        found: State = read_typed(name, State, folder.part(name, 0, Slate.SIZE))
+        return found
+    except Fault:
+        return None
 
 
 class Wanted(NamedTuple):
@@ -101,6 +111,7 @@ class Watch:
         self.file: Begun | None = None
         self.slate: Slate | None = None
         self.found: Recorder | None = None
+        self.files = before.files if (before := read_state(folder, wanted.interface)) else []
         self.header = self.rest = b""
         self.heard = self.said = ""
         """What tcpdump printed of a line so far, and the last line that is no count."""
@@ -191,8 +202,7 @@ class Watch:
         size = 0
         for name in self.folder.names():
             if (match := BEGUN.fullmatch(name)) and match[1] == f"{self.wanted.interface}-":
-                with suppress(FileNotFoundError):
-                    size += self.folder.size(name)
+                size += self.folder.size(name)
         if size > ALL:
             self.trouble("all", f"its files have {size:,} bytes: nothing is recorded until some are taken away")
             self.close_file()
@@ -208,7 +218,7 @@ class Watch:
         with suppress(OSError):
             self.slate = self.slate or Slate(self.folder.place, f"{self.wanted.interface}{ENDING}")
             self.slate.put(json_text(State("recording", int(since_boot()), int(self.last),
-                                           self.file.name if self.file else "", self.kept, self.left_out,
+                                           self.files, self.kept, self.left_out,
                                            self.unwritten + self.dropped, sorted(self.troubles))))
 
     # ---- tcpdump
@@ -344,6 +354,7 @@ class Watch:
                 return
         name = f"{self.wanted.interface}-{now().replace(':', '')}.pcap"
         self.file, self.rotates, self.retries = Begun(self.folder.place, name, self.header), since_boot() + HOUR, 0.0
+        self.files = [*self.files, self.file.name][-MOST_NAMED:]
         self.is_well("room", f"there is room again: {self.file.name} is begun")
         self.is_well("file", f"{self.file.name} is begun")
 

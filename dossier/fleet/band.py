@@ -1,11 +1,13 @@
 """What the last minutes of a recording say of the clock: in a line for a person, as metrics, and as a band of the last
 hour, drawn with characters: the hull over time, and the bound."""
+import time
 from collections.abc import Iterator
 
-from ..folder.entry import ANSWERED, NOTHING_FITS, REFUSED, Hull, Piece
+from ..folder.entry import ANSWERED, NOTHING_FITS, REFUSED, Hull, Move, Piece
 from ..folder.result import Moment
 from ..text import count, label, plain
-from ..units import SECOND, TICKS, bound_ticks, ceil_div, civil, high_ms, low_ms, ns_up_ms
+from ..units import (SECOND, TICKS, bound_ticks, ceil_div, civil, high_ms, low_ms, ns_up_ms,
+                     span_of_seconds)
 from .metrics import Sample, labels_of
 
 ROWS, LEFT, HOUR = 9, 12, 3600
@@ -32,20 +34,67 @@ def fields_of(moment: Moment) -> list[str]:
     """The line, in parts that stay together."""
     begin, end, recorder = civil(moment.begin), civil(moment.end), label(moment.recorder)
     said = [f"{begin} .. {end[11:] if begin[:10] == end[:10] else end}", moment.verdict]
-    hull = whole(moment.pieces)
-    if hull is None and moment.verdict == REFUSED:
-        return [recorder, *said]
+    hull, few = whole(moment.pieces), f", {moment.needed} needed" if moment.heard < moment.needed else ""
     if hull is None:
-        was = f"nothing was recorded since {civil(moment.last)}" if moment.last else "nothing was recorded"
-        return [recorder, *said, was]
+        return [recorder, *said, *([] if moment.verdict == REFUSED else [unheard(moment)]),
+                *warnings_of(moment)]
+    for move in moment.moves[:-1]:
+        said.append(moved(move))
+    since = f"{moved(moment.moves[-1])}; since then " if moment.moves else ""
     if not isinstance(hull, str):
-        ends = f"{signed(low_ms(hull[0]))} .. {signed(high_ms(hull[1]))} ms"
-        said.append(f"{ends} of {exact_ms(moment.bound_ns)} ms")
+        said.append(f"{since}{range_of(hull)} of {exact_ms(moment.bound_ns)} ms")
+    elif since:
+        said.append(since.removesuffix("; since then "))
+    if moment.now is not None:
+        said.append(f"now {range_of(moment.now)}")
     if moment.least_ns is not None and moment.verdict != NOTHING_FITS:
         said.append(f"least {ns_up_ms(moment.least_ns)} ms")
-    said.append(f"{moment.heard} of {count(moment.groups, 'group')}")
+    if moment.camps:
+        said.append(f"servers contradict one another: {' and '.join(map(', '.join, moment.camps))}")
+    said.append(f"{moment.heard} of {count(moment.groups, 'group')}{few}")
     said += ["the clock is off"] if moment.is_off else []
-    return [recorder, *said, *([moment.leap] if moment.leap else [])]
+    return [recorder, *said, *servers_of(moment), *([moment.against] if moment.against else []), *warnings_of(moment)]
+
+
+def unheard(moment: Moment) -> str:
+    """That nothing was recorded, and since when."""
+    if not moment.last:
+        return "nothing was recorded"
+    age = f", {span_of_seconds(moment.age)} ago" if moment.age is not None else ""
+    return f"nothing was recorded since {civil(moment.last)}{age}"
+
+
+def moved(move: Move) -> str:
+    """How the clock moved, in the order in which the records around it were made."""
+    how = "stepped" if move.is_step else f"stepped, or moved at {move.rate_ppb // 1000:,} ppm or more,"
+    after, by = civil(move.after // SECOND), civil(ceil_div(move.by, SECOND))
+    return f"{how} between {after} and {by[11:] if by[:10] == after[:10] else by} by {range_of((move.low, move.high))}"
+
+
+def range_of(hull: tuple[int, int]) -> str:
+    return f"{signed(low_ms(hull[0]))} .. {signed(high_ms(hull[1]))} ms"
+
+
+def servers_of(moment: Moment) -> Iterator[str]:
+    """Which servers can't be right, and by how much they are off; and which are silent."""
+    for server in moment.servers:
+        if server.is_apart and server.error:
+            yield f"{server.address} is off by {range_of(server.error)}"
+    if silent := [server.address for server in moment.servers if server.is_silent]:
+        yield f"silent: {', '.join(silent)}"
+
+
+TROUBLES = {
+    "dead": "the recorder doesn't run", "stopped": "the recorder was ended", "hangs": "tcpdump hangs",
+    "ended": "tcpdump has ended", "room": "nothing can be written", "all": "recordings have no room",
+    "file": "the file was moved", "flood": "more packets come than are kept", "lost": "packets are lost"}
+"""What a recorder says of itself."""
+
+
+def warnings_of(moment: Moment) -> Iterator[str]:
+    yield from (TROUBLES.get(trouble, trouble) for trouble in moment.troubles)
+    if moment.ahead and not moment.against:
+        yield f"the clock was set back: records up to {span_of_seconds(moment.ahead)} ahead of it"
 
 
 def signed(words: str) -> str:
@@ -63,22 +112,54 @@ def line_of(moment: Moment) -> str:
 
 
 def metrics_of(moment: Moment) -> Iterator[Sample]:
-    """The hull is that of the last second: how the clock is now. A low end is rounded down and a high end up."""
-    labels = labels_of(recorder=moment.recorder)
+    """The hull is that of the last second: how the clock is now. A low end is rounded down and a high end up. What
+    isn't seen has no value."""
+    labels, verdict = labels_of(recorder=moment.recorder), moment.verdict
     for other in (*ANSWERED, REFUSED):
-        yield "now_verdict", labels_of(recorder=moment.recorder, verdict=other), int(other == moment.verdict)
-    yield "now_clock_off", labels, int(moment.is_off)
+        yield "now_verdict", labels_of(recorder=moment.recorder, verdict=other), int(other == verdict)
+    yield "now_seen", labels, int(moment.now is not None)
     yield "now_claimed_bound_seconds", labels, moment.bound_ns
-    if moment.pieces and not isinstance(hull := moment.pieces[-1].hull, str):
-        yield "now_hull_low_seconds", labels, hull[0] * SECOND // TICKS
-        yield "now_hull_high_seconds", labels, ceil_div(hull[1] * SECOND, TICKS)
+    if moment.now is not None:
+        yield "now_clock_off", labels, int(moment.is_off)
+        yield "now_hull_low_seconds", labels, down_ns(moment.now[0])
+        yield "now_hull_high_seconds", labels, up_ns(moment.now[1])
     if moment.least_ns is not None:
         yield "now_least_bound_seconds", labels, moment.least_ns
     yield "now_groups_heard", labels, moment.heard
+    yield "now_groups_needed", labels, moment.needed
     yield "now_groups", labels, moment.groups
     yield "now_refused_files", labels, len(moment.bad)
+    yield "now_records_ahead_seconds", labels, moment.ahead * SECOND
+    yield "now_looked_timestamp_seconds", labels, time.time_ns()
     if moment.last:
         yield "now_last_record_timestamp_seconds", labels, moment.last * SECOND
+    if moment.age is not None:
+        yield "now_last_record_age_seconds", labels, moment.age * SECOND
+    if moment.moves:
+        move = moment.moves[-1]
+        yield "now_last_step_timestamp_seconds", labels, move.by
+        yield "now_last_step_low_seconds", labels, down_ns(move.low)
+        yield "now_last_step_high_seconds", labels, up_ns(move.high)
+    for server in moment.servers:
+        own = labels_of(recorder=moment.recorder, server=server.address)
+        yield "now_server_silent", own, int(server.is_silent)
+        if server.error:
+            yield "now_server_apart", own, int(server.is_apart)
+            yield "now_server_error_low_seconds", own, down_ns(server.error[0])
+            yield "now_server_error_high_seconds", own, up_ns(server.error[1])
+    for trouble in TROUBLES:
+        yield ("now_recorder_trouble", labels_of(recorder=moment.recorder, trouble=trouble),
+               int(trouble in moment.troubles))
+    yield "now_recorder_lost_packets", labels, moment.lost
+    yield "now_recorder_left_out_packets", labels, moment.left_out
+
+
+def down_ns(ticks: int) -> int:
+    return ticks * SECOND // TICKS
+
+
+def up_ns(ticks: int) -> int:
+    return ceil_div(ticks * SECOND, TICKS)
 
 
 class Band:
@@ -115,7 +196,7 @@ class Band:
             if lines[-1] and len(lines[-1]) + 2 + len(words) > width:
                 lines.append("")
             lines[-1] += ("  " if lines[-1] else "") + words
-        colour = GREEN if moment.verdict == "yes" else RED
+        colour = GREEN if moment.is_shown else RED
         return [f"{colour}{line}{PLAIN}" for line in lines] if self.has_colour else lines
 
     def band(self, moment: Moment, width: int) -> list[str]:

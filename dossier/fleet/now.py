@@ -1,26 +1,26 @@
 """The last minutes of what recorders are writing: is the clock within its bound now?
 
-It is asked as an audit asks it, of a span that begins no earlier than the records and ends with the last. What was
-recorded as long before speaks about it too. Nothing is left but metrics.
+It is asked as an audit asks it, of the minutes that are named, part by part: if the clock was stepped, of what was
+recorded since. What was recorded in two minutes before speaks about them too. Nothing is left but metrics.
 """
 import os
 import shutil
 import sys
 import time
-from collections.abc import Iterator
 from contextlib import suppress
+from functools import partial
 from typing import NamedTuple
 
-from ..capture.captures import audited
-from ..capture.classic import HEADER, Classic
+from ..capture.classic import Classic
+from ..capture.latest import Latest, latest
 from ..capture.recorder import begun_files
-from ..capture.tail import Growing
+from ..capture.watch import LOOK, State, read_state, since_boot
 from ..fault import NOT_SHOWN, REFUSED as INPUT_REFUSED, Fault
 from ..folder.answers import read_envelope, read_settled
 from ..folder.claim import Claim
-from ..folder.entry import NO_EVIDENCE, OF_LEAPS, REFUSED, UNSUPPORTED, YES, LeapList
+from ..folder.entry import NO_EVIDENCE, NOTHING_FITS, OF_LEAPS, REFUSED, UNSUPPORTED, YES, LeapList
 from ..folder.files import CLAIM, Folder, data_named
-from ..folder.jobs import answer
+from ..folder.jobs import answer, run_all
 from ..folder.placing import keep
 from ..folder.program import Program
 from ..folder.result import Moment, Result
@@ -28,16 +28,25 @@ from ..premise.leap import alerts_of, look_up
 from ..records import replace
 from ..schema import read_typed
 from ..text import note, plain
-from ..units import civil
+from ..units import SECOND, ceil_div, civil, span_of_seconds
 from ..verdict.judgement import piece_of
+from ..verdict.parts import parted
+from ..verdict.seen import camps_at
 from .band import Band, line_of, metrics_of
+from .hearing import Hearing
 from .metrics import write_metrics
 
 MINUTE, HOUR = 60, 60
 """Seconds; and minutes of the band."""
+MARGIN = 128
+"""Seconds before the minutes that are named whose records speak about them too."""
 MOST_PIECES = 10_000
-AHEAD = 3600
-"""Seconds by which a file may have been begun later than now, and a record made: what is later is of another clock."""
+LIMIT = 60
+"""Seconds for the minutes of a recorder, and for each hour of them."""
+DEAD = 6 * LOOK
+"""Seconds after which a recorder that says nothing of itself doesn't run."""
+SILENT = 60
+"""Seconds of silence, at the least, that are more than chance: or two polls."""
 
 
 class Wanted(NamedTuple):
@@ -67,7 +76,7 @@ def tell_bad(found: list[Moment]) -> None:
 
 def status_of(found: list[Moment]) -> int:
     """1 if any clock isn't shown, else 2 if a file was refused."""
-    is_shown = all(moment.verdict == YES for moment in found)
+    is_shown = all(moment.is_shown for moment in found)
     return INPUT_REFUSED * any(moment.bad for moment in found) if is_shown else NOT_SHOWN
 
 
@@ -102,80 +111,95 @@ def follow(wanted: Wanted, metrics: str | None, seconds: int, has_colour: bool) 
 
 
 def moments(wanted: Wanted) -> list[Moment]:
-    """What the last minutes of each recorder say, the worst first."""
-    return sorted(answer(lambda *_: look(wanted)).moments, key=lambda moment: moment.badness)
+    """What the last minutes of each recorder say, the worst first. Each is looked at in a process of its own, side by
+    side: none holds up the others, or blinds them."""
+    told = {moment.recorder: moment for moment in answer(lambda *_: recorders(wanted)).moments}
+    jobs = min(len(told), len(os.sched_getaffinity(0)))
+    found = []
+    for recorder, result in run_all(list(told), partial(look, wanted), LIMIT * ceil_div(wanted.minutes, HOUR), jobs):
+        found += result.moments or [replace(told[recorder], verdict=REFUSED, bad=[plain(result.refusal.line)])
+                                    if result.refusal else told[recorder]]
+    return sorted(found, key=lambda moment: moment.badness)
 
 
-def look(wanted: Wanted) -> Result:
-    """In a process of its own: a folder of recordings is a stranger's as any other."""
-    claim: Claim = read_typed(os.path.basename(wanted.claim), Claim, data_named(wanted.claim))
-    recorders: dict[str, list[tuple[int, str, str]]] = {}
+def claim_of(wanted: Wanted) -> Claim:
+    found: Claim = read_typed(os.path.basename(wanted.claim), Claim, data_named(wanted.claim))
+    return found
+
+
+def recorders(wanted: Wanted) -> Result:
+    """Of each recorder that nothing is known of it yet; of none, that there is none."""
+    claim = claim_of(wanted)
     with Folder(wanted.source) as folder:
-        for recorder, behind, begun, name in begun_files(folder):
-            if begun < time.time() + AHEAD:
-                recorders.setdefault(recorder.removesuffix("-"), []).append((begun, behind.zfill(12), name))
-        found = [moment_or_refusal(wanted, claim, folder, recorder, [name for *_, name in sorted(files, reverse=True)])
-                 for recorder, files in recorders.items()]
-    return Result(moments=found or [silent(wanted, claim, "")])
+        names = sorted({one.before.removesuffix("-") for one in begun_files(folder)})
+    end, groups = int(time.time()), len(claim.grouped)
+    return Result(moments=[Moment(name, end - MINUTE * wanted.minutes, end, NO_EVIDENCE, claim.bound_ns, groups,
+                                  2 * claim.false_max + 1) for name in names or [""]])
 
 
-def silent(wanted: Wanted, claim: Claim, recorder: str, verdict: str = NO_EVIDENCE, last: int = 0) -> Moment:
-    """Nothing is known of these minutes."""
-    end = int(time.time())
-    return Moment(recorder, end - MINUTE * wanted.minutes, end, verdict, claim.bound_ns, len(claim.grouped), last)
+def look(wanted: Wanted, recorder: str, _: int) -> Result:
+    """What the last minutes of a recorder say. Files that can't be read are left out and named."""
+    claim, bad, now, end = claim_of(wanted), list[str](), int(since_boot()), int(time.time())
+    with Folder(wanted.source) as folder:
+        files = [one for one in begun_files(folder) if one.before.removesuffix("-") == recorder]
+        state = read_state(folder, recorder)
+        runs = state is not None and 0 <= now - state.at <= DEAD
+        span = MINUTE * wanted.minutes
+        found = latest(folder, files, state.files if state and runs else [], span + MARGIN, end, bad)
+    moment = Moment(recorder, end - span, end, NO_EVIDENCE, claim.bound_ns, len(claim.grouped),
+                    2 * claim.false_max + 1, found.last, age_of(state, found, now, end), found.ahead,
+                    troubles=[] if state is None else state.troubles if runs else ["dead"],
+                    lost=state.lost if state else 0, left_out=state.left_out if state else 0)
+    if found.last:
+        moment = told_of(wanted, claim, found, moment)
+    return Result(moments=[replace(moment, bad=list(map(plain, dict.fromkeys(bad))))])
 
 
-def moment_or_refusal(wanted: Wanted, claim: Claim, folder: Folder, recorder: str, names: list[str]) -> Moment:
-    """Of a recorder, by the names of its files, the newest first. Those that can't be read are left out and named."""
-    bad: list[str] = []
-    try:
-        moment = moment_of(wanted, claim, folder, recorder, names, bad)
-    except Fault as found:
-        moment, bad = silent(wanted, claim, recorder, REFUSED), [*bad, found.line]
-    return replace(moment, bad=list(map(plain, dict.fromkeys(bad))))
+def age_of(state: State | None, found: Latest, now: int, end: int) -> int | None:
+    """Seconds since the last record was made: by the recorder's word, else by the machine's clock."""
+    if state and 0 < state.last <= now:
+        return now - state.last
+    return max(0, end - found.last) if found.last else None
 
 
-def moment_of(wanted: Wanted, claim: Claim, folder: Folder, recorder: str, names: list[str], bad: list[str]) -> Moment:
-    span = MINUTE * wanted.minutes
-    last = next(filter(None, (file.last(time.time() + AHEAD) for file in growing(folder, names, bad))), 0)
-    if last < time.time() - span:
-        return silent(wanted, claim, recorder, last=last)
-    capture = audited(dict(copies(growing(folder, names, bad), last - 2 * span)))
-    stamps = Classic(capture.path, capture.extent).extent.stamps
-    if not stamps:
-        return silent(wanted, claim, recorder, last=last)
-    first = min(stamps) >> 32
-    begin = max(last - span, first)
-    own = replace(claim, from_=civil(begin), to=civil(last))
+def told_of(wanted: Wanted, claim: Claim, found: Latest, moment: Moment) -> Moment:
+    """What the program says of the last minutes, of which there are records."""
+    whole, span = Classic(found.path), MINUTE * wanted.minutes
+    begin = max(found.last - span, first_of(whole))
+    own = replace(claim, from_=civil(begin), to=civil(found.last))
     keep(CLAIM, own.text)
-    settled = read_settled(wanted.program.run("settle", CLAIM, capture.path).text)
-    words = ("envelope", CLAIM, capture.path, "--servers", "--least", "--step",
-             str(1 + span // MOST_PIECES))
+    hearing = Hearing(wanted.program, own, found.path, whole)
+    if moment.age is not None and moment.age > max(SILENT, 2 * hearing.poll):
+        return moment
+    step = 1 + span // MOST_PIECES
+    parts = parted(wanted.program, own, found.path, whole.extent, step)
+    settled, capture = parts.settled, parts.capture
+    if parts.moves:
+        begin = max(begin, min(found.last, ceil_div(parts.moves[-1].by, SECOND)))
+        own, capture = replace(own, from_=civil(begin)), f"stretch-{len(parts.moves)}.pcap"
+        keep(CLAIM, own.text)
+        settled = wanted.program.run("settle", CLAIM, capture).text
+    keep(CLAIM, own.text)
+    words = ("envelope", CLAIM, capture, "--servers", "--least", "--step", str(step))
     envelope = read_envelope(wanted.program.run(*words).text)
-    leaps = look_up(wanted.leaps, first, last)
+    answer_ = read_settled(settled).answer
+    leaps = look_up(wanted.leaps, begin, found.last)
     against = next((OF_LEAPS[alert.kind] for alert in alerts_of(leaps, wanted.leaps)), "")
-    heard = sum(any(own.servers[k] in envelope.servers for k in group) for group in own.grouped)
-    verdict = UNSUPPORTED if settled.answer == YES and against else settled.answer
-    return Moment(recorder, begin, last, verdict, own.bound_ns, len(own.grouped), last, heard, envelope.least_ns,
-                  against if verdict == UNSUPPORTED else "",
-                  [piece_of(envelope, k) for k in range(len(envelope.hulls))])
+    against = f"the clock was set back: records up to {span_of_seconds(found.ahead)} ahead of it" if found.ahead else \
+        against
+    servers = hearing.servers(envelope)
+    silent = {server.address for server in servers if server.is_silent}
+    return replace(
+        moment, begin=begin, end=found.last, verdict=UNSUPPORTED if answer_ == YES and against else answer_,
+        heard=sum(any(own.servers[k] not in silent for k in group) for group in own.grouped), servers=servers,
+        camps=[list(camp) for camp in camps_at(envelope, len(envelope.hulls) - 1)] if answer_ == NOTHING_FITS else [],
+        moves=[move for move in parts.moves if move.by > (found.last - span) * SECOND],
+        least_ns=None if answer_ == NOTHING_FITS else envelope.least_ns, against=against,
+        pieces=[piece_of(envelope, k) for k in range(len(envelope.hulls))])
 
 
-def growing(folder: Folder, names: list[str], bad: list[str]) -> Iterator[Growing]:
-    """The files, but those that were only just begun, and bad ones, whose faults are kept."""
-    for name in names:
-        try:
-            if folder.size(name) >= HEADER:
-                yield Growing(folder, name)
-        except Fault as found:
-            bad.append(found.line)
-
-
-def copies(files: Iterator[Growing], second: int) -> Iterator[tuple[str, str]]:
-    """Private copies of the last records of files, of the newest first, down to a file that begins earlier."""
-    for number, file in enumerate(files):
-        data, begins_earlier = file.since(second)
-        keep(f"{number}.pcap", data)
-        yield file.name, f"{number}.pcap"
-        if begins_earlier:
-            return
+def first_of(whole: Classic) -> int:
+    """The Unix second of the first record behind the last place where the clock fell back."""
+    seconds = [stamp >> 32 for stamp in whole.extent.stamps]
+    falls = [k for k in range(1, len(seconds)) if seconds[k] < seconds[k - 1]]
+    return min(seconds[falls[-1] if falls else 0 :])

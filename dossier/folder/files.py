@@ -202,8 +202,14 @@ class Folder:
         return kind_of(self.place, name) == KINDS[stat.S_IFDIR]
 
     def written(self, name: str) -> int:
-        """When something was written last, in Unix seconds."""
-        return int(os.stat(name, dir_fd=self.place, follow_symlinks=False).st_mtime)
+        """When something was written last, in Unix seconds; 0 if it isn't there any more."""
+        return self.written_ns(name) // 10**9
+
+    def written_ns(self, name: str) -> int:
+        try:
+            return os.stat(name, dir_fd=self.place, follow_symlinks=False).st_mtime_ns
+        except OSError:
+            return 0
 
     def part(self, name: str, begin: int, end: int) -> bytes:
         """The bytes of a file between two places, as far as it has them: it may be growing."""
@@ -225,7 +231,11 @@ class Folder:
             return False
 
     def size(self, name: str) -> int:
-        return os.stat(name, dir_fd=self.place, follow_symlinks=False).st_size
+        """The bytes of a file; 0 if it isn't there any more."""
+        try:
+            return os.stat(name, dir_fd=self.place, follow_symlinks=False).st_size
+        except OSError:
+            return 0
 
     def data(self, name: str) -> bytes:
         """The bytes of a file."""

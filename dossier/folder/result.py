@@ -3,10 +3,10 @@ from collections import Counter
 from typing import Annotated
 
 from ..records import dataclass, field
-from ..schema import Count, Sum, Text, Ticks, length, matching
+from ..schema import Address, Count, Sum, Text, Ticks, length, matching
 from ..units import bound_ticks
 from .claim import Claim
-from .entry import WORST_FIRST, YES, Day, Made, Piece, Refusal, side_of
+from .entry import WORST_FIRST, YES, Day, Made, Move, Piece, Refusal, side_of
 
 MISSING, NOT_COUNTED = "missing", "not counted"
 """There is no folder of a day; there is one, and it isn't counted."""
@@ -58,8 +58,20 @@ class Section:
 
 
 @dataclass(frozen=True)
+class Heard:
+    """A server in the last minutes: whether it is silent; and by its last sample its own error in ticks, if the hull is
+    known there, and whether it can't be right."""
+
+    address: Address
+    is_silent: bool
+    error: tuple[Ticks, Ticks] | None = None
+    is_apart: bool = False
+
+
+@dataclass(frozen=True)
 class Moment:
-    """Of a recorder's last minutes the span, the program's answer, and the envelope's pieces."""
+    """Of a recorder's last minutes the span, the program's answer, and the envelope's pieces: of what was recorded
+    since the clock moved last, if it did."""
 
     recorder: str
     begin: int
@@ -67,21 +79,47 @@ class Moment:
     verdict: str
     bound_ns: int
     groups: int
-    last: int
-    """When the last record was made, in Unix seconds; 0 if there is none."""
+    needed: int
+    """How many groups have to be heard to outvote those that may be wrong."""
+    last: int = 0
+    """When the last record was made, in Unix seconds by the clock that is looked at; 0 if there is none."""
+    age: int | None = None
+    """Seconds since then, by a clock that isn't set, if the recorder is known by one."""
+    ahead: Count = 0
+    """By how many seconds records are later than the machine's clock."""
     heard: int = 0
-    """How many groups have a sample."""
+    """How many groups have a server that isn't silent."""
+    servers: list[Heard] = field(default_factory=list)
+    camps: list[list[Address]] = field(default_factory=list)
+    """The servers that agree with one another at the end, if nothing fits."""
+    moves: list[Move] = field(default_factory=list)
     least_ns: int | None = None
-    leap: str = ""
+    against: str = ""
     """What takes a yes away, if anything does."""
     pieces: list[Piece] = field(default_factory=list)
     bad: list[Text] = field(default_factory=list)
     """The faults of files that were left out."""
+    troubles: list[Text] = field(default_factory=list)
+    """What the recorder says of itself."""
+    lost: Count = 0
+    left_out: Count = 0
+    """Packets that it lost, and that it left out, since it was begun."""
+
+    @property
+    def now(self) -> tuple[int, int] | None:
+        """The error at the end, in ticks, if it is seen."""
+        hull = self.pieces[-1].hull if self.pieces else "unbounded"
+        return None if isinstance(hull, str) else hull
 
     @property
     def is_off(self) -> bool:
         """Whether the clock was beyond its bound at the end, wherever in the hull its error was."""
-        return bool(self.pieces) and side_of(self.pieces[-1].hull, bound_ticks(self.bound_ns)) != 0
+        return self.now is not None and side_of(self.now, bound_ticks(self.bound_ns)) != 0
+
+    @property
+    def is_shown(self) -> bool:
+        """Whether the clock was within its bound in all of these minutes."""
+        return self.verdict == YES and not self.moves
 
     @property
     def badness(self) -> tuple[bool, int, int]:
