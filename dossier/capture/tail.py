@@ -111,8 +111,8 @@ class Growing:
         """The records of its last seconds, as far as so many bytes have them; None if it has none. What went by is the
         time from each record to the next, but none where the clock fell back, and so much at the longest. Where it is
         damaged is said."""
-        found = None
-        for data, begin, is_all in self.endings(most):
+        found, ends = None, 0
+        for ends, (data, begin, _) in enumerate(self.endings(most), 1):
             times, places, end = array("Q"), array("Q"), begin
             for second, at, end in self.heads.walk(data, begin):
                 times.append(second)
@@ -127,6 +127,8 @@ class Growing:
                 found = Ending(data[places[first] : end], gone, times[-1], max(times[first:]))
             if first > 0 or is_damaged:
                 break
+        if not ends:
+            bad.append(fault(f"{self.name}: in its last {most // 1_000_000:,} MB no record can be told apart").line)
         return found
 
     def is_damaged(self, data: bytes, end: int) -> bool:

@@ -195,28 +195,60 @@ def timed_alerts() -> list[dict[str, Any]]:
 
 
 def test_alerts_of_now(place: Path) -> None:
-    """The alerts on the last minutes: twice running is a page, and a recorder that is silent or metrics that are gone
-    are tickets."""
+    """The alerts on the last minutes. Who is called: the clock is off now, or can't be seen and was off. A step that is
+    over, servers that are apart or silent, too few groups, a bound that isn't shown, a recorder that is silent or isn't
+    well, and metrics that are gone wait for the day."""
     rules = MONITORING / "ntpaudit-now.rules.yml"
     by_promtool("the alert rules of now", "check", "rules", rules)
-    own = [{"job": "node", "instance": name, "recorder": "eth0"} for name in ("off", "step", "once", "silent", "blind")]
-    off, step, once, silent, blind = own
 
-    def verdicts(values: str, others: str = "0x99", **labels: str) -> list[dict[str, Any]]:
-        return [series_of("now_verdict", values if verdict == labels["verdict"] else others,
-                          **{**labels, "verdict": verdict}) for verdict in ("nothing fits", "no evidence", "refuted")]
-    given = [series_of("now_clock_off", values, **one)
-             for one, values in zip(own, ("0 0 1x90", "0 0 0 0 0 1x90", "0 0 1 1 1 0x90", "0x99", "0x99"))]
-    given += verdicts("0 0 1x90", **off, verdict="refuted") + verdicts("0 0 1 1 1 0x90", **step, verdict="nothing fits")
-    given += verdicts("0x99", **once, verdict="refuted") + verdicts("0x9", "0x9", **silent, verdict="refuted")
-    given += verdicts("1x99", **blind, verdict="no evidence")
-    given += [series_of("now_last_record_timestamp_seconds", "0+60x99" if one is not silent else "0x99", **one)
-              for one in own]
-    asked = [of_alerts("ClockIsOff", "page", "5m"), of_alerts("ClockIsOff", "page", "7m", off, step),
-             of_alerts("RecorderSilent", "ticket", "9m"), of_alerts("RecorderSilent", "ticket", "11m", silent),
-             of_alerts("ClockUnseen", "ticket", "9m"),
-             of_alerts("ClockUnseen", "ticket", "11m", {**blind, "verdict": "no evidence"}),
-             of_alerts("ClockNowMissing", "ticket", "68m", {"job": "node", "instance": "silent"})]
+    def of(name: str) -> dict[str, str]:
+        return {"job": "node", "instance": name, "recorder": "eth0"}
+    given = list[dict[str, Any]]()
+
+    def values(name: str, **metrics: str) -> dict[str, str]:
+        """The series of a machine; what isn't named is well."""
+        well = {"seen": "1x99", "clock_off": "0x99", "groups_heard": "4x99", "groups_needed": "3x99",
+                "last_record_age_seconds": "9x99", "refused_files": "0x99", "records_ahead_seconds": "0x99",
+                "looked_timestamp_seconds": "0+60x99"}
+        given.extend(series_of(f"now_{key}", value, **of(name)) for key, value in {**well, **metrics}.items() if value)
+        return of(name)
+    well, off, healed = values("well"), values("off", clock_off="0 0 1x90"), values(
+        "healed", clock_off="0 0 1 0x90", last_step_timestamp_seconds="_ _ 99x9 stale")
+    blind = values("blind", seen="1 1 0x90", clock_off="0 1 stale", groups_heard="4 4 0x90")
+    unseen = values("unseen", seen="1 1 0x90", clock_off="0 0 stale")
+    silent, few = values("silent", last_record_age_seconds="0+60x99"), values("few", groups_heard="4 4 2x90")
+    files, back = values("files", refused_files="1x99"), values("back", records_ahead_seconds="0 0 2040x90")
+    stuck, gone = values("stuck", looked_timestamp_seconds="77x99"), {"job": "node", "instance": "gone"}
+    servers = [{**well, "server": server} for server in ("192.0.2.3", "192.0.2.4")]
+    given += [series_of(f"now_server_{kind}", value, **one) for one, kind, value in (
+        (servers[0], "silent", "0 0 1x90"), (servers[0], "apart", "0x99"), (servers[1], "silent", "0x99"),
+        (servers[1], "apart", "0 0 1x90"))]
+    room = {**well, "trouble": "room"}
+    given += [series_of("now_recorder_trouble", "0 0 1x90", **room),
+              series_of("now_recorder_trouble", "0x99", **{**well, "trouble": "lost"})]
+    given += [series_of("now_verdict", value, **{**one, "verdict": verdict}) for one, verdict, value in (
+        (well, "yes", "1x99"), (off, "refuted", "0 0 1x90"), (few, "refuted", "0 0 1x90"), (few, "yes", "1 1 0x90"),
+        (unseen, "refuted", "1x99"), ({**gone, "recorder": "eth0"}, "yes", "1x9"))]
+    said = {("ClockIsOff", "page"): {"2m": [], "4m": [off], "20m": [off]},
+            ("ClockWasOff", "page"): {"2m": [], "4m": [blind], "90m": [blind]},
+            ("ClockUnseen", "ticket"): {"11m": [], "13m": [blind, unseen]},
+            ("ClockStepped", "ticket"): {"1m": [], "3m": [healed], "95m": [healed]},
+            ("ClockSetBack", "ticket"): {"2m": [], "4m": [back]},
+            ("ClockNotShownNow", "ticket"): {"11m": [], "13m": [{**few, "verdict": "refuted"}]},
+            ("ServerApart", "ticket"): {"6m": [], "8m": [servers[1]]},
+            ("ServerSilent", "ticket"): {"11m": [], "13m": [servers[0]]},
+            ("TooFewGroups", "ticket"): {"6m": [], "8m": [blind, few]},
+            ("RecorderSilent", "ticket"): {"4m": [], "6m": [silent]},
+            ("RecorderTrouble", "ticket"): {"2m": [], "4m": [room]},
+            ("RecordingsRefused", "ticket"): {"4m": [], "6m": [files]},
+            ("ClockNowMissing", "ticket"): {"14m": [], "21m": [{"job": "node", "instance": "stuck"}],
+                                            "68m": [{"job": "node", "instance": "stuck"}, gone]}}
+    assert stuck
+    text = rules.read_text()
+    check("alerts that are tried", names=(sorted(re.findall(r"alert: (\w+)", text)), sorted(name for name, _ in said)),
+          severity=(dict(zip(re.findall(r"alert: (\w+)", text), re.findall(r"severity: (\w+)", text))), dict(said.keys())))
+    asked = [of_alerts(name, severity, at, *labels) for (name, severity), times in said.items()
+             for at, labels in times.items()]
     nothing = [of_alerts("ClockNowMissing", "ticket", "10m", {})]
     tests = [{"interval": "1m", "input_series": series, "promql_expr_test": words}
              for series, words in ((given, asked), ([], nothing))]
@@ -251,9 +283,9 @@ def test_dashboard(place: Path) -> None:
              for panel in board["panels"] for target in panel["targets"]]
     rules = "".join(path.read_text() for path in MONITORING.glob("*.yml"))
     named = set(re.findall(r"ntpaudit_(\w+)", " ".join(asked + re.findall(r"expr: (.*)", rules))))
-    check("the metrics of dashboard and alerts", unknown=(named - set(HELP), set()), panels=(len(board["panels"]), 9),
-          places=(len({(panel["gridPos"]["x"], panel["gridPos"]["y"]) for panel in board["panels"]}), 9),
-          numbers=(len({panel["id"] for panel in board["panels"]}), 9))
+    check("the metrics of dashboard and alerts", unknown=(named - set(HELP), set()), panels=(len(board["panels"]), 14),
+          places=(len({(panel["gridPos"]["x"], panel["gridPos"]["y"]) for panel in board["panels"]}), 14),
+          numbers=(len({panel["id"] for panel in board["panels"]}), 14))
     groups = [{"name": "asked", "rules": [{"record": f"asked:{number}", "expr": expr}
                                           for number, expr in enumerate(asked)]}]
     (place / "asked.yml").write_text(json.dumps({"groups": groups}))
