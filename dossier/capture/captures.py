@@ -21,7 +21,7 @@ from ..folder.claim import Claim, Part
 from ..folder.entry import Alert
 from ..folder.files import BLOCK, JOINED, MOST_OF_A_CAPTURE, mapped, own, size_of, sum_of, sum_of_file, too_big
 from ..folder.jobs import find_tool, stream
-from ..folder.placing import Copy, cut_off, keep, move
+from ..folder.placing import ROOM, Copy, cut_off, keep, move
 from ..folder.program import Program
 from ..units import SECOND
 from . import classic, pcapng
@@ -36,6 +36,8 @@ MANY = 1_000_000
 MOST_AT_ONCE = 1 << 26
 """Bytes of a capture that is unpacked with others by one call."""
 NO_ZSTD = "is packed by zstd, which isn't installed to unpack it"
+MOST_BYTES = 1 << 31
+"""Of a capture that isn't thinned out."""
 NEXT, MOST_FALLS = 160, 1000
 """Records that are next to others, for each server; and how often the times of a capture may fall back for that."""
 PART, THINNED, CUT = "part.pcap", "thinned.pcap", "cut.pcap"
@@ -111,27 +113,45 @@ def times_of(captures: dict[str, Classic], program: Program) -> Times | None:
 
 
 def thinned(whole: Audited, claim: Claim, program: Program) -> Audited:
-    """The capture without what isn't of the claim's client and servers, if it has more records than the program takes:
-    what comes from afar can't make a day too big. The program's own listing says whose a record is, some at a time,
-    and all that it has of these is kept as it was recorded."""
+    """The capture without what can't be of an exchange of the claim's client with its servers, if it has more records
+    than the program takes, or great ones: what comes from afar can't make a day too big. The program's own listing says
+    which are its requests, and which answer one, some at a time; these are kept as they were recorded."""
     capture = Classic(whole.path, whole.extent)
-    if len(capture.extent.stamps) < classic.MOST_RECORDS:
+    if len(capture.extent.stamps) < classic.MOST_RECORDS and capture.size < MOST_BYTES:
         return whole
-    servers = "|".join(map(re.escape, claim.servers))
-    own = re.compile(rf"(?m)^(\d+) \S+ (?:{re.escape(claim.client)}:\d+ (?:{servers}):\d|(?:{servers}):\d+ "
-                     rf"{re.escape(claim.client)}:\d)".encode())
-    dropped, end = 0, HEADER
+    client, servers = re.escape(claim.client), "|".join(map(re.escape, claim.servers))
+    request = re.compile(rf"(?m)^(\d+) \S+ ({client}:\d+) ((?:{servers}):\d+) \S+ m3 (?:\S+ ){{8}}(\S+) (\S+)".encode())
+    reply = re.compile(rf"(?m)^(\d+) \S+ ((?:{servers}):\d+) ({client}:\d+) \S+ m4 (?:\S+ ){{7}}(\S+)".encode())
+    asked, dropped, end = set[tuple[bytes, ...]](), 0, HEADER
+
+    def listed(take: Callable[[bytes], None]) -> Iterator[list[classic.Row]]:
+        rows = capture.rows()
+        while some := list(islice(rows, MANY)):
+            write(PART, [capture.data[:HEADER], capture.data[some[0][1] : some[-1][2]]])
+            ROOM.take(some[0][1] - some[-1][2])  # (the next part takes the same room)
+            program.blocks(take, "list", PART)
+            yield some
+
+    def ask(block: bytes) -> None:
+        for _, source, server, *stamps in request.findall(block):
+            if len(asked) < classic.MOST_RECORDS:
+                asked.update((source, server, stamp) for stamp in stamps if stamp.strip(b"0"))
 
     def kept() -> Iterator[bytes]:
         nonlocal dropped, end
+        numbers = list[int]()
+
+        def take(block: bytes) -> None:
+            found = [int(one[0]) for one in request.findall(block)]
+            found += (int(one[0]) for one in reply.findall(block) if (one[2], one[1], one[3]) in asked)
+            numbers.extend(sorted(found))
         yield capture.data[:HEADER]
-        rows = capture.rows()
-        while some := list(islice(rows, MANY)):
-            numbers: list[int] = []
-            write(PART, [capture.data[:HEADER], capture.data[some[0][1] : some[-1][2]]])
-            program.blocks(lambda block: numbers.extend(map(int, own.findall(block))), "list", PART)
+        for some in listed(take):
             dropped, end = dropped + len(some) - len(numbers), some[-1][2]
             yield from (capture.data[some[number][1] : some[number][2]] for number in numbers)
+            numbers.clear()
+    for _ in listed(ask):
+        pass
     write(THINNED, kept())
     if end != capture.size:
         raise fault(f"the capture is damaged from byte {end} on, so it can't be thinned out")

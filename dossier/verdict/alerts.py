@@ -102,8 +102,8 @@ WORDS: dict[str, Callable[[Alert], str]] = {
                                 "client's own corrections are NOT in it, unless evidence of its configuration says "
                                 "how small they are.",
     "flood": lambda found: f"{count(found.count, 'record')} of the capture {is_or_are(found.count)} of others than "
-                           "the claim's client and servers, and left out of what is audited: the recorder's filter "
-                           "may name these servers.",
+                           "the claim's client and servers, or answer no request of it, and left out of what is "
+                           "audited: the recorder's filter may name these servers.",
     "step": lambda found: f"The client logged a step of the clock at {shown_time(found.before // SECOND)}"
                           f"{f', the first of {found.count:,} steps' if found.count > 1 else ''}. No drift covers a "
                           "step.",

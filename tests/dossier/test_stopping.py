@@ -199,26 +199,35 @@ def test_flood(place: Path) -> None:
     two = {**MINUTE, "servers": ["192.0.2.1", "192.0.2.2"]}
     flooded, plain = (folder_of(place, name, capture_of(place / f"{name}.pcap", *some), **two)
                       for name, some in (("flooded", words), ("plain", own)))
+    both = records_of((flooded / "f.pcap").read_bytes())
+    strange = [one[:58] + bytes([one[58] | 4]) + one[59:82] + b"\xff" + one[83:] for one in both[1:140:14]]
+    for folder in (flooded, great := folder_of(place, "great", place / "flooded.pcap", **two)):
+        (folder / "f.pcap").write_bytes((folder / "f.pcap").read_bytes()[:24] + b"".join(
+            [each for one, other in zip(both, [*strange, *[b""] * 999]) for each in (one, other)]))
     damaged = folder_of(place, "damaged", place / "flooded.pcap", **two)
     whole = (damaged / "f.pcap").read_bytes()
     first, *rest = records_of(whole)
     spoilt = first[:4] + b"\xff\xff\xff\xff" + first[8:]
     (damaged / "f.pcap").write_bytes(whole[:24] + first + b"".join(rest[:99]) + spoilt + b"".join(rest[99:]))
     kept, captures.MANY, classic.MOST_RECORDS = (captures.MANY, classic.MOST_RECORDS), 16, 60
+    most = captures.MOST_BYTES
     try:
         found = dict(jobs.run_all([str(flooded), str(plain)], wanted_of(place), 600))
         refused = jobs.run_one(str(damaged), wanted_of(place))
+        classic.MOST_RECORDS, captures.MOST_BYTES = kept[1], 5000
+        found |= jobs.run_all([str(great)], wanted_of(place), 600)
     finally:
-        captures.MANY, classic.MOST_RECORDS = kept
+        captures.MANY, classic.MOST_RECORDS, captures.MOST_BYTES = *kept, most
+    check("a flood of great packets", same=((great / "joined.pcap").read_bytes(), (flooded / "joined.pcap").read_bytes()))
     check("a flood that is damaged", status=(refused.status, 2),
           said=("so it can't be thinned out" in refused.lines[0], True))
     records = records_of((flooded / "joined.pcap").read_bytes())
     row, = json.loads(dossier("page", "--json", "--state", place / "state", flooded)[1])
-    check("a flood", status=([one.status for one in found.values()], [0, 0]),
+    check("a flood", status=([one.status for one in found.values()], [0, 0, 0]),
           records=([one[:16] for one in records], [one[:16] for one in records_of((plain / "f.pcap").read_bytes())]),
           joined=((plain / "joined.pcap").exists(), False),
           same=((flooded / "envelope.txt").read_bytes(), (plain / "envelope.txt").read_bytes()),
-          said=([words for words in row["warnings"] if "100 records of the capture are of others" in words],
+          said=([words for words in row["warnings"] if "110 records of the capture are of others" in words],
                 lambda said: len(said) == 1))
     unit = (ROOT / "systemd" / "ntpaudit-record@.service").read_text()
     status, out, _ = dossier("filter", plain / "claim.json")
@@ -229,7 +238,7 @@ def test_flood(place: Path) -> None:
           none=(dossier("filter", place / "none")[:2], (0, b"(udp port 123) or (vlan and (udp port 123))\n")),
           clients=(recorder.filter_of(None, ["192.0.2.7", "192.0.2.8"]).count("dst host 192.0.2.8"), 2))
     if shutil.which("tcpdump"):
-        taken = run(["tcpdump", "--time-stamp-precision=nano", "-r", flooded / "f.pcap", "-w", "-", out.decode().strip()])
+        taken = run(["tcpdump", "--time-stamp-precision=nano", "-r", place / "flooded.pcap", "-w", "-", out.decode().strip()])
         check("what the filter takes", packets=([one[:16] for one in records_of(taken[1])], [
             one[:16] for one in records_of((plain / "f.pcap").read_bytes())]))
     else:
