@@ -41,10 +41,11 @@ def fields_of(moment: Moment) -> list[str]:
     for move in moment.moves[:-1]:
         said.append(moved(move))
     since = f"{moved(moment.moves[-1])}; since then " if moment.moves else ""
+    since += "nothing fits with what was before; since then " if moment.is_cut else ""
     if not isinstance(hull, str):
         said.append(f"{since}{range_of(hull)} of {exact_ms(moment.bound_ns)} ms")
     elif since:
-        said.append(since.removesuffix("; since then "))
+        said.append(since.rpartition(";")[0])
     if moment.now is not None:
         said.append(f"now {range_of(moment.now)}")
     if moment.least_ns is not None and moment.verdict != NOTHING_FITS:

@@ -11,12 +11,12 @@ from contextlib import suppress
 from functools import partial
 from typing import NamedTuple
 
-from ..capture.classic import Classic
+from ..capture.classic import HEADER, Classic, write
 from ..capture.latest import Latest, latest
 from ..capture.recorder import begun_files
 from ..capture.watch import LOOK, State, read_state, since_boot
 from ..fault import NOT_SHOWN, REFUSED as INPUT_REFUSED, Fault
-from ..folder.answers import read_envelope, read_settled
+from ..folder.answers import Settled, read_envelope, read_settled
 from ..folder.claim import Claim
 from ..folder.entry import NO_EVIDENCE, NOTHING_FITS, OF_LEAPS, REFUSED, UNSUPPORTED, YES, LeapList
 from ..folder.files import CLAIM, Folder, data_named
@@ -45,6 +45,8 @@ LIMIT = 60
 """Seconds for the minutes of a recorder, and for each hour of them."""
 DEAD = 6 * LOOK
 """Seconds after which a recorder that says nothing of itself doesn't run."""
+CUT = "cut.pcap"
+"""A private file."""
 SILENT = 60
 """Seconds of silence, at the least, that are more than chance: or two polls."""
 
@@ -171,31 +173,58 @@ def told_of(wanted: Wanted, claim: Claim, found: Latest, moment: Moment) -> Mome
     hearing = Hearing(wanted.program, own, found.path, whole)
     if moment.age is not None and moment.age > max(SILENT, 2 * hearing.poll):
         return moment
-    step = 1 + span // MOST_PIECES
-    parts = parted(wanted.program, own, found.path, whole.extent, step)
-    settled, capture = parts.settled, parts.capture
+    step, program = 1 + span // MOST_PIECES, wanted.program
+    parts = parted(program, own, found.path, whole.extent, step)
+    settled, capture = read_settled(parts.settled), parts.capture
     if parts.moves:
-        begin = max(begin, min(found.last, ceil_div(parts.moves[-1].by, SECOND)))
-        own, capture = replace(own, from_=civil(begin)), f"stretch-{len(parts.moves)}.pcap"
-        keep(CLAIM, own.text)
-        settled = wanted.program.run("settle", CLAIM, capture).text
+        begin, capture = ceil_div(parts.moves[-1].by, SECOND), f"stretch-{len(parts.moves)}.pcap"
+        own = replace(own, from_=civil(max(own.first, min(begin, found.last))))
+        settled = settle(program, own, capture)
+    is_cut = settled.answer == NOTHING_FITS
+    if is_cut:
+        settled, own, capture = fitting(program, own, settled, capture, 2 * hearing.poll)
     keep(CLAIM, own.text)
     words = ("envelope", CLAIM, capture, "--servers", "--least", "--step", str(step))
-    envelope = read_envelope(wanted.program.run(*words).text)
-    answer_ = read_settled(settled).answer
-    leaps = look_up(wanted.leaps, begin, found.last)
+    envelope = read_envelope(program.run(*words).text)
+    leaps = look_up(wanted.leaps, own.first, found.last)
     against = next((OF_LEAPS[alert.kind] for alert in alerts_of(leaps, wanted.leaps)), "")
-    against = f"the clock was set back: records up to {span_of_seconds(found.ahead)} ahead of it" if found.ahead else \
-        against
-    servers = hearing.servers(envelope)
+    if found.ahead:
+        against = f"the clock was set back: records up to {span_of_seconds(found.ahead)} ahead of it"
+    servers, fits = hearing.servers(envelope), settled.answer != NOTHING_FITS
     silent = {server.address for server in servers if server.is_silent}
     return replace(
-        moment, begin=begin, end=found.last, verdict=UNSUPPORTED if answer_ == YES and against else answer_,
-        heard=sum(any(own.servers[k] not in silent for k in group) for group in own.grouped), servers=servers,
-        camps=[list(camp) for camp in camps_at(envelope, len(envelope.hulls) - 1)] if answer_ == NOTHING_FITS else [],
-        moves=[move for move in parts.moves if move.by > (found.last - span) * SECOND],
-        least_ns=None if answer_ == NOTHING_FITS else envelope.least_ns, against=against,
+        moment, begin=own.first, end=found.last, servers=servers, against=against,
+        verdict=UNSUPPORTED if settled.answer == YES and against else settled.answer,
+        heard=sum(any(own.servers[k] not in silent for k in group) for group in own.grouped),
+        camps=[] if fits else [list(camp) for camp in camps_at(envelope, len(envelope.hulls) - 1)],
+        moves=[move for move in parts.moves if move.by > (found.last - span) * SECOND], is_cut=is_cut and fits,
+        least_ns=envelope.least_ns if fits else None,
         pieces=[piece_of(envelope, k) for k in range(len(envelope.hulls))])
+
+
+def settle(program: Program, claim: Claim, capture: str) -> Settled:
+    keep(CLAIM, claim.text)
+    return read_settled(program.run("settle", CLAIM, capture).text)
+
+
+def fitting(program: Program, claim: Claim, settled: Settled, capture: str,
+            least: float) -> tuple[Settled, Claim, str]:
+    """Of minutes that nothing fits the last ones, if a course fits twice as many: what ended their fit lies as far
+    before them as they are long. Else they stay as they are."""
+    whole, length = Classic(capture), claim.last - claim.first
+    rows = list(whole.rows())
+    while (length := length // 2) >= 2 * least:
+        first = len(rows)
+        while first and rows[first - 1][0] >= (claim.last - length) * whole.unit:
+            first -= 1
+        if first == len(rows):
+            break
+        write(CUT, [whole.data[:HEADER], whole.data[rows[first][1] : rows[-1][2]]])
+        own = replace(claim, from_=civil(claim.last - length))
+        if settle(program, own, CUT).answer != NOTHING_FITS:
+            own = replace(claim, from_=civil(claim.last - length // 2))
+            return settle(program, own, CUT), own, CUT
+    return settled, claim, capture
 
 
 def first_of(whole: Classic) -> int:

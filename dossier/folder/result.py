@@ -6,7 +6,7 @@ from ..records import dataclass, field
 from ..schema import Address, Count, Sum, Text, Ticks, length, matching
 from ..units import bound_ticks
 from .claim import Claim
-from .entry import WORST_FIRST, YES, Day, Made, Move, Piece, Refusal, side_of
+from .entry import NOTHING_FITS, WORST_FIRST, YES, Day, Made, Move, Piece, Refusal, side_of
 
 MISSING, NOT_COUNTED = "missing", "not counted"
 """There is no folder of a day; there is one, and it isn't counted."""
@@ -93,6 +93,8 @@ class Moment:
     camps: list[list[Address]] = field(default_factory=list)
     """The servers that agree with one another at the end, if nothing fits."""
     moves: list[Move] = field(default_factory=list)
+    is_cut: bool = False
+    """Whether nothing fits them together with what was recorded before in the minutes that were asked for."""
     least_ns: int | None = None
     against: str = ""
     """What takes a yes away, if anything does."""
@@ -107,8 +109,8 @@ class Moment:
 
     @property
     def now(self) -> tuple[int, int] | None:
-        """The error at the end, in ticks, if it is seen."""
-        hull = self.pieces[-1].hull if self.pieces else "unbounded"
+        """The error at the end, in ticks, if it is seen: where nothing fits, what is granted isn't so."""
+        hull = self.pieces[-1].hull if self.pieces and self.verdict != NOTHING_FITS else "unbounded"
         return None if isinstance(hull, str) else hull
 
     @property
@@ -119,7 +121,7 @@ class Moment:
     @property
     def is_shown(self) -> bool:
         """Whether the clock was within its bound in all of these minutes."""
-        return self.verdict == YES and not self.moves
+        return self.verdict == YES and not self.moves and not self.is_cut
 
     @property
     def badness(self) -> tuple[bool, int, int]:

@@ -1,0 +1,194 @@
+"""Histories played minute by minute: what `now` says of each minute is held to what the clock showed, and an error beyond
+the bound has to be told in time, and no longer than that.
+
+usage: python3 -m tests.truth.minutes [--number N] [--seed K]
+"""
+import argparse
+import json
+import os
+import random
+import shutil
+import sys
+import tempfile
+from collections import Counter
+from collections.abc import Iterator
+from pathlib import Path
+from types import SimpleNamespace
+from typing import Any
+
+from tests.support import program
+from tests.truth import network
+from tests.truth.clock import BILLION, FAST, SECOND, STEP, Event
+from tests.truth.files import capture
+from tests.truth.history import History, Trouble
+
+sys.path[0:0] = [str(Path(__file__).resolve().parents[2])]
+
+MINUTES, LATE = 25, 240 * SECOND
+"""How long a history is, and nanoseconds after which somebody is told, or told no longer."""
+TICKS = 1 << 32
+
+
+class Played(History):
+    """Half an hour of a clock that is asked for each 16 s at most, with up to two troubles."""
+
+    def __init__(self, seed: int):
+        rng = random.Random(f"minutes {seed}")
+        poll = rng.choice((2, 4, 8, 16, 16, 16))
+        super().__init__(seed, rng.randint(20_000, 20_500) * 86_400 * SECOND + rng.randrange(86_400) * SECOND, poll,
+                         60 * MINUTES // poll, 4, rng.choice((0.02, 0.05, 0.1)))
+        self.rng, self.ppb, self.amplitude = rng, rng.choice((50_000, 110_000, 200_000)), rng.choice((10**5, 10**6))
+        self.recorders = [self.recorders[0]._replace(name="eth0-2001-01-01T000000Z.pcap")]
+        for kind in rng.choices((STEP, "healed", FAST, network.OFF, network.PART, network.SILENT, "outage", "lost", "none"),
+                                (6, 6, 2, 2, 2, 2, 1, 1, 1), k=rng.choice((1, 1, 2))):
+            self.draw(kind)
+            self.kinds.append(kind)
+        self.bound = rng.choice((2, 5, 20)) * 10**6 + 2 * self.width
+        self.live()
+
+    def draw(self, kind: str) -> None:
+        rng, time = self.rng, self.begin + self.rng.randrange(4 * 60, 14 * 60) * SECOND
+        size = int(10 ** rng.uniform(6.5, 12.5)) * rng.choice((-1, 1))
+        while_ = rng.randrange(60, 8 * 60) * SECOND
+        if kind in (STEP, "healed"):
+            self.events.append(Event(STEP, time, time, size))
+            if kind == "healed":
+                self.events.append(Event(STEP, time + while_, time + while_, -size))
+        elif kind == FAST:
+            while_ = rng.randrange(5, 60) * SECOND
+            self.events.append(Event(FAST, time, time + while_, rng.choice((-1, 1)) * while_ * rng.choice(
+                (2_000_000, 20_000_000)) // BILLION))
+        elif kind in (network.OFF, network.PART, network.SILENT):
+            server = rng.choice(self.servers)
+            server.kind, server.off = kind, int(10 ** rng.uniform(7, 10)) * rng.choice((-1, 1))
+            if kind != network.OFF:
+                server.begin, server.end = time, time + while_
+        elif kind == "outage":
+            self.outages.append((time, time + while_))
+            self.troubles.append(Trouble(kind, time, time + while_))
+        elif kind == "lost":
+            self.lost = rng.uniform(0.05, 0.3)
+
+
+class Player:
+    """Plays a history, and notes what isn't so."""
+
+    def __init__(self, history: Played, place: Path):
+        from dossier.fleet import now
+        from dossier.folder.placing import ROOM
+        from dossier.folder.program import Program
+        from dossier.folder.entry import LeapList, Made
+        self.of, self.place, self.now, self.room, self.wrong = history, place, now, ROOM, list[str]()
+        self.record, self.was_off = place / "rec", False
+        self.record.mkdir()
+        (place / "claim.json").write_text(json.dumps(history.claim))
+        self.wanted = now.Wanted(str(self.record), str(place / "claim.json"), 10, LeapList("none", good_until=1 << 40),
+                                 Program(program(), Made("", "")))
+        self.data = capture(history, history.recorders[0])
+        self.looks = 0
+
+    def play(self) -> None:
+        recorder, = self.of.recorders
+        own, at, ends = self.of.files[recorder.name], 24, [24]
+        while at < len(self.data):
+            at += 16 + int.from_bytes(self.data[at + 8 : at + 12], "little")
+            ends.append(at)
+        path = self.record / recorder.name
+        for time in range(self.of.begin + 3 * 60 * SECOND, self.of.end, 60 * SECOND):
+            number = sum(packet.at < time for packet in own)
+            machine = self.of.clock.reading(time)
+            if not number or machine is None:
+                continue
+            path.write_bytes(self.data[: ends[number]])
+            os.utime(path, ns=(own[number - 1].stamp, own[number - 1].stamp))
+            self.look(time, machine, own[:number])
+
+    def look(self, time: int, machine: int, seen: list[Any]) -> None:
+        private = tempfile.mkdtemp(dir=self.place)
+        os.chdir(private)
+        self.room.left = 1 << 34
+        stub = SimpleNamespace(time=lambda: machine / SECOND)
+        self.now.__dict__["time"] = stub
+        try:
+            moment, = self.now.look(self.wanted, "eth0", 0).moments
+        finally:
+            os.chdir(self.place)
+            shutil.rmtree(private)
+        self.looks += 1
+        line = self.now.line_of(moment)
+        for words in [*self.untrue(time, moment, seen), *self.untold(time, moment)]:
+            self.wrong.append(f"{words} | at {(time - self.of.begin) // SECOND} s | {line}")
+
+    def untrue(self, time: int, moment: Any, seen: list[Any]) -> Iterator[str]:
+        """What isn't so of the minutes that are named."""
+        clock, last = self.of.clock, seen[-1].at
+        since = max([begin for begin, end in clock.breaks if begin <= last], default=self.of.begin) if moment.moves \
+            else self.of.begin - 86_400 * SECOND
+        for piece in [*moment.pieces[:-1:7], *moment.pieces[-1:]] if moment.verdict != "nothing fits" else ():
+            shown = clock.errors(piece.from_ * SECOND, piece.to * SECOND, max(since, last - 20 * 60 * SECOND), last + 1)
+            if shown and not isinstance(piece.hull, str):
+                low, high = (end * SECOND / TICKS for end in piece.hull)
+                if shown[0] < low - 2 or shown[1] > high + 2:
+                    yield f"the error was {shown[0] / 1e6:.3f} .. {shown[1] / 1e6:.3f} ms in {piece.from_} .. {piece.to}"
+                    break
+        if moment.verdict == "yes":
+            shown = clock.errors(moment.begin * SECOND, moment.end * SECOND, max(since, last - 600 * SECOND), last + 1)
+            if shown and max(map(abs, shown)) > self.of.bound:
+                yield f"a yes, and the error was {shown}"
+        at = {packet.stamp: packet.at for packet in seen}
+        for move in moment.moves:
+            held = [jump for jump in clock.breaks if at[move.after] <= jump[0] and jump[1] <= at[move.by]]
+            sizes = sum(event.size for event in self.of.events if any(
+                begin <= event.begin <= end for begin, end in held))
+            if not held:
+                yield "it didn't move then"
+            elif not move.low * SECOND / TICKS - 2 <= sizes <= move.high * SECOND / TICKS + 2:
+                yield f"it moved by {sizes / 1e6:.3f} ms"
+        for server in moment.servers:
+            own = next(one for one in self.of.servers if one.address == server.address)
+            replies = [packet for packet in seen if packet.is_reply and packet.server is own]
+            if server.error and replies:
+                error = own.error(replies[-1].at)
+                low, high = (end * SECOND / TICKS for end in server.error)
+                if not low - own.distance - 2 <= error <= high + own.distance + 2:
+                    yield f"{server.address} was off by {error / 1e6:.3f} ms, not by {low / 1e6:.3f} .. {high / 1e6:.3f}"
+                if server.is_apart and not own.is_wrong(replies[-1].at):
+                    yield f"{server.address} was right"
+
+    def untold(self, time: int, moment: Any) -> Iterator[str]:
+        """An error beyond the bound for four minutes that isn't told, or one that is told and was over for as long."""
+        told = moment.is_off or moment.now is None and self.was_off
+        if moment.now is not None:
+            self.was_off = moment.is_off
+        before = [self.of.clock.error(at) for at in range(time - LATE, time + 1, 5 * SECOND)]
+        errors = [abs(error) for error in before if error is not None]
+        if any(begin < time and time - LATE < end for begin, end in self.of.outages):
+            return
+        if min(errors) > self.of.bound + self.of.width and not told:
+            yield "nobody is told that it is off"
+        if max(errors) <= self.of.bound and told:
+            yield "somebody is told that it is off, and it isn't"
+
+
+def main() -> int:
+    parser = argparse.ArgumentParser()
+    parser.add_argument("--number", type=int, default=20)
+    parser.add_argument("--seed", type=int, default=0)
+    given = parser.parse_args()
+    bad, looks, kinds = 0, 0, Counter[str]()
+    for seed in range(given.seed, given.seed + given.number):
+        with tempfile.TemporaryDirectory(prefix="ntpaudit-minutes-") as made:
+            player = Player(Played(seed), Path(made))
+            player.play()
+            os.chdir("/")
+        looks += player.looks
+        kinds.update(player.of.kinds)
+        for words in player.wrong[:3]:
+            print(f"{seed} {player.of.kinds} poll {player.of.poll // SECOND}: {words}", flush=True)
+        bad += bool(player.wrong)
+    print(f"{given.number} histories, {looks} looks, {bad} with something that isn't so; {dict(kinds)}")
+    return int(bad > 0)
+
+
+if __name__ == "__main__":
+    sys.exit(main())
