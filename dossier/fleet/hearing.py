@@ -1,4 +1,7 @@
 """Which servers are heard in the last minutes, and how far each is off."""
+from bisect import bisect_right
+from itertools import accumulate, pairwise
+from operator import sub
 from statistics import median
 
 from ..capture.classic import Classic
@@ -19,13 +22,17 @@ Sample = tuple[int, int, int, int]
 
 
 class Hearing:
-    """The last samples of each server of a claim, which stands there as claim.json, in a capture."""
+    """The samples of each server of a claim, which stands there as claim.json, in a capture."""
 
-    def __init__(self, program: Program, claim: Claim, capture: str, whole: Classic):
+    def __init__(self, program: Program, claim: Claim, whole: Classic, capture: str):
         self.claim, self.whole = claim, whole
+        stamps = whole.extent.stamps
+        self.gone = list(accumulate((max(0, (after >> 32) - (before >> 32)) for before, after in pairwise(stamps)),
+                                    initial=0))
+        """Of each record the seconds that went by since the first, but for those by which the clock fell back."""
         self.last, self.times = dict[str, Sample](), dict[str, list[int]]()
         program.blocks(self.take, "samples", CLAIM, capture)
-        own = {server: self.poll_of(times) for server, times in self.times.items()}
+        own = {server: median(map(sub, times[1:], times)) for server, times in self.times.items() if times[1:]}
         self.polls = {server: poll for server, poll in own.items() if poll}
         self.poll = max(self.polls.values(), default=0.0)
         """Seconds from one sample of a server to its next, of the one that is asked least."""
@@ -33,28 +40,26 @@ class Hearing:
     def take(self, block: bytes) -> None:
         for line in block[: closing_of(block)].decode("ascii").splitlines():
             fields = line.split(" ")
-            asked, answered = self.whole.nanoseconds(self.whole.extent.stamps[int(at)] for at in fields[2:4])
-            self.times.setdefault(fields[1], []).append(answered)
+            request, reply = map(int, fields[2:4])
+            asked, answered = self.whole.nanoseconds(self.whole.extent.stamps[at] for at in (request, reply))
+            self.times.setdefault(fields[1], []).append(self.gone[reply])
             self.last[fields[1]] = asked, answered, int(fields[11]), int(fields[13])
 
-    def poll_of(self, times: list[int]) -> float:
-        return median(max(0, after - before) for before, after in zip(times, times[1:])) / SECOND if times[1:] else 0
+    def is_silent(self, server: str) -> bool:
+        if server not in self.times:
+            return True
+        return self.gone[-1] - self.times[server][-1] > max(SILENT, POLLS * self.polls.get(server, 0))
 
-    def servers(self, envelope: Envelope) -> list[Heard]:
-        """What is heard of each server, beside the hulls of the minutes."""
-        hulls = dict(zip(envelope.begins, envelope.hulls))
-        return [self.heard(server, hulls) for server in self.claim.servers]
-
-    def heard(self, server: str, hulls: dict[int, Hull]) -> Heard:
+    def heard(self, server: str, envelope: Envelope, is_silent: bool) -> Heard:
+        """A server by its last sample, beside the hulls of the minutes."""
         if server not in self.last:
-            return Heard(server, True)
+            return Heard(server, is_silent)
         asked, answered, low, high = self.last[server]
-        is_silent = self.claim.last - answered / SECOND > max(SILENT, POLLS * self.polls.get(server, 0))
-        first, last = (self.hull_at(time, hulls) for time in (asked, answered))
+        first, last = self.hull_at(asked, envelope), self.hull_at(answered, envelope)
         if isinstance(first, str) or isinstance(last, str):
             return Heard(server, is_silent)
         return Heard(server, is_silent, (last[0] - high, first[1] - low), low > first[1] or high < last[0])
 
-    def hull_at(self, time: int, hulls: dict[int, Hull]) -> Hull:
-        begin = max((begin for begin in hulls if begin <= time // SECOND), default=None)
-        return "unbounded" if begin is None or time > self.claim.last * SECOND + SECOND else hulls[begin]
+    def hull_at(self, time: int, envelope: Envelope) -> Hull:
+        at = bisect_right(envelope.begins, time // SECOND) - 1
+        return envelope.hulls[at] if at >= 0 else "unbounded"

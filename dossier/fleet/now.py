@@ -9,6 +9,7 @@ import sys
 import time
 from contextlib import suppress
 from functools import partial
+from itertools import islice
 from typing import NamedTuple
 
 from ..capture.classic import HEADER, Classic, write
@@ -45,8 +46,9 @@ LIMIT = 60
 """Seconds for the minutes of a recorder, and for each hour of them."""
 DEAD = 6 * LOOK
 """Seconds after which a recorder that says nothing of itself doesn't run."""
-CUT = "cut.pcap"
+CUT = "since.pcap"
 """A private file."""
+SECOND_OF_STAMPS = 1 << 32
 SILENT = 60
 """Seconds of silence, at the least, that are more than chance: or two polls."""
 
@@ -170,7 +172,7 @@ def told_of(wanted: Wanted, claim: Claim, found: Latest, moment: Moment) -> Mome
     begin = max(found.last - span, first_of(whole))
     own = replace(claim, from_=civil(begin), to=civil(found.last))
     keep(CLAIM, own.text)
-    hearing = Hearing(wanted.program, own, found.path, whole)
+    hearing = Hearing(wanted.program, own, whole, found.path)
     if moment.age is not None and moment.age > max(SILENT, 2 * hearing.poll):
         return moment
     step, program = 1 + span // MOST_PIECES, wanted.program
@@ -179,6 +181,9 @@ def told_of(wanted: Wanted, claim: Claim, found: Latest, moment: Moment) -> Mome
     if parts.moves:
         begin, capture = ceil_div(parts.moves[-1].by, SECOND), f"stretch-{len(parts.moves)}.pcap"
         own = replace(own, from_=civil(max(own.first, min(begin, found.last))))
+        settled = settle(program, own, capture)
+    elif fell_at(whole):  # (what was shown before may be the same readings)
+        capture = cut_before(whole, fell_at(whole))
         settled = settle(program, own, capture)
     is_cut = settled.answer == NOTHING_FITS
     if is_cut:
@@ -190,10 +195,11 @@ def told_of(wanted: Wanted, claim: Claim, found: Latest, moment: Moment) -> Mome
     against = next((OF_LEAPS[alert.kind] for alert in alerts_of(leaps, wanted.leaps)), "")
     if found.ahead:
         against = f"the clock was set back: records up to {span_of_seconds(found.ahead)} ahead of it"
-    servers, fits = hearing.servers(envelope), settled.answer != NOTHING_FITS
-    silent = {server.address for server in servers if server.is_silent}
+    fits, silent = settled.answer != NOTHING_FITS, set(filter(hearing.is_silent, own.servers))
+    last = hearing if capture == found.path else Hearing(program, own, Classic(capture), capture)
     return replace(
-        moment, begin=own.first, end=found.last, servers=servers, against=against,
+        moment, begin=own.first, end=found.last, against=against,
+        servers=[last.heard(server, envelope, server in silent) for server in own.servers],
         verdict=UNSUPPORTED if settled.answer == YES and against else settled.answer,
         heard=sum(any(own.servers[k] not in silent for k in group) for group in own.grouped),
         camps=[] if fits else [list(camp) for camp in camps_at(envelope, len(envelope.hulls) - 1)],
@@ -212,23 +218,31 @@ def fitting(program: Program, claim: Claim, settled: Settled, capture: str,
     """Of minutes that nothing fits the last ones, if a course fits twice as many: what ended their fit lies as far
     before them as they are long. Else they stay as they are."""
     whole, length = Classic(capture), claim.last - claim.first
-    rows = list(whole.rows())
+    times = [stamp >> 32 for stamp in whole.extent.stamps]
     while (length := length // 2) >= 2 * least:
-        first = len(rows)
-        while first and rows[first - 1][0] >= (claim.last - length) * whole.unit:
-            first -= 1
-        if first == len(rows):
-            break
-        write(CUT, [whole.data[:HEADER], whole.data[rows[first][1] : rows[-1][2]]])
         own = replace(claim, from_=civil(claim.last - length))
-        if settle(program, own, CUT).answer != NOTHING_FITS:
+        first = next((k + 1 for k in range(len(times) - 1, -1, -1) if times[k] < own.first), 0)
+        if first == len(times):
+            break
+        if settle(program, own, cut_before(whole, first)).answer != NOTHING_FITS:
             own = replace(claim, from_=civil(claim.last - length // 2))
             return settle(program, own, CUT), own, CUT
     return settled, claim, capture
 
 
+def cut_before(whole: Classic, record: int) -> str:
+    """The records from one on, in a private file."""
+    begin = next(islice(whole.rows(), record, None))[1]
+    write(CUT, [whole.data[:HEADER], whole.data[begin : whole.extent.end]])
+    return CUT
+
+
+def fell_at(whole: Classic) -> int:
+    """The first record behind the last place where the clock fell back by a second; 0 if it never did."""
+    stamps = whole.extent.stamps
+    return next((k for k in range(len(stamps) - 1, 0, -1) if stamps[k] + SECOND_OF_STAMPS < stamps[k - 1]), 0)
+
+
 def first_of(whole: Classic) -> int:
-    """The Unix second of the first record behind the last place where the clock fell back."""
-    seconds = [stamp >> 32 for stamp in whole.extent.stamps]
-    falls = [k for k in range(1, len(seconds)) if seconds[k] < seconds[k - 1]]
-    return min(seconds[falls[-1] if falls else 0 :])
+    """The Unix second of the first record since then."""
+    return min(whole.extent.stamps[fell_at(whole) :]) >> 32

@@ -122,28 +122,26 @@ class Player:
     def untrue(self, time: int, moment: Any, seen: list[Any]) -> Iterator[str]:
         """What isn't so of the minutes that are named."""
         clock, last = self.of.clock, seen[-1].at
-        since = max([begin for begin, end in clock.breaks if begin <= last], default=self.of.begin) if moment.moves \
-            else self.of.begin - 86_400 * SECOND
+        since = last - (moment.end - moment.begin + 1) * SECOND
         for piece in [*moment.pieces[:-1:7], *moment.pieces[-1:]] if moment.verdict != "nothing fits" else ():
-            shown = clock.errors(piece.from_ * SECOND, piece.to * SECOND, max(since, last - 20 * 60 * SECOND), last + 1)
+            shown = clock.errors(piece.from_ * SECOND, piece.to * SECOND, since, last + 1)
             if shown and not isinstance(piece.hull, str):
                 low, high = (end * SECOND / TICKS for end in piece.hull)
                 if shown[0] < low - 2 or shown[1] > high + 2:
                     yield f"the error was {shown[0] / 1e6:.3f} .. {shown[1] / 1e6:.3f} ms in {piece.from_} .. {piece.to}"
                     break
         if moment.verdict == "yes":
-            shown = clock.errors(moment.begin * SECOND, moment.end * SECOND, max(since, last - 600 * SECOND), last + 1)
-            if shown and max(map(abs, shown)) > self.of.bound:
+            shown = clock.errors(moment.begin * SECOND, moment.end * SECOND, since, last + 1)
+            if shown and max(-shown[0], shown[1]) > self.of.bound:
                 yield f"a yes, and the error was {shown}"
         at = {packet.stamp: packet.at for packet in seen}
         for move in moment.moves:
             held = [jump for jump in clock.breaks if at[move.after] <= jump[0] and jump[1] <= at[move.by]]
-            sizes = sum(event.size for event in self.of.events if any(
-                begin <= event.begin <= end for begin, end in held))
+            changed = (clock.error(at[move.by]) or 0) - (clock.error(at[move.after]) or 0)
             if not held:
                 yield "it didn't move then"
-            elif not move.low * SECOND / TICKS - 2 <= sizes <= move.high * SECOND / TICKS + 2:
-                yield f"it moved by {sizes / 1e6:.3f} ms"
+            elif not move.low * SECOND / TICKS - 2 <= changed <= move.high * SECOND / TICKS + 2:
+                yield f"it moved by {changed / 1e6:.3f} ms"
         for server in moment.servers:
             own = next(one for one in self.of.servers if one.address == server.address)
             replies = [packet for packet in seen if packet.is_reply and packet.server is own]
