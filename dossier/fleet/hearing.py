@@ -14,6 +14,8 @@ from ..folder.program import Program
 from ..folder.result import Heard
 from ..units import SECOND
 
+TWO = 2
+"""Samples that have to miss the hull: one alone may be the first behind a step."""
 SILENT, POLLS = 60, 2.5
 """Seconds without a sample after which a server is silent, and so many times as long as from one to the next."""
 
@@ -30,9 +32,9 @@ class Hearing:
         self.gone = list(accumulate((max(0, (after >> 32) - (before >> 32)) for before, after in pairwise(stamps)),
                                     initial=0))
         """Of each record the seconds that went by since the first, but for those by which the clock fell back."""
-        self.last, self.times = dict[str, Sample](), dict[str, list[int]]()
+        self.samples, self.times, self.requests = dict[str, list[Sample]](), dict[str, list[int]](), dict[str, int]()
         program.blocks(self.take, "samples", CLAIM, capture)
-        own = {server: median(map(sub, times[1:], times)) for server, times in self.times.items() if times[1:]}
+        own = {server: float(median(map(sub, times[1:], times))) for server, times in self.times.items() if times[1:]}
         self.polls = {server: poll for server, poll in own.items() if poll}
         self.poll = max(self.polls.values(), default=0.0)
         """Seconds from one sample of a server to its next, of the one that is asked least."""
@@ -43,22 +45,40 @@ class Hearing:
             request, reply = map(int, fields[2:4])
             asked, answered = self.whole.nanoseconds(self.whole.extent.stamps[at] for at in (request, reply))
             self.times.setdefault(fields[1], []).append(self.gone[reply])
-            self.last[fields[1]] = asked, answered, int(fields[11]), int(fields[13])
+            self.requests[fields[1]] = request
+            if answered <= self.claim.last * SECOND:
+                own = self.samples.setdefault(fields[1], [])
+                own.append((asked, answered, int(fields[11]), int(fields[13])))
+                del own[:-TWO]
 
     def is_silent(self, server: str) -> bool:
         if server not in self.times:
             return True
-        return self.gone[-1] - self.times[server][-1] > max(SILENT, POLLS * self.polls.get(server, 0))
+        age = self.gone[-1] - self.times[server][-1]
+        return age > max(SILENT, POLLS * self.polls.get(server, 0))
+
+    @property
+    def enough(self) -> int:
+        """The last record since which so many groups were asked and heard that a step before it is seen, however many
+        are wrong; or all that were heard at all."""
+        last = sorted((max(own) for group in self.claim.grouped if (own := [
+            self.requests[server] for k in group if (server := self.claim.servers[k]) in self.requests])), reverse=True)
+        return last[min(2 * self.claim.false_max, len(last) - 1)] if last else len(self.gone) - 1
 
     def heard(self, server: str, envelope: Envelope, is_silent: bool) -> Heard:
-        """A server by its last sample, beside the hulls of the minutes."""
-        if server not in self.last:
+        """A server by its last sample, beside the hulls of the minutes; it can't be right if the last two miss them."""
+        seen = [self.beside(sample, envelope) for sample in self.samples.get(server, ())]
+        if not seen or seen[-1] is None:
             return Heard(server, is_silent)
-        asked, answered, low, high = self.last[server]
+        return Heard(server, is_silent, seen[-1][0], len(seen) == TWO and all(one and one[1] for one in seen))
+
+    def beside(self, sample: Sample, envelope: Envelope) -> tuple[tuple[int, int], bool] | None:
+        """By how much a server was off at a sample, in ticks, and whether it misses the hull; None without a hull."""
+        asked, answered, low, high = sample
         first, last = self.hull_at(asked, envelope), self.hull_at(answered, envelope)
         if isinstance(first, str) or isinstance(last, str):
-            return Heard(server, is_silent)
-        return Heard(server, is_silent, (last[0] - high, first[1] - low), low > first[1] or high < last[0])
+            return None
+        return (last[0] - high, first[1] - low), low > first[1] or high < last[0]
 
     def hull_at(self, time: int, envelope: Envelope) -> Hull:
         at = bisect_right(envelope.begins, time // SECOND) - 1

@@ -46,8 +46,8 @@ LIMIT = 60
 """Seconds for the minutes of a recorder, and for each hour of them."""
 DEAD = 6 * LOOK
 """Seconds after which a recorder that says nothing of itself doesn't run."""
-CUT = "since.pcap"
-"""A private file."""
+UNTIL, SINCE, CUT = "until.pcap", "since.pcap", "last.pcap"
+"""Private files: parts of what was recorded."""
 SECOND_OF_STAMPS = 1 << 32
 SILENT = 60
 """Seconds of silence, at the least, that are more than chance: or two polls."""
@@ -168,22 +168,28 @@ def age_of(state: State | None, found: Latest, now: int, end: int) -> int | None
 
 def told_of(wanted: Wanted, claim: Claim, found: Latest, moment: Moment) -> Moment:
     """What the program says of the last minutes, of which there are records."""
-    whole, span = Classic(found.path), MINUTE * wanted.minutes
-    begin = max(found.last - span, first_of(whole))
-    own = replace(claim, from_=civil(begin), to=civil(found.last))
+    path, whole, span = found.path, Classic(found.path), MINUTE * wanted.minutes
+    own = replace(claim, from_=civil(found.last), to=civil(found.last))
     keep(CLAIM, own.text)
-    hearing = Hearing(wanted.program, own, whole, found.path)
+    hearing = Hearing(wanted.program, own, whole, path)
     if moment.age is not None and moment.age > max(SILENT, 2 * hearing.poll):
         return moment
+    if (fell := fell_at(whole)) > hearing.enough:  # (too few were heard since)
+        path = cut(whole, 0, fell, UNTIL)
+        whole = Classic(path)
+        fell = fell_at(whole)
+    end = whole.extent.stamps[hearing.enough] >> 32
+    own = replace(own, from_=civil(min(end, max(end - span, min(whole.extent.stamps[fell:]) >> 32))), to=civil(end))
     step, program = 1 + span // MOST_PIECES, wanted.program
-    parts = parted(program, own, found.path, whole.extent, step)
+    parts = parted(program, own, path, whole.extent, step)
     settled, capture = read_settled(parts.settled), parts.capture
     if parts.moves:
         begin, capture = ceil_div(parts.moves[-1].by, SECOND), f"stretch-{len(parts.moves)}.pcap"
-        own = replace(own, from_=civil(max(own.first, min(begin, found.last))))
+        end = end if begin <= end else max(begin, found.last)
+        own = replace(own, from_=civil(max(own.first, begin)), to=civil(end))
         settled = settle(program, own, capture)
-    elif fell_at(whole):  # (what was shown before may be the same readings)
-        capture = cut_before(whole, fell_at(whole))
+    elif fell:  # (what was shown before may be the same readings)
+        capture = cut(whole, fell, len(whole.extent.stamps), SINCE)
         settled = settle(program, own, capture)
     is_cut = settled.answer == NOTHING_FITS
     if is_cut:
@@ -191,19 +197,19 @@ def told_of(wanted: Wanted, claim: Claim, found: Latest, moment: Moment) -> Mome
     keep(CLAIM, own.text)
     words = ("envelope", CLAIM, capture, "--servers", "--least", "--step", str(step))
     envelope = read_envelope(program.run(*words).text)
-    leaps = look_up(wanted.leaps, own.first, found.last)
+    leaps = look_up(wanted.leaps, own.first, own.last)
     against = next((OF_LEAPS[alert.kind] for alert in alerts_of(leaps, wanted.leaps)), "")
     if found.ahead:
         against = f"the clock was set back: records up to {span_of_seconds(found.ahead)} ahead of it"
     fits, silent = settled.answer != NOTHING_FITS, set(filter(hearing.is_silent, own.servers))
-    last = hearing if capture == found.path else Hearing(program, own, Classic(capture), capture)
+    last = Hearing(program, own, Classic(capture), capture)
     return replace(
-        moment, begin=own.first, end=found.last, against=against,
+        moment, begin=own.first, end=own.last, against=against,
         servers=[last.heard(server, envelope, server in silent) for server in own.servers],
         verdict=UNSUPPORTED if settled.answer == YES and against else settled.answer,
         heard=sum(any(own.servers[k] not in silent for k in group) for group in own.grouped),
         camps=[] if fits else [list(camp) for camp in camps_at(envelope, len(envelope.hulls) - 1)],
-        moves=[move for move in parts.moves if move.by > (found.last - span) * SECOND], is_cut=is_cut and fits,
+        moves=[move for move in parts.moves if move.by > (own.last - span) * SECOND], is_cut=is_cut and fits,
         least_ns=envelope.least_ns if fits else None,
         pieces=[piece_of(envelope, k) for k in range(len(envelope.hulls))])
 
@@ -224,25 +230,20 @@ def fitting(program: Program, claim: Claim, settled: Settled, capture: str,
         first = next((k + 1 for k in range(len(times) - 1, -1, -1) if times[k] < own.first), 0)
         if first == len(times):
             break
-        if settle(program, own, cut_before(whole, first)).answer != NOTHING_FITS:
+        if settle(program, own, cut(whole, first, len(times), CUT)).answer != NOTHING_FITS:
             own = replace(claim, from_=civil(claim.last - length // 2))
             return settle(program, own, CUT), own, CUT
     return settled, claim, capture
 
 
-def cut_before(whole: Classic, record: int) -> str:
-    """The records from one on, in a private file."""
-    begin = next(islice(whole.rows(), record, None))[1]
-    write(CUT, [whole.data[:HEADER], whole.data[begin : whole.extent.end]])
-    return CUT
+def cut(whole: Classic, first: int, end: int, path: str) -> str:
+    """Some records, in a private file that isn't theirs."""
+    rows = list(islice(whole.rows(), first, end))
+    write(path, [whole.data[:HEADER], whole.data[rows[0][1] : rows[-1][2]]])
+    return path
 
 
 def fell_at(whole: Classic) -> int:
     """The first record behind the last place where the clock fell back by a second; 0 if it never did."""
     stamps = whole.extent.stamps
     return next((k for k in range(len(stamps) - 1, 0, -1) if stamps[k] + SECOND_OF_STAMPS < stamps[k - 1]), 0)
-
-
-def first_of(whole: Classic) -> int:
-    """The Unix second of the first record since then."""
-    return min(whole.extent.stamps[fell_at(whole) :]) >> 32

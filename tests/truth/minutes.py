@@ -114,14 +114,16 @@ class Player:
         finally:
             os.chdir(self.place)
             shutil.rmtree(private)
+        from dossier.fleet.band import line_of
         self.looks += 1
-        line = self.now.line_of(moment)
+        line = line_of(moment)
         for words in [*self.untrue(time, moment, seen), *self.untold(time, moment)]:
             self.wrong.append(f"{words} | at {(time - self.of.begin) // SECOND} s | {line}")
 
     def untrue(self, time: int, moment: Any, seen: list[Any]) -> Iterator[str]:
         """What isn't so of the minutes that are named."""
-        clock, last = self.of.clock, seen[-1].at
+        clock = self.of.clock
+        last = next((packet.at for packet in reversed(seen) if packet.stamp < (moment.end + 1) * SECOND), seen[-1].at)
         since = last - (moment.end - moment.begin + 1) * SECOND
         for piece in [*moment.pieces[:-1:7], *moment.pieces[-1:]] if moment.verdict != "nothing fits" else ():
             shown = clock.errors(piece.from_ * SECOND, piece.to * SECOND, since, last + 1)
