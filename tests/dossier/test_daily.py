@@ -229,7 +229,8 @@ def test_alerts_of_now(place: Path) -> None:
     given += [series_of("now_verdict", value, **{**one, "verdict": verdict}) for one, verdict, value in (
         (well, "yes", "1x99"), (off, "refuted", "0 0 1x90"), (few, "refuted", "0 0 1x90"), (few, "yes", "1 1 0x90"),
         (unseen, "refuted", "1x99"), ({**gone, "recorder": "eth0"}, "yes", "1x9"))]
-    said = {("ClockIsOff", "page"): {"2m": [], "4m": [off], "20m": [off]},
+    said: dict[tuple[str, str], dict[str, list[dict[str, str]]]] = {
+            ("ClockIsOff", "page"): {"2m": [], "4m": [off], "20m": [off]},
             ("ClockWasOff", "page"): {"2m": [], "4m": [blind], "90m": [blind]},
             ("ClockUnseen", "ticket"): {"11m": [], "13m": [blind, unseen]},
             ("ClockStepped", "ticket"): {"1m": [], "3m": [healed], "95m": [healed]},
@@ -245,10 +246,11 @@ def test_alerts_of_now(place: Path) -> None:
                                             "68m": [{"job": "node", "instance": "stuck"}, gone]}}
     assert stuck
     text = rules.read_text()
-    check("alerts that are tried", names=(sorted(re.findall(r"alert: (\w+)", text)), sorted(name for name, _ in said)),
-          severity=(dict(zip(re.findall(r"alert: (\w+)", text), re.findall(r"severity: (\w+)", text))), dict(said.keys())))
-    asked = [of_alerts(name, severity, at, *labels) for (name, severity), times in said.items()
-             for at, labels in times.items()]
+    names, severities = (re.findall(rf"{word}: (\w+)", text) for word in ("alert", "severity"))
+    check("alerts that are tried", severity=(dict(zip(names, severities)), dict(said.keys())))
+    asked = list[dict[str, Any]]()
+    for (name, severity), times in said.items():
+        asked += [of_alerts(name, severity, at, *labels) for at, labels in times.items()]
     nothing = [of_alerts("ClockNowMissing", "ticket", "10m", {})]
     tests = [{"interval": "1m", "input_series": series, "promql_expr_test": words}
              for series, words in ((given, asked), ([], nothing))]

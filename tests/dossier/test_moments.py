@@ -76,26 +76,30 @@ def test_now(place: Path) -> None:
     begin, moved = last - 1500, last - 300
     right, ahead = "-0.001 .. +0.001 ms", "+20.000 .. +20.001 ms"
     off = f"{ahead} of 5.000 ms  now {ahead}  least 20.001 ms  4 of 4 groups  the clock is off"
-    step = (f"stepped, or moved at [0-9,]+ ppm or more, between {civil(moved - 10)} and "
-            f"({civil(moved)[:11]})?{civil(moved)[11:18]}[01]Z by ")
+    step = r"stepped, or moved at [0-9,]+ ppm or more, between (\S+) and (\S+) by (\S+) .. (\S+) ms; since then "
     cases = {
-        "right": ([(begin, last + 1, RIGHT)], 0, 600, f"yes  {right} of 5.000 ms  now {right}  least 0.001 ms  4 of 4 "
-                                                      "groups"),
-        "off": ([(begin, last + 1, AHEAD)], 1, 600, f"refuted  {off}"),
-        "step": ([(begin, moved, RIGHT), (moved, last + 1, AHEAD)], 1, 300,
-                 rf"refuted  {step}\+19.999 .. \+20.002 ms; since then {off}"),
-        "healed": ([(begin, moved, AHEAD), (moved, last + 1, RIGHT)], 1, 300,
-                   f"yes  {step}-20.002 .. -19.999 ms; since then {right} of 5.000 ms  now {right}  least 0.001 ms  "
-                   "4 of 4 groups"),
+        "right": ([(begin, last + 1, RIGHT)], 0, f"yes  {right} of 5.000 ms  now {right}  least 0.001 ms  4 of 4 "
+                                                 "groups"),
+        "off": ([(begin, last + 1, AHEAD)], 1, f"refuted  {off}"),
+        "step": ([(begin, moved, RIGHT), (moved, last + 1, AHEAD)], 1, f"refuted  {step}{off}"),
+        "healed": ([(begin, moved, AHEAD), (moved, last + 1, RIGHT)], 1,
+                   f"yes  {step}{right} of 5.000 ms  now {right}  least 0.001 ms  4 of 4 groups"),
     }
-    for name, (parts, wanted, seconds, words) in cases.items():
+    for name, (parts, wanted, words) in cases.items():
         recorded(place / name, begin, *parts)
         status, lines, err = now(place / name)
-        spans = (civil(last - seconds + more) for more in (0, 1))
-        span = "|".join(f"{first} .. {civil(last)[11 if first[:10] == civil(last)[:10] else 0:]}" for first in spans)
-        check(f"the last minutes: {name}", run=((status, err), (wanted, "")),
-              line=(lines, lambda lines, words=words, span=span: len(lines) == 1 and re.fullmatch(
-                  f"eth0  ({span})  {words.replace(' +', ' [+]')}", lines[0])))
+        found = re.fullmatch(rf"eth0  (\S+) \.\. (\S+)  {words.replace(' +', ' [+]')}", lines[0])
+        first, end, *move = found.groups() if found else ("", "")
+        check(f"the last minutes: {name}", run=((status, err, len(lines)), (wanted, "", 1)),
+              line=(found and lines[0], lines[0]), end=(end[-9:], civil(last)[11:]))
+        if not move:
+            check(f"the last minutes begin: {name}", begin=(first, civil(last - 600)))
+            continue
+        after, by = move[0], move[1] if len(move[1]) > 9 else move[0][:11] + move[1]
+        low, high = (float(end) for end in move[2:])
+        size = 20 if name == "step" else -20
+        check(f"the step: {name}", between=(after <= civil(moved) and civil(moved) <= by <= civil(moved + 30), True),
+              since=(first, by), size=(low <= size <= high <= low + 0.1, True))
     old = place / "old"
     recorded(old, begin - 3600, (begin - 3600, begin - 900, RIGHT))
     status, lines, _ = now(old)
@@ -164,7 +168,7 @@ def test_set_back(place: Path) -> None:
             written(path)
         status, lines, _ = now(folder, "--metrics", place / "m.prom")
         ahead = {key: value for (key, *_), value in metrics_of(place / "m.prom").items()}["now_records_ahead_seconds"]
-        check(f"a clock that was set back: {name}", status=(status, 1), said=(re.search(words, lines[0]) is None, False),
+        check(f"a clock that was set back: {name}", status=(status, 1), said=(bool(re.search(words, lines[0])), True),
               yes=("  yes  " in lines[0], False), ahead=(1980 < float(ahead) < 2100, True))
     for name, second in (("2099", 4_102_444_740), ("1970", 9)):
         recorded(place / name, second, (second, second + 60, RIGHT))
@@ -191,7 +195,8 @@ def test_newest(place: Path) -> None:
             first = path.rename(f"{path}.first")
     first.rename(str(first).removesuffix(".first"))
     line = now(numbered, "--minutes", "2")[1][0]
-    check("files that tcpdump began by size", verdict=(line.split("  ")[2], "yes"), end=(civil(last)[11:] in line, True))
+    check("files that tcpdump began by size", verdict=(line.split("  ")[2], "yes"),
+          end=(civil(last)[11:] in line, True))
     old = place / "old"
     recorded(old, begin, (begin, last + 1, RIGHT))
     copy = recorded(old, last - 90_000, (last - 90_000, last - 89_000, AHEAD))
@@ -249,10 +254,11 @@ def test_bad_files(place: Path) -> None:
         file.unlink()
     whole = recorded(place / "whole", begin, (begin, last + 1, RIGHT)).read_bytes()
     damaged = whole[:-3000] + b"\xff" * 3000
+    place_of = 24 + 106 * -((3024 - len(damaged)) // 106)
     for name, data, named in (("records of no time", whole[:22] + bytes(99), ""),
                               ("other frames", whole[:20] + b"\x65" + whole[21:], "has other frames than Ethernet's"),
                               ("rubbish", 99 * b"x", "is no classic capture, as tcpdump writes it"),
-                              ("damaged", damaged, f"is damaged from byte {24 + 106 * -((3024 - len(damaged)) // 106)} on")):
+                              ("damaged", damaged, f"is damaged from byte {place_of} on")):
         bad.write_bytes(data)
         status, lines, err = now(rec, "--metrics", metrics)
         check(f"one bad file: {name}", status=(status, 2 if named else 0), lines=(len(lines), 1), verdict=(
@@ -348,10 +354,12 @@ def test_tail(place: Path) -> None:
             for length in (0, 1, 2, 1000, 3000, 3900, 4005):
                 first = next(k for k, second in enumerate(seconds) if second >= seconds[-1] - length)
                 check(f"the last {length} s of {name}", same=(file.ending(length, 60, 1 << 30, bad), Ending(
-                    b"".join(own[first:]), min(length, 4002) + (length < 4002), seconds[-1], seconds[-1])), bad=(bad, []))
+                    b"".join(own[first:]), min(length, 4002) + (length < 4002), seconds[-1], seconds[-1])),
+                      bad=(bad, []))
             some = Growing(folder, f"{name}.pcap").ending(4005, 60, 3 << 19, bad)
-            check(f"as much of {name} as is read", said=(len(bad), int(name == "hostile")), end=(
-                some and (len(some.data) > 1 << 19, some.data[-100:]), (True, data[-100:]) if name == "plain" else None))
+            wanted_end = (True, data[-100:]) if name == "plain" else None
+            check(f"as much of {name} as is read", said=(len(bad), int(name == "hostile")),
+                  end=(some and (len(some.data) > 1 << 19, some.data[-100:]), wanted_end))
 
 
 def test_many_ways(place: Path) -> None:

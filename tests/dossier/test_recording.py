@@ -236,7 +236,8 @@ def test_kept() -> None:
     number = 0
     while keeps(asked, 10_000):
         number += 1
-    check("a flood of requests", bytes=(8_900_000 < number * 10_000 <= 9_000_000, True), answer=(keeps(answer, 10_000), False))
+    check("a flood of requests", bytes=(8_900_000 < number * 10_000 <= 9_000_000, True),
+          answer=(keeps(answer, 10_000), False))
     beyond = number * 10_000
     for minute in range(1, 10):
         now[0] = 60.0 * minute

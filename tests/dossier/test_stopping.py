@@ -218,7 +218,8 @@ def test_flood(place: Path) -> None:
         found |= jobs.run_all([str(great)], wanted_of(place), 600)
     finally:
         captures.MANY, classic.MOST_RECORDS, captures.MOST_BYTES = *kept, most
-    check("a flood of great packets", same=((great / "joined.pcap").read_bytes(), (flooded / "joined.pcap").read_bytes()))
+    check("a flood of great packets",
+          same=((great / "joined.pcap").read_bytes(), (flooded / "joined.pcap").read_bytes()))
     check("a flood that is damaged", status=(refused.status, 2),
           said=("so it can't be thinned out" in refused.lines[0], True))
     records = records_of((flooded / "joined.pcap").read_bytes())
@@ -238,7 +239,8 @@ def test_flood(place: Path) -> None:
           none=(dossier("filter", place / "none")[:2], (0, b"(udp port 123) or (vlan and (udp port 123))\n")),
           clients=(recorder.filter_of(None, ["192.0.2.7", "192.0.2.8"]).count("dst host 192.0.2.8"), 2))
     if shutil.which("tcpdump"):
-        taken = run(["tcpdump", "--time-stamp-precision=nano", "-r", place / "flooded.pcap", "-w", "-", out.decode().strip()])
+        taken = run(["tcpdump", "--time-stamp-precision=nano", "-r", place / "flooded.pcap", "-w", "-",
+                     out.decode().strip()])
         check("what the filter takes", packets=([one[:16] for one in records_of(taken[1])], [
             one[:16] for one in records_of((plain / "f.pcap").read_bytes())]))
     else:

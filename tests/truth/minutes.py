@@ -1,5 +1,5 @@
-"""Histories played minute by minute: what `now` says of each minute is held to what the clock showed, and an error beyond
-the bound has to be told in time, and no longer than that.
+"""Histories played minute by minute: what `now` says of each minute is held to what the clock showed, and an error
+beyond the bound has to be told in time, and no longer than that.
 
 usage: python3 -m tests.truth.minutes [--number N] [--seed K]
 """
@@ -39,8 +39,9 @@ class Played(History):
                          60 * MINUTES // poll, 4, rng.choice((0.02, 0.05, 0.1)))
         self.rng, self.ppb, self.amplitude = rng, rng.choice((50_000, 110_000, 200_000)), rng.choice((10**5, 10**6))
         self.recorders = [self.recorders[0]._replace(name="eth0-2001-01-01T000000Z.pcap")]
-        for kind in rng.choices((STEP, "healed", FAST, network.OFF, network.PART, network.SILENT, "outage", "lost", "none"),
-                                (6, 6, 2, 2, 2, 2, 1, 1, 1), k=rng.choice((1, 1, 2))):
+        kinds = {STEP: 6, "healed": 6, FAST: 2, network.OFF: 2, network.PART: 2, network.SILENT: 2, "outage": 1,
+                 "lost": 1, "none": 1}
+        for kind in rng.choices(list(kinds), list(kinds.values()), k=rng.choice((1, 1, 2))):
             self.draw(kind)
             self.kinds.append(kind)
         self.bound = rng.choice((2, 5, 20)) * 10**6 + 2 * self.width
@@ -130,7 +131,8 @@ class Player:
             if shown and not isinstance(piece.hull, str):
                 low, high = (end * SECOND / TICKS for end in piece.hull)
                 if shown[0] < low - 2 or shown[1] > high + 2:
-                    yield f"the error was {shown[0] / 1e6:.3f} .. {shown[1] / 1e6:.3f} ms in {piece.from_} .. {piece.to}"
+                    ends = f"{shown[0] / 1e6:.3f} .. {shown[1] / 1e6:.3f} ms"
+                    yield f"the error was {ends} in {piece.from_} .. {piece.to}"
                     break
         if moment.verdict == "yes":
             shown = clock.errors(moment.begin * SECOND, moment.end * SECOND, since, last + 1)
@@ -146,12 +148,14 @@ class Player:
                 yield f"it moved by {changed / 1e6:.3f} ms"
         for server in moment.servers:
             own = next(one for one in self.of.servers if one.address == server.address)
-            replies = [packet for packet in seen if packet.is_reply and packet.server is own]
+            replies = [packet for packet in seen if packet.is_reply and packet.server is own
+                       and packet.stamp <= moment.end * SECOND]
             if server.error and replies:
                 error = own.error(replies[-1].at)
                 low, high = (end * SECOND / TICKS for end in server.error)
                 if not low - own.distance - 2 <= error <= high + own.distance + 2:
-                    yield f"{server.address} was off by {error / 1e6:.3f} ms, not by {low / 1e6:.3f} .. {high / 1e6:.3f}"
+                    ends = f"{low / 1e6:.3f} .. {high / 1e6:.3f}"
+                    yield f"{server.address} was off by {error / 1e6:.3f} ms, not by {ends}"
                 if server.is_apart and not own.is_wrong(replies[-1].at):
                     yield f"{server.address} was right"
 
