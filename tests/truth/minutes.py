@@ -124,7 +124,8 @@ class Player:
     def untrue(self, time: int, moment: Any, seen: list[Any]) -> Iterator[str]:
         """What isn't so of the minutes that are named."""
         clock = self.of.clock
-        last = next((packet.at for packet in reversed(seen) if packet.stamp < (moment.end + 1) * SECOND), seen[-1].at)
+        near = range((moment.end - 2) * SECOND - 2 * self.of.poll, (moment.end + 1) * SECOND)
+        last = next((packet.at for packet in reversed(seen) if packet.stamp in near), seen[-1].at)
         since = last - (moment.end - moment.begin + 1) * SECOND
         for piece in [*moment.pieces[:-1:7], *moment.pieces[-1:]] if moment.verdict != "nothing fits" else ():
             shown = clock.errors(piece.from_ * SECOND, piece.to * SECOND, since, last + 1)
@@ -190,6 +191,7 @@ def main() -> int:
         for words in player.wrong[:3]:
             print(f"{seed} {player.of.kinds} poll {player.of.poll // SECOND}: {words}", flush=True)
         bad += bool(player.wrong)
+        print(f"{seed} {player.looks}", file=sys.stderr, flush=True)
     print(f"{given.number} histories, {looks} looks, {bad} with something that isn't so; {dict(kinds)}")
     return int(bad > 0)
 
