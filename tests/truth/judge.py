@@ -157,8 +157,9 @@ def contradict(view: View, servers: list[str], *_: int) -> str:
 
 
 def apart(view: View, servers: list[str], *_: int) -> str:
+    """That servers were wrong all the time; but of a hull of what nothing fits, that they miss it says nothing."""
     view.named.update(servers)
-    right = [server for server in servers if not view.is_always_wrong(server)]
+    right = [server for server in servers if not view.is_always_wrong(server) and not view.is_void]
     return view.unless_unseen(f"{', '.join(right)} was right for a time" if right else "")
 
 

@@ -102,8 +102,8 @@ def tried(seeds: range, place: Path, has_page: bool = True) -> Iterator[Judged]:
     """Histories by their seeds, and what isn't so of all that was said of each."""
     histories = {place / f"{seed:06}": drawn(seed) for seed in seeds}
     number = seeds[0] // BATCH
-    step = () if number % 3 == 0 else ("--step", 16 * (number % 3) ** 2)
-    for one in read(histories, step, has_page, number % 8 == 0):
+    step = () if number % 5 == 0 else ("--step", 64)
+    for one in read(histories, step, has_page, number % 15 == 1):
         history = one.view.of
         wrong = ([one.fault] if one.fault else []) + (untrue(one) if one.texts or not has_page else [])
         yield Judged(history.seed, one.view.verdict, history.kinds, wrong,
