@@ -5,7 +5,7 @@
 - Pages are well-formed, fetch and run nothing, and interpret no name, whatever stands in it.
 - Folders side by side, resumed after a kill, refused, on a full disk, broken off; changed and then verified.
 - Files that change between their sums and the verdict, by a stand-in for the program that changes them.
-- Drafts of claims, days, each verdict and each reason of it, GNU parallel, a Slurm array.
+- Drafts of claims, days, GNU parallel, a Slurm array. What is said of a clock is held to histories (tests/truth).
 """
 import csv
 import hashlib
@@ -23,17 +23,15 @@ import tempfile
 import textwrap
 import time
 from collections import Counter
-from collections.abc import Iterator
 from contextlib import suppress
 from fractions import Fraction
-from html.parser import HTMLParser
 from itertools import product
 from pathlib import Path
 from typing import Any
 from unittest.mock import patch
 
 from tests.support import DATA, ROOT, SECONDS, check, children, files_in, run, sum_of, wait_until
-from tests.dossier.audits import (CLAIMS, ENVIRONMENT, PROGRAM, SCRIPT, STATE, TICKS_PER_MS, capture_of, check_page,
+from tests.dossier.audits import (CLAIMS, ENVIRONMENT, PROGRAM, SCRIPT, TICKS_PER_MS, capture_of, check_page,
                                   dossier, folder_of, match_of, parts_left, rows, skipped, table)
 from tests.dossier.test_captures import records_of
 from tests.system.fault_lines import fault_lines
@@ -89,39 +87,6 @@ def test_figures(place: Path) -> None:
     check("audits that are done", status=(again[0], worst), unchanged=(again[1].count(b"(unchanged)"), len(CLAIMS)))
 
 
-class Figures(HTMLParser):
-    """The lines of a page's tables, each a list of its cells' words; the words that stand outside of tables; and those
-    that describe pictures."""
-
-    def __init__(self, text: str) -> None:
-        super().__init__()
-        self.rows, self.within = list[list[str]](), list[str]()
-        self.rest = self.described = ""
-        self.feed(text)
-        self.close()
-
-    def handle_starttag(self, tag: str, attributes: list[tuple[str, str | None]]) -> None:
-        if tag in ("td", "svg", "desc", "style"):
-            self.within.append(tag)
-        if tag == "tr":
-            self.rows.append([])
-        if tag == "td":
-            self.rows[-1].append("")
-
-    def handle_endtag(self, tag: str) -> None:
-        if self.within[-1:] == [tag]:
-            self.within.pop()
-
-    def handle_data(self, words: str) -> None:
-        place = self.within[-1] if self.within else ""
-        if place == "td":
-            self.rows[-1][-1] += words
-        elif place == "desc":
-            self.described += words
-        elif not place:
-            self.rest += f" {' '.join(words.split())}"
-
-
 def ms(number: int | Fraction, per_ms: int | Fraction, up: bool) -> str:
     """A whole number of some unit in milliseconds, to the microsecond, rounded up or down."""
     exact = Fraction(number) / Fraction(per_ms)
@@ -138,96 +103,9 @@ def civil(seconds: float) -> str:
     return time.strftime("%Y-%m-%d %H:%M:%S", time.gmtime(seconds))
 
 
-class Said:
-    """What the program says of an audit, asked again, and written as a page is to write it."""
-
-    def __init__(self, claim: Path, folder: Path, entry: dict[str, Any]) -> None:
-        self.claim, capture = json.loads(claim.read_text()), folder / "f.pcap"
-        self.samples = run([PROGRAM, "samples", claim, capture])[1].decode().splitlines()
-        asked = [PROGRAM, "envelope", claim, capture, "--servers", "--least", "--step", str(entry["envelope_step"])]
-        *lines, _, closing = (line.split() for line in run(asked)[1].decode().splitlines())
-        self.hulls = [list(map(int, words[1:])) for words in lines if "." not in words[1]]
-        self.begin = civil(self.hulls[int(closing[3])][0])
-        self.least, self.bound = ms(int(closing[1]), 10**6,
-                                    True), f"{self.claim['bound_ns'] / 10**6:,.6f}".rstrip("0").rstrip(".")
-        self.groups = self.claim.get("groups") or [[k] for k in range(len(self.claim["servers"]))]
-        self.ends = {address: [(int(words[2]), int(words[3])) for words in lines if words[1] == address]
-                     for address in self.claim["servers"]}
-        self.error = Fraction(entry["refutation"]["error"] * 1000, 2**32)
-        self.error_ms = f"{'-' if self.error < 0 else ''}{math.trunc(abs(self.error) * 1000) / 1000:,.3f}"
-        self.report = (folder / "report.txt").read_text()
-
-    def servers(self) -> Iterator[list[str]]:
-        held = Counter(line.split()[1] for line in self.samples[:-1])
-        for number, address in enumerate(self.claim["servers"]):
-            ends, group = self.ends[address], next(k for k, members in enumerate(self.groups) if number in members)
-            outer = ticks_range(min(low for low, _ in ends), max(high for _, high in ends)) if ends else "no sample"
-            yield [address, str(number), str(group), f"{held[address]:,}", outer]
-
-    def counts(self) -> list[list[str]]:
-        words = self.samples[-1].split()
-        return [[what, f"{int(number):,}"] for what, number in zip(words[::2], words[1::2])]
-
-    def hull(self) -> str:
-        return ticks_range(min(hull[2] for hull in self.hulls), max(hull[3] for hull in self.hulls)).replace("\u2212",
-                                                                                                             "-")
-
-    def figures(self) -> set[str]:
-        """All numbers that may stand in the page's sentences."""
-        lengths = map(len, (self.hulls, self.claim["servers"], self.groups))
-        hulls = (word for hull in self.hulls for word in ticks_range(*hull[2:]).replace("\u2212", "").split())
-        return {self.bound, self.least, self.error_ms.lstrip("-"),
-                *map(str, (0, 1, 10, *lengths, self.claim["false_max"])), f"{self.claim['drift_ppb']:,}",
-                *re.findall(r"\d+", self.samples[-1] + self.report), *hulls}
-
-
-NO_FIGURE = re.compile(r"by [\d.]+ m?s\b|SHA-256|\d+(?:\.\d+){3}|\d{4}-\d\d-\d\d(?:[T "
-                       r"][\d:]{8}Z?)?|\b[\d:]{8}\b|[0-9a-f]{16} and on"
-                       r"|logic [0-9a-f]{16}|ntpaudit [\d.]+|in [\d.]+ s\.|--step \d+|bound-0|pieces of \d+ "
-                       r"s|10\^9|version 4")
-"""What has digits and is no figure of an answer: addresses, times, sums, versions, calls."""
-
-
 def sums_of(folder: Path) -> dict[str, str]:
     return {path.name: hashlib.sha256(path.read_bytes()).hexdigest() for path in folder.iterdir()
             if path.name != "audit.json"}
-
-
-def test_page_figures(place: Path) -> None:
-    """Each figure of a page, held to what the program prints: none is missing, and there is no other."""
-    program_sum = hashlib.sha256(Path(PROGRAM).read_bytes()).hexdigest()
-    for claim in CLAIMS:
-        folder, name = folder_of(place, claim.name, DATA / f"{claim.name.split('.')[0]}.pcap",
-                                 claim), f"on the page of {claim.name}"
-        dossier("audit", folder)
-        entry = json.loads((folder / "audit.json").read_text())["entries"][0]
-        said, page = Said(claim, folder, entry), Figures(dossier("page", folder)[1].decode())
-        rows = [[cell.strip() for cell in row] for row in page.rows]
-        check(f"servers {name}", rows=([row[:5] for row in rows if len(row) == 6], list(said.servers())))
-        check(f"counts {name}",
-              rows=([row[:2] for row in rows if len(row) == 3 and row[1].replace(",", "").isdecimal()], said.counts()))
-        check(f"sums {name}",
-              rows=({row[0]: row[2] for row in rows if row[1:2] in (["input"], ["left by the audit"])},
-                    sums_of(folder)), program=([row[2] for row in rows if row[1:2] == ["the program"]], [program_sum]))
-        check(f"the line {name}", client=(rows[1][2], said.claim["client"]),
-              bounds=(rows[1][5:7], [f"{said.bound} ms", f"{said.least} ms"]),
-              span=([f"{cell.replace(' ', 'T')}Z" for cell in rows[1][3:5]], [said.claim["from"], said.claim["to"]]),
-              worst=(rows[1][7], said.begin), samples=(rows[1][8], f"{len(said.samples) - 1:,}"),
-              servers=(rows[1][9].split()[0], str(len(said.claim["servers"]))),
-              granted=(rows[1][10], f"{said.claim['false_max'] or 'none'} wrong"))
-        widest = re.search(rf"may have been off was {said.least} ms, (at|between) {said.begin}", page.rest)
-        check(f"what a manager reads {name}", within=(f"was within {said.bound} ms of UTC" in page.rest, True),
-              least=(bool(widest), entry["verdict"] == "yes"),
-              begin=(said.claim["from"].replace("T", " ").rstrip("Z") in page.rest, True))
-        check(f"what refutes it {name}", said=("no certificate can" in page.rest, entry["verdict"] == "refuted"),
-              course=(f"an error of {said.error_ms} ms at {civil(entry['refutation']['reading'] // 2**32)}"
-                      in page.rest.replace("\u2212", "-"), True))
-        check(f"the words of the picture {name}", hull=(f"The hull lies within {said.hull()}." in page.described, True))
-        sentences = " ".join([page.rest, *(" ".join(row) for row in rows if len(row) in (1, 4))])
-        sentences = sentences.replace(str(folder), "").replace(STATE, "")
-        seen = set(re.findall(r"\d[\d,]*(?:\.\d+)?", NO_FIGURE.sub(" ", sentences)))
-        check(f"no other figure {name}",
-              seen=(sorted(seen - said.figures() - {f"{said.claim['reading_ns'] / 10**6:g}"}), []))
 
 
 def test_rounding() -> None:
@@ -922,75 +800,6 @@ CLAIM_OF_TWO: dict[str, Any] = {"client": "192.0.2.10", "servers": ["192.0.2.1",
                 "drift_ppb": 100_000, "reading_ns": 0}
 
 
-AT = 1_000_000_010
-MS = 4_294_967
-VERDICTS: dict[str, Any] = {"yes": ({}, [f"1:-{MS}..{MS}@{AT}", f"2:-{2 * MS}..{MS}@{AT + 9}"],
-                    "The yes isn't empty: a course of events fits the capture, with an error of", ""),
-            "refuted exceeds": ({"bound_ns": 10**6}, [f"1:-{9 * MS}..{9 * MS}@{AT}"],
-                                "A course of events fits the exchanges with an error of", "ask nearer servers"),
-            "refuted off": ({"bound_ns": 10**6}, [f"1:{7 * MS}..{9 * MS}@{AT}"],
-                            "ms ahead of UTC from 2001-09-09 01:46:40 to 01:47:44, and so beyond the bound of 1 ms, if "
-                            "none of these 3 servers was wrong", "Mend the clock"),
-            "no evidence silent": ({"false_max": 1}, [f"1:0..9@{AT}"],
-                                   "1 of 3 groups of servers has a sample, and 1 may be wrong", "Name more servers"),
-            "nothing fits apart": ({}, [f"1:0..9@{AT}", f"2:5..9@{AT}", f"3:{-7 * MS}..{-6 * MS}@{AT}"],
-                                   "(with 1 wrong of 3 groups a course of events would fit)",
-                                   "Leave them out of the claim"),
-            "nothing fits many": ({"servers": ["192.0.2.1", "192.0.2.2"]},
-                                  [f"1:0..9@{AT}", f"2:{-7 * MS}..{-6 * MS}@{AT}"],
-                                  "More servers were wrong than the claim grants, or the clock was stepped or moved "
-                                  "faster.", "Grant that servers were wrong"),
-            "nothing fits step": ({},
-                                  [f"{k}:{shift * MS}..{shift * MS + 9}@{AT + 9}" for shift in (0, 50) for k in (1, 2)],
-                                  "The clock was stepped between 2001-09-09 01:46:59 and 01:47:00 by ",
-                                  "See who moved it: "),
-            "open": ({"from": "2001-09-09T02:03:20Z", "to": "2001-09-09T02:03:20Z", "bound_ns": 119_000_000},
-                     [f"1:0..{20 * MS}@{AT}"], "stays open: no certificate shows it",
-                     "is the least that a certificate carries"),
-            "nothing fits drift": ({},
-                                   [f"{k}:{shift * MS}..{shift * MS + 9}@{AT + 4 * shift}" for shift in (0, 3)
-                                    for k in (1, 2)],
-                                   "stepped, or moved at ", "Or grant as much drift as")}
-"""Of each verdict and reason what is changed of a claim of three servers, the exchanges, and what is said."""
-
-
-def test_verdicts(place: Path) -> None:
-    """Each verdict with its sentence and what to do, on the page and by `verify`."""
-    for name, (changes, words, said, to_do) in VERDICTS.items():
-        verdict = name.rpartition(" ")[0] or name
-        folder = folder_of(place, name, capture_of(place / f"{name}.pcap", *words),
-                           **{**CLAIM_OF_TWO, "servers": [f"192.0.2.{k}" for k in (1, 2, 3)], **changes})
-        status, out, _ = dossier("audit", folder)
-        row, entry = table(folder)[0], json.loads((folder / "audit.json").read_text())["entries"][0]
-        text = dossier("page", folder)[1].decode()
-        page = check_page(f"a page of {name}", text)
-        shown = "".join(page.words).replace("\u2212", "-")
-        check(name, status=(status, int(verdict != "yes")),
-              line=(out.decode().startswith(f"{verdict:14}{folder}: "), True), verdict=(row["verdict"], verdict),
-              why=(entry.get("reason", {}).get("why", ""),
-                   name.removeprefix(verdict).strip() or {"open": "tick"}.get(verdict, "")),
-              badge=(f'<span class="verdict {verdict.replace(" ", "-")}">' in text, True), said=(said in shown, True),
-              to_do=(to_do in row["to_do"] and to_do in shown, True),
-              verified=(dossier("verify", folder), (status, f"{folder}: verified: {verdict}\n".encode(), b"")),
-              least=(entry["least_ns"] is None, verdict in ("no evidence", "nothing fits")),
-              conflicts=("<h3>Conflicts</h3>" in text, verdict == "nothing fits"))
-    bound_0 = json.loads((place / "yes" / "bound-0.claim.json").read_text())
-    check("the claim with the bound 0",
-          claim=(bound_0, {**json.loads((place / "yes" / "claim.json").read_text()), "bound_ns": 0}))
-    folder = place / "nothing fits many"
-    dossier("audit", "--step", "64", folder)
-    envelope, row = (folder / "envelope.txt").read_text().splitlines(), table(folder)[0]
-    check("where nothing fits no bound is carried", empty=("empty" in envelope[0] + envelope[1], False),
-          verdict=(row["verdict"], "nothing fits"),
-          least=((row["least_bound_ns"], envelope[-1]), (None, "least_ns none")))
-    lines = (place / "nothing fits apart" / "report.txt").read_text().splitlines()
-    check("the conflicts on a page",
-          lines=(lines, ["conflict 192.0.2.1 0 192.0.2.3 5", "conflict 192.0.2.2 2 192.0.2.3 5", "nothing fits"]),
-          rows=([[row[k] for k in (0, 1, 4, 5)] for row in
-                 Figures(dossier("page", place / "nothing fits apart")[1].decode()).rows if len(row) == 8][:2],
-                [line.split()[1:] for line in lines[:2]]))
-
-
 TICK = 7710888014534666407
 FAKE = """#!/bin/sh
 # stands in for the program: settle gives the answer in a file, and refute what is asked
@@ -1050,25 +859,6 @@ def test_other_answers(place: Path) -> None:
     check("a program that contradicts itself", status=(status, 70),
           line=(b"refute doesn't accept what settle gave" in out, True),
           to_do=("anew" in table(folder)[0]["to_do"], True))
-
-
-def test_warnings(place: Path) -> None:
-    capture = capture_of(place / "falls.pcap", "1:-1000..1000@1000000010", "1:-1000..1000@1000000005")
-    folder = folder_of(place, "warned", capture, **{**CLAIM_OF_TWO, "servers": ["192.0.2.1"], "drift_ppb": 0})
-    dossier("audit", folder)
-    warnings = json.loads((folder / "audit.json").read_text())["entries"][0]["warnings"]
-    check("warnings",
-          kinds=([warning["kind"] for warning in warnings],
-                 ["outside", "no-drift", "falls", "far", "sources", "reference"]))
-    packets = [line.split() for line in run([PROGRAM, "list", capture])[1].decode().splitlines()[:-1]]
-    times = [Fraction(words[1]) for words in packets if words[5] == "m4"]
-    pieces = [line.split()[1:3] for line in (folder / "envelope.txt").read_text().splitlines()[:-2] if "." not in line]
-    distances = [min(max(int(begin) - moment, moment - int(end), Fraction(0)) for moment in times)
-                 for begin, end in pieces]
-    limit = Fraction(int(pieces[-1][1]) - int(pieces[0][0]), 10)
-    check("pieces far from samples",
-          seen=((warnings[3]["count"], warnings[3]["distance"]),
-                (sum(d > limit for d in distances), max(distances) * 10**9)))
 
 
 def test_days(place: Path) -> None:

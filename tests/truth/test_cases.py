@@ -1,0 +1,115 @@
+"""Tests of cases: what is said of a history that was made by hand, besides that all of it is so."""
+from collections.abc import Callable, Iterable
+from pathlib import Path
+
+from tests.support import count
+from tests.truth.clock import FAST, SECOND, STEP, Event
+from tests.truth.files import Logs
+from tests.truth.history import DAY, LEAP, History, Recorder
+from tests.truth.network import OFF as WRONG
+from tests.truth.trial import read, untrue
+
+MIDNIGHT = 20_010 * DAY
+
+
+def stepped(at: int, size: int, aim: int = 0, seed: int = 1) -> History:
+    """A clock that is stepped once; it is off before by `aim`, and four polls are recorded beside the span."""
+    history = History(seed, MIDNIGHT - 4 * 64 * SECOND)
+    history.first, history.last = MIDNIGHT, MIDNIGHT + 3000 * SECOND
+    history.aim, history.events = aim, [Event(STEP, at, at, size)]
+    return history
+
+
+def set_back_at_midnight() -> History:
+    return stepped(MIDNIGHT - 20 * SECOND, -60 * SECOND, 60 * SECOND)
+
+
+def set_back_by_the_log() -> History:
+    return stepped(MIDNIGHT - 20 * SECOND, -60 * SECOND, 60 * SECOND, 2)
+
+
+def set_back_in_the_span() -> History:
+    return stepped(MIDNIGHT + 1500 * SECOND, -240 * SECOND)
+
+
+def off_for_a_time() -> History:
+    """A clock that is stepped by 60 ms, and slews back until long before the end."""
+    history = stepped(MIDNIGHT + 600 * SECOND, 60 * SECOND // 1000)
+    history.ppb, history.bound, history.returns = 100_000, 40_000_000, True
+    return history
+
+
+def set_back_behind_the_end() -> History:
+    return stepped(MIDNIGHT + 3000 * SECOND + SECOND // 2, -SECOND)
+
+
+def step_and_gap() -> History:
+    history = stepped(MIDNIGHT + 600 * SECOND, -20 * SECOND // 1000)
+    history.bound = 10_000_000
+    history.recorders = [Recorder("eth0-0.pcap", history.begin, MIDNIGHT + 1500 * SECOND),
+                         Recorder("eth0-1.pcap", MIDNIGHT + 2300 * SECOND, history.end)]
+    return history
+
+
+def fast() -> History:
+    """14 ms within 20 s, 700 ppm, where 600 are granted."""
+    history = History(1, MIDNIGHT, poll=16, number=100, near=0.05)
+    history.ppb, history.bound, history.amplitude = 600_000, 20_000_000, 50_000
+    history.events = [Event(FAST, MIDNIGHT + 700 * SECOND, MIDNIGHT + 720 * SECOND, 14 * SECOND // 1000)]
+    return history
+
+
+def two_camps() -> History:
+    history = History(1, MIDNIGHT, near=0.05)
+    for server in history.servers[2:]:
+        server.kind, server.off = WRONG, 300 * SECOND // 1000
+    return history
+
+
+def nobody_answers() -> History:
+    history = History(1, MIDNIGHT)
+    history.bound, history.outages = 8_000_000, [(MIDNIGHT + 1000 * SECOND, MIDNIGHT + 2000 * SECOND)]
+    return history
+
+
+def leap_not_inserted() -> History:
+    history = History(1, LEAP - 1800 * SECOND)
+    history.leap, at = LEAP, LEAP + 300 * SECOND
+    history.events = [Event(STEP, LEAP, LEAP, SECOND), Event(STEP, at, at, -SECOND)]
+    return history
+
+
+CASES: dict[str, tuple[Callable[[], History], bool, set[str], list[str]]] = {
+    "set back at midnight": (set_back_at_midnight, False, {"nothing fits", "refuted"}, ["by -60"]),
+    "set back at midnight, by the log too": (set_back_by_the_log, True, {"nothing fits", "refuted", "unsupported"}, []),
+    "set back in the span": (set_back_in_the_span, False, {"nothing fits"}, ["before the step", "behind the step"]),
+    "off for a time": (off_for_a_time, False, {"nothing fits"}, ["stepped, or moved at", "and so beyond the bound"]),
+    "set back behind the end": (set_back_behind_the_end, False, {"nothing fits", "refuted"}, ["by -1,0"]),
+    "a step and a gap": (step_and_gap, False, {"nothing fits"}, ["by -2", "At the end it was beyond the bound"]),
+    "14 ms in 20 s": (fast, False, {"nothing fits"}, ["that takes 69", "and 600 are granted"]),
+    "two camps": (two_camps, False, {"nothing fits"}, ["10.9.1.1 and 10.9.1.2 say", "10.9.1.3 and 10.9.1.4 say"]),
+    "nobody answers": (nobody_answers, False, {"refuted"}, ["nobody answered, of"]),
+    "no leap second": (leap_not_inserted, False, {"nothing fits"}, ["That is a leap second at the end of 2026-06-30"]),
+}
+"""Of each case the history, whether there are logs, the verdicts that it may have, and words that are said."""
+
+
+def wrong_in(names: Iterable[str], place: Path) -> dict[str, str]:
+    """Of cases what is wrong with what is said of them: the verdict, what isn't so, and what isn't said."""
+    histories, found = {}, dict[str, str]()
+    for name in names:
+        make, has_logs, _, _ = CASES[name]
+        history = make().live()
+        histories[place / f"case-{list(CASES).index(name)}"] = history, Logs(history) if has_logs else None
+    for name, one in zip(names, read(histories)):
+        _, _, verdicts, words = CASES[name]
+        unsaid = [word for word in words if word not in " ".join(one.texts)]
+        wrong = [*([] if one.view.verdict in verdicts else [f"the verdict {one.view.verdict}"]),
+                 *([one.fault] if one.fault else untrue(one)), *(f"not said: {word}" for word in unsaid)]
+        found[name] = "; ".join(wrong)
+    return found
+
+
+def test_cases(place: Path) -> None:
+    for name, wrong in wrong_in(list(CASES), place).items():
+        count(name, wrong)

@@ -1,0 +1,282 @@
+"""What a judge asks a history: about its errors, its steps, its servers, and what was recorded of them."""
+from collections.abc import Sequence
+from functools import cached_property
+from typing import Any
+
+from tests.truth.clock import BILLION, SECOND, Jump, Stretch
+from tests.truth.files import Logs
+from tests.truth.forms import When
+from tests.truth.history import CLIENT, LEAP, History, civil
+from tests.truth.network import TICKS, Packet
+from tests.truth.sight import counted, unseen, wrong_groups
+
+Range = tuple[int, int]
+
+
+class View:
+    """A history, with the logs that are beside the recording, and the entry of audit.json that is being judged."""
+
+    def __init__(self, history: History, logs: Logs | None, entry: dict[str, Any]):
+        self.of, self.logs, self.entry = history, logs, entry
+        self.clock, self.span, self.text = history.clock, (history.first, history.last), ""
+        self.named, self.sides, self.conflicts = set[str](), set[int](), list[Range]()
+        """What was said so far: servers, sides on which the clock was beyond the bound, and conflicts' true times."""
+
+    @property
+    def verdict(self) -> str:
+        return str(self.entry["verdict"])
+
+    @cached_property
+    def excuse(self) -> str:
+        """What of it can't be seen, by which a sentence with an `if` may be untrue."""
+        return unseen(self.of, [jump.begin for jump in self.logs.steps] if self.logs else [])
+
+    def unless_unseen(self, wrong: str) -> str:
+        """Nothing if what went wrong can't be seen, or if the answer says itself that the folder speaks against it."""
+        if not wrong or self.verdict == "unsupported" and self.logged_against() or self.is_warned or \
+                self.verdict == "nothing fits" and self.most_wrong:
+            return ""
+        return "" if self.excuse else wrong
+
+    def errors(self, when: Range) -> Range | None:
+        return self.clock.errors(*when)
+
+    def within(self, when: Sequence[Any], low: int, high: int) -> str:
+        """Wrong if the clock showed a reading of a time with an error outside of a range."""
+        found = self.errors((when[0], when[1]))
+        if found and not low <= found[0] <= found[1] <= high:
+            return self.unless_unseen(f"its errors were {ms(found)}")
+        return ""
+
+    def jumps(self, when: Range) -> list[Jump]:
+        """Those by which it left a reading of a time, or came to one."""
+        first, last = when
+        return [jump for jump in self.clock.jumps if first <= jump.before <= last or first <= jump.after <= last]
+
+    def fast(self, when: Range) -> bool:
+        """Whether it moved faster than is granted as it showed a reading of a time."""
+        found = list(self.clock.shown(*when))
+        return any(event.begin < piece.end and piece.begin < event.end for event in self.clock.fast for piece in found)
+
+    def at(self, stamp: int) -> int | None:
+        """The true time at which a record has this stamp."""
+        return next((packet.at for packet in self.packets if packet.stamp // 1000 == stamp // 1000), None)
+
+    def moved(self, move: dict[str, Any], rate: int, when: When, said: Range) -> str:
+        """What isn't so of a move between two records: the clock has to be stepped between them, or moved so fast, and
+        by so much."""
+        begin, end = self.at(move["after"]), self.at(move["by"])
+        around = move["after"] // SECOND * SECOND, -(-move["by"] // SECOND) * SECOND
+        if begin is None or end is None or when[:2] != around:
+            return "there are no such records"
+        before, after = self.clock.error(begin), self.clock.error(end)
+        jumps = [jump for jump in self.clock.jumps if begin <= jump.begin and jump.end <= end]
+        fast = [event for event in self.clock.fast if begin < event.end and event.begin < end]
+        is_fast = rate and any(abs(event.size) * 10**6 // (event.end - event.begin) + self.of.ppb // 1000 >= rate
+                               for event in fast)
+        if not jumps and not is_fast:
+            return self.unless_many(f"the clock was stepped {self.steps}; fast {fast}")
+        assert before is not None and after is not None
+        return "" if said[0] <= after - before <= said[1] else self.unless_many(f"by {(after - before) / 10**6} ms")
+
+    def unless_many(self, wrong: str) -> str:
+        return "" if self.too_many_wrong else wrong
+
+    @cached_property
+    def packets(self) -> list[Packet]:
+        """What was recorded of its servers, in the order of stamps."""
+        return sorted(self.of.recorded, key=lambda packet: packet.stamp)
+
+    def recorded(self, when: Sequence[Any], replies: bool = False) -> int:
+        """How many packets have a stamp inside a time."""
+        return sum(when[0] < packet.stamp < when[1] and (packet.is_reply or not replies)
+                   and not any(begin < packet.at < end for begin, end in self.moving) for packet in self.packets)
+
+    def silent_in(self, when: Sequence[Any], counts: tuple[int, ...]) -> str:
+        """What isn't so of a time in which no server was heard: of nothing, of so many requests, or of so many replies
+        of no use to so many requests."""
+        inside = [packet for packet in self.packets if when[0] < packet.stamp < when[1] and not any(
+            begin < packet.at < end for begin, end in self.moving)]
+        asked, replied = (sum(packet.is_reply is kind for packet in inside) for kind in (False, True))
+        heard = {id(packet) for packet in inside if packet.is_reply}
+        if not counts:
+            return f"{len(inside)} packets were recorded" if inside else ""
+        if len(counts) == 1:
+            near = [packet for packet in self.packets if when[0] - SECOND <= packet.stamp <= when[1] + SECOND]
+            more = sum(not packet.is_reply for packet in near)
+            return "" if asked <= counts[0] <= more and not heard else f"{asked} requests, {replied} replies"
+        return "a reply was of use" if heard else ""
+
+    def sides_of(self, when: When) -> set[int]:
+        """Behind how many jumps the clock showed readings of a time."""
+        return {sum(jump.end <= piece.begin for jump in self.clock.jumps)
+                for piece in self.clock.shown(when.first, when.last)}
+
+    def shown_beside(self) -> str:
+        """Whether readings of the span were shown on two sides of a step or a fast movement."""
+        ends = sorted(end for own in self.clock.breaks for end in own)
+        sides = [self.clock.errors(*self.span, begin, end) is not None
+                 for begin, end in zip([-(1 << 62), *ends[1::2]], [*ends[::2], 1 << 62])]
+        return "readings of the span were shown on more than one side" if sum(sides) > 1 else ""
+
+    def is_always_wrong(self, address: str) -> bool:
+        own = [one for one in counted(self.of) if one.server.address == address]
+        own = [one for one in own if self.span[0] <= one.asked and one.answered <= self.span[1]] or own
+        return bool(own) and all(one.server.is_wrong(one.sent_at) for one in own)
+
+    def is_ever_wrong(self, address: str) -> bool:
+        return any(one.server.is_wrong(one.sent_at) for one in counted(self.of) if one.server.address == address)
+
+    @cached_property
+    def too_many_wrong(self) -> bool:
+        return len(wrong_groups(self.of, counted(self.of))) > self.of.false_max
+
+    @property
+    def may_be_moved(self) -> bool:
+        """Whether the clock was stepped, or moved faster, and it is said that it may have been."""
+        return self.verdict == "nothing fits" and bool(self.clock.breaks)
+
+    @property
+    def is_warned(self) -> bool:
+        """Whether it is said beside a no that a log has a step that isn't presumed."""
+        kinds = {one["kind"] for one in self.entry.get("warnings", [])}
+        return self.verdict != "yes" and bool(kinds & {"logged", "step"})
+
+    @cached_property
+    def most_wrong(self) -> bool:
+        """Whether half of the groups or more were wrong: if they agree, nobody can see that."""
+        return 2 * len(wrong_groups(self.of, counted(self.of))) >= len(self.heard)
+
+    @cached_property
+    def has_broken(self) -> bool:
+        """Whether a premise fails in what was recorded: a step, more drift, more wrong servers than are granted."""
+        return bool(self.clock.jumps or self.clock.fast or self.too_many_wrong or self.of.leap < self.of.end)
+
+    @property
+    def worst(self) -> int:
+        """The greatest error of the span, either way."""
+        found = self.errors(self.span)
+        return max(abs(found[0]), abs(found[1])) if found else 0
+
+    def last_error(self) -> int | None:
+        """The error with which the clock showed a reading of the span for the last time."""
+        found = max(self.clock.shown(*self.span), key=lambda piece: piece.end, default=None)
+        return found.high if found else None
+
+    @property
+    def steps(self) -> str:
+        """When and by how much it was stepped, for a person."""
+        return ", ".join(f"from {clock_time(jump.before)} to {clock_time(jump.after)} ({jump.size / SECOND:.6f} s)"
+                         for jump in self.clock.jumps) or "never"
+
+    def logged_against(self, beside: int = 0) -> str:
+        """What a log in the folder says against a yes, in the span or so far beside it."""
+        if not self.logs:
+            return ""
+        inside = [time for time in self.logs.steps_at if self.span[0] - beside <= time <= self.span[1] + beside]
+        fast = [event for event in self.logs.fast if self.fast(self.span)]
+        return "a log says that it was stepped" if inside else "a log has such a frequency" if fast else ""
+
+    def is_leap_near(self) -> bool:
+        """Whether there is a leap second in the span or among the exchanges."""
+        return self.of.begin - 2 * SECOND <= LEAP <= self.of.end + 2 * SECOND
+
+    @cached_property
+    def heard(self) -> set[int]:
+        own = {one.server.address for one in counted(self.of)}
+        return {number for number, group in enumerate(self.of.groups)
+                if {self.of.servers[k].address for k in group} & own}
+
+    @property
+    def is_mistaken(self) -> bool:
+        """Whether the claim has another client, or other servers."""
+        return self.of.client != CLIENT or self.of.claimed != [server.address for server in self.of.servers]
+
+    @cached_property
+    def is_twice(self) -> bool:
+        """Whether most packets stand in two files."""
+        return 2 * sum(map(len, self.of.files.values())) > 3 * len(self.of.recorded)
+
+    def do_share(self, name: str, other: str) -> bool:
+        return bool(set(self.of.files[name]) & set(self.of.files[other]))
+
+    def is_wrong_in(self, address: str, when: Sequence[Any]) -> bool:
+        """Whether a server was wrong in some exchange whose reply has a stamp of a time."""
+        return any(one.server.is_wrong(one.sent_at) for one in self.of.exchanges
+                   if one.server.address == address and when[0] <= one.answered <= when[1])
+
+    def parts_of(self, jump: Jump) -> int:
+        """On how many sides of a jump a reading of the span was shown."""
+        return sum(self.clock.errors(*self.span, *ends) is not None
+                   for ends in ((-(1 << 62), jump.begin), (jump.end, 1 << 62)))
+
+    @property
+    def is_void(self) -> bool:
+        """Whether figures are the program's alone, since it is said that a premise fails."""
+        return self.verdict == "nothing fits" and not self.entry.get("moves") or \
+            self.verdict != "yes" and bool(self.logged_against())
+
+    @property
+    def parts(self) -> list[tuple[Range, When]]:
+        """The parts of the entry: the errors and the times of each."""
+        return [((part["hull"][0] * BILLION // TICKS, -(-part["hull"][1] * BILLION // TICKS)),
+                 When(part["from"] * SECOND, part["to"] * SECOND, part.get("moves", 0)))
+                for part in self.entry.get("parts", []) if isinstance(part["hull"], list)]
+
+    @cached_property
+    def moving(self) -> list[Range]:
+        """The true times between the two records of each move."""
+        ends = [(self.at(move["after"]), self.at(move["by"])) for move in self.entry.get("moves", [])]
+        return [(begin, end) for begin, end in ends if begin is not None and end is not None]
+
+    def is_behind(self, moves: int, piece: Stretch) -> bool:
+        """Whether that was between a move and the next one."""
+        return not (moves and piece.begin < self.moving[moves - 1][1]) and \
+            not (moves < len(self.moving) and piece.end > self.moving[moves][0])
+
+    def in_parts(self, said: list[tuple[Range, When]], others: list[tuple[Range, When]]) -> str:
+        """Wrong if the clock showed a reading of a time that is told with an error that no such time has. Where it is
+        said behind which move, by what was shown there alone; else a reading may have been shown in another time too,
+        of those that are told, or of the other parts."""
+        for errors, when in said:
+            for piece in self.clock.shown(when.first, when.last) if when.moves is not None else ():
+                low, high = sorted((piece.low, piece.high))
+                if self.is_behind(when.moves or 0, piece) and not errors[0] <= low <= high <= errors[1]:
+                    return self.unless_unseen(f"at {clock_time(when.first)} and on its error was {ms((low, high))}")
+        said = [one for one in said if one[1].moves is None]
+        whole = [*said, *(one for one in others if not any(
+            one[1].first <= when.first and when.last <= one[1].last for _, when in said))]
+        edges = sorted({edge for _, when in whole for edge in when[:2]})
+        for first, last in zip(edges, edges[1:]):
+            if not any(when[0] <= first and last <= when[1] for _, when in said):
+                continue
+            own = [errors for errors, when in whole if when[0] <= first and last <= when[1]]
+            for piece in self.clock.shown(first, last):
+                low, high = sorted((piece.low, piece.high))
+                if any(begin <= piece.end and piece.begin <= end for begin, end in self.moving):
+                    continue  # (of the time between two records of a move nothing is said but that it was there)
+                if not any(errors[0] <= low and high <= errors[1] for errors in own):
+                    return self.unless_unseen(f"at {clock_time(first)} and on its error was {ms((low, high))}")
+        return ""
+
+    def conflicting(self, low: str, least: int, asked: int, high: str, most: int, answered: int) -> str:
+        """What isn't so of two exchanges: by a right server's the error was at least so much, by another's at most."""
+        ends = [next((one.at for one in self.packets if 0 <= one.stamp - time < SECOND), 0)
+                for time in (asked, answered)]
+        self.conflicts.append((min(ends), max(ends)))
+        by_low, by_high = self.errors((asked, asked + SECOND)), self.errors((answered, answered + SECOND))
+        wrong = by_low and by_low[1] < least and not self.is_ever_wrong(low) or \
+            by_high and by_high[0] > most and not self.is_ever_wrong(high)
+        return f"the errors were {by_low} and {by_high}" if wrong else ""
+
+
+def clock_time(time: int) -> str:
+    return f"{civil(time)[:-1].replace('T', ' ')}.{time % SECOND // 10**6:03}"
+
+
+def ms(found: Range) -> str:
+    return f"{found[0] / 10**6:,.3f} to {found[1] / 10**6:,.3f} ms"
+
+
+def seconds(when: int) -> int:
+    return when // SECOND
