@@ -143,5 +143,5 @@ def seen_apart(program: Program, part: Part, capture: str, extent: Extent | None
     program.blocks(search.take, "samples", SUSPECTS, capture)
     missed = [*search.times, *search.open.values()]
     times = [time for time in missed if time.server in search.met]
-    own = {time.server for time in missed} | {*always}
-    return Seen([server for server in part.claim.servers if server in own - search.met], times)
+    own = {time.server for time in missed} - search.met | {*always} - {time.server for time in times}
+    return Seen([server for server in part.claim.servers if server in own], times)

@@ -15,7 +15,7 @@ from ..capture.classic import Extent
 from ..capture.recording import Recording, read_recording
 from ..folder.answers import Envelope, Settled, read_envelope, read_settled
 from ..folder.claim import GREATEST_BOUND, GREATEST_DRIFT, Claim
-from ..folder.entry import FEW, NOTHING_FITS, Beyond, Gap, Hull, Move, Stretch, side_of
+from ..folder.entry import FEW, NOTHING_FITS, YES, Beyond, Gap, Hull, Move, Stretch, side_of
 from ..folder.placing import keep
 from ..folder.program import Program
 from ..records import replace
@@ -215,6 +215,12 @@ class Parting:
         found = [side for number, side in enumerate(self.sides) if self.may_show(number)]
         return found[0] if len(found) == 1 else None
 
+    def is_shown_beside(self, side: Side) -> bool:
+        """Whether a stretch's yes, if it is one, stands with all that a movement beside it may hide."""
+        own, wider = (read_settled(self.program.run("settle", self.named(claim), side.path).text).answer
+                      for claim in (self.claim, self.wider(self.claim)))
+        return own != YES or wider == YES
+
     def spans(self) -> Iterator[tuple[int, Side, Claim]]:
         """Of each stretch its number and the claim of the readings of the span that it has records beside, if there are
         any."""
@@ -250,7 +256,7 @@ def parted(program: Program, claim: Claim, capture: str, extent: Extent | None, 
     keep(ALONE, claim.text)
     settled = program.run("settle", ALONE, capture).text
     parting = Parting(program, claim, capture, extent) if read_settled(settled).answer == NOTHING_FITS else None
-    if parting and (own := parting.shown_by()):
+    if parting and (own := parting.shown_by()) and parting.is_shown_beside(own):
         keep(ALONE, claim.text)
         settled, capture = program.run("settle", ALONE, own.path).text, own.path
     elif parting:

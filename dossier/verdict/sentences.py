@@ -138,10 +138,9 @@ def why_gap(entry: Entry, found: Reason) -> str:
 
 
 def where(entry: Entry, part: Stretch) -> str:
-    """Before which of the clock's moves a part lies, or behind which, if some of its readings were shown elsewhere
-    too."""
-    if not any(other.moves != part.moves and other.from_ <= part.to and part.from_ <= other.to
-               for other in entry.parts):
+    """Before which of the clock's moves a part lies, or behind which: some of its readings may have been shown
+    elsewhere too."""
+    if not entry.moves or entry.verdict != NOTHING_FITS:
         return ""
     number = f"{ORDINALS[max(1, part.moves) - 1]} " if len(entry.moves) > 1 else ""
     return f" {'behind' if part.moves else 'before'} the {number}step"

@@ -82,7 +82,7 @@ class Settling:
 
     def by_parts(self, parting: Parting, texts: Texts, own: str) -> Texts:
         """What comes of a capture that breaks: the answer of the stretch that has shown the span, or none."""
-        if (side := parting.shown_by()) and self.is_shown_beside(parting, side.path):
+        if (side := parting.shown_by()) and parting.is_shown_beside(side):
             cut_to, = cut(side.path, [self.part], None)
             self.take(own if cut_to(own) else side.path, own)
             return self.decide()._replace(moves=parting.moves, elsewhere=parting.beside(side))
@@ -122,12 +122,6 @@ class Settling:
         found = seen_apart(self.program, part, self.capture, self.extent, envelope, gaps)
         several = [time for time in found.times if time.samples >= SEVERAL]
         return found._replace(times=several) if texts.spared else found
-
-    def is_shown_beside(self, parting: Parting, capture: str) -> bool:
-        """Whether a stretch's yes, if it is one, stands with all that a movement beside it may hide."""
-        keep(ALONE, parting.wider(self.part.claim).text)
-        own, wider = (read_settled(self.call("settle", claim, capture)).answer for claim in (self.claim, ALONE))
-        return own != YES or wider == YES
 
     def broken(self, texts: Texts, around_to: Callable[[str], bool]) -> Parting | None:
         """Where the capture breaks, with what was recorded next to it, if no course of events fits that."""

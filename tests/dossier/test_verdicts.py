@@ -241,7 +241,7 @@ def test_many_together(place: Path) -> None:
           page=(sorted(order, key=lambda name: text.index(f"/{name}</a>")), order),
           articles=(sorted(order, key=lambda name: text.index(f"<h2>{place / name} ")), order))
     check("what stands apart reaches machines",
-          json=(any(words.startswith("192.0.2.4 stands apart from ") for words in rows[6]["warnings"]), True),
+          json=("192.0.2.4 stands apart: its range never meets the hull." in rows[6]["warnings"], True),
           csv=("192.0.2.4 stands apart" in lines[6]["warnings"], True))
     seen = list(dict.fromkeys(row["verdict"].replace(" ", "-") for row in rows))
     check("the lines of one verdict alone", places=(sorted(re.findall(r'id="only-([a-z-]+)"', text)), sorted(seen)),
