@@ -44,7 +44,7 @@ def made(name: str) -> Path:
     with alone():
         stamp, now = FOLDER / f"{name}.sources", sources()
         if not stamp.exists() or stamp.read_text() != now:
-            status, out, err = run([ROOT / "judge/make", *NAMES[name], FOLDER])
+            status, out, err = run([ROOT / "judge/make", *NAMES[name], FOLDER], timeout=3000)
             assert status == 0, f"judge/make: {(out + err)[-2000:].decode(errors='replace')}"
             stamp.write_text(now)
     return FOLDER / name

@@ -25,6 +25,6 @@ def test_checked() -> None:
         skip("the judge's proofs", f"{tool} isn't installed")
         return
     with alone():
-        status, out, err = run([ROOT / "judge/build", "--check"])
+        status, out, err = run([ROOT / "judge/build", "--check"], timeout=3000)
     axioms = re.search(rb"\* Axioms:(.*?)\n *\n", out + err, re.S)
     check("coqchk finds no axiom", status=(status, 0), axioms=(axioms and axioms[1].strip(), b"<none>"))
