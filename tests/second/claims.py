@@ -1,4 +1,4 @@
-"""A claim, a certificate and a refutation, as their files have them (docs/FORMATS.md)."""
+"""A claim, certificates and a refutation, as their files have them (docs/FORMATS.md)."""
 import json
 from pathlib import Path
 from typing import NotRequired, TypedDict, cast
@@ -8,6 +8,8 @@ Claim = TypedDict("Claim", {
     "reading_ns": int, "groups": NotRequired[list[list[int]]]})
 Piece = TypedDict("Piece", {"entries": list[list[int]], "upto": int})
 Certificate = TypedDict("Certificate", {"pieces": list[Piece]})
+Case = TypedDict("Case", {"groups": list[int], "pieces": list[Piece]})
+ByCovers = TypedDict("ByCovers", {"conflicts": list[list[int]], "cases": list[Case]})
 Refutation = TypedDict("Refutation", {"error": int, "false": list[int], "reading": int})
 
 

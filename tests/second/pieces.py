@@ -9,7 +9,7 @@ by doubling and halving, and nothing more. Times are in ticks of 2^-32 s.
 import heapq
 from bisect import bisect_right
 from collections.abc import Callable, Iterable
-from typing import NamedTuple
+from typing import NamedTuple, Protocol
 
 from tests.second import rules
 from tests.second.claims import Certificate, Claim
@@ -120,6 +120,12 @@ def bound_in_ticks(bound_ns: int) -> int:
 # ---- the certificate of fewest pieces
 
 
+class Over(Protocol):
+    """What gives the hull of any piece."""
+
+    def over(self, begin: int, end: int) -> Hull: ...
+
+
 class Stop(NamedTuple):
     """The tick at which pieces stop: no piece that begins here lies inside the bound, or there would be too many."""
     begin: int
@@ -148,7 +154,7 @@ def farthest(is_good: Callable[[int], bool], known: int, last: int, guess: int) 
     return below
 
 
-def ends_of(span: tuple[int, int], hulls: Hulls, bound: int, most: int = MOST_PIECES) -> tuple[list[int], Stop | None]:
+def ends_of(span: tuple[int, int], hulls: Over, bound: int, most: int = MOST_PIECES) -> tuple[list[int], Stop | None]:
     """The ends of the pieces, each of which is as long as it can be; and where they stop, if they do."""
     (begin, last), ends, length = span, list[int](), 1
     while not ends or begin < last:

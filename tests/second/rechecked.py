@@ -8,7 +8,7 @@ from pathlib import Path
 from typing import Any
 
 from tests.support import ROOT
-from tests.second.claims import Certificate, Claim, Refutation
+from tests.second.claims import ByCovers, Certificate, Claim, Refutation
 from tests.second.rules import Sample
 
 RECHECK = ROOT / os.environ.get("NTPAUDIT_SECOND", "second/recheck")
@@ -52,11 +52,12 @@ def exchanges_of(samples: list[Sample]) -> list[Any]:
                             sample.distance) for k, sample in enumerate(samples)]
 
 
-def verdict(claim: Claim, samples: list[Sample], certificate: Certificate) -> str:
-    """What `check` has to say of a certificate, behind the word `verdict`."""
-    pieces = MODULE.certificate_of(certificate)
-    said: str = MODULE.verdict_of(MODULE.claim_of(claim), exchanges_of(samples), pieces)
-    return said.removeprefix("verdict ")
+def verdict(claim: Claim, samples: list[Sample], certificate: Certificate | ByCovers, bound: int | None = None) -> str:
+    """What `check` has to say of a certificate, behind the word `verdict`; or with another bound, in ticks."""
+    read = MODULE.claim_of(claim)
+    fault: str = MODULE.fault_of(read if bound is None else read._replace(bound=bound), exchanges_of(samples),
+                                 *MODULE.certificate_of(certificate))
+    return f"no{fault}" if fault else "yes"
 
 
 def stands(claim: Claim, samples: list[Sample], refutation: Refutation, drift: bool = False) -> bool:
