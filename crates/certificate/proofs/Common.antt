@@ -48,10 +48,10 @@ pub use Rattle.certificate.specs.Certificate.{CertificateData, IsHeld, IsReadabl
 pub use Rattle.certificate.specs.Certificate.{max_entries, max_pieces, piece_data}
 pub use Rattle.certificate.specs.Compact.{IsEnding}
 pub use Rattle.certificate.specs.Fault.{Answers}
-pub use Rattle.certificate.specs.Parts.{PieceParts, TopParts, entries_in, judged, parts_of, piece_from, pieces_and}
+pub use Rattle.certificate.specs.Parts.{PieceParts, TopParts, entries_in, judged, list_in, parts_of, piece_from, pieces_and}
 pub use Rattle.certificate.specs.Parts.{pieces_in, top_parts_of}
 pub use Rattle.certificate.specs.PartsData.{parts_data, pieces_data, whole_data}
-pub use Rattle.certificate.specs.Reading.{certificate_from, certificate_of, entries_of, entry_of, pair_of, piece_of}
+pub use Rattle.certificate.specs.Reading.{certificate_from, certificate_of, each_of, entries_of, entry_of, pair_of, piece_of}
 pub use Rattle.certificate.specs.Reading.{pieces_from, sample_of, top_of}
 pub use Rattle.certificate.specs.Refutation.{IsHeldRefutation, RefutationData, max_liars}
 pub use Rattle.certificate.specs.RefutationReading.{refutation_from, refutation_of, server_of, servers_of}

@@ -1,6 +1,6 @@
 -- What is read of a certificate keeps its limits.
 use Rattle.std.proofs.lemmas.Int.{ints}
-use Rattle.certificate.proofs.Common.{◌≡◌, ℕ, suc, ◌+◌, ◌≤◌, List, [], ◌∷◌, length, nat_le, Option, Some, None, Ok, option_map, refl, ap, subst, arith, leb-true, nat_tests, All, codes, Data, Items, no_items, item, items_len, members_among, items_at, parsed, unsigned_at, CertificateData, PieceData, NamesSamples, IsReadable, max_pieces, entry_of, entries_of, piece_of, pieces_from, top_of, certificate_of}
+use Rattle.certificate.proofs.Common.{◌≡◌, ℕ, suc, ◌+◌, ◌≤◌, List, [], ◌∷◌, length, nat_le, Option, Some, None, Ok, option_map, refl, ap, subst, arith, leb-true, nat_tests, All, codes, Data, Items, no_items, item, items_len, members_among, items_at, parsed, unsigned_at, CertificateData, PieceData, NamesSamples, IsReadable, max_pieces, entry_of, each_of, entries_of, piece_of, pieces_from, top_of, certificate_of}
 use Rattle.std.proofs.lemmas.List.Elements.{All-cons, All-nil}
 use Rattle.std.proofs.lemmas.Option.{option_and_then_some}
 use Rattle.json_text.proofs.Steps.{after_by, asked_by, given_by}
@@ -14,7 +14,7 @@ entries_of-names no_items entries is =
     let same : ◌≡◌ {A = List (ℕ × ℕ)} [] entries = cc in
     subst (λ es. (length es ≡ 0) × All NamesSamples es) same (refl, All-nil NamesSamples)
 entries_of-names (item value rest) entries is =
-    option_and_then_some (λ first. option_map (λ others. first ∷ others) (entries_of rest)) (entry_of value) entries is
+    option_and_then_some (λ first. option_map (λ others. first ∷ others) (each_of entry_of rest)) (entry_of value) entries is
     (λ x first e. more x (entries_of rest) first (entries_of-names rest) e)
   where
     more : (x : ℕ × ℕ) (b : Option (List (ℕ × ℕ))) → entry_of value ≡ Some x →

@@ -143,11 +143,11 @@ fn read_listed(
     depth: usize,
 ) -> Result<Option<Judged<Vec<Piece>>>, CertificateFault>
     ensures { ReadsOn result (option_map (judged pieces_data))
-        (parse_map (λ value. option_map pieces_in (as_array value)) (next_value depth reader.old))
+        (parse_map (λ value. option_map (pieces_in 0) (as_array value)) (next_value depth reader.old))
         reader.new }
 {
     if open_array(reader, depth)? {
-        Ok(Some(read_pieces(alloc, reader, depth - 1)?))
+        Ok(Some(read_pieces(alloc, reader, depth - 1, 0)?))
     } else {
         Ok(None)
     }
