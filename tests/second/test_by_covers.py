@@ -7,7 +7,7 @@ false groups and each critical reading (tests/second/exact.py), on systems of ex
   of that certificate with something in it altered.
 - No certificate as ever carries less.
 
-NTPAUDIT_CLAIMS says how many claims there are; a tenth of a hundred thousand by itself.
+NTPAUDIT_CLAIMS says how many claims there are; 4,000 by itself.
 """
 import copy
 import os
@@ -16,16 +16,16 @@ from collections import Counter
 from collections.abc import Callable, Iterator
 from functools import partial
 from math import ceil
-from typing import Any
 
 from tests.support import count
 from tests.second import by_covers, exact, pieces, rechecked, rules
-from tests.second.claims import Claim
+from tests.second.by_covers import Search
+from tests.second.claims import ByCovers, Claim
 from tests.second.rules import Sample
 from tests.second.columns import TICKS
 from tests.tools.scenes import time_text
 
-CLAIMS, SHARES = int(os.environ.get("NTPAUDIT_CLAIMS", "10000")), 10
+CLAIMS, SHARES = int(os.environ.get("NTPAUDIT_CLAIMS", "4000")), 10
 BEGIN = 10**9
 
 
@@ -68,29 +68,55 @@ class System:
         return Sample(server, (u, u + 1), (u + away - 1, u + away), t2, t3, distance)
 
 
-def altered(rng: random.Random, certificate: Any, count: int, groups: int) -> Any:
+def of_some_conflicts(rng: random.Random, search: Search, bound: int) -> ByCovers:
+    """A certificate that names some of the conflicts, and maybe a pair that is none: what is found with it, or else one
+    piece for each cover."""
+    kept = {ends: pair for ends, pair in search.conflicts.items() if rng.random() < .6}
+    i, j = rng.choices(range(len(search.samples)), k=2)
+    if rng.random() < .5:
+        g, h = (next(g for g, group in enumerate(rules.groups_of(search.claim)) if search.samples[k].server in group)
+                for k in (i, j))
+        kept[g, h] = i, j
+    other, (first, last) = Search(search.claim, search.samples, kept), search.span
+    return other.find(bound).certificate or {"conflicts": [list(pair) for pair in kept.values()], "cases": [
+        {"groups": sorted(out), "pieces": [{"upto": last, "entries": by_covers.best_entries(
+            search.claim, search.samples, out, first, last)}]} for out in other.covers]}
+
+
+def altered(rng: random.Random, search: Search, certificate: ByCovers, bound: int) -> ByCovers:
     """The certificate with something in it altered."""
-    made = copy.deepcopy(certificate)
-    case = rng.choice(made["cases"])
-    piece = rng.choice(case["pieces"])
-    kind = rng.randrange(9)
+    made, count, groups = copy.deepcopy(certificate), len(search.samples), len(rules.groups_of(search.claim))
+    cases, conflicts, kind = made["cases"], made["conflicts"], rng.randrange(15)
+    case = rng.choice(cases)
+    piece, number = rng.choice(case["pieces"]), rng.randrange(count + (rng.random() < .3))
+    entry = rng.choice(piece["entries"])
     if kind == 0:
-        made["cases"].remove(case)
-    elif kind == 1 and made["conflicts"]:
-        made["conflicts"].pop(rng.randrange(len(made["conflicts"])))
+        cases.remove(case)
+    elif kind == 1 and conflicts:
+        conflicts.pop(rng.randrange(len(conflicts)))
     elif kind == 2:
-        made["conflicts"].append([rng.randrange(count), rng.randrange(count)])
+        conflicts.append([number, rng.randrange(count)])
     elif kind == 3 and case["groups"]:
         case["groups"].pop()
-    elif kind == 4:
-        case["groups"].append(rng.randrange(groups))
-    elif kind == 5 and piece["entries"]:
-        rng.choice(piece["entries"])[rng.randrange(2)] = rng.randrange(count)
-    elif kind == 6:
+    elif kind in (4, 5):
+        case["groups"].append(rng.randrange(groups + 40 * (kind == 5)))
+    elif kind == 6 and case["groups"]:
+        case["groups"][-1] = rng.randrange(groups)
+    elif kind == 7:
+        cases.append(copy.deepcopy(case))
+    elif kind == 8:
+        entry[rng.randrange(2)] = number
+    elif kind == 9:
+        piece["entries"].append(rng.choice([entry, [number, number]]))
+    elif kind == 10:
         piece["upto"] += rng.choice((-1, 1, -TICKS, TICKS))
-    elif kind == 7 and piece["entries"]:
-        piece["entries"].pop()
-    elif len(case["pieces"]) > 1:
+    elif kind == 11:
+        piece["entries"].remove(entry)
+    elif kind == 12:
+        return of_some_conflicts(rng, search, bound)
+    elif kind == 13:
+        entry[:] = [number, number]
+    else:
         case["pieces"].remove(piece)
     return made
 
@@ -104,7 +130,7 @@ def judged(rng: random.Random) -> tuple[Counter[str], list[str]]:
     """What is wrong of a system, and how many claims near its exact least bound were tried."""
     system = System(rng)
     claim, samples, seen, wrong = system.claim, system.samples, Counter[str](), list[str]()
-    search, far = by_covers.Search(claim, samples), exact.farthest(claim, samples)
+    search, far = Search(claim, samples), exact.farthest(claim, samples)
     found = search.least() if search.covers else "unfitted"
     if isinstance(far, str) or not isinstance(found, int):
         seen[str(far)] += 1
@@ -112,10 +138,9 @@ def judged(rng: random.Random) -> tuple[Counter[str], list[str]]:
     least = ceil(far.error)
     if not least <= found <= least + 1:
         wrong.append(f"the least bound is {least} exactly, {found} by covers")
-    seen[f"the least is {found - least} above the exact one, refuted up to {max(-9, far.whole - found)} of it"] += 1
+    seen[f"least {found - least:+}, refuted up to {far.whole - found} of it"] += 1
     if least and least_as_ever(claim, samples, least - 1):
         wrong.append(f"a certificate as ever carries {least - 1}, where {least} is exact")
-    groups = len(claim["groups"])
     for bound in sorted({max(0, least + more) for more in (-2, -1, 0, 1, 2, 1000)}):
         said, certificate, _ = "", search.find(bound).certificate, seen.update(["claims"])
         if certificate:
@@ -125,10 +150,11 @@ def judged(rng: random.Random) -> tuple[Counter[str], list[str]]:
         if bound < least and said == "yes":
             wrong.append(f"a false yes under {bound}, where {least} is exact")
         seen[f"found {bound - least:+}" if bound < least + 3 else "found far above"] += bool(certificate)
-    whole = search.find(found + 1000).certificate or search.find(found).certificate
+    whole = search.find(found + 1000).certificate
+    assert whole
     for bound in (least - 1, found + 1000):
         for _ in range(4):
-            said = rechecked.verdict(claim, samples, altered(rng, whole, len(samples), groups), bound)
+            said = rechecked.verdict(claim, samples, altered(rng, search, whole, bound), bound)
             seen[" ".join(word for word in said.split() if not word.isdigit())] += 1
             if said == "yes" and bound < least:
                 wrong.append(f"a false yes of an altered certificate under {bound}, where {least} is exact")
@@ -151,9 +177,9 @@ def cases() -> Iterator[tuple[str, Callable[[], Counter[str]]]]:
         yield f"second.by_covers.{number}", partial(share, number)
 
 
-MET = ["unfitted", "unbounded", "found +0", "yes", "no conflict bad-sample", "no conflict no-conflict",
-       "no case bad-group", "no case repeated-group", "no case too-many-groups", "no case repeated-case",
-       "no case unanswered",
+MET = ["unfitted", "unbounded", "found +0", "yes", "no conflict no-conflict",
+       "no case no-group", "no case repeated-group", "no case too-many-groups", "no case repeated-case",
+       "no unanswered",
        *(f"no case piece {why}" for why in ("cut", "bad-sample", "mixed-servers", "repeated-server", "left-out",
                                             "unbounded", "contradiction", "exceeds", "uncovered"))]
 

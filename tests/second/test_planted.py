@@ -8,6 +8,7 @@ Whatever test_recheck.py asks is asked of each copy too, until something sees it
 """
 import multiprocessing
 import os
+import random
 import tempfile
 from collections.abc import Callable
 from concurrent.futures import ProcessPoolExecutor
@@ -15,8 +16,9 @@ from pathlib import Path
 from typing import Any
 
 from tests.support import count
-from tests.second import rechecked, test_recheck
+from tests.second import rechecked, test_by_covers, test_recheck
 
+SYSTEMS = 1000
 SCENES = 60
 """How many scenes are tried beside what is directed."""
 
@@ -26,8 +28,8 @@ Plant = tuple[str, str, str]
 SLIPS: list[Plant] = [
     ("the bound itself counts as beyond it", "-claim.bound <= hull[0] and hull[1] <= claim.bound",
      "-claim.bound < hull[0] and hull[1] < claim.bound"),
-    ("one wrong group more", "hull_of(list(of_group.values()), claim.false_max)",
-     "hull_of(list(of_group.values()), claim.false_max + 1)"),
+    ("one wrong group more", "hull_of(list(of_group.values()), wrong)",
+     "hull_of(list(of_group.values()), wrong + 1)"),
     ("the bound in ticks rounded up", "whole(bound, 0, 10**15) * SECOND // BILLION",
      "ceiling(whole(bound, 0, 10**15) * SECOND, BILLION)"),
     ("the allowance in ticks rounded down", "ceiling(whole(reading, 0, BILLION) * SECOND, BILLION)",
@@ -38,9 +40,9 @@ SLIPS: list[Plant] = [
     ("every timestamp in era 0", "return earliest + (stamp - 2208988800 * SECOND - earliest) % 2**64",
      "return stamp - 2208988800 * SECOND"),
     ("unfolded with the allowance", "left[0] + claim.allowance", "left[0]"),
-    ("the first piece isn't looked at", "if why := failed_test(claim, xs, begin, end, samples)",
-     "if why := number and failed_test(claim, xs, begin, end, samples)"),
-    ("a server for its group", "of_group[claim.group_of[x.server]] = max(low, others[0]), min(high, others[1])",
+    ("the first piece isn't looked at", "if why := failed_test(claim, xs, begin, end, samples, out)",
+     "if why := number and failed_test(claim, xs, begin, end, samples, out)"),
+    ("a server for its group", "of_group[group] = max(low, others[0]), min(high, others[1])",
      "of_group[x.server] = low, high"),
     ("the widening rounded down", "ceiling(drift * max(end - window[0], window[1] - begin), BILLION - drift)",
      "drift * max(end - window[0], window[1] - begin) // (BILLION - drift)"),
@@ -62,12 +64,12 @@ DEFINITIONS: list[Plant] = [
     ("a server may be named twice", "if x.server in servers:", "if False:"),
     ("the two samples of an entry may be of two servers", "if x.server != y.server:", "if False:"),
     ("an empty hull is within every bound", 'return "contradiction"', 'return ""'),
-    ("as many groups as may be wrong are enough", "len(of_group) <= claim.false_max",
-     "len(of_group) < claim.false_max"),
+    ("as many groups as may be wrong are enough", "len(of_group) <= wrong",
+     "len(of_group) < wrong"),
     ("the hull of fewer wrong groups", "<= wrong\n", "< max(wrong, 1)\n"),
-    ("no root distance at the request", "low = x.left[0] - x.t2 - x.distance", "low = x.left[0] - x.t2"),
-    ("T3 for T2 at the request", "low = x.left[0] - x.t2", "low = x.left[0] - x.t3"),
-    ("the request's window at the reply", "high = y.arrived[1] - y.t3", "high = y.left[1] - y.t3"),
+    ("no root distance at the request", "(x.left[0] - x.t2 - x.distance", "(x.left[0] - x.t2"),
+    ("T3 for T2 at the request", "(x.left[0] - x.t2", "(x.left[0] - x.t3"),
+    ("the request's window at the reply", "y.arrived[1] - y.t3 + y.distance + w", "y.left[1] - y.t3 + y.distance + w"),
     ("the allowance to the harmless side", "return low - allowance, high + allowance",
      "return low + allowance, high - allowance"),
     ("a thousandth of the claim's drift", "whole(drift, 0, 500_000_000)", "whole(drift, 0, 500_000_000) // 1000"),
@@ -85,6 +87,33 @@ DEFINITIONS: list[Plant] = [
 
 
 PLANTS = SLIPS + DEFINITIONS
+
+COVERS: list[Plant] = [
+    ("any pair is a conflict", "if max(i, j) >= len(xs) or do_agree(xs[i], xs[j], i == j, claim.drift):",
+     "if max(i, j) >= len(xs):"),
+    ("an exchange conflicts with itself where its server's does", "(not is_one or is_possible(y)) and are", "are"),
+    ("the low mark of the second", "are_compatible([low_mark(x)], [high_mark(y)]",
+     "are_compatible([low_mark(y)], [high_mark(x)]"),
+    ("a cover that no case answers", 'if have_few_ends(ends, claim.false_max, cases=seen): return " unanswered"', ""),
+    ("a case answers a cover that holds one of its groups", "any(case <= chosen for case in cases)",
+     "any(case & chosen for case in cases)"),
+    ("the covers of one group more are left out", "have_few_ends(ends, claim.false_max, cases",
+     "have_few_ends(ends, claim.false_max - 1, cases"),
+    ("false_max isn't lessened", "wrong = claim.false_max - len(out or ())", "wrong = claim.false_max"),
+    ("an entry may be of a group that is left out", 'if group in (out or ()): return "left-out"', ""),
+    ("the two rates exchanged at the low mark", "ceiling(drift * (end - u), down), ceiling(drift * (u - begin), up)",
+     "ceiling(drift * (end - u), up), ceiling(drift * (u - begin), down)"),
+    ("the two rates exchanged at the high mark", "ceiling(drift * (end - v), up), ceiling(drift * (v - begin), down)",
+     "ceiling(drift * (end - v), down), ceiling(drift * (v - begin), up)"),
+    ("W rounded down at the low mark",
+     "low - max(0, ceiling(drift * (end - u), down), ceiling(drift * (u - begin), up))",
+     "low - max(0, drift * (end - u) // down, drift * (u - begin) // up)"),
+    ("W rounded down at the high mark",
+     "high + max(0, ceiling(drift * (end - v), up), ceiling(drift * (v - begin), down))",
+     "high + max(0, drift * (end - v) // up, drift * (v - begin) // down)"),
+    ("the last case isn't looked at", "for groups, pieces in cases)", "for groups, pieces in cases[:-1])"),
+]
+"""What could be wrong of certificates by covers: test_by_covers.py has to see it."""
 SEEN = multiprocessing.Array("b", len(PLANTS))
 """Which plants something has seen."""
 
@@ -137,3 +166,19 @@ def test_plants() -> None:
             count("without a plant", "; ".join(wrong[:3]))
     for number, (name, _, _) in enumerate(PLANTS):
         count(name, "" if SEEN[number] else "nothing sees it")
+
+
+def sees(number: int) -> bool:
+    """Whether one of many systems of exchanges shows this plant of COVERS."""
+    text = rechecked.RECHECK.read_text("utf-8")
+    rechecked.MODULE = module_of(text.replace(COVERS[number][1], COVERS[number][2]))
+    return any(test_by_covers.judged(random.Random(f"planted {k}"))[1] for k in range(SYSTEMS))
+
+
+def test_covers() -> None:
+    text = rechecked.RECHECK.read_text("utf-8")
+    for name, old, _ in COVERS:
+        count(f"what the plant replaces: {name}", "" if text.count(old) == 1 else f"it stands {text.count(old)} times")
+    with ProcessPoolExecutor(1) as pool:
+        for (name, _, _), is_seen in zip(COVERS, pool.map(sees, range(len(COVERS)))):
+            count(name, "" if is_seen else "nothing sees it")
