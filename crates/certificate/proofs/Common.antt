@@ -63,3 +63,14 @@ pub use Rattle.certificate.specs.declared.certificate.Piece.{Piece}
 pub use Rattle.certificate.specs.declared.fault.CertificateFault.{CertificateFault}
 pub use Rattle.certificate.specs.declared.fault.CertificateFault.TheVariants.{Json, Shape, TooManyEntries}
 pub use Rattle.certificate.specs.declared.fault.CertificateFault.TheVariants.{TooManyPieces}
+pub use Rattle.certificate.specs.CoverCertificate.{CaseData, CoverCertificateData, case_data, max_cases, max_conflicts}
+pub use Rattle.certificate.specs.CoverParts.{CaseParts, CoversParts, case_of_parts, case_parts_data, case_parts_of}
+pub use Rattle.certificate.specs.CoverParts.{cases_data, covers_of_parts, covers_parts_data, covers_parts_of}
+pub use Rattle.certificate.specs.CoverReading.{case_of, cases_from, conflicts_in, covers_from, covers_of, group_of}
+pub use Rattle.certificate.specs.CoverReading.{groups_in, max_groups, pieces_of}
+pub use Rattle.certificate.specs.declared.fault.CertificateFault.TheVariants.{CaseShape, Conflicts, TooManyCases}
+pub use Rattle.certificate.specs.declared.fault.CertificateFault.TheVariants.{TooManyConflicts, Top}
+pub use Rattle.certificate.specs.declared.cover_certificate.Case.{Case}
+pub use Rattle.certificate.specs.CoverCertificate.{IsFew}
+pub use Rattle.certificate.specs.CoverReading.{IsHeldCase, IsHeldCovers}
+pub use Rattle.certificate.specs.CoverWriting.{case_text, case_value, covers_text, covers_value}

@@ -8,7 +8,7 @@ use Rattle.json_text.proofs.Steps.{after_by, asked_by, given_by}
 entry_of-names : (value : Data) (entry : ℕ × ℕ) → entry_of value ≡ Some entry → NamesSamples entry
 entry_of-names value entry is = grind (arith, ints, nat_tests, option_and_then_some)
 
-entries_of-names : (items : Items) (entries : List (ℕ × ℕ)) → entries_of items ≡ Some entries →
+pub entries_of-names : (items : Items) (entries : List (ℕ × ℕ)) → entries_of items ≡ Some entries →
     (length entries ≡ items_len items) × All NamesSamples entries
 entries_of-names no_items entries is =
     let same : ◌≡◌ {A = List (ℕ × ℕ)} [] entries = cc in
@@ -41,7 +41,7 @@ piece_of-readable number value piece is =
     let most : items_len items ≤ 32 = leb-true (items_len items) 32 few in
     subst IsReadable same (record { few = omega arith; named = all })
 
-pieces_from-readable : (number : ℕ) (items : Items) (pieces : List PieceData) → pieces_from number items ≡ Ok pieces →
+pub pieces_from-readable : (number : ℕ) (items : Items) (pieces : List PieceData) → pieces_from number items ≡ Ok pieces →
     (length pieces ≡ items_len items) × All IsReadable pieces
 pieces_from-readable number no_items pieces is =
     let same : ◌≡◌ {A = List PieceData} [] pieces = cc in

@@ -1,8 +1,7 @@
 -- The members of the whole, read one after another.
 use Rattle.std.proofs.lemmas.Int.{ints}
-use Rattle.certificate.proofs.Common.{◌≡◌, ℕ, ◌+◌, ◌∙◌, ap, CertificateData, List, Bool, true, false, Option, Some, None, option_map, option_and_then, if◌then◌else◌, nat_le, Result, Ok, refl, given, asked, after, Items, items_len, object, TooManyPieces, max_pieces, pieces_from, certificate_from, codes, get_member-put, get_member-put_other, Data, Members, put, as_array, CertificateFault, PieceData, TopParts, pieces_in, top_parts_of, arith, nat_tests}
+use Rattle.certificate.proofs.Common.{◌≡◌, ℕ, ◌+◌, ◌∙◌, ap, CertificateData, List, Bool, true, false, Option, Some, None, option_map, option_and_then, if◌then◌else◌, nat_le, Result, Ok, refl, given, asked, after, Items, items_len, object, TooManyPieces, Top, max_pieces, pieces_from, certificate_from, codes, get_member-put, get_member-put_other, Data, Members, put, as_array, CertificateFault, PieceData, TopParts, pieces_in, top_parts_of, arith, nat_tests}
 use Rattle.certificate.specs.Parts.{certificate_of_parts}
-use Rattle.certificate.specs.declared.fault.CertificateFault.TheVariants.{Top}
 use Rattle.certificate.proofs.PartsRead.{asked_after, has_only-put, not_same}
 
 abbrev pub whole : Bool → Option (Result (List PieceData) CertificateFault) → TopParts

@@ -22,7 +22,7 @@ use json_text::{open_array, open_object, pass_value};
 use std::alloc::Global;
 
 /// How deep arrays and objects may nest.
-const MAX_DEPTH: usize = 127;
+pub(crate) const MAX_DEPTH: usize = 127;
 
 /// The certificate that the bytes of a JSON text say, or the first fault that it has: at most
 /// 100,000 pieces, each with at most 32 entries.
