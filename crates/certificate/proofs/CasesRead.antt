@@ -1,6 +1,6 @@
 -- The cases of a certificate by covers, read one after another.
 use Rattle.std.proofs.lemmas.Int.{ints}
-use Rattle.certificate.proofs.Common.{◌≡◌, ℕ, ap₂, map, length-map, Option, Case, case_data, ◌+◌, ◌<◌, ◌≤◌, List, [], ◌∷◌, ◌++◌, length, Some, None, Result, Ok, Err, refl, sym, ap, ◌∙◌, arith, nat_tests, left_some, Data, Items, no_items, item, items_len, parse_map, after_end_array, Token, mapped_same, element_read, element_refused, goes_on, next_value, next_items, rest_after, asked, after, CertificateFault, TooManyCases, TooManyPieces, PieceData, max_pieces, pieces_in, codes, groups_in, items_at, members_among, nat_le, subst, CaseData, case_of, cases_from, max_cases, pieces_of, lt-ltb, leb-true}
+use Rattle.certificate.proofs.Common.{◌≡◌, ℕ, ap₂, map, length-map, Option, Case, case_data, ◌+◌, ◌<◌, ◌≤◌, List, [], ◌∷◌, ◌++◌, length, Some, None, Result, Ok, Err, refl, sym, ap, ◌∙◌, arith, nat_tests, left_some, Data, Items, item, items_len, parse_map, after_end_array, Token, mapped_same, element_read, element_refused, goes_on, next_value, next_items, rest_after, CertificateFault, TooManyCases, max_pieces, pieces_in, codes, groups_in, items_at, members_among, nat_le, subst, CaseData, case_of, cases_from, max_cases, pieces_of, lt-ltb, leb-true}
 use Rattle.certificate.proofs.Limits.{pieces_from-readable}
 use Rattle.std.proofs.lemmas.List.Sums.{sum_by_push}
 use Rattle.json_text.proofs.Steps.{after_by, asked_by, given_by}

@@ -1,6 +1,6 @@
 -- The members of a case, and of a certificate by covers, read one after another.
 use Rattle.std.proofs.lemmas.Int.{ints}
-use Rattle.certificate.proofs.Common.{◌≡◌, ℕ, List, [], Bool, true, false, Option, Some, None, option_map, if◌then◌else◌, Result, Ok, refl, codes, get_member-put, get_member-put_other, Data, Items, Members, put, object, as_array, given, after, CertificateFault, PieceData, pieces_in, arith, nat_tests, CaseData, CoverCertificateData, CaseParts, CoversParts, case_of, case_of_parts, case_parts_of, cases_from, conflicts_in, covers_from, covers_of_parts, covers_parts_of, groups_in, CaseShape, Top}
+use Rattle.certificate.proofs.Common.{◌≡◌, ℕ, List, [], Bool, true, false, Option, Some, None, option_map, if◌then◌else◌, Result, Ok, refl, codes, get_member-put, get_member-put_other, Data, Items, Members, put, object, as_array, given, after, CertificateFault, PieceData, pieces_in, arith, nat_tests, CaseData, CaseParts, CoversParts, case_of, case_of_parts, case_parts_of, cases_from, conflicts_in, covers_from, covers_of_parts, covers_parts_of, groups_in, CaseShape, Top}
 use Rattle.certificate.proofs.PartsRead.{has_only-put, not_same}
 
 -- ---- a case

@@ -1,6 +1,6 @@
 -- What was written of a certificate by covers is read again.
 use Rattle.std.proofs.lemmas.Int.{ints}
-use Rattle.certificate.proofs.Common.{◌≡◌, ℕ, suc, ◌+◌, ◌<◌, ◌≤◌, ◌^◌, ◌++◌, List, [], ◌∷◌, length, map, Option, Some, Ok, refl, sym, ap, ◌∙◌, subst, arith, append-nil, append_assoc, length-append, lt-ltb, le-leb, All, Data, items_len, items_of, given, parsed, NamesSamples, IsHeld, max_pieces, nat_tests, each_of, list_in, number_value, entry_value, piece_value, CaseData, CoverCertificateData, CertificateFault, case_of, cases_from, conflicts_in, covers_from, covers_of, group_of, groups_in, max_cases, max_conflicts, max_groups, pieces_of, IsFew, IsHeldCase, IsHeldCovers, case_value, covers_value}
+use Rattle.certificate.proofs.Common.{◌≡◌, ℕ, suc, ◌+◌, ◌<◌, ◌≤◌, ◌^◌, ◌++◌, List, [], ◌∷◌, length, map, Some, Ok, refl, sym, ap, arith, append-nil, append_assoc, length-append, lt-ltb, le-leb, All, items_of, given, parsed, max_pieces, nat_tests, each_of, number_value, entry_value, piece_value, CaseData, CoverCertificateData, case_of, cases_from, covers_from, covers_of, group_of, max_cases, max_conflicts, pieces_of, IsFew, IsHeldCase, IsHeldCovers, case_value, covers_value}
 use Rattle.std.proofs.lemmas.List.Elements.{All-tail}
 use Rattle.std.proofs.lemmas.List.Sums.{sum_by-append, sum_by_push}
 use Rattle.certificate.proofs.ReadBack.{entries_of-values, items_len-map, pieces_from-values}

@@ -1,6 +1,5 @@
 -- What is read of a certificate by covers keeps its limits.
-use Rattle.std.proofs.lemmas.Int.{ints}
-use Rattle.certificate.proofs.Common.{◌≡◌, ℕ, suc, ◌+◌, ◌<◌, ◌≤◌, ◌++◌, List, [], ◌∷◌, length, nat_le, Ok, sym, ap, subst, arith, nat_tests, leb-true, length-append, codes, Data, Items, no_items, item, items_len, members_among, items_at, parsed, each_of, entry_of, entries_of, CaseData, CoverCertificateData, IsFew, case_of, cases_from, conflicts_in, covers_of, max_cases, max_conflicts, max_pieces, pieces_of}
+use Rattle.certificate.proofs.Common.{◌≡◌, ℕ, ◌<◌, ◌≤◌, ◌++◌, List, [], ◌∷◌, length, nat_le, Ok, subst, arith, leb-true, length-append, codes, Items, no_items, item, items_len, members_among, items_at, parsed, entries_of, CaseData, CoverCertificateData, IsFew, cases_from, conflicts_in, covers_of, max_cases, max_conflicts, max_pieces, pieces_of}
 use Rattle.certificate.proofs.CasesRead.{case_counted, next_case}
 use Rattle.certificate.proofs.Limits.{entries_of-names}
 use Rattle.std.specs.Bool.{nat_lt}

@@ -1,5 +1,5 @@
 -- The text of a certificate by covers is that of its JSON value, and is read as it.
-use Rattle.certificate.proofs.Common.{◌≡◌, ℕ, List, [], ◌∷◌, map, codes, join_with_byte, comma, ◌≤◌, ◌<◌, ◌^◌, ◌++◌, Ok, Some, refl, subst, ap, ◌∙◌, arith, append_assoc, All, decimal, IsUtf8, serde_json_on_literals, NamesSamples, IsHeld, number_value, entry_value, piece_value, entry_text, piece_text, IsPlain, items_nesting, nesting, compact_text, parsed, parsed_compact, plain_items, plain_number, utf8_compact, CaseData, CoverCertificateData, IsFew, IsHeldCase, IsHeldCovers, case_text, case_value, covers_of, covers_text, covers_value}
+use Rattle.certificate.proofs.Common.{◌≡◌, ℕ, List, [], ◌∷◌, map, codes, join_with_byte, comma, ◌≤◌, ◌<◌, ◌^◌, ◌++◌, Ok, Some, refl, subst, arith, append_assoc, decimal, IsUtf8, serde_json_on_literals, number_value, entry_value, piece_value, entry_text, piece_text, IsPlain, items_nesting, nesting, compact_text, parsed, parsed_compact, plain_items, plain_number, utf8_compact, CaseData, CoverCertificateData, IsFew, IsHeldCase, IsHeldCovers, case_text, case_value, covers_of, covers_text, covers_value}
 use Rattle.certificate.proofs.CoversBack.{covers_of-read}
 use Rattle.certificate.proofs.TextRead.{piece-nesting, plain_entry, plain_piece}
 use Rattle.certificate.proofs.Texts.{entry_text-value, items_text-map, piece_text-value}

@@ -3,13 +3,13 @@
 -- `{"cases":[{"groups":[g,..],"pieces":[..]},..],"conflicts":[[i,j],..]}`, with blanks and the names
 -- in any order, and pieces as a certificate has them. Conflicts are looked at before any case, and
 -- the cases in order. Pieces are counted through all cases.
-use Rattle.std.specs.Prelude.{ℕ, ◌+◌, ◌<◌, ◌≤◌, ◌++◌, ◌^◌, All, List, [], ◌∷◌, length, sum_by, Option, Some, None, option_and_then, Result, Ok, codes, nat_lt, if◌then◌else◌}
-use Rattle.certificate.specs.Common.{Data, Items, no_items, item, items_len, members_among, items_at, unsigned_of, given, asked, after, parsed}
+use Rattle.std.specs.Prelude.{ℕ, ◌<◌, ◌≤◌, ◌++◌, ◌^◌, All, List, [], ◌∷◌, length, sum_by, Option, Some, None, option_and_then, Result, Ok, codes, nat_lt, if◌then◌else◌}
+use Rattle.certificate.specs.Common.{Data, Items, no_items, item, members_among, items_at, unsigned_of, given, asked, after, parsed}
 use Rattle.certificate.specs.declared.fault.CertificateFault.{CertificateFault}
 use Rattle.certificate.specs.declared.fault.CertificateFault.TheVariants.{Json, Top, TooManyConflicts, Conflicts, TooManyCases, CaseShape}
-use Rattle.certificate.specs.Certificate.{IsHeld, NamesSamples, max_pieces}
+use Rattle.certificate.specs.Certificate.{IsHeld, NamesSamples}
 use Rattle.certificate.specs.CoverCertificate.{CaseData, CoverCertificateData, max_cases, max_conflicts}
-use Rattle.certificate.specs.Reading.{each_of, entry_of}
+use Rattle.certificate.specs.Reading.{entry_of}
 use Rattle.certificate.specs.Parts.{list_in, pieces_in}
 
 -- the number of a group

@@ -41,7 +41,11 @@ pub(crate) fn read_groups(
         }
         count += 1;
     }
-    if are_groups { Ok(Ok(groups)) } else { Ok(Err(bad)) }
+    if are_groups {
+        Ok(Ok(groups))
+    } else {
+        Ok(Err(bad))
+    }
 }
 
 /// The number of a group, None if the next value is none.

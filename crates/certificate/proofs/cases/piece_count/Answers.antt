@@ -1,4 +1,4 @@
-use Rattle.certificate.proofs.Common.{◌≡◌, ℕ, CaseData, ◌+◌, ◌<◌, ◌≤◌, ◌∷◌, [], length, length-map, map, take, get_or, sym, ap, ◌∙◌, subst, arith, map-append, take_more, case_data, piece_data, pieces_of, max_pieces}
+use Rattle.certificate.proofs.Common.{◌≡◌, ℕ, CaseData, ◌+◌, ◌<◌, ◌≤◌, ◌∷◌, [], length, length-map, map, take, get_or, sym, ap, ◌∙◌, subst, arith, map-append, take_more, case_data, piece_data, pieces_of}
 use Rattle.std.proofs.lemmas.List.{take-map}
 use Rattle.std.proofs.lemmas.List.Sums.{sum_by_push, sum_by-take-le}
 use Rattle.certificate.proofs.cases.piece_count.Goals as goal

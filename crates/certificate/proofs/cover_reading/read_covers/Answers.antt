@@ -1,5 +1,5 @@
 use Rattle.std.proofs.Common.{IfOk}
-use Rattle.certificate.proofs.Common.{◌≡◌, ◌≤◌, ℕ, List, length, Bool, true, false, None, Result, Ok, Err, if◌then◌else◌, inr, refl, sym, ap, ◌∙◌, subst, IsFew, is_utf8-from_IsUtf8, IsUtf8-from_is_utf8, is_utf8, given, read, CertificateFault, Json, Answers, covers_from, covers_of}
+use Rattle.certificate.proofs.Common.{◌≡◌, ℕ, List, Bool, true, false, None, Result, Ok, Err, if◌then◌else◌, inr, refl, sym, ap, ◌∙◌, subst, IsFew, is_utf8-from_IsUtf8, IsUtf8-from_is_utf8, is_utf8, given, read, CertificateFault, Json, Answers, covers_from, covers_of}
 use Rattle.certificate.specs.CoverCertificate.{data_of}
 use Rattle.certificate.specs.declared.cover_certificate.CoverCertificate.{CoverCertificate}
 use Rattle.std.specs.Prelude.{IsUtf8}
