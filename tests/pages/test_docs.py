@@ -207,8 +207,8 @@ FACTS = [
 ]
 # These tell again what others have: what changed and when, how large the inputs of a measurement are, and what a
 # stranger's folder is held to.
-TELL_AGAIN = ("CHANGELOG.md", "bench/README.md", "data/README.md", "second/README.md", "judge/README.md", "docs/DOSSIER.md",
-              "docs/AUDITING.md")
+TELL_AGAIN = ("CHANGELOG.md", "bench/README.md", "data/README.md", "second/README.md", "judge/README.md",
+              "docs/DOSSIER.md", "docs/AUDITING.md")
 
 
 def test_words() -> None:
