@@ -169,7 +169,7 @@ def test_columns() -> None:
 
 # The most words of a page, or of several together.
 LIMITS = {
-    "README.md": 930, "SECURITY.md": 150, "docs/STABILITY.md": 440, "docs/PROMISES.md": 1740,
+    "README.md": 930, "SECURITY.md": 150, "docs/STABILITY.md": 440, "docs/PROMISES.md": 1840,
     "docs/THEOREM.md": 3670, "docs/DEFINITIONS.md": 4310,
     "docs/DECISIONS.md": 1950, "docs/FORMATS.md": 3900, "docs/GUIDE.md": 2850, "docs/REFUSALS.md": 1030,
     "docs/DOSSIER.md docs/AUDITING.md": 3310, "docs/FLEET.md": 1680, "docs/BOUND.md": 590,
