@@ -767,10 +767,11 @@ def test_newcomer(place: Path) -> None:
 
 
 TCPDUMP = """#!/bin/sh
-# stands in for tcpdump: leaves a capture of data/ in the file after -w
+# stands in for tcpdump: prints a capture of data/, and waits for its end
 [ "$1" != --version ] || exec echo "tcpdump version 4"
-while [ "$1" != -w ]; do shift; done
-exec cp -- "{capture}" "$2"
+echo "tcpdump: listening on eth0" >&2
+cat -- "{capture}"
+exec sleep 600
 """
 
 
@@ -787,7 +788,8 @@ def test_five_commands(place: Path) -> None:
     words = "draft --bound-ns 50000000 --chrony /etc/chrony/chrony.conf "
     check("they read the client's configuration", seen=(words in commands[1], True))
     for command in (command.replace("/etc/chrony", str(ROOT / "tests" / "dossier" / "client")) for command in commands):
-        status, out, _ = run(["sh", "-c", command], cwd=place, env=with_tcpdump)
+        end = ["timeout", "--preserve-status", "-s", "INT", "5"] if " record " in command else []
+        status, out, _ = run([*end, "sh", "-c", f"exec {command}"], cwd=place, env=with_tcpdump)
         check(f"the command: {command}", status=(status, 0))
     check("they end with", output=(out, b"web-1: verified: yes\n"))
     page = (place / "dossier.html").read_text("utf-8")
