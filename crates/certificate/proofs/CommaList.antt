@@ -1,8 +1,5 @@
 -- Elements with commas between them, one more at a time.
-use Rattle.std.specs.Bool.{nat_lt}
-use Rattle.std.proofs.lemmas.Bool.{ltb-true}
-use Rattle.std.proofs.lemmas.List.{get_or_default}
-use Rattle.certificate.proofs.Common.{◌≡◌, Bool, true, false, subst, nat_tests, ℕ, suc, ◌+◌, ◌<◌, List, [], ◌∷◌, ◌++◌, length, map, take, get_or, refl, sym, ap, ◌∙◌, arith, append_assoc, length-append, lt-ltb, take_more, map-append, length-map, length-take-le, join_with_byte, comma, comma_before}
+use Rattle.certificate.proofs.Common.{◌≡◌, ℕ, suc, ◌+◌, ◌<◌, List, [], ◌∷◌, ◌++◌, length, map, take, get_or, refl, sym, ap, ◌∙◌, arith, append_assoc, length-append, lt-ltb, take_more, map-append, length-map, length-take-le, join_with_byte, comma, comma_before}
 
 comma_later : (index : ℕ) → comma_before (suc index) ≡ comma ∷ []
 comma_later index = rw (lt-ltb 0 (suc index) (omega arith)) refl
@@ -45,16 +42,3 @@ joined_read text {whole} {rest} {xs} {index} x more before next = record {
       (simp append_assoc);
   counted = length-append xs (x ∷ []) ∙ ap (λ n. n + 1) before.counted;
 }
-
--- what holds of the elements before an index and of the one there holds of one more
-pub held_more : {X : Type 0} (P : X → Type 0) (xs : List X) (index : ℕ) (x : X) → index < length xs →
-    x ≡ get_or xs index x → P x → ((k : ℕ) (d : X) → k < index → P (get_or xs k d)) →
-    (k : ℕ) (d : X) → k < index + 1 → P (get_or xs k d)
-held_more {X} P xs index x within is here before k d less = pick (nat_lt k index) refl
-  where
-    pick : (b : Bool) → nat_lt k index ≡ b → P (get_or xs k d)
-    pick true earlier = before k d (ltb-true k index earlier)
-    pick false later =
-        let same : index ≡ k = grind (arith, nat_tests, later, less) in
-        let there : x ≡ get_or xs index d = is ∙ get_or_default xs index x d within in
-        subst (λ n. P (get_or xs n d)) same (subst P there here)

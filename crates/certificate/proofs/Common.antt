@@ -48,10 +48,10 @@ pub use Rattle.certificate.specs.Certificate.{CertificateData, IsHeld, IsReadabl
 pub use Rattle.certificate.specs.Certificate.{max_entries, max_pieces, piece_data}
 pub use Rattle.certificate.specs.Compact.{IsEnding}
 pub use Rattle.certificate.specs.Fault.{Answers}
-pub use Rattle.certificate.specs.Parts.{PieceParts, TopParts, entries_in, judged, list_in, parts_of, piece_from, pieces_and}
+pub use Rattle.certificate.specs.Parts.{PieceParts, TopParts, entries_in, judged, parts_of, piece_from, pieces_and}
 pub use Rattle.certificate.specs.Parts.{pieces_in, top_parts_of}
 pub use Rattle.certificate.specs.PartsData.{parts_data, pieces_data, whole_data}
-pub use Rattle.certificate.specs.Reading.{certificate_from, certificate_of, each_of, entries_of, entry_of, pair_of, piece_of}
+pub use Rattle.certificate.specs.Reading.{certificate_from, certificate_of, entries_of, entry_of, pair_of, piece_of}
 pub use Rattle.certificate.specs.Reading.{pieces_from, sample_of, top_of}
 pub use Rattle.certificate.specs.Refutation.{IsHeldRefutation, RefutationData, max_liars}
 pub use Rattle.certificate.specs.RefutationReading.{refutation_from, refutation_of, server_of, servers_of}
@@ -63,14 +63,3 @@ pub use Rattle.certificate.specs.declared.certificate.Piece.{Piece}
 pub use Rattle.certificate.specs.declared.fault.CertificateFault.{CertificateFault}
 pub use Rattle.certificate.specs.declared.fault.CertificateFault.TheVariants.{Json, Shape, TooManyEntries}
 pub use Rattle.certificate.specs.declared.fault.CertificateFault.TheVariants.{TooManyPieces}
-pub use Rattle.certificate.specs.CoverCertificate.{CaseData, CoverCertificateData, case_data, max_cases, max_conflicts}
-pub use Rattle.certificate.specs.CoverParts.{CaseParts, CoversParts, case_of_parts, case_parts_data, case_parts_of}
-pub use Rattle.certificate.specs.CoverParts.{cases_data, covers_of_parts, covers_parts_data, covers_parts_of}
-pub use Rattle.certificate.specs.CoverReading.{case_of, cases_from, conflicts_in, covers_from, covers_of, group_of}
-pub use Rattle.certificate.specs.CoverReading.{groups_in, max_groups, pieces_of}
-pub use Rattle.certificate.specs.declared.fault.CertificateFault.TheVariants.{CaseShape, Conflicts, TooManyCases}
-pub use Rattle.certificate.specs.declared.fault.CertificateFault.TheVariants.{TooManyConflicts, Top}
-pub use Rattle.certificate.specs.declared.cover_certificate.Case.{Case}
-pub use Rattle.certificate.specs.CoverCertificate.{IsFew}
-pub use Rattle.certificate.specs.CoverReading.{IsHeldCase, IsHeldCovers}
-pub use Rattle.certificate.specs.CoverWriting.{case_text, case_value, covers_text, covers_value}

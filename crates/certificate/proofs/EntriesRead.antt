@@ -1,71 +1,74 @@
--- The elements of an array, read one after another.
+-- The entries of a piece, read one after another.
 use Rattle.std.proofs.lemmas.Int.{ints}
-use Rattle.certificate.proofs.Common.{◌≡◌, ℕ, ◌+◌, ◌≤◌, List, [], ◌∷◌, ◌++◌, Bool, false, nat_le, Option, Some, None, option_map, option_and_then, Result, Ok, Err, if◌then◌else◌, ap, ◌∙◌, arith, append-nil, append_assoc, Data, Items, no_items, item, items_len, parse_map, after_end_array, Token, mapped_same, array_ends, element_read, goes_on, next_value, next_items, rest_after, given, asked, CertificateFault, nat_tests, each_of}
+use Rattle.certificate.proofs.Common.{◌≡◌, ℕ, ◌+◌, ◌≤◌, List, [], ◌∷◌, ◌++◌, Bool, false, nat_le, Option, Some, None, option_map, option_and_then, Result, Ok, Err, if◌then◌else◌, ap, ◌∙◌, arith, append-nil, append_assoc, Data, Items, no_items, item, items_len, parse_map, after_end_array, Token, mapped_same, array_ends, element_read, goes_on, next_value, next_items, rest_after, given, asked, CertificateFault, Shape, TooManyEntries, max_entries, entry_of, entries_of, nat_tests}
 
--- the elements that were read, unless one was none
-abbrev pub so_far : {X : Type 0} → Bool → List X → Option (List X)
-so_far are_all elements = if are_all then Some elements else None
+-- the entries that were read, unless an element was none
+abbrev pub so_far : Bool → List (ℕ × ℕ) → Option (List (ℕ × ℕ))
+so_far are_pairs entries = if are_pairs then Some entries else None
 
-abbrev pub and_one : {X : Type 0} → Option (List X) → Option X → Option (List X)
-and_one found element = option_and_then (λ es. option_map (λ e. es ++ e ∷ []) element) found
+abbrev pub and_one : Option (List (ℕ × ℕ)) → Option (ℕ × ℕ) → Option (List (ℕ × ℕ))
+and_one found entry = option_and_then (λ es. option_map (λ e. es ++ e ∷ []) entry) found
 
-abbrev and_more : {X : Type 0} → Option (List X) → Option (List X) → Option (List X)
+abbrev and_more : Option (List (ℕ × ℕ)) → Option (List (ℕ × ℕ)) → Option (List (ℕ × ℕ))
 and_more found more = option_and_then (λ es. option_map (λ more. es ++ more) more) found
 
-one_more : {X : Type 0} (found : Option (List X)) (element : Option X) (more : Option (List X)) →
-    and_more found (option_and_then (λ first. option_map (λ others. first ∷ others) more) element)
-    ≡ and_more (and_one found element) more
-one_more found element more = grind (arith, append_assoc)
+-- what is said if this many elements were read and these are left
+abbrev pub entries_after : ℕ → ℕ → Option (List (ℕ × ℕ)) → Items → Result (List (ℕ × ℕ)) CertificateFault
+entries_after number count found items =
+    asked (TooManyEntries number) (nat_le (count + items_len items) max_entries) (
+    given (Shape number) (and_more found (entries_of items)) Ok)
 
-nothing_more : {X : Type 0} (found : Option (List X)) → and_more found (Some []) ≡ found
+one_more : (found : Option (List (ℕ × ℕ))) (entry : Option (ℕ × ℕ)) (more : Option (List (ℕ × ℕ))) →
+    and_more found (option_and_then (λ first. option_map (λ others. first ∷ others) more) entry)
+    ≡ and_more (and_one found entry) more
+one_more found entry more = grind (arith, append_assoc)
+
+entries_next : (number count : ℕ) (found : Option (List (ℕ × ℕ))) (value : Data) (rest : Items) →
+    entries_after number count found (item value rest)
+    ≡ entries_after number (count + 1) (and_one found (entry_of value)) rest
+entries_next number count found value rest = grind (arith, ints, nat_tests, asked, given, one_more)
+
+nothing_more : (found : Option (List (ℕ × ℕ))) → and_more found (Some []) ≡ found
 nothing_more found = grind (arith, append-nil)
 
+entries_last : (number count : ℕ) (found : Option (List (ℕ × ℕ))) → count ≤ max_entries →
+    entries_after number count found no_items ≡ given (Shape number) found Ok
+entries_last number count found few = grind (arith, ints, nat_tests, nothing_more)
+
+entries_too_many : (number count : ℕ) (found : Option (List (ℕ × ℕ))) (value : Data) (rest : Items) →
+    count ≡ max_entries → entries_after number count found (item value rest) ≡ Err (TooManyEntries number)
+entries_too_many number count found value rest full = grind (arith, ints, nat_tests)
+
 -- what was pushed, in the program's words
-pub pushed_one : {X : Type 0} (are_all : Bool) (before after : List X) (element : X) → after ≡ before ++ element ∷ [] →
-    so_far are_all after ≡ and_one (so_far are_all before) (Some element)
-pushed_one are_all before after element is = grind arith
+pub pushed_one : (are_pairs : Bool) (before after : List (ℕ × ℕ)) (entry : ℕ × ℕ) → after ≡ before ++ entry ∷ [] →
+    so_far are_pairs after ≡ and_one (so_far are_pairs before) (Some entry)
+pushed_one are_pairs before after entry is = grind arith
 
-pub pushed_none : {X : Type 0} (are_all : Bool) (before after : List X) →
-    so_far false after ≡ and_one (so_far are_all before) None
-pushed_none are_all before after = grind arith
+pub pushed_none : (are_pairs : Bool) (before after : List (ℕ × ℕ)) →
+    so_far false after ≡ and_one (so_far are_pairs before) None
+pushed_none are_pairs before after = grind arith
 
-module _ {X : Type 0} (many bad : CertificateFault) (most : ℕ) (element_of : Data → Option X) where
-  -- what is said if this many elements were read and these are left
-  abbrev pub list_after : ℕ → Option (List X) → Items → Result (List X) CertificateFault
-  list_after count found items =
-      asked many (nat_le (count + items_len items) most) (given bad (and_more found (each_of element_of items)) Ok)
+-- ---- a turn of the reading
 
-  list_next : (count : ℕ) (found : Option (List X)) (value : Data) (rest : Items) →
-      list_after count found (item value rest) ≡ list_after (count + 1) (and_one found (element_of value)) rest
-  list_next count found value rest = grind (arith, ints, nat_tests, asked, given, one_more)
+module _ (number count : ℕ) (found : Option (List (ℕ × ℕ))) (depth : ℕ) (ts : List Token)
+    (going : after_end_array ts ≡ None) where
+  pub too_many_there : (r : List Token) → count ≡ max_entries → rest_after (next_items depth ts) ≡ Some r →
+      parse_map (entries_after number count found) (next_items depth ts) ≡ Some (Err (TooManyEntries number), r)
+  too_many_there r full is =
+      let (v, rest, read) = goes_on (entries_after number count found) depth ts r going is in
+      read ∙ ap (λ e. Some (e, r)) (entries_too_many number count found v rest full)
 
-  list_last : (count : ℕ) (found : Option (List X)) → count ≤ most → list_after count found no_items ≡ given bad found Ok
-  list_last count found few = grind (arith, ints, nat_tests, nothing_more)
+  pub one_more_there : (entry : Option (ℕ × ℕ)) (r : List Token) →
+      parse_map entry_of (next_value depth ts) ≡ Some (entry, r) →
+      parse_map (entries_after number count found) (next_items depth ts)
+      ≡ parse_map (entries_after number (count + 1) (and_one found entry)) (next_items depth r)
+  one_more_there entry r is =
+      let (v, same, more) = element_read (entries_after number count found) depth ts entry_of entry r going is in
+      more ∙ mapped_same _ _ (entries_next number count found v) (next_items depth r)
+      ∙ ap (λ e. parse_map (entries_after number (count + 1) (and_one found e)) (next_items depth r)) same
 
-  list_too_many : (count : ℕ) (found : Option (List X)) (value : Data) (rest : Items) →
-      count ≡ most → list_after count found (item value rest) ≡ Err many
-  list_too_many count found value rest full = grind (arith, ints, nat_tests)
-
-  -- ---- a turn of the reading
-
-  module _ (count : ℕ) (found : Option (List X)) (depth : ℕ) (ts : List Token) (going : after_end_array ts ≡ None) where
-    pub too_many_there : (r : List Token) → count ≡ most → rest_after (next_items depth ts) ≡ Some r →
-        parse_map (list_after count found) (next_items depth ts) ≡ Some (Err many, r)
-    too_many_there r full is =
-        let (v, rest, read) = goes_on (list_after count found) depth ts r going is in
-        read ∙ ap (λ e. Some (e, r)) (list_too_many count found v rest full)
-
-    pub one_more_there : (element : Option X) (r : List Token) →
-        parse_map element_of (next_value depth ts) ≡ Some (element, r) →
-        parse_map (list_after count found) (next_items depth ts)
-        ≡ parse_map (list_after (count + 1) (and_one found element)) (next_items depth r)
-    one_more_there element r is =
-        let (v, same, more) = element_read (list_after count found) depth ts element_of element r going is in
-        more ∙ mapped_same _ _ (list_next count found v) (next_items depth r)
-        ∙ ap (λ e. parse_map (list_after (count + 1) (and_one found e)) (next_items depth r)) same
-
-  -- the last turn
-  pub none_there : (count : ℕ) (found : Option (List X)) (depth : ℕ) (ts r : List Token) →
-      after_end_array ts ≡ Some r → count ≤ most →
-      parse_map (list_after count found) (next_items depth ts) ≡ Some (given bad found Ok, r)
-  none_there count found depth ts r over few = grind (arith, ints, nat_tests, array_ends, list_last)
+-- the last turn
+pub none_there : (number count : ℕ) (found : Option (List (ℕ × ℕ))) (depth : ℕ) (ts r : List Token) →
+    after_end_array ts ≡ Some r → count ≤ max_entries →
+    parse_map (entries_after number count found) (next_items depth ts) ≡ Some (given (Shape number) found Ok, r)
+none_there number count found depth ts r over few = grind (arith, ints, nat_tests, array_ends, entries_last)

@@ -2,12 +2,7 @@ mod Common
 pub mod CompactRead
 pub mod Digits
 pub mod EntriesRead
-pub mod CasesRead
 pub mod CommaList
-pub mod CoverRead
-pub mod CoversBack
-pub mod CoversLimits
-pub mod CoversText
 pub mod Limits
 pub mod LineFeed
 pub mod PairRead

@@ -1,6 +1,6 @@
 -- What is read of a certificate keeps its limits.
 use Rattle.std.proofs.lemmas.Int.{ints}
-use Rattle.certificate.proofs.Common.{◌≡◌, ℕ, suc, ◌+◌, ◌≤◌, List, [], ◌∷◌, length, nat_le, Option, Some, None, Ok, option_map, refl, ap, subst, arith, leb-true, nat_tests, All, codes, Data, Items, no_items, item, items_len, members_among, items_at, parsed, unsigned_at, CertificateData, PieceData, NamesSamples, IsReadable, max_pieces, entry_of, each_of, entries_of, piece_of, pieces_from, top_of, certificate_of}
+use Rattle.certificate.proofs.Common.{◌≡◌, ℕ, suc, ◌+◌, ◌≤◌, List, [], ◌∷◌, length, nat_le, Option, Some, None, Ok, option_map, refl, ap, subst, arith, leb-true, nat_tests, All, codes, Data, Items, no_items, item, items_len, members_among, items_at, parsed, unsigned_at, CertificateData, PieceData, NamesSamples, IsReadable, max_pieces, entry_of, entries_of, piece_of, pieces_from, top_of, certificate_of}
 use Rattle.std.proofs.lemmas.List.Elements.{All-cons, All-nil}
 use Rattle.std.proofs.lemmas.Option.{option_and_then_some}
 use Rattle.json_text.proofs.Steps.{after_by, asked_by, given_by}
@@ -8,13 +8,13 @@ use Rattle.json_text.proofs.Steps.{after_by, asked_by, given_by}
 entry_of-names : (value : Data) (entry : ℕ × ℕ) → entry_of value ≡ Some entry → NamesSamples entry
 entry_of-names value entry is = grind (arith, ints, nat_tests, option_and_then_some)
 
-pub entries_of-names : (items : Items) (entries : List (ℕ × ℕ)) → entries_of items ≡ Some entries →
+entries_of-names : (items : Items) (entries : List (ℕ × ℕ)) → entries_of items ≡ Some entries →
     (length entries ≡ items_len items) × All NamesSamples entries
 entries_of-names no_items entries is =
     let same : ◌≡◌ {A = List (ℕ × ℕ)} [] entries = cc in
     subst (λ es. (length es ≡ 0) × All NamesSamples es) same (refl, All-nil NamesSamples)
 entries_of-names (item value rest) entries is =
-    option_and_then_some (λ first. option_map (λ others. first ∷ others) (each_of entry_of rest)) (entry_of value) entries is
+    option_and_then_some (λ first. option_map (λ others. first ∷ others) (entries_of rest)) (entry_of value) entries is
     (λ x first e. more x (entries_of rest) first (entries_of-names rest) e)
   where
     more : (x : ℕ × ℕ) (b : Option (List (ℕ × ℕ))) → entry_of value ≡ Some x →
@@ -41,7 +41,7 @@ piece_of-readable number value piece is =
     let most : items_len items ≤ 32 = leb-true (items_len items) 32 few in
     subst IsReadable same (record { few = omega arith; named = all })
 
-pub pieces_from-readable : (number : ℕ) (items : Items) (pieces : List PieceData) → pieces_from number items ≡ Ok pieces →
+pieces_from-readable : (number : ℕ) (items : Items) (pieces : List PieceData) → pieces_from number items ≡ Ok pieces →
     (length pieces ≡ items_len items) × All IsReadable pieces
 pieces_from-readable number no_items pieces is =
     let same : ◌≡◌ {A = List PieceData} [] pieces = cc in

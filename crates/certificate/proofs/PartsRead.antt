@@ -76,12 +76,6 @@ after_asked few bad false read more = refl
 after_asked few bad true None more = refl
 after_asked few bad true (Some a) more = refl
 
-pub asked_after : {A B : Type 0} (many : CertificateFault) (fits : Bool) (read : Result A CertificateFault)
-    (more : A → Result B CertificateFault) →
-    after (asked many fits read) more ≡ asked many fits (after read more)
-asked_after many false read more = refl
-asked_after many true read more = refl
-
 same_piece : (number : ℕ) (ms : Members) (is_known : Bool) (upto : Option ℕ) (items : Option Items) →
     piece_from number (made is_known upto (option_map (entries_in number) items))
     ≡ (given (Shape number) (if is_known then Some ms else None) λ members.

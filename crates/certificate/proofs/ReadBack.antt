@@ -9,7 +9,7 @@ sample_of-value n small = rw (lt-ltb n (2 ^ 32) small) refl
 entry_of-value : (entry : ℕ × ℕ) → NamesSamples entry → entry_of (entry_value entry) ≡ Some entry
 entry_of-value (low, high) named = rw (sample_of-value low named.low, sample_of-value high named.high) refl
 
-pub entries_of-values : (entries : List (ℕ × ℕ)) → All NamesSamples entries →
+entries_of-values : (entries : List (ℕ × ℕ)) → All NamesSamples entries →
     entries_of (items_of (map entry_value entries)) ≡ Some entries
 entries_of-values [] named = refl
 entries_of-values (e ∷ es) named =
@@ -27,7 +27,7 @@ piece_of-value number piece readable =
       entries_of-values piece.entries readable.named,
     ) refl
 
-pub pieces_from-values : (number : ℕ) (pieces : List PieceData) → All IsReadable pieces →
+pieces_from-values : (number : ℕ) (pieces : List PieceData) → All IsReadable pieces →
     pieces_from number (items_of (map piece_value pieces)) ≡ Ok pieces
 pieces_from-values number [] readable = refl
 pieces_from-values number (p ∷ ps) readable =

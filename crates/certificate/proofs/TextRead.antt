@@ -3,18 +3,18 @@ use Rattle.certificate.proofs.Common.{◌≡◌, ℕ, ◌≤◌, ◌++◌, Some,
 use Rattle.certificate.proofs.LineFeed.{line_feed, tokens-line_feed}
 use Rattle.certificate.proofs.Texts.{certificate_text-value}
 
-pub plain_entry : (entry : ℕ × ℕ) → NamesSamples entry → IsPlain (entry_value entry)
+plain_entry : (entry : ℕ × ℕ) → NamesSamples entry → IsPlain (entry_value entry)
 plain_entry (low, high) named =
     (plain_number low (omega (arith, named.low)), (plain_number high (omega (arith, named.high)), tt))
 
-pub plain_piece : (piece : PieceData) → IsHeld piece → IsPlain (piece_value piece)
+plain_piece : (piece : PieceData) → IsHeld piece → IsPlain (piece_value piece)
 unfolding serde_json_on_literals
 plain_piece piece held =
     let entries = plain_items entry_value piece.entries (λ k d less. plain_entry _ (held.readable.named k d less)) in
     (refl, (refl, entries, (refl, plain_number piece.upto held.end, tt)))
 
 -- it nests five deep
-pub piece-nesting : (piece : PieceData) → nesting (piece_value piece) ≤ 3
+piece-nesting : (piece : PieceData) → nesting (piece_value piece) ≤ 3
 piece-nesting piece = omega (arith, items_nesting entry_value 1 (λ e. omega arith) piece.entries)
 
 module _ (certificate : CertificateData) (held : All IsHeld certificate.pieces) where

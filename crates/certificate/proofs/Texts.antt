@@ -12,10 +12,10 @@ items_text-map value text same (x ∷ y ∷ xs) =
     ∙ ap (λ t. text x ++ comma ∷ t) (items_text-map value text same (y ∷ xs))
     ∙ sym (append_assoc (text x) (comma ∷ join_with_byte comma (map text (y ∷ xs))) (93 ∷ []))
 
-pub entry_text-value : (entry : ℕ × ℕ) → compact_text (entry_value entry) ≡ entry_text entry
+entry_text-value : (entry : ℕ × ℕ) → compact_text (entry_value entry) ≡ entry_text entry
 entry_text-value (low, high) = simp append_assoc
 
-pub piece_text-value : (piece : PieceData) → compact_text (piece_value piece) ≡ piece_text piece
+piece_text-value : (piece : PieceData) → compact_text (piece_value piece) ≡ piece_text piece
 unfolding serde_json_on_literals
 piece_text-value piece = rw (items_text-map entry_value entry_text entry_text-value piece.entries) (simp append_assoc)
 

@@ -3,7 +3,7 @@ use Rattle.std.specs.Prelude.{◌≡◌, ◌⊎◌, ℕ, List, Option, Some, Non
 use Rattle.json.specs.Token.{Token}
 use Rattle.json_text.specs.Step as step
 use Rattle.certificate.specs.declared.fault.CertificateFault.{CertificateFault}
-use Rattle.certificate.specs.declared.fault.CertificateFault.TheVariants.{Json, Top, Shape, TooManyEntries, TooManyPieces, Memory, TooManyConflicts, Conflicts, TooManyCases, CaseShape}
+use Rattle.certificate.specs.declared.fault.CertificateFault.TheVariants.{Json, Top, Shape, TooManyEntries, TooManyPieces, Memory}
 
 -- the number of each fault
 abbrev pub number_of : CertificateFault → ℕ
@@ -13,10 +13,6 @@ number_of (Shape piece) = 3
 number_of (TooManyEntries piece) = 4
 number_of TooManyPieces = 5
 number_of Memory = 6
-number_of TooManyConflicts = 7
-number_of Conflicts = 8
-number_of TooManyCases = 9
-number_of (CaseShape number) = 10
 
 -- the answer is the one that is defined, value or fault, or Memory
 abbrev pub Answers : {A B : Type 0} →

@@ -1,9 +1,6 @@
 pub mod Common
 pub mod Certificate
 pub mod CoverCertificate
-pub mod CoverParts
-pub mod CoverReading
-pub mod CoverWriting
 pub mod Compact
 pub mod Fault
 pub mod Parts

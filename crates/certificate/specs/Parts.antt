@@ -1,10 +1,10 @@
 -- What the parts of a certificate's text say, each with the first fault that it has.
-use Rattle.std.specs.Prelude.{◌≡◌, ℕ, ◌+◌, List, [], ◌∷◌, ◌++◌, Bool, Option, option_map, option_and_then, Result, Ok, Err, codes, nat_le}
+use Rattle.std.specs.Prelude.{◌≡◌, ℕ, List, [], ◌∷◌, ◌++◌, Bool, Option, option_map, option_and_then, Result, Ok, Err, codes, nat_le}
 use Rattle.certificate.specs.Common.{Data, Items, Members, put, items_len, as_array, get_member, has_only, unsigned_of, given, asked, after}
 use Rattle.certificate.specs.declared.fault.CertificateFault.{CertificateFault}
 use Rattle.certificate.specs.declared.fault.CertificateFault.TheVariants.{Top, Shape, TooManyEntries, TooManyPieces}
 use Rattle.certificate.specs.Certificate.{CertificateData, PieceData, max_pieces, max_entries}
-use Rattle.certificate.specs.Reading.{each_of, entry_of, piece_of, pieces_from}
+use Rattle.certificate.specs.Reading.{entries_of, piece_of, pieces_from}
 
 -- a value or its fault, as data
 abbrev pub judged : {A B : Type 0} → (A → B) → Result A CertificateFault → Result B CertificateFault
@@ -16,19 +16,13 @@ abbrev pub AddsMember : {A : Type 0} → (Members → A) → List ℕ → Data �
 AddsMember known name value before now =
     (found : Members) → before ≡ known found → now ≡ known (put name value found)
 
--- what an array says of at most so many elements, with the fault if there are more, and the one if
--- an element is none
-abbrev pub list_in : {X : Type 0} → CertificateFault → CertificateFault → ℕ → (Data → Option X) →
-    Items → Result (List X) CertificateFault
-list_in many bad most element_of items =
-    asked many (nat_le (items_len items) most) (given bad (each_of element_of items) Ok)
-
 -- ---- the entries of a piece
 
 -- what the array of the piece with this number says
 abbrev pub entries_in : ℕ → Items → Result (List (ℕ × ℕ)) CertificateFault
 entries_in number items =
-    list_in (TooManyEntries number) (Shape number) max_entries entry_of items
+    asked (TooManyEntries number) (nat_le (items_len items) max_entries) (
+    given (Shape number) (entries_of items) Ok)
 
 -- ---- a piece
 
@@ -58,10 +52,9 @@ piece_from number parts =
 
 -- ---- the pieces
 
--- what the array of pieces says, which are counted from this number on
-abbrev pub pieces_in : ℕ → Items → Result (List PieceData) CertificateFault
-pieces_in first items =
-    asked TooManyPieces (nat_le (first + items_len items) max_pieces) (pieces_from first items)
+-- what the array of pieces says
+abbrev pub pieces_in : Items → Result (List PieceData) CertificateFault
+pieces_in items = asked TooManyPieces (nat_le (items_len items) max_pieces) (pieces_from 0 items)
 
 -- the pieces before, and the one with this number
 abbrev pub pieces_and : ℕ → Result (List PieceData) CertificateFault → Data →
@@ -81,7 +74,7 @@ pub record TopParts : Type 0 where
 abbrev pub top_parts_of : Members → TopParts
 top_parts_of members = record {
   is_known = has_only (codes "pieces" ∷ []) members;
-  pieces = option_map (pieces_in 0) (option_and_then as_array (get_member (codes "pieces") members));
+  pieces = option_map pieces_in (option_and_then as_array (get_member (codes "pieces") members));
 }
 
 abbrev pub certificate_of_parts : TopParts → Result CertificateData CertificateFault

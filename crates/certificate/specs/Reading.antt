@@ -25,15 +25,11 @@ pair_of (item low (item high (item more rest))) = None
 abbrev pub entry_of : Data → Option (ℕ × ℕ)
 entry_of value = option_and_then pair_of (as_array value)
 
--- what each element says
-abbrev pub each_of : {X : Type 0} → (Data → Option X) → Items → Option (List X)
-each_of element_of no_items = Some []
-each_of element_of (item value rest) =
-    option_and_then (λ first. option_map (λ others. first ∷ others) (each_of element_of rest))
-    (element_of value)
-
 abbrev pub entries_of : Items → Option (List (ℕ × ℕ))
-entries_of items = each_of entry_of items
+entries_of no_items = Some []
+entries_of (item value rest) =
+    option_and_then (λ first. option_map (λ others. first ∷ others) (entries_of rest))
+    (entry_of value)
 
 -- the piece with this number: an object of exactly these names
 abbrev pub piece_of : ℕ → Data → Result PieceData CertificateFault

@@ -1,34 +1,35 @@
-//! Pairs of numbers of exchanges, read token by token: the entries of a piece, or conflicts.
+//! The entries of a piece, read token by token.
 
 ghost use Rattle.std.specs.Prelude.{◌≡◌, option_map, option_and_then};
 ghost use Rattle.certificate.specs.Common.{parse_map, next_value, next_items, Reads};
-ghost use Rattle.certificate.specs.Parts.{judged, list_in};
+ghost use Rattle.certificate.specs.Parts.{entries_in, judged};
 ghost use Rattle.certificate.specs.Reading as spec;
 
+use crate::certificate::MAX_ENTRIES;
 use crate::fault::{CertificateFault, Judged};
 use arrayvec::ArrayVec;
 use json::{Invalid, Reader};
 use json_text::{next_unsigned, open_array, pass_items};
 
-/// The pairs that are left of an array, or their fault: `many` if they are more than `MOST`, `bad`
-/// if an element is none.
-pub(crate) fn read_pairs<const MOST: usize>(
+/// The entries of a piece: pairs of sample numbers.
+pub(crate) type Entries = ArrayVec<(u32, u32), 32>;
+
+/// The entries that are left of the array of the piece with this number, or its first fault.
+pub(crate) fn read_entries(
     reader: &mut Reader<'_>,
     depth: usize,
-    many: CertificateFault,
-    bad: CertificateFault,
-) -> Result<Judged<ArrayVec<(u32, u32), MOST>>, Invalid>
+    number: u32,
+) -> Result<Judged<Entries>, Invalid>
     ensures { Reads result (judged (λ entries. entries.items))
-        (parse_map (list_in many bad MOST spec.entry_of) (next_items depth reader.old))
-        reader.new }
+        (parse_map (entries_in number) (next_items depth reader.old)) reader.new }
 {
     let mut entries = ArrayVec::new();
     let mut are_pairs = true;
     let mut count = 0;
     'entries: while !reader.take_end_array() {
-        if count == MOST {
+        if count == MAX_ENTRIES {
             pass_items(reader, depth)?;
-            return Ok(Err(many));
+            return Ok(Err(CertificateFault::TooManyEntries(number)));
         }
         match read_entry(reader, depth)? {
             Some(entry) => entries.push(entry),
@@ -39,7 +40,7 @@ pub(crate) fn read_pairs<const MOST: usize>(
     if are_pairs {
         Ok(Ok(entries))
     } else {
-        Ok(Err(bad))
+        Ok(Err(CertificateFault::Shape(number)))
     }
 }
 

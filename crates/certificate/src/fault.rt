@@ -8,15 +8,13 @@ use json::Invalid;
 use std::alloc::AllocError;
 use thiserror::Error;
 
-/// Why a certificate is refused: the first fault that it has. Pieces are numbered from 0, through all
-/// cases.
+/// Why a certificate is refused: the first fault that it has. Pieces are numbered from 0.
 #[derive(Clone, Copy, Debug, PartialEq, Eq, Error)]
 pub enum CertificateFault {
     /// The bytes are no JSON text in UTF-8.
     #[error("the certificate is no JSON text")]
     Json,
-    /// The value is no object with the one name `pieces` whose value is an array; or, where one by
-    /// covers is read, with exactly the names `cases` and `conflicts` whose values are arrays.
+    /// The value is no object with the one name `pieces` whose value is an array.
     #[error("the certificate isn't an object with an array of pieces")]
     Top,
     /// The piece of this number is no object with exactly the names `entries` and `upto`, the one
@@ -26,26 +24,12 @@ pub enum CertificateFault {
     /// The piece of this number has over 32 entries.
     #[error("piece {0} of the certificate has over 32 entries")]
     TooManyEntries(u32),
-    /// Over 100,000 pieces, in all cases together. It is found before any piece of the array that
-    /// has too many is looked at.
+    /// Over 100,000 pieces. It is found before any piece is looked at.
     #[error("the certificate has over 100000 pieces")]
     TooManyPieces,
     /// Out of memory.
     #[error("out of memory")]
     Memory,
-    /// Over 528 conflicts.
-    #[error("the certificate has over 528 conflicts")]
-    TooManyConflicts,
-    /// A conflict is no pair of integers below 2^32.
-    #[error("a conflict of the certificate isn't a pair of exchanges")]
-    Conflicts,
-    /// Over 64 cases. It is found once 64 were looked at.
-    #[error("the certificate has over 64 cases")]
-    TooManyCases,
-    /// The case of this number is no object with exactly the names `groups` and `pieces`, the one
-    /// an array of at most 32 integers below 256, the other an array.
-    #[error("case {0} of the certificate isn't an array of groups and one of pieces")]
-    CaseShape(u32),
 }
 
 /// A part of a certificate, or the first fault that it has.
@@ -63,10 +47,6 @@ impl CertificateFault {
             CertificateFault::TooManyEntries(_) => 4,
             CertificateFault::TooManyPieces => 5,
             CertificateFault::Memory => 6,
-            CertificateFault::TooManyConflicts => 7,
-            CertificateFault::Conflicts => 8,
-            CertificateFault::TooManyCases => 9,
-            CertificateFault::CaseShape(_) => 10,
         }
     }
 }

@@ -3,9 +3,6 @@
 
 ghost use Rattle.std.specs.Prelude.{◌≡◌, ℕ, ◌≤◌, List, Ok, All, length};
 ghost use Rattle.certificate.specs.Certificate.{CertificateData, IsHeld, IsReadable, max_pieces};
-ghost use Rattle.certificate.specs.CoverCertificate.{CoverCertificateData, IsFew};
-ghost use Rattle.certificate.specs.CoverReading.{IsHeldCovers, covers_of};
-ghost use Rattle.certificate.specs.CoverWriting.{covers_text, covers_value};
 ghost use Rattle.certificate.specs.Refutation.{RefutationData, IsHeldRefutation};
 ghost use Rattle.certificate.specs.RefutationReading.{refutation_of};
 ghost use Rattle.certificate.specs.RefutationWriting.{refutation_text};
@@ -30,17 +27,6 @@ pub fn certificates_are_written_as_they_are_read()
         certificate_of (certificate_text certificate) ≡ Ok certificate }
     ensures text { (certificate : CertificateData) →
         certificate_text certificate ≡ compact_text (certificate_value certificate) }
-{}
-
-/// What the bytes of a certificate by covers say has at most 528 conflicts and 64 cases, and these
-/// have at most 100,000 pieces in all. Its text says it: each one within these limits is read.
-pub fn covers_are_written_as_they_are_read()
-    ensures few { (bytes : List ℕ) (certificate : CoverCertificateData) →
-        covers_of bytes ≡ Ok certificate → IsFew certificate }
-    ensures read { (certificate : CoverCertificateData) → IsFew certificate →
-        IsHeldCovers certificate → covers_of (covers_text certificate) ≡ Ok certificate }
-    ensures text { (certificate : CoverCertificateData) →
-        covers_text certificate ≡ compact_text (covers_value certificate) }
 {}
 
 /// The text of a refutation says that refutation, and it is no longer than a refutation that is

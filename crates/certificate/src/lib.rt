@@ -2,8 +2,8 @@
 //! clock's error inside the bound there.
 //!
 //! [`read_certificate`] gives the certificate that a text says, or why it says none, and
-//! [`write_certificate`] the text that says it; [`read_covers`] and [`write_covers`] do so with a
-//! certificate by covers, [`read_refutation`] and [`write_refutation`] with a refutation. What a text is read as, from `answer` of
+//! [`write_certificate`] the text that says it; [`read_refutation`] and [`write_refutation`] do so
+//! with a refutation. What a text is read as, from `answer` of
 //! `worked_examples/src/checking/certificates.rt`, which the gate runs:
 //!
 //! ```text
@@ -17,16 +17,11 @@
 
 #![tactic(auto)]
 
-mod case;
-mod cases;
 mod certificate;
 mod compact;
 mod cover_certificate;
-mod cover_reading;
-mod cover_writing;
 mod entry;
 mod fault;
-mod groups;
 mod items;
 pub mod laws;
 mod piece;
@@ -41,8 +36,6 @@ mod writing;
 
 pub use certificate::{Certificate, MAX_PIECES, Piece};
 pub use cover_certificate::{Case, CoverCertificate, MAX_CASES, MAX_CONFLICTS};
-pub use cover_reading::read_covers;
-pub use cover_writing::write_covers;
 pub use fault::CertificateFault;
 pub use reading::read_certificate;
 pub use refutation::Refutation;

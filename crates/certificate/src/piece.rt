@@ -8,9 +8,8 @@ ghost use Rattle.certificate.specs.PartsData.{parts_data};
 ghost use Rattle.certificate.specs.Reading.{piece_of};
 
 use crate::certificate::Piece;
-use crate::entry::read_pairs;
+use crate::entry::{Entries, read_entries};
 use crate::fault::{CertificateFault, Judged};
-use arrayvec::ArrayVec;
 use json::{Invalid, Reader};
 use json_text::{next_unsigned, open_array, open_object, pass_value};
 
@@ -22,7 +21,7 @@ pub(crate) struct Parts {
     /// The end, if it is an integer below 2^64.
     upto: Option<u64>,
     /// The entries or their first fault, if they are an array.
-    entries: Option<Judged<ArrayVec<(u32, u32), 32>>>,
+    entries: Option<Judged<Entries>>,
 }
 
 /// The piece with this number, or its first fault.
@@ -102,15 +101,13 @@ fn read_listed(
     reader: &mut Reader<'_>,
     depth: usize,
     number: u32,
-) -> Result<Option<Judged<ArrayVec<(u32, u32), 32>>>, Invalid>
+) -> Result<Option<Judged<Entries>>, Invalid>
     ensures { Reads result (option_map (judged (λ entries. entries.items)))
         (parse_map (λ value. option_map (entries_in number) (as_array value))
         (next_value depth reader.old)) reader.new }
 {
     if open_array(reader, depth)? {
-        let many = CertificateFault::TooManyEntries(number);
-        let bad = CertificateFault::Shape(number);
-        Ok(Some(read_pairs(reader, depth - 1, many, bad)?))
+        Ok(Some(read_entries(reader, depth - 1, number)?))
     } else {
         Ok(None)
     }

@@ -1,7 +1,5 @@
 //! The array of pieces, read token by token.
 
-ghost use Rattle.std.specs.Prelude.{◌≤◌};
-ghost use Rattle.certificate.specs.Certificate.{max_pieces};
 ghost use Rattle.certificate.specs.Common.{parse_map, next_value, next_items};
 ghost use Rattle.certificate.specs.Fault.{ReadsOn};
 ghost use Rattle.certificate.specs.PartsData.{pieces_data};
@@ -14,20 +12,17 @@ use json::Reader;
 use json_text::{pass_items, pass_value};
 use std::alloc::{AllocError, Global};
 
-/// The pieces that are left of an array, counted from `first` on, or the first fault that they
-/// have.
+/// The pieces that are left of an array, or the first fault that they have.
 pub(crate) fn read_pieces(
     alloc: Global,
     reader: &mut Reader<'_>,
     depth: usize,
-    first: usize,
 ) -> Result<Judged<Vec<Piece>>, CertificateFault>
-    requires { first ≤ max_pieces }
     ensures { ReadsOn result (judged pieces_data)
-        (parse_map (pieces_in first) (next_items depth reader.old)) reader.new }
+        (parse_map pieces_in (next_items depth reader.old)) reader.new }
 {
     let mut found = Ok(Vec::new(alloc));
-    let mut count = first;
+    let mut count = 0;
     'pieces: while !reader.take_end_array() {
         if count == MAX_PIECES {
             pass_items(reader, depth)?;

@@ -22,7 +22,7 @@ use json_text::{open_array, open_object, pass_value};
 use std::alloc::Global;
 
 /// How deep arrays and objects may nest.
-pub(crate) const MAX_DEPTH: usize = 127;
+const MAX_DEPTH: usize = 127;
 
 /// The certificate that the bytes of a JSON text say, or the first fault that it has: at most
 /// 100,000 pieces, each with at most 32 entries.
@@ -143,11 +143,11 @@ fn read_listed(
     depth: usize,
 ) -> Result<Option<Judged<Vec<Piece>>>, CertificateFault>
     ensures { ReadsOn result (option_map (judged pieces_data))
-        (parse_map (λ value. option_map (pieces_in 0) (as_array value)) (next_value depth reader.old))
+        (parse_map (λ value. option_map pieces_in (as_array value)) (next_value depth reader.old))
         reader.new }
 {
     if open_array(reader, depth)? {
-        Ok(Some(read_pieces(alloc, reader, depth - 1, 0)?))
+        Ok(Some(read_pieces(alloc, reader, depth - 1)?))
     } else {
         Ok(None)
     }

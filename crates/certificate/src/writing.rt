@@ -38,7 +38,7 @@ fn certificate_bytes(alloc: Global, certificate: &Certificate) -> Result<Vec<u8>
 }
 
 /// Writes the pieces, with commas between them.
-pub(crate) fn push_pieces(text: &mut Vec<u8>, pieces: &[Piece]) -> Result<(), AllocError>
+fn push_pieces(text: &mut Vec<u8>, pieces: &[Piece]) -> Result<(), AllocError>
     ensures text { OnOk result (text.new.items ≡ text.old.items
         ++ join_with_byte comma (map spec.piece_text (map piece_data pieces.now))) }
     ensures held { OnOk result (All IsHeld (map piece_data pieces.now)) }
@@ -75,7 +75,7 @@ fn push_piece(
 }
 
 /// Writes the entries of a piece, with commas between them.
-pub(crate) fn push_entries(
+fn push_entries(
     text: &mut Vec<u8>,
     line: &mut Line,
     entries: &[(u32, u32)],
@@ -107,7 +107,7 @@ fn write_entry(line: &mut Line, index: usize, entry: (u32, u32))
 
 /// Writes a comma, but before the first element none.
 #[inline]
-pub(crate) fn put_comma(line: &mut Line, index: usize)
+fn put_comma(line: &mut Line, index: usize)
     requires { length line.old + 1 ≤ CAPACITY }
     ensures { line.new ≡ comma_before index ++ line.old }
 {

@@ -118,15 +118,6 @@ fn certificate_sentence(fault: &CertificateFault) -> Sentence
         }
         CertificateFault::TooManyPieces => says("has over 100000 pieces", remedy::MAKE_ANEW),
         CertificateFault::Memory => no_memory(),
-        CertificateFault::TooManyConflicts => says("has over 528 conflicts", remedy::MAKE_ANEW),
-        CertificateFault::Conflicts => {
-            says(
-                "has conflicts that aren't pairs of numbers",
-                remedy::MAKE_ANEW,
-            )
-        }
-        CertificateFault::TooManyCases => says("has over 64 cases", remedy::MAKE_ANEW),
-        CertificateFault::CaseShape(_) => says("has another form in that case", remedy::MAKE_ANEW),
     }
 }
 

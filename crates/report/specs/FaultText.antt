@@ -36,7 +36,7 @@ claim_said claims.RepeatedServer = Word (codes "repeated-server") ∷ Nothing �
 claim_said claims.Memory = Word (codes "memory") ∷ Nothing ∷ []
 claim_said claims.Groups = Word (codes "groups") ∷ Nothing ∷ []
 
--- of a certificate: its word, and the number of a piece or a case whose fault it is
+-- of a certificate: its word, and the number of a piece whose fault it is
 abbrev pub certificate_said : CertificateFault → List FieldData
 certificate_said certificates.Json = Word (codes "json") ∷ Nothing ∷ []
 certificate_said certificates.Top = Word (codes "top") ∷ Nothing ∷ []
@@ -46,11 +46,6 @@ certificate_said (certificates.TooManyEntries piece) =
     Word (codes "too-many-entries") ∷ Named (codes "piece") piece ∷ []
 certificate_said certificates.TooManyPieces = Word (codes "too-many-pieces") ∷ Nothing ∷ []
 certificate_said certificates.Memory = Word (codes "memory") ∷ Nothing ∷ []
-certificate_said certificates.TooManyConflicts = Word (codes "too-many-pairs") ∷ Nothing ∷ []
-certificate_said certificates.Conflicts = Word (codes "conflicts") ∷ Nothing ∷ []
-certificate_said certificates.TooManyCases = Word (codes "too-many-cases") ∷ Nothing ∷ []
-certificate_said (certificates.CaseShape case) =
-    Word (codes "shape") ∷ Named (codes "case") case ∷ []
 
 -- of a refutation: its word
 abbrev pub refutation_said : RefutationFault → List FieldData

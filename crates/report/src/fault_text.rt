@@ -51,7 +51,7 @@ fn claim_words(fault: &ClaimFault) -> (&'static str, Field<'static>)
     }
 }
 
-/// The word for a certificate's fault, and the number of the piece or case whose fault it is.
+/// The word for a certificate's fault, and the number of the piece whose fault it is.
 fn certificate_words(fault: &CertificateFault) -> (&'static str, Field<'static>)
     ensures said { (Word result.0.now ∷ field_data result.1 ∷ []) ≡ certificate_said fault.now }
     ensures room { length result.0.now + most_of (field_data result.1) ≤ 66 }
@@ -65,10 +65,6 @@ fn certificate_words(fault: &CertificateFault) -> (&'static str, Field<'static>)
         }
         CertificateFault::TooManyPieces => ("too-many-pieces", Field::Nothing),
         CertificateFault::Memory => ("memory", Field::Nothing),
-        CertificateFault::TooManyConflicts => ("too-many-pairs", Field::Nothing),
-        CertificateFault::Conflicts => ("conflicts", Field::Nothing),
-        CertificateFault::TooManyCases => ("too-many-cases", Field::Nothing),
-        CertificateFault::CaseShape(case) => ("shape", Field::Named("case", u64::from(*case))),
     }
 }
 

@@ -4,7 +4,7 @@ use Rattle.certificate.proofs.pieces.read_pieces.Given as goal
 
 abbrev pub invariant-pieces : goal.invariant-pieces
 invariant-pieces l = record {
-  read : parse_map (pieces_in l.first) (next_items l.depth l.fn.reader)
+  read : parse_map pieces_in (next_items l.depth l.fn.reader)
       ≡ parse_map (pieces_after l.count (judged pieces_data l.found)) (next_items l.depth l.reader);
   few : l.count ≤ max_pieces;
 }

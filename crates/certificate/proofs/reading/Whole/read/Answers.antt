@@ -5,7 +5,7 @@ use Rattle.certificate.proofs.reading.Whole.read.Goals as goal
 pub returns-in_ok-self-in-pieces : goal.returns-in_ok-self-in-pieces
 returns-in_ok-self-in-pieces c =
     let read = option_map (judged pieces_data) c.in_ok-self-in-pieces.field-0 in
-    let (v, same, next) = mapped_some (λ value. option_map (pieces_in 0) (as_array value))
+    let (v, same, next) = mapped_some (λ value. option_map pieces_in (as_array value))
     (next_value c.args.depth c.args.reader.now) read c.read_listed.new.reader c.in_ok-self-in-pieces.ensures in (
       v,
       next,

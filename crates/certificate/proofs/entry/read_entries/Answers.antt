@@ -1,39 +1,38 @@
-use Rattle.certificate.proofs.Common.{◌≡◌, ◌+◌, ◌≤◌, length, Some, None, Ok, sym, ap, ◌∙◌, arith, length-append, parse_map, after_end_array, mapped-shorter, element_refused, next_items, given, entry_of}
-use Rattle.certificate.proofs.EntriesRead.{so_far, and_one, list_after, too_many_there, one_more_there, none_there, pushed_one, pushed_none}
-use Rattle.certificate.proofs.entry.read_pairs.Given.{Over}
-use Rattle.certificate.proofs.entry.read_pairs.Goals as goal
-use Rattle.certificate.proofs.entry.read_pairs.Goals.{Joined-branch-3, in-Some, in-None}
+use Rattle.certificate.proofs.Common.{◌≡◌, ◌+◌, ◌≤◌, length, Some, None, Ok, sym, ap, ◌∙◌, arith, length-append, parse_map, after_end_array, mapped-shorter, element_refused, next_items, given, entry_of, Shape}
+use Rattle.certificate.proofs.EntriesRead.{so_far, and_one, entries_after, too_many_there, one_more_there, none_there, pushed_one, pushed_none}
+use Rattle.certificate.proofs.entry.read_entries.Goals as goal
+use Rattle.certificate.proofs.entry.read_entries.Goals.{Joined-branch-3, in-Some, in-None}
 
-pub returns-then-count : goal.returns-then-count
-returns-then-count g c =
+pub returns-then-count-eq-MAX_ENTRIES : goal.returns-then-count-eq-MAX_ENTRIES
+returns-then-count-eq-MAX_ENTRIES c =
     let l = c.entries in
     let found = so_far l.are_pairs l.entries.items in
     let going : (after_end_array l.reader ≡ None) × (c.take_end_array.new.self ≡ l.reader) = grind arith in
     l.invariant.read
-    ∙ too_many_there c.args.many c.args.bad g.row.MOST entry_of l.count found c.args.depth l.reader going.0 c.pass_items.new.reader (omega arith)
+    ∙ too_many_there c.args.number l.count found c.args.depth l.reader going.0 c.pass_items.new.reader (omega arith)
     (rw (← going.1) c.in_ok-pass_items.ensures.passed)
 
 pub returns-in_err-entry : goal.returns-in_err-entry
-returns-in_err-entry g c =
+returns-in_err-entry c =
     let l = c.entries in
     let found = so_far l.are_pairs l.entries.items in
     let going : (after_end_array l.reader ≡ None) × (c.take_end_array.new.self ≡ l.reader) = grind arith in
     let refused = l.invariant.read
-    ∙ element_refused (list_after c.args.many c.args.bad g.row.MOST entry_of l.count found) c.args.depth l.reader entry_of going.0
+    ∙ element_refused (entries_after c.args.number l.count found) c.args.depth l.reader entry_of going.0
     (rw (← going.1) c.in_err-entry.ensures) in
     grind (arith, refused)
 
 pub entries-smaller : goal.entries-smaller
-entries-smaller g c =
+entries-smaller c =
     let l = c.entries in
     let going : (after_end_array l.reader ≡ None) × (c.take_end_array.new.self ≡ l.reader) = grind arith in
     mapped-shorter entry_of c.args.depth l.reader c.read_entry.new.reader c.in_ok-entry.field-0
     (rw (← going.1) c.in_ok-entry.ensures)
 
-added : (g : Over) (c : Joined-branch-3 g) →
+added : (c : Joined-branch-3) →
     so_far c.match-branch-3.are_pairs c.match-branch-3.entries.items
     ≡ and_one (so_far c.entries.are_pairs c.entries.entries.items) c.in_ok-entry.field-0
-added g c =
+added c =
     let l = c.entries in
     elim c.match-branch-3.branch [
       | in-Some w ↦
@@ -43,8 +42,8 @@ added g c =
           rw (w.are_pairs-is, w.in-None.is) (pushed_none l.are_pairs l.entries.items l.entries.items)
     ]
 
-counted : (g : Over) (c : Joined-branch-3 g) → length c.match-branch-3.entries.items ≤ c.entries.count + 1
-counted g c =
+counted : (c : Joined-branch-3) → length c.match-branch-3.entries.items ≤ c.entries.count + 1
+counted c =
     let l = c.entries in
     elim c.match-branch-3.branch [
       | in-Some w ↦
@@ -54,7 +53,7 @@ counted g c =
     ]
 
 pub entries-preserved : goal.entries-preserved
-entries-preserved g c =
+entries-preserved c =
     let l = c.entries in
     let entry = c.in_ok-entry.field-0 in
     let found = so_far l.are_pairs l.entries.items in
@@ -62,28 +61,28 @@ entries-preserved g c =
     let going : (after_end_array l.reader ≡ None) × (c.take_end_array.new.self ≡ l.reader) = grind arith in
     record {
       read = l.invariant.read
-          ∙ one_more_there c.args.many c.args.bad g.row.MOST entry_of l.count found c.args.depth l.reader going.0 entry r
+          ∙ one_more_there c.args.number l.count found c.args.depth l.reader going.0 entry r
           (rw (← going.1) c.in_ok-entry.ensures)
-          ∙ ap (λ f. parse_map (list_after c.args.many c.args.bad g.row.MOST entry_of (l.count + 1) f) (next_items c.args.depth r))
-          (sym (added g c));
-      held = counted g c;
+          ∙ ap (λ f. parse_map (entries_after c.args.number (l.count + 1) f) (next_items c.args.depth r))
+          (sym (added c));
+      held = counted c;
       few = omega (arith, l.invariant.few);
     }
 
 pub returns-then-are_pairs : goal.returns-then-are_pairs
-returns-then-are_pairs g c =
+returns-then-are_pairs c =
     let l = c.entries in
     let r = c.take_end_array.new.self in
     l.invariant.read
-    ∙ none_there c.args.many c.args.bad g.row.MOST entry_of l.count (so_far l.are_pairs l.entries.items) c.args.depth l.reader r (grind arith)
+    ∙ none_there c.args.number l.count (so_far l.are_pairs l.entries.items) c.args.depth l.reader r (grind arith)
     l.invariant.few
-    ∙ ap (λ b. Some (given c.args.bad (so_far b l.entries.items) Ok, r)) c.if-are_pairs.true
+    ∙ ap (λ b. Some (given (Shape c.args.number) (so_far b l.entries.items) Ok, r)) c.if-are_pairs.true
 
 pub returns-else-are_pairs : goal.returns-else-are_pairs
-returns-else-are_pairs g c =
+returns-else-are_pairs c =
     let l = c.entries in
     let r = c.take_end_array.new.self in
     l.invariant.read
-    ∙ none_there c.args.many c.args.bad g.row.MOST entry_of l.count (so_far l.are_pairs l.entries.items) c.args.depth l.reader r (grind arith)
+    ∙ none_there c.args.number l.count (so_far l.are_pairs l.entries.items) c.args.depth l.reader r (grind arith)
     l.invariant.few
-    ∙ ap (λ b. Some (given c.args.bad (so_far b l.entries.items) Ok, r)) c.if-are_pairs.false
+    ∙ ap (λ b. Some (given (Shape c.args.number) (so_far b l.entries.items) Ok, r)) c.if-are_pairs.false
