@@ -33,7 +33,7 @@ def test_owned(place: Path) -> None:
                          (f":{os.environ['PATH']}", "."), (f"{os.environ['PATH']}:./", "")):
         how: dict[str, Any] = {
             "cwd": folder, "env": {**ENVIRONMENT, "PATH": path, "PYTHONPATH": python, "PYTHONSTARTUP": "os.py",
-            "LD_LIBRARY_PATH": ":", "PYTHONHOME": ""}}
+                                   "LD_LIBRARY_PATH": ":", "PYTHONHOME": ""}}
         for words in (("verify", "."), ("audit", "--again", "."), ("page", "--json", "."), ("help",)):
             status = dossier(*words, **how)[0]
             check(f"{words[0]} in a delivered folder by {path[:2]}..{path[-2:]}", owned=(owned.exists(), False),
@@ -76,7 +76,7 @@ def test_beside(place: Path) -> None:
         how = how if top == house and how else {}
         status, out, _ = run([top / "ntpaudit-dossier", "--version"], env=bare, **how)
         check(f"the program of {top.name}", status=(status, 0), sum=(sum_of(Path(PROGRAM).read_bytes()) in out.decode(),
-                                                                    True))
+                                                                     True))
     dossier("audit", folder := folder_of(place, "host"))
     run([copy / "ntpaudit-dossier", "verify", "--second", folder], env=bare)
     check("what lies beside", run=((place / "owned").exists(), False))
@@ -134,7 +134,7 @@ def test_statuses(place: Path) -> None:
     text.chmod(0o755)
     status, out, err = dossier("verify", folder, env={**ENVIRONMENT, "NTPAUDIT": str(text)})
     check("a program that is none", run=((status, out, err), (4, b"", b"ntpaudit-dossier: text can't be called (Exec "
-                                                                     b"format error)\n")))
+                                                              b"format error)\n")))
     locale = place / "xx.ISO-8859-1"
     if is_here("localedef", "names in another locale"):
         run(["localedef", "-i", "en_US", "-f", "ISO-8859-1", locale])

@@ -571,18 +571,18 @@ def test_kept_by_strangers(place: Path) -> None:
     swapped = {"f.pcap.zst": packed, **forged(kept={"sums": {"f.pcap": hashlib.sha256(packed).hexdigest()}})}
     for name, files, said, status in rows(
             ("another beside it", {"f.pcap": other}, "f.pcap isn't the file that was audited",
-            1),
+             1),
             ("another in it", {"f.pcap.zst": packed},
-            "f.pcap isn't the file that was audited", 1),
+             "f.pcap isn't the file that was audited", 1),
             ("another with its sum", swapped, "f.pcap isn't the file that was audited", 1),
             ("a joined one", {"joined.pcap": other}, "joined.pcap isn't of this", 1),
             ("one that isn't packed", {"f.pcap.zst": other},
-            "f.pcap isn't the file that was audited", 1),
+             "f.pcap isn't the file that was audited", 1),
             ("one that isn't there", {"f.pcap.zst": None}, "no capture in the folder", 4),
             ("a name that is no capture's", forged(kept={"sums": {"claim.json": "0" * 64}}),
-            "isn't one that is taken", 2),
+             "isn't one that is taken", 2),
             ("a name that is no input's", forged(kept={"sums": {"g.pcap": "0" * 64}}),
-            "isn't one that is taken", 2)):
+             "isn't one that is taken", 2)):
         for file, data in files.items():
             (folder / file).write_bytes(data) if data is not None else (folder / file).unlink()
         found = dossier("verify", folder)

@@ -139,8 +139,8 @@ def test_allowed_signers(place: Path) -> None:
     (place / "signers").write_text(line)
     purpose = ["ssh-keygen", "-q", "-Y", "sign", "-f", key, "-n", "file", folder / "audit.json"]
     for name, forge in rows(("of another purpose", lambda: run(purpose)),
-                        ("of no form", lambda: (folder / "audit.json.sig").write_text("junk")),
-                        ("that is empty", lambda: (folder / "audit.json.sig").write_text(""))):
+                            ("of no form", lambda: (folder / "audit.json.sig").write_text("junk")),
+                            ("that is empty", lambda: (folder / "audit.json.sig").write_text(""))):
         (folder / "audit.json.sig").unlink()
         forge()
         status, out, _ = dossier("verify", "--signers", place / "signers", folder)
@@ -245,8 +245,8 @@ def test_elsewhere(place: Path) -> None:
     dossier("audit", folder)
     record = json.loads((folder / "audit.json").read_text())
     for change, where in rows(({"inputs": {**record["inputs"], "/dev/zero": "0"}}, "inputs /dev/zero"),
-                          ({"capture": "../elsewhere/f.pcap"}, "capture"), ({"inputs": 5}, "inputs"),
-                          ({"capture": None}, "capture")):
+                              ({"capture": "../elsewhere/f.pcap"}, "capture"), ({"inputs": 5}, "inputs"),
+                              ({"capture": None}, "capture")):
         (folder / "audit.json").write_text(json.dumps({**record, **change}))
         line = f"{folder}: ntpaudit-dossier: audit.json isn't one that is taken ({where})\n"
         check(f"a record with {change}", run=(dossier("verify", folder)[:2], (2, line.encode())))
@@ -442,7 +442,7 @@ def test_measure(place: Path) -> None:
     (own / "tcpdump").chmod(0o755)
     late = {**ENVIRONMENT, "PATH": f"{own}:{os.environ['PATH']}"}
     for name, words, env in rows(("", [], ENVIRONMENT), ("under load", ["--load"], ENVIRONMENT),
-                             ("of late stamps", [], late)):
+                                 ("of late stamps", [], late)):
         status, out, err = dossier("measure", "--count", "40", *words, "-o", place / "measured.json", env=env)
         found = json.loads((place / "measured.json").read_text())
         numbers = dict(line.split() for line in out.decode().splitlines()[1:5])
@@ -490,7 +490,7 @@ def test_measuring(place: Path) -> None:
     check("stamps of two ends", seen=(matched({1: 100, 2: 200}, {2: 205, 1: 97, 9: 1}, 2), [-3, 5]),
           some=(matched({k: 100 for k in range(1, 10)}, {k: 101 for k in range(1, 11)}, 10), [1] * 9))
     for name, left, arrived, packets in rows(("a packet that wasn't recorded", {1: 100, 2: 200}, {1: 103}, 2),
-                                         ("nothing recorded", {}, {}, 9)):
+                                             ("nothing recorded", {}, {}, 9)):
         try:
             seen: object = matched(left, arrived, packets)
         except Fault as fault:
@@ -579,8 +579,8 @@ def test_allowance(place: Path) -> None:
     later = [capture_of(cases[name][0].parent / BEGUN.replace("T07", "T08"), f"1:-1000..1000@{unix('13:02:55')}")
              for name in ("a recorder", "a recorder of more addresses", "no evidence")]
     for name, words, reading in rows(("one recorder", [later[0]], 0), ("two recorders", [later[1]], 0),
-                                 ("a recorder and nothing", [later[2]], 100_000),
-                                 ("a number", ["--reading-ns", "7000"], 7000)):
+                                     ("a recorder and nothing", [later[2]], 100_000),
+                                     ("a number", ["--reading-ns", "7000"], 7000)):
         check(f"a draft by {name}", reading=(drafted(good, *words)[1].get("reading_ns"), reading))
     for number, asked in ((0, ""), (1, "did you mean 1000?"), (999, "did you mean 999000?"), (1000, "")):
         err = drafted(none, "--reading-ns", str(number))[2]

@@ -75,7 +75,7 @@ def test_drafts_of_nights(place: Path) -> None:
     vlan = folder_of(place, "vlan", *VLAN)
     for words, verdict in rows(((), b"unsupported"), (("--leap-seconds", DATA / "leap-seconds.list"), b"yes")):
         check(f"an audit with an old list {bool(words)}", line=(dossier("audit", *words, vlan, env=old)[1].split()[0],
-                                                               verdict))
+                                                                verdict))
 
 
 def test_own_remedies(place: Path) -> None:

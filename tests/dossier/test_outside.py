@@ -179,7 +179,7 @@ def test_root(place: Path) -> None:
         check(f"root in another's folder: {words[0]}", status=(status, 4), said=(b"runuser" in out, True),
               left=(sorted(path.name for path in folder.rglob("*")), before))
     for words in rows(("page", "-o", folder / "p.html"), ("page", "--metrics", folder / "m.prom"),
-                  ("page", "--split", folder / "pages"), ("page", "--split", folder)):
+                      ("page", "--split", folder / "pages"), ("page", "--split", folder)):
         own = folder_of(place, f"own {words[1]} {len(str(words[2]))}")
         dossier("audit", own)
         dossier(*words, own)

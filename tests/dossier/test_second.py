@@ -14,7 +14,8 @@ from tests.dossier.test_evidence import key_of
 SAID = "Judged by two programs: at "
 RECHECK = ROOT / "second/recheck"
 FEW: dict[str, Any] = {"client": "192.0.2.10", "servers": [f"192.0.2.{k}" for k in (1, 2, 3)], "false_max": 0,
-       "from": "2001-09-09T01:46:40Z", "to": "2001-09-09T01:47:44Z", "drift_ppb": 100_000, "reading_ns": 0}
+                       "from": "2001-09-09T01:46:40Z", "to": "2001-09-09T01:47:44Z", "drift_ppb": 100_000,
+                       "reading_ns": 0}
 OPEN = {**FEW, "from": "2001-09-09T02:03:20Z", "to": "2001-09-09T02:03:20Z", "bound_ns": 119_000_000}
 AT, MS = 1_000_000_010, 4_294_967
 
@@ -198,7 +199,8 @@ def test_third(place: Path) -> None:
     check("three programs", run=(dossier("verify", *state, "--second", folder, env=three), (0, line.encode(), b"")))
     page = "".join(check_page("a page, judged by three", dossier("page", *state, folder)[1].decode()).words)
     check("three programs, on the page", said=("Judged by three programs: at " in page, True))
-    with_bug = {**ENVIRONMENT, "NTPAUDIT_JUDGE": planted(place / "planted", "-claim.bound <= hull[0]", "False")["NTPAUDIT_SECOND"]}
+    bug = planted(place / "planted", "-claim.bound <= hull[0]", "False")
+    with_bug = {**ENVIRONMENT, "NTPAUDIT_JUDGE": bug["NTPAUDIT_SECOND"]}
     words = 'of certificate.json the program says "verdict yes", and the judge "verdict no piece 0 exceeds" (status 1)'
     check("a judge that disputes", run=(dossier("verify", *state, "--second", folder, env=with_bug)[:2],
                                         (1, f"{folder}: disputed: {words}\n".encode())))

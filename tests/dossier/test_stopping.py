@@ -110,7 +110,7 @@ def test_budget(place: Path) -> None:
     wide = folder_of(place, "step", servers=[f"192.0.2.{number}" for number in range(1, 33)],
                      **{"from": "2026-11-22T00:00:00Z", "to": "2026-11-23T00:00:00Z"})
     for words, folder, said in rows((("--days",), many, b"more than 1,100 days"),
-                                (("--step", "1"), wide, b"lines, and a folder")):
+                                    (("--step", "1"), wide, b"lines, and a folder")):
         before, (status, out, _) = of_processor(), limited("audit", *words, folder, timeout=SECONDS)
         check(f"too much: {folder.name}", status=(status, 2), said=(said in out, True),
               cheap=(of_processor() - before < 30, True))
@@ -128,8 +128,8 @@ def test_budget(place: Path) -> None:
     from dossier.capture import traffic
     work, bounds = wanted_of(place), jobs.bounds_of
     for name, few, limit in (("memory", jobs.Bounds(SECONDS, 1 << 22, 1 << 30), "out of memory"),
-                            ("room", jobs.Bounds(SECONDS, 1 << 30, 9000), "more room than a folder may"),
-                            ("processor", jobs.Bounds(1, 1 << 30, 1 << 30), "not done within 1 s")):
+                             ("room", jobs.Bounds(SECONDS, 1 << 30, 9000), "more room than a folder may"),
+                             ("processor", jobs.Bounds(1, 1 << 30, 1 << 30), "not done within 1 s")):
         jobs.bounds_of = lambda *_, few=few: few
         try:
             own = str(folder_of(place, name))

@@ -22,7 +22,7 @@ from pathlib import Path
 from typing import Any
 from unittest.mock import patch
 
-from tests.support import DATA, ROOT, SECONDS, Ran, check, children, is_here, run, wait_until
+from tests.support import DATA, ROOT, SECONDS, check, children, is_here, run, wait_until
 from tests.dossier.audits import (ENVIRONMENT, KEEP, PROGRAM, SCRIPT, SEARCH, called, check_page, dossier,
                                   folder_of, parts_left, rows, skipped, table, within)
 from tests.dossier.test_evidence import key_of, why_no_link
@@ -694,8 +694,9 @@ def test_hostile_inputs(place: Path) -> None:
     os.mkfifo(fifo)
     capture, claim = DATA / "clients-us.pcap", DATA / "clients-us.claim.json"
     for words in rows(["draft", fifo], ["draft", "--chrony", fifo, capture], ["draft", "--measured", fifo, capture],
-                  ["picture", claim, fifo], ["picture", fifo, capture], ["verify", "--signers", fifo, place],
-                  ["audit", "--leap-seconds", fifo, place], ["draft", "/dev/zero"], ["picture", "/dev/zero", capture]):
+                      ["picture", claim, fifo], ["picture", fifo, capture], ["verify", "--signers", fifo, place],
+                      ["audit", "--leap-seconds", fifo, place], ["draft", "/dev/zero"],
+                      ["picture", "/dev/zero", capture]):
         status, out, err = limited(*words)
         check(f"a file that is none: {words[0]} {[str(word) for word in words[1:]]}", status=(status, 2),
               line=(b" is a " in err and err.count(b"\n") == 1, True), output=(out, b""))
@@ -819,11 +820,11 @@ def test_own_faults(place: Path) -> None:
     def crash() -> None:
         os.kill(os.getpid(), signal.SIGSEGV)
     for kind, status, line in rows((MemoryError, 3, "out of memory"), (all_memory, 3, "out of memory"),
-                               (lambda: OSError(errno.ENOSPC, "No space left on device"), 4,
-                                "it can't be worked on (No space left on device)"),
-                               (lambda: IndexError("x"), 2, "it can't be worked on (IndexError: x)"),
-                               (crash, 3, "the process of this folder was ended"),
-                               (lambda: time.sleep(1000), 2, "not done within {} s (--limit)")):
+                                   (lambda: OSError(errno.ENOSPC, "No space left on device"), 4,
+                                    "it can't be worked on (No space left on device)"),
+                                   (lambda: IndexError("x"), 2, "it can't be worked on (IndexError: x)"),
+                                   (crash, 3, "the process of this folder was ended"),
+                                   (lambda: time.sleep(1000), 2, "not done within {} s (--limit)")):
         def failing(*given: Any, kind: Any = kind) -> Any:
             if os.path.exists("/tmp") and first_sum in given[0].sums.values():
                 raise kind()

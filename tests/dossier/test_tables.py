@@ -585,20 +585,20 @@ def test_verify(place: Path) -> None:
     differs({"more.pcap": kept["f.pcap"]}, "more.pcap is new")
     differs({"more-drift.claim.json": b""}, "more-drift.claim.json isn't of this audit")
     for change, line in rows(({"verdict": "open", "reason": {"why": "tick"}},
-                          "entries 0 verdict is `open`, and by the inputs `yes`"),
-                         ({"least_ns": 1}, f"entries 0 least_ns is `1`, and by the inputs `{entry['least_ns']}`"),
-                         ({"counts": {**entry["counts"], "samples": 58}},
-                          "entries 0 counts samples is `58`, and by the inputs `57`"),
-                         ({"warnings": []}, "entries 0 warnings is"),
-                         ({"servers": entry["servers"][::-1]}, "entries 0 servers 0 address is"),
-                         ({"claim": {**entry["claim"], "bound_ns": 1}},
-                          "entries 0 claim bound_ns is `1`, and by the inputs `5000000`"),
-                         ({"envelope_step": 2}, "entries 0 envelope_step is `2`, and by the inputs `1`"),
-                         ({"leap": {**entry["leap"], "says": "within"}}, "entries 0 leap says is `within`"),
-                         ({"worst": {**entry["worst"], "piece": 0}}, "entries 0 worst piece is `0`"),
-                         ({"refutation": {**entry["refutation"], "error": 1}}, "entries 0 refutation error is `1`"),
-                         ({"part": "2026-11-22"}, "entries 0 part is `2026-11-22`"),
-                         ({"outputs": {}}, "isn't of this audit")):
+                              "entries 0 verdict is `open`, and by the inputs `yes`"),
+                             ({"least_ns": 1}, f"entries 0 least_ns is `1`, and by the inputs `{entry['least_ns']}`"),
+                             ({"counts": {**entry["counts"], "samples": 58}},
+                              "entries 0 counts samples is `58`, and by the inputs `57`"),
+                             ({"warnings": []}, "entries 0 warnings is"),
+                             ({"servers": entry["servers"][::-1]}, "entries 0 servers 0 address is"),
+                             ({"claim": {**entry["claim"], "bound_ns": 1}},
+                              "entries 0 claim bound_ns is `1`, and by the inputs `5000000`"),
+                             ({"envelope_step": 2}, "entries 0 envelope_step is `2`, and by the inputs `1`"),
+                             ({"leap": {**entry["leap"], "says": "within"}}, "entries 0 leap says is `within`"),
+                             ({"worst": {**entry["worst"], "piece": 0}}, "entries 0 worst piece is `0`"),
+                             ({"refutation": {**entry["refutation"], "error": 1}}, "entries 0 refutation error is `1`"),
+                             ({"part": "2026-11-22"}, "entries 0 part is `2026-11-22`"),
+                             ({"outputs": {}}, "isn't of this audit")):
         differs({"audit.json": forged(**change)}, line)
     differs(with_output("report.txt", kept["report.txt"].replace(b"samples 57", b"samples 58")),
             "report.txt: from byte ")
@@ -798,8 +798,8 @@ def test_five_commands(place: Path) -> None:
 
 
 CLAIM_OF_TWO: dict[str, Any] = {"client": "192.0.2.10", "servers": ["192.0.2.1", "192.0.2.2"], "false_max": 0,
-                "from": "2001-09-09T01:46:40Z", "to": "2001-09-09T01:47:44Z", "bound_ns": 60_000_000,
-                "drift_ppb": 100_000, "reading_ns": 0}
+                                "from": "2001-09-09T01:46:40Z", "to": "2001-09-09T01:47:44Z", "bound_ns": 60_000_000,
+                                "drift_ppb": 100_000, "reading_ns": 0}
 
 
 TICK = 7710888014534666407

@@ -17,8 +17,8 @@ from tests.dossier.leaps import LATER, leap_list
 FIRST = 1_000_000_000
 GOOD = [f"{server}:-1000..1000@{FIRST + second}" for second in (10, 40) for server in (1, 2, 3, 4)]
 CLAIM: dict[str, Any] = {"client": "192.0.2.10", "servers": [f"192.0.2.{k}" for k in (1, 2, 3, 4)], "false_max": 1,
-         "from": "2001-09-09T01:46:45Z", "to": "2001-09-09T01:47:20Z", "bound_ns": 60_000_000, "drift_ppb": 100_000,
-         "reading_ns": 0}
+                         "from": "2001-09-09T01:46:45Z", "to": "2001-09-09T01:47:20Z", "bound_ns": 60_000_000,
+                         "drift_ppb": 100_000, "reading_ns": 0}
 SETUP: dict[str, Any] = {
     "kind": "drift", "oscillator_ppb": 100_000, "drift_ppb": 600_000, "made": "2001-09-09T00:00:00Z",
     "configuration": {"client": "chronyd", "files": {}, "slew_ppb": 500_000}, "tracking": None}
@@ -58,8 +58,9 @@ AGAINST: dict[str, Any] = {
 IN_SHORT = {"drift": "more drift than is granted", "reading": "a greater allowance than is granted",
             "step": "a logged step", "leap-second": "a leap second", "leap-ends": "the list of leap seconds has ended"}
 SUPPORTED: dict[str, Any] = {"drift": ({"drift": SETUP}, {"drift_ppb": 600_000}),
-             "reading": ({"reading": measured(60_000)}, {"reading_ns": 60_000}),
-             "step": ({"drift": {**SETUP, "tracking": logged("2001-09-09T02:00:00Z")}}, {"drift_ppb": 600_000})}
+                             "reading": ({"reading": measured(60_000)}, {"reading_ns": 60_000}),
+                             "step": ({"drift": {**SETUP, "tracking": logged("2001-09-09T02:00:00Z")}},
+                                      {"drift_ppb": 600_000})}
 """The same kinds, with evidence that doesn't speak against it."""
 
 
@@ -67,9 +68,9 @@ def test_unsupported(place: Path) -> None:
     """A yes against which the folder's own evidence speaks has a badge of its own and isn't a yes, anywhere."""
     lists: dict[str, Any] = {
         "leap-second": (leap_list(place / "second.list", LATER, (FIRST + 30, 11)), "A leap second at the end of",
-        "Claim another span"),
+                        "Claim another span"),
         "leap-ends": (leap_list(place / "ended.list", FIRST - 86_400), "was good until 2001-09-08 only",
-        "--leap-seconds")}
+                      "--leap-seconds")}
     cases: dict[str, Any] = {
         kind: (evidence, changes, said, to_do, ()) for kind, (evidence, changes, said, to_do) in AGAINST.items()}
     cases |= {kind: ({}, {}, said, to_do, ("--leap-seconds", list_)) for kind, (list_, said, to_do) in lists.items()}
@@ -107,7 +108,7 @@ def test_oscillator(place: Path) -> None:
     slow = {**SETUP, "drift_ppb": 90_000, "oscillator_ppb": 80_000,
             "configuration": {"client": "chronyd", "files": {}, "slew_ppb": 10_000}}
     for name, evidence, drift, is_warned in rows(("alone", {}, 100_000, True), ("with more", {}, 600_000, False),
-                                             ("with evidence", {"drift": slow}, 100_000, False)):
+                                                 ("with evidence", {"drift": slow}, 100_000, False)):
         folder = good_folder(place, name, evidence, drift_ppb=drift)
         status, row = dossier("audit", folder)[0], table(folder)[0]
         text = "".join(check_page(f"a page of an oscillator {name}", dossier("page", folder)[1].decode()).words)
@@ -149,7 +150,7 @@ def test_interleaved(place: Path) -> None:
     claim = {"client": "10.9.0.2", "servers": ["10.9.0.1", "10.9.0.3"], "false_max": 0,
              **{name: json.loads(out)[name] for name in ("from", "to")}, "bound_ns": 10**9}
     for name, changes, is_warned in rows(("both", {}, True), ("one", {"servers": ["10.9.0.1"]}, True),
-                                     ("other", {"servers": ["10.9.0.3"]}, False)):
+                                         ("other", {"servers": ["10.9.0.3"]}, False)):
         folder = folder_of(place, name, capture, **{**CLAIM, **claim, **changes})
         status = dossier("audit", folder)[0]
         row, text = table(folder)[0], dossier("page", folder)[1].decode()

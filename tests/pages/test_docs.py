@@ -66,7 +66,7 @@ def is_shown(shown: list[str], seen: list[str]) -> bool:
 def hold_blocks(document: Path) -> None:
     typed = list(blocks(document.read_text("utf-8")))
     links: dict[str, Path | str] = {"ntpaudit": PROGRAM, "ntpaudit-dossier": ROOT / "ntpaudit-dossier",
-                                   "second": ROOT / "second"}
+                                    "second": ROOT / "second"}
     with transcript.folder(**links) as place:
         answers = transcript.typed([command for command, _ in typed], place, NTPAUDIT=PROGRAM,
                                    XDG_STATE_HOME=f"{place}/.state",
@@ -375,7 +375,7 @@ def test_definitions() -> None:
         own = "\n".join(code_of(crate, "specs", "src") for crate in named)
         heading = section.splitlines()[0]
         check(f"DEFINITIONS.md: {heading}", crates=(bool(named) and all((ROOT / "crates" / one).is_dir()
-                                                                       for one in named), True))
+                                                                        for one in named), True))
         for word in set(CODE.findall(section)):
             if WORD.fullmatch(word):
                 check(f"DEFINITIONS.md: {heading}: {word}", there=(bool(re.search(rf"\b{word}\b", own)), True))
