@@ -1,6 +1,5 @@
 pub mod Common
 pub mod Certificate
-pub mod CoverCertificate
 pub mod Compact
 pub mod Fault
 pub mod Parts

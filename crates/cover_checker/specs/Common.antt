@@ -1,7 +1,7 @@
 -- What the definitions and contracts of this crate name of others.
 pub use Rattle.certificate.specs.Certificate.{PieceData, max_pieces, piece_data}
-pub use Rattle.certificate.specs.CoverCertificate.{CaseData, CoverCertificateData, case_data, max_cases, max_conflicts}
-pub use Rattle.certificate.specs.CoverCertificate.{data_of as certificate_data}
+pub use Rattle.cover_checker.specs.CoverCertificate.{CaseData, CoverCertificateData, case_data, max_cases, max_conflicts}
+pub use Rattle.cover_checker.specs.CoverCertificate.{data_of as certificate_data}
 pub use Rattle.certificate.specs.Refutation.{RefutationData}
 pub use Rattle.checker.specs.Course.{ArrivesBeforeStamp, ComesInOrder, Course, Fits, KeepsRootDistance, LeavesAfterStamp}
 pub use Rattle.checker.specs.Refutation.{IsRefuted}
@@ -18,7 +18,7 @@ pub use Rattle.error_marks.specs.declared.mark.Mark.{Mark}
 pub use Rattle.feasibility.specs.Contradiction.{IsImpossiblePair, Pair}
 pub use Rattle.feasibility.specs.Cover.{group_of, size_of}
 pub use Rattle.feasibility.specs.DriftRefutation.{IsRefutedWithDrift}
-pub use Rattle.feasibility.specs.Groups.{HoldsOne, holds}
+pub use Rattle.feasibility.specs.Groups.{holds}
 pub use Rattle.feasibility.specs.Keeping.{KeepsHigh, KeepsLow}
 pub use Rattle.feasibility.specs.Members.{LieWithin}
 pub use Rattle.feasibility.specs.declared.groups.Groups.{Groups}

@@ -1,4 +1,5 @@
 pub mod Common
+pub mod CoverCertificate
 pub mod Interval
 pub mod Conflict
 pub mod Case

@@ -1,6 +1,6 @@
 //! A certificate by covers.
 
-use crate::certificate::Piece;
+use certificate::Piece;
 use arrayvec::ArrayVec;
 
 /// How many cases a certificate by covers may have.
