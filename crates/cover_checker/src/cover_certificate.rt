@@ -1,7 +1,7 @@
 //! A certificate by covers.
 
-use certificate::Piece;
 use arrayvec::ArrayVec;
+use certificate::Piece;
 
 /// How many cases a certificate by covers may have.
 pub const MAX_CASES: usize = 64;
