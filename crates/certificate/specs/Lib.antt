@@ -1,5 +1,6 @@
 pub mod Common
 pub mod Certificate
+pub mod CoverCertificate
 pub mod Compact
 pub mod Fault
 pub mod Parts

@@ -19,6 +19,7 @@
 
 mod certificate;
 mod compact;
+mod cover_certificate;
 mod entry;
 mod fault;
 mod items;
@@ -34,6 +35,7 @@ mod scanner;
 mod writing;
 
 pub use certificate::{Certificate, MAX_PIECES, Piece};
+pub use cover_certificate::{Case, CoverCertificate, MAX_CASES, MAX_CONFLICTS};
 pub use fault::CertificateFault;
 pub use reading::read_certificate;
 pub use refutation::Refutation;
