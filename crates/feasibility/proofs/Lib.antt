@@ -32,6 +32,7 @@ pub mod CoverRows
 pub mod CoverWithin
 pub mod CoverList
 pub mod MinimalCovers
+pub mod CasesHeld
 pub mod PartialTables
 pub mod SortedMarks
 pub mod TableCovers

@@ -1,6 +1,6 @@
 //! A set of groups.
 
-ghost use Rattle.std.specs.Prelude.{◌≡◌, ◌==◌, ◌||◌, ◌<◌, ◌≤◌, ℕ, count_by, length};
+ghost use Rattle.std.specs.Prelude.{◌≡◌, ◌==◌, ◌||◌, ◌<◌, ◌≤◌, ℕ, count_by, false, length};
 ghost use Rattle.feasibility.specs.Common.{data_of as claim_data, numbers_below};
 ghost use Rattle.feasibility.specs.Cover.{is_of, servers_of};
 ghost use Rattle.feasibility.specs.Groups.{holds};
@@ -17,6 +17,13 @@ pub struct Groups {
 }
 
 impl Groups {
+    /// No group.
+    pub fn none() -> Groups
+        ensures { (k : ℕ) → holds result k ≡ false }
+    {
+        Groups { bits: 0 }
+    }
+
     /// The set and this group.
     pub fn with(self, group: u8) -> Groups
         requires { group < 32 }
