@@ -1,0 +1,69 @@
+-- What the entries of a piece say, each by itself.
+use Rattle.cover_checker.proofs.Common.{◌≡◌, ℕ, suc, Bool, true, false, cond, not, List, [], ◌∷◌, ◌++◌, Option, None, Some, Result, Ok, Err, refl, subst, arith, nat_tests, All, All-nil, All-push, slice_get, ◌==◌, list_any, ClaimData, Exchange, Part, PieceWhy, Stretch, LeftOut, Of, group_of, part_from, part_of, parts_after, unless_refused}
+use Rattle.checker.specs.declared.verdict.Why.TheVariants.{MixedServers, RepeatedServer}
+
+module _ (claim : ClaimData) (xs : List Exchange) (out : ℕ → Bool) (stretch : Stretch) where
+  -- a part is what an entry says, of one server whose group isn't left out
+  pub record IsSaid (entry : ℕ × ℕ) (part : Part) : Type 0 where
+    pub low : Exchange
+    pub high : Exchange
+    pub low_stands : slice_get xs entry.0 ≡ Some low
+    pub high_stands : slice_get xs entry.1 ≡ Some high
+    pub one_server : low.server ≡ high.server
+    pub stays : out (group_of claim low) ≡ false
+    pub is : part_of claim stretch low high ≡ part
+
+  tested : (entry : ℕ × ℕ) (x y : Exchange) (mixed repeated left : Bool) (part : Part)
+      → slice_get xs entry.0 ≡ Some x → slice_get xs entry.1 ≡ Some y
+      → not (x.server == y.server) ≡ mixed → out (group_of claim x) ≡ left
+      → cond mixed (Err (Of MixedServers)) (cond repeated (Err (Of RepeatedServer))
+      (cond left (Err LeftOut) (Ok (part_of claim stretch x y)))) ≡ Ok part → IsSaid entry part
+  tested entry x y true repeated left part at_x at_y one in' e = absurd cc
+  tested entry x y false true left part at_x at_y one in' e = absurd cc
+  tested entry x y false false true part at_x at_y one in' e = absurd cc
+  tested entry x y false false false part at_x at_y one in' e = record {
+    low = x;
+    high = y;
+    low_stands = at_x;
+    high_stands = at_y;
+    one_server = grind (arith, nat_tests);
+    stays = in';
+    is = (let same : part_of claim stretch x y ≡ part = cc in same);
+  }
+
+  said : (earlier : List Part) (entry : ℕ × ℕ) (low high : Option Exchange) (part : Part)
+      → slice_get xs entry.0 ≡ low → slice_get xs entry.1 ≡ high
+      → part_from claim out stretch earlier low high ≡ Ok part → IsSaid entry part
+  said earlier entry None high part at_low at_high e = absurd cc
+  said earlier entry (Some x) None part at_low at_high e = absurd cc
+  said earlier entry (Some x) (Some y) part at_low at_high e =
+      tested entry x y (not (x.server == y.server)) (list_any (λ part. part.server == x.server) earlier)
+      (out (group_of claim x)) part at_low at_high refl refl e
+
+  -- what holds of whatever an entry says holds of all that the entries say
+  module _ (P : Part → Type 0) where
+    step : (earlier : List Part) (entry : ℕ × ℕ) (entries : List (ℕ × ℕ)) (parts : List Part)
+        (first : Result Part PieceWhy)
+        → ((part : Part) → first ≡ Ok part
+        → parts_after claim xs out stretch (earlier ++ part ∷ []) entries ≡ Ok parts → All P parts)
+        → unless_refused first (λ part. parts_after claim xs out stretch (earlier ++ part ∷ []) entries) ≡ Ok parts
+        → All P parts
+    step earlier entry entries parts (Err why) rest e = absurd cc
+    step earlier entry entries parts (Ok part) rest e = rest part refl e
+
+    after : (earlier : List Part) (entries : List (ℕ × ℕ)) (parts : List Part)
+        → ((j : ℕ) (entry : ℕ × ℕ) (part : Part) → slice_get entries j ≡ Some entry → IsSaid entry part → P part)
+        → All P earlier → parts_after claim xs out stretch earlier entries ≡ Ok parts → All P parts
+    after earlier [] parts each so_far e = (let same : earlier ≡ parts = cc in subst (All P) same so_far)
+    after earlier (entry ∷ entries) parts each so_far e =
+        step earlier entry entries parts
+        (part_from claim out stretch earlier (slice_get xs entry.0) (slice_get xs entry.1))
+        (λ part is rest.
+        after (earlier ++ part ∷ []) entries parts (λ j next said' at. each (suc j) next said' at)
+        (All-push P earlier part so_far (each 0 entry part refl (said earlier entry _ _ part refl refl is))) rest)
+        e
+
+    pub all_said : (entries : List (ℕ × ℕ)) (parts : List Part)
+        → ((j : ℕ) (entry : ℕ × ℕ) (part : Part) → slice_get entries j ≡ Some entry → IsSaid entry part → P part)
+        → parts_after claim xs out stretch [] entries ≡ Ok parts → All P parts
+    all_said entries parts each e = after [] entries parts each (All-nil P) e

@@ -1,0 +1,9 @@
+pub mod Common
+pub mod Interval
+pub mod Conflict
+pub mod Case
+pub mod Entry
+pub mod Acceptance
+pub mod Verdict
+pub mod NamedFit
+pub mod Traceability

@@ -1,0 +1,16 @@
+//! Whether a certificate by covers shows a claim.
+//!
+//! Such a certificate names conflicts, pairs of exchanges of which one has a false server, and cases:
+//! groups that hold a false server, with pieces of the span that go by the others. [`check_covers`]
+//! says whether it is accepted, and if it isn't, which test is the first that fails.
+//!
+//! An accepted certificate shows the claim in every course of events that fits the exchanges that it
+//! names: the false groups have an end of each conflict, so they hold all groups of some case, and
+//! as many fewer of the others are false. [`laws`] has that, and why.
+
+#![tactic(auto)]
+
+pub mod laws;
+mod verdict;
+
+pub use verdict::{CaseWhy, CoverVerdict, PieceWhy};
