@@ -5,3 +5,9 @@ mod Stretches
 mod Named
 mod Pieces
 mod Theorem
+mod PieceFaults
+mod Acceptance
+mod Verdicts
+mod PartFaults
+mod Ends
+mod RoundedUp

@@ -5,9 +5,12 @@ ghost use Rattle.std.specs.Prelude.{◌≡◌, ℕ, ◌≤◌, ℤ, pos, ◌*ℤ
 ghost use Rattle.cover_checker.specs.Common.{ClaimData, CoverCertificateData, Exchange, IsInWindow, IsLawful, IsLawfulClaim, IsRate, IsRefutedWithDrift, KeepsHigh, KeepsLow, DriftsWithin, Mark, Moment, RefutationData, Stretch, error_of};
 ghost use Rattle.cover_checker.specs.Acceptance.{IsAccepted};
 ghost use Rattle.cover_checker.specs.Interval.{low_over, high_over};
-ghost use Rattle.cover_checker.specs.Traceability.{IsTraceable, IsTraceableByCovers};
+ghost use Rattle.cover_checker.specs.Traceability.{IsTraceable, IsTraceableByCovers, IsVerdictOn};
+ghost use Rattle.cover_checker.specs.Verdict.{IsVerdict};
+ghost use Rattle.cover_checker.specs.declared.verdict.CoverVerdict.{CoverVerdict};
 
 use era_unfold::laws::ratios_are_rounded_as_little_as_can_be;
+use intersection::laws::{every_list_has_a_hull, hull_is_one_answer};
 
 /// At a reading inside a stretch the error lies where the two marks of an exchange are moved to for
 /// the stretch, if its moments keep them and the clock drifts within the rate.
@@ -55,4 +58,15 @@ pub fn covers_and_refutation_never_meet()
         ¬ (IsRefutedWithDrift claim xs refutation) }
 {
     ratios_are_rounded_as_little_as_can_be();
+}
+
+/// What a verdict says: a certificate is accepted exactly if the verdict is yes.
+pub fn verdicts_are_exact()
+    ensures { (claim : ClaimData) (xs : List Exchange) (certificate : CoverCertificateData)
+        (verdict : CoverVerdict) → IsLawfulClaim claim → All (IsLawful (length claim.servers)) xs →
+        IsVerdict claim xs certificate verdict → IsVerdictOn claim xs certificate verdict }
+{
+    covers_are_traceable();
+    every_list_has_a_hull();
+    hull_is_one_answer();
 }

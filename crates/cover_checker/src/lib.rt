@@ -10,7 +10,14 @@
 
 #![tactic(auto)]
 
+mod case;
+mod conflict;
+mod entry;
+mod exchange;
+mod interval;
 pub mod laws;
+mod piece;
 mod verdict;
 
-pub use verdict::{CaseWhy, CoverVerdict, PieceWhy};
+pub use interval::{high_over, low_over};
+pub use verdict::{CaseWhy, CoverVerdict, PieceWhy, check_covers};
