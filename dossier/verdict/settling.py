@@ -16,7 +16,7 @@ from ..folder.placing import keep, make_private, move
 from ..folder.program import Program
 from ..records import replace
 from ..units import SECOND
-from .apart import Seen, seen_apart
+from .apart import SEVERAL, Seen, seen_apart
 from .breaks import ANY, SOME
 from .judgement import Beside, Texts, judge, more_drift
 from .parts import ALONE, Parting, gaps_of, in_parts, inner_gaps, longest_of, split, told_of
@@ -28,8 +28,6 @@ AROUND = "around.pcap"
 """A private file: what was recorded in the span, beside it, and next to that."""
 MOST_MORE = 3
 """Groups, more than the claim grants, that are taken for wrong where nothing fits."""
-SEVERAL = 3
-"""Samples of a server, one after the other, by which it is known that it was wrong and not the clock."""
 MANY_PIECES = 10_000
 """The envelope has pieces of 1, 4, 16, .. s, the least with which it has no more than these."""
 
@@ -93,7 +91,8 @@ class Settling:
             return texts
         spared = 0 if parting.moves else self.spared()
         if spared:
-            parting = Parting(self.program, replace(self.part.claim, false_max=spared), self.capture, self.extent)
+            more = replace(self.part.claim, false_max=spared)
+            parting = Parting(self.program, more, self.capture, self.extent, True)
         found = in_parts(self.program, parting, texts.settled, self.capture, self.step)
         if found.texts:
             self.keep(files.PARTS, b"".join(found.texts))
