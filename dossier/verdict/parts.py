@@ -7,7 +7,7 @@ less the least error by the stretch behind; and no earlier than a request before
 a reading only later than that, by the most error that its own exchanges let be, never showed it.
 """
 from bisect import bisect_left, bisect_right
-from collections.abc import Iterator, Sequence
+from collections.abc import Iterable, Iterator, Sequence
 from itertools import groupby, pairwise
 from operator import sub
 from typing import NamedTuple
@@ -62,10 +62,12 @@ class Side(NamedTuple):
 class Parting:
     """A capture that breaks."""
 
-    def __init__(self, program: Program, claim: Claim, capture: str, extent: Extent | None, is_spared: bool = False):
+    def __init__(self, program: Program, claim: Claim, capture: str, extent: Extent | None,
+                 leaps: Iterable[int] = (), is_spared: bool = False):
         self.program, self.claim = program, claim
-        self.is_spared = is_spared
-        """Whether the claim takes more servers for wrong than is granted."""
+        self.leaps, self.is_spared = leaps, is_spared
+        """The ends of leap seconds, in Unix seconds, and whether the claim takes more servers for wrong than is
+        granted."""
         self.search = Search(program, claim, capture, extent)
         self.breaks = self.search.found()
         self.sides = list(self.stretches()) if self.breaks else []
@@ -236,7 +238,8 @@ class Parting:
 
     def undoubted(self, side: Side, first: int, last: int, step: int) -> Iterator[tuple[int, int]]:
         """From when to when it is known that a stretch didn't show the same readings with another error, in seconds."""
-        doubts = self.doubts(side, first, last, step) if self.is_spared else []
+        doubts = sorted([*self.at_leaps(side, first, last),
+                         *(self.doubts(side, first, last, step) if self.is_spared else ())])
         for begin, end in doubts if len(doubts) <= FEW else [(first * SECOND, last * SECOND)]:
             if first < begin // SECOND:
                 yield first, min(last, begin // SECOND)
@@ -255,7 +258,19 @@ class Parting:
                 before, after = bisect_left(times, ends[0] - off), bisect_right(times, ends[1] + off)
                 found.append((times[before - 1] - off if before else first * SECOND,
                               times[after] + off if after < len(times) else last * SECOND))
-        return sorted(found)
+        return found
+
+    def at_leaps(self, side: Side, first: int, last: int) -> Iterator[Gap]:
+        """The readings that the clock may have shown with an error of a second more, or twice: from a leap second until
+        a server was heard again."""
+        for end in self.leaps:
+            if first - LONGEST <= end <= last + LONGEST:
+                hull, times = self.hull(side, end - 1, end + 1), side.recording.times
+                low, high = (0, 0) if isinstance(hull, str) else (down(hull[0]), up(hull[1]))
+                begin, after = (end - 2) * SECOND + low, bisect_right(times, (end + 1) * SECOND + high)
+                until = times[after] + SECOND if after < len(times) else max(begin, last * SECOND)
+                if begin <= last * SECOND and first * SECOND <= until:
+                    yield begin, until
 
     def beside(self, own: Side) -> list[Gap]:
         """From when to when the other stretches were recorded, and what lies in breaks."""

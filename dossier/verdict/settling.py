@@ -59,7 +59,7 @@ class Settling:
         if cut_to(own):
             self.take(own, own)
         texts = self.decide()
-        if parting := self.broken(texts, around_to):
+        if parting := self.broken(texts, around_to, [end for end, _ in beside.leaps.seconds]):
             texts = self.by_parts(parting, texts, own)
         recording = read_recording(self.program, self.claim, self.capture, self.extent)
         if read_settled(texts.settled).answer == NO_EVIDENCE or do_many_miss(recording, len(self.part.claim.servers)):
@@ -92,7 +92,7 @@ class Settling:
         spared = 0 if parting.moves else self.spared()
         if spared:
             more = replace(self.part.claim, false_max=spared)
-            parting = Parting(self.program, more, self.capture, self.extent, True)
+            parting = Parting(self.program, more, self.capture, self.extent, parting.leaps, True)
         found = in_parts(self.program, parting, texts.settled, self.capture, self.step)
         if found.texts:
             self.keep(files.PARTS, b"".join(found.texts))
@@ -122,13 +122,13 @@ class Settling:
         several = [time for time in found.times if time.samples >= SEVERAL]
         return found._replace(times=several) if texts.spared else found
 
-    def broken(self, texts: Texts, around_to: Callable[[str], bool]) -> Parting | None:
+    def broken(self, texts: Texts, around_to: Callable[[str], bool], leaps: list[int]) -> Parting | None:
         """Where the capture breaks, with what was recorded next to it, if no course of events fits that."""
         capture, extent = (AROUND, None) if around_to(AROUND) else (self.capture, self.extent)
         keep(ANY, replace(self.part.claim, bound_ns=GREATEST_BOUND).text)
         is_broken = read_settled(texts.settled if capture == self.capture else self.call("settle", ANY, capture)
                                  ).answer == NOTHING_FITS
-        return Parting(self.program, self.part.claim, capture, extent) if is_broken else None
+        return Parting(self.program, self.part.claim, capture, extent, leaps) if is_broken else None
 
     def silent(self, gaps: list[tuple[Gap, str]]) -> dict[Gap, Silence]:
         """What was recorded in gaps, of this client."""
