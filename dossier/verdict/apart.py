@@ -151,9 +151,13 @@ def search_of(program: Program, claim: Claim, capture: str, extent: Extent | Non
 
 
 def seen_apart(program: Program, part: Part, capture: str, extent: Extent | None, envelope: Envelope,
-               gaps: list[Gap]) -> Seen:
-    """Which servers stand apart, and when, by their samples where their intervals don't tell."""
+               gaps: list[Gap], least: int = 0) -> Seen:
+    """Which servers stand apart, and when, by their samples where their intervals don't tell; or only by so many, one
+    after the other."""
     search, always = search_of(program, part.claim, capture, extent, envelope, gaps), apart_of(envelope, gaps)
-    times = [time for time in search.missed if time.server in search.met]
-    own = {time.server for time in search.missed} - search.met | {*always} - {time.server for time in times}
+    missed = [time for time in search.missed if time.samples >= least]
+    times = [time for time in missed if time.server in search.met]
+    own = {time.server for time in missed} - search.met
+    if not least:
+        own |= {*always} - {time.server for time in times}
     return Seen([server for server in part.claim.servers if server in own], times)

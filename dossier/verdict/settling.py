@@ -118,9 +118,8 @@ class Settling:
             part = Part(part.name, replace(part.claim, false_max=texts.spared))
             keep(ALONE, part.claim.text)
             envelope = read_envelope(self.call("envelope", ALONE, self.capture, "--servers", "--step", str(self.step)))
-        found = seen_apart(self.program, part, self.capture, self.extent, envelope, gaps)
-        several = [time for time in found.times if time.samples >= SEVERAL]
-        return found._replace(times=several) if texts.spared else found
+        least = SEVERAL if texts.spared else 0
+        return seen_apart(self.program, part, self.capture, self.extent, envelope, gaps, least)
 
     def broken(self, texts: Texts, around_to: Callable[[str], bool], leaps: list[int]) -> Parting | None:
         """Where the capture breaks, with what was recorded next to it, if no course of events fits that."""

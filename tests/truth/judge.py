@@ -157,23 +157,21 @@ def contradict(view: View, servers: list[str], *_: int) -> str:
 
 
 def apart(view: View, servers: list[str], *_: int) -> str:
-    """That servers were wrong all the time; but of a hull of what nothing fits, that they miss it says nothing."""
+    """That servers were wrong all the time."""
     view.named.update(servers)
-    right = [server for server in servers if not view.is_always_wrong(server) and not view.is_void]
+    right = [server for server in servers if not view.is_always_wrong(server)]
     return view.unless_unseen(f"{', '.join(right)} was right for a time" if right else "")
 
 
 def apart_then(view: View, servers: list[str], when: When, *_: int) -> str:
-    """That servers were wrong; but where nothing fits it is said beside that the clock may have been stepped, and then
-    they are apart from others only."""
     view.named.update(servers)
-    right = [server for server in servers if not view.is_wrong_in(server, when) and not view.may_be_moved]
+    right = [server for server in servers if not view.is_wrong_in(server, when)]
     return view.unless_unseen(f"{', '.join(right)} was right then" if right else "")
 
 
 def ever_apart(view: View, servers: list[str]) -> str:
     view.named.update(servers)
-    right = [server for server in servers if not view.is_ever_wrong(server) and not view.may_be_moved]
+    right = [server for server in servers if not view.is_ever_wrong(server)]
     return f"{', '.join(right)} was right" if right and not view.too_many_wrong else ""
 
 

@@ -11,8 +11,8 @@ from tests.truth.trial import BATCH, Judged, tried
 from tests.truth.use import CLEAN, TROUBLED
 
 NUMBER = 300
-ONCE_UNTRUE = 9005, 9128
-"""Seeds of others: the clock is stepped to and fro beside a step that is seen, and one server was asked between."""
+ONCE_UNTRUE = 9005, 9108, 9128
+"""Seeds of others. The clock is stepped to and fro, or just before the end, and one server was asked there once."""
 MINUTE = 60 * SECOND
 
 
