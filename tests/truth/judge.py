@@ -177,6 +177,8 @@ def ever_apart(view: View, servers: list[str]) -> str:
 
 def by_a_server(view: View, server: str, errors: Range) -> str:
     """The clock's error by a server: of one that was always right all errors lie in it, where a course fits."""
+    if errors[0] > errors[1]:
+        return "no error lies in it"
     if view.is_void or view.is_ever_wrong(server) or view.entry.get("moves"):
         return ""
     return view.within(view.span, *errors)
