@@ -11,7 +11,7 @@ from typing import NamedTuple
 from ..capture.classic import Classic, Extent
 from ..capture.recording import closing_of
 from ..folder.answers import Envelope
-from ..folder.claim import Part
+from ..folder.claim import Claim, Part
 from ..folder.entry import Gap, Hull
 from ..folder.placing import keep
 from ..folder.program import Program
@@ -20,6 +20,8 @@ from ..units import SECOND
 
 SUSPECTS = "suspects.claim.json"
 """A private file: a claim of the servers that may stand apart for a time."""
+SEVERAL = 3
+"""Samples of a server, one after the other, by which it is known that it was wrong and not the clock."""
 
 
 class Range(NamedTuple):
@@ -67,6 +69,8 @@ class Time(NamedTuple):
     last: int
     samples: int = 1
     """How many they are."""
+    off: int = 0
+    """Ticks by which the error that they say is off the hull at the most, as far as their own delays tell."""
 
 
 class Seen(NamedTuple):
@@ -119,11 +123,16 @@ class Search:
                 continue
             if int(fields[11]) > first[1] or int(fields[13]) < last[0]:
                 before = self.open.get(fields[1], Time(fields[1], asked, answered, 0))
-                self.open[fields[1]] = Time(fields[1], before.first, answered, before.samples + 1)
+                off = max(before.off, abs(int(fields[11]) - first[1]), abs(int(fields[13]) - last[0]))
+                self.open[fields[1]] = Time(fields[1], before.first, answered, before.samples + 1, off)
                 continue
             self.met.add(fields[1])
             if fields[1] in self.open:
                 self.times.append(self.open.pop(fields[1]))
+
+    @property
+    def missed(self) -> list[Time]:
+        return [*self.times, *self.open.values()]
 
     def hull_at(self, time: int) -> Hull:
         """The hull at Unix nanoseconds; `empty` outside of the span."""
@@ -131,17 +140,24 @@ class Search:
         return self.hulls[at] if at >= 0 and time <= self.envelope.ends[at] * SECOND else "empty"
 
 
-def seen_apart(program: Program, part: Part, capture: str, extent: Extent | None, envelope: Envelope,
-               gaps: list[Gap]) -> Seen:
-    """Which servers stand apart, and when, by their samples where their intervals don't tell."""
-    always = apart_of(envelope, gaps)
-    suspects = list(dict.fromkeys([*always, *suspects_of(envelope, gaps)]))
-    if not suspects:
-        return Seen([], [])
-    keep(SUSPECTS, replace(part.claim, servers=suspects, false_max=0, groups=[]).text)
+def search_of(program: Program, claim: Claim, capture: str, extent: Extent | None, envelope: Envelope,
+              gaps: list[Gap]) -> Search:
+    """All samples that miss the hull, of servers that may stand apart."""
     search = Search(envelope, gaps, Classic(capture, extent))
-    program.blocks(search.take, "samples", SUSPECTS, capture)
-    missed = [*search.times, *search.open.values()]
+    if suspects := list(dict.fromkeys([*apart_of(envelope, gaps), *suspects_of(envelope, gaps)])):
+        keep(SUSPECTS, replace(claim, servers=suspects, false_max=0, groups=[]).text)
+        program.blocks(search.take, "samples", SUSPECTS, capture)
+    return search
+
+
+def seen_apart(program: Program, part: Part, capture: str, extent: Extent | None, envelope: Envelope,
+               gaps: list[Gap], least: int = 0) -> Seen:
+    """Which servers stand apart, and when, by their samples where their intervals don't tell; or only by so many, one
+    after the other."""
+    search, always = search_of(program, part.claim, capture, extent, envelope, gaps), apart_of(envelope, gaps)
+    missed = [time for time in search.missed if time.samples >= least]
     times = [time for time in missed if time.server in search.met]
-    own = {time.server for time in missed} - search.met | {*always} - {time.server for time in times}
+    own = {time.server for time in missed} - search.met
+    if not least:
+        own |= {*always} - {time.server for time in times}
     return Seen([server for server in part.claim.servers if server in own], times)

@@ -174,7 +174,7 @@ def why_nothing_fits(claim: Claim, texts: Texts) -> Reason:
         return Reason("step" if all(move.is_step for move in texts.moves) else "drift", conflicts=texts.conflicts,
                       drift_ppb=tried, count=texts.spared)
     apart = sorted({*texts.apart.always, *(time.server for time in texts.apart.times)}, key=number_of)
-    return Reason("drift" if tried else "apart" if texts.spared else "many", drift_ppb=tried, count=texts.spared,
+    return Reason("drift" if tried else "apart" if apart else "many", drift_ppb=tried, count=texts.spared,
                   conflicts=texts.conflicts, apart=apart, camps=camps_of(texts.envelope))
 
 

@@ -6,7 +6,8 @@ side. So it is asked when the step came, in true time: no later than a reply tha
 less the least error by the stretch behind; and no earlier than a request before it. A stretch that would have come to
 a reading only later than that, by the most error that its own exchanges let be, never showed it.
 """
-from collections.abc import Iterator, Sequence
+from bisect import bisect_left, bisect_right
+from collections.abc import Iterable, Iterator, Sequence
 from itertools import groupby, pairwise
 from operator import sub
 from typing import NamedTuple
@@ -20,7 +21,7 @@ from ..folder.placing import keep
 from ..folder.program import Program
 from ..records import replace
 from ..units import SECOND, TICKS, bound_ticks, ceil_div, civil
-from .apart import apart_of, are_in, outermost, pieces_of
+from .apart import SEVERAL, apart_of, are_in, outermost, pieces_of, search_of
 from .breaks import SOME, Search
 
 ALONE = "alone.claim.json"
@@ -61,8 +62,12 @@ class Side(NamedTuple):
 class Parting:
     """A capture that breaks."""
 
-    def __init__(self, program: Program, claim: Claim, capture: str, extent: Extent | None):
+    def __init__(self, program: Program, claim: Claim, capture: str, extent: Extent | None,
+                 leaps: Iterable[int] = (), is_spared: bool = False):
         self.program, self.claim = program, claim
+        self.leaps, self.is_spared = leaps, is_spared
+        """The ends of leap seconds, in Unix seconds, and whether the claim takes more servers for wrong than is
+        granted."""
         self.search = Search(program, claim, capture, extent)
         self.breaks = self.search.found()
         self.sides = list(self.stretches()) if self.breaks else []
@@ -221,15 +226,51 @@ class Parting:
                       for claim in (self.claim, self.wider(self.claim)))
         return own != YES or wider == YES
 
-    def spans(self) -> Iterator[tuple[int, Side, Claim]]:
-        """Of each stretch its number and the claim of the readings of the span that it has records beside, if there are
-        any."""
+    def spans(self, step: int) -> Iterator[tuple[int, Side, Claim]]:
+        """Of each stretch its number and the claims of the readings of the span that it has records beside, if there
+        are any, but for those that may have been shown elsewhere too."""
         for number, side in enumerate(self.sides):
             first = max(self.claim.first, ceil_div(self.moves[number - 1].by, SECOND)) if number else self.claim.first
             last = min(self.claim.last, self.moves[number].after // SECOND) if number < len(self.moves) else \
                 self.claim.last
-            if first <= last:
-                yield number, side, replace(self.claim, from_=civil(first), to=civil(last))
+            for begin, end in self.undoubted(side, first, last, step) if first <= last else ():
+                yield number, side, replace(self.claim, from_=civil(begin), to=civil(end))
+
+    def undoubted(self, side: Side, first: int, last: int, step: int) -> Iterator[tuple[int, int]]:
+        """From when to when it is known that a stretch didn't show the same readings with another error, in seconds."""
+        doubts = sorted([*self.at_leaps(side, first, last),
+                         *(self.doubts(side, first, last, step) if self.is_spared else ())])
+        for begin, end in doubts if len(doubts) <= FEW else [(first * SECOND, last * SECOND)]:
+            if first < begin // SECOND:
+                yield first, min(last, begin // SECOND)
+            first = max(first, ceil_div(end, SECOND))
+        if first < last or not doubts:
+            yield first, last
+
+    def doubts(self, side: Side, first: int, last: int, step: int) -> list[Gap]:
+        """The readings that the clock may have shown once more, if it was stepped to and fro: a server is taken for
+        wrong that needn't be, by few samples, one after the other."""
+        claim, times, found = replace(self.claim, from_=civil(first), to=civil(last)), side.recording.times, []
+        text = self.program.run("envelope", self.named(claim), side.path, "--servers", "--step", str(step)).text
+        for time in search_of(self.program, claim, side.path, None, read_envelope(text), []).missed:
+            if time.samples < SEVERAL:
+                off, ends = up(time.off) + SECOND, sorted((time.first, time.last))
+                before, after = bisect_left(times, ends[0] - off), bisect_right(times, ends[1] + off)
+                found.append((times[before - 1] - off if before else first * SECOND,
+                              times[after] + off if after < len(times) else last * SECOND))
+        return found
+
+    def at_leaps(self, side: Side, first: int, last: int) -> Iterator[Gap]:
+        """The readings that the clock may have shown with an error of a second more, or twice: from a leap second until
+        a server was heard again."""
+        for end in self.leaps:
+            if first - LONGEST <= end <= last + LONGEST:
+                hull, times = self.hull(side, end - 1, end + 1), side.recording.times
+                low, high = (0, 0) if isinstance(hull, str) else (down(hull[0]), up(hull[1]))
+                begin, after = (end - 2) * SECOND + low, bisect_right(times, (end + 1) * SECOND + high)
+                until = times[after] + SECOND if after < len(times) else max(begin, last * SECOND)
+                if begin <= last * SECOND and first * SECOND <= until:
+                    yield begin, until
 
     def beside(self, own: Side) -> list[Gap]:
         """From when to when the other stretches were recorded, and what lies in breaks."""
@@ -274,7 +315,7 @@ def parted(program: Program, claim: Claim, capture: str, extent: Extent | None, 
 def in_parts(program: Program, parting: Parting, settled: bytes, capture: str, step: int) -> Parted:
     """Where no stretch speaks for the span alone: what holds in each, if the clock's moves are known."""
     found = Parted(settled, capture, parting.moves, [], [], [], [])
-    for number, side, claim in parting.spans() if parting.moves else ():
+    for number, side, claim in parting.spans(step) if parting.moves else ():
         words = ("envelope", parting.named(claim), side.path, "--servers", "--step", str(step))
         text = program.run(*words).text
         envelope = read_envelope(text)
@@ -283,7 +324,8 @@ def in_parts(program: Program, parting: Parting, settled: bytes, capture: str, s
         elsewhere = parting.beside(side)
         found.gaps.extend((gap, side.path) for gap in told_of(inner_gaps(side.recording, gaps), elsewhere))
         if own and number:
-            own[0] = replace(own[0], begins="step")
+            is_first = all(part.moves < number for part in found.parts)
+            own[0] = replace(own[0], begins="step" if is_first else "gap")
         found.parts.extend(own)
         found.envelopes.append(envelope)
         found.texts.append(text)

@@ -311,13 +311,10 @@ def after_moves(entry: Entry) -> str:
 def claimable(entry: Entry) -> list[tuple[int, int]]:
     """The readings that were shown between two moves, and surely not before or behind these."""
     found = list[tuple[int, int]]()
-    for number in range(len(entry.moves) + 1):
-        own = [part for part in entry.parts if part.moves == number]
-        others = [part for part in entry.parts if part.moves != number]
-        if not own or any(not (move.until and move.since) for move in entry.moves):
-            continue
-        first = max([own[0].from_, *(move.since for move in entry.moves[:number][-1:])])
-        last = min([own[-1].to, *(move.until for move in entry.moves[number:][:1])])
+    for own in entry.parts if all(move.until and move.since for move in entry.moves) else ():
+        others = [part for part in entry.parts if part.moves != own.moves]
+        first = max([own.from_, *(move.since for move in entry.moves[: own.moves][-1:])])
+        last = min([own.to, *(move.until for move in entry.moves[own.moves :][:1])])
         if first < last and not any(part.from_ <= last and first <= part.to for part in others):
             found.append((first, last))
     return found

@@ -16,7 +16,7 @@ from ..folder.placing import keep, make_private, move
 from ..folder.program import Program
 from ..records import replace
 from ..units import SECOND
-from .apart import Seen, seen_apart
+from .apart import SEVERAL, Seen, seen_apart
 from .breaks import ANY, SOME
 from .judgement import Beside, Texts, judge, more_drift
 from .parts import ALONE, Parting, gaps_of, in_parts, inner_gaps, longest_of, split, told_of
@@ -28,8 +28,6 @@ AROUND = "around.pcap"
 """A private file: what was recorded in the span, beside it, and next to that."""
 MOST_MORE = 3
 """Groups, more than the claim grants, that are taken for wrong where nothing fits."""
-SEVERAL = 3
-"""Samples of a server, one after the other, by which it is known that it was wrong and not the clock."""
 MANY_PIECES = 10_000
 """The envelope has pieces of 1, 4, 16, .. s, the least with which it has no more than these."""
 
@@ -61,7 +59,7 @@ class Settling:
         if cut_to(own):
             self.take(own, own)
         texts = self.decide()
-        if parting := self.broken(texts, around_to):
+        if parting := self.broken(texts, around_to, [end for end, _ in beside.leaps.seconds]):
             texts = self.by_parts(parting, texts, own)
         recording = read_recording(self.program, self.claim, self.capture, self.extent)
         if read_settled(texts.settled).answer == NO_EVIDENCE or do_many_miss(recording, len(self.part.claim.servers)):
@@ -93,7 +91,8 @@ class Settling:
             return texts
         spared = 0 if parting.moves else self.spared()
         if spared:
-            parting = Parting(self.program, replace(self.part.claim, false_max=spared), self.capture, self.extent)
+            more = replace(self.part.claim, false_max=spared)
+            parting = Parting(self.program, more, self.capture, self.extent, parting.leaps, True)
         found = in_parts(self.program, parting, texts.settled, self.capture, self.step)
         if found.texts:
             self.keep(files.PARTS, b"".join(found.texts))
@@ -119,17 +118,16 @@ class Settling:
             part = Part(part.name, replace(part.claim, false_max=texts.spared))
             keep(ALONE, part.claim.text)
             envelope = read_envelope(self.call("envelope", ALONE, self.capture, "--servers", "--step", str(self.step)))
-        found = seen_apart(self.program, part, self.capture, self.extent, envelope, gaps)
-        several = [time for time in found.times if time.samples >= SEVERAL]
-        return found._replace(times=several) if texts.spared else found
+        least = SEVERAL if texts.spared else 0
+        return seen_apart(self.program, part, self.capture, self.extent, envelope, gaps, least)
 
-    def broken(self, texts: Texts, around_to: Callable[[str], bool]) -> Parting | None:
+    def broken(self, texts: Texts, around_to: Callable[[str], bool], leaps: list[int]) -> Parting | None:
         """Where the capture breaks, with what was recorded next to it, if no course of events fits that."""
         capture, extent = (AROUND, None) if around_to(AROUND) else (self.capture, self.extent)
         keep(ANY, replace(self.part.claim, bound_ns=GREATEST_BOUND).text)
         is_broken = read_settled(texts.settled if capture == self.capture else self.call("settle", ANY, capture)
                                  ).answer == NOTHING_FITS
-        return Parting(self.program, self.part.claim, capture, extent) if is_broken else None
+        return Parting(self.program, self.part.claim, capture, extent, leaps) if is_broken else None
 
     def silent(self, gaps: list[tuple[Gap, str]]) -> dict[Gap, Silence]:
         """What was recorded in gaps, of this client."""

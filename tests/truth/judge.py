@@ -157,28 +157,28 @@ def contradict(view: View, servers: list[str], *_: int) -> str:
 
 
 def apart(view: View, servers: list[str], *_: int) -> str:
-    """That servers were wrong all the time; but of a hull of what nothing fits, that they miss it says nothing."""
+    """That servers were wrong all the time."""
     view.named.update(servers)
-    right = [server for server in servers if not view.is_always_wrong(server) and not view.is_void]
+    right = [server for server in servers if not view.is_always_wrong(server)]
     return view.unless_unseen(f"{', '.join(right)} was right for a time" if right else "")
 
 
 def apart_then(view: View, servers: list[str], when: When, *_: int) -> str:
-    """That servers were wrong; but where nothing fits it is said beside that the clock may have been stepped, and then
-    they are apart from others only."""
     view.named.update(servers)
-    right = [server for server in servers if not view.is_wrong_in(server, when) and not view.may_be_moved]
+    right = [server for server in servers if not view.is_wrong_in(server, when)]
     return view.unless_unseen(f"{', '.join(right)} was right then" if right else "")
 
 
 def ever_apart(view: View, servers: list[str]) -> str:
     view.named.update(servers)
-    right = [server for server in servers if not view.is_ever_wrong(server) and not view.may_be_moved]
+    right = [server for server in servers if not view.is_ever_wrong(server)]
     return f"{', '.join(right)} was right" if right and not view.too_many_wrong else ""
 
 
 def by_a_server(view: View, server: str, errors: Range) -> str:
     """The clock's error by a server: of one that was always right all errors lie in it, where a course fits."""
+    if errors[0] > errors[1]:
+        return "no error lies in it"
     if view.is_void or view.is_ever_wrong(server) or view.entry.get("moves"):
         return ""
     return view.within(view.span, *errors)

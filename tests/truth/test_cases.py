@@ -79,6 +79,14 @@ def leap_not_inserted() -> History:
     return history
 
 
+def leap_between_polls() -> History:
+    """It isn't inserted, and that is mended before anybody is asked; and later a step that is seen."""
+    history = leap_not_inserted()
+    history.events[1] = Event(STEP, LEAP + 5 * SECOND, LEAP + 5 * SECOND, -SECOND)
+    history.events.append(Event(STEP, LEAP + 900 * SECOND, LEAP + 900 * SECOND, SECOND // 2))
+    return history
+
+
 CASES: dict[str, tuple[Callable[[], History], bool, set[str], list[str]]] = {
     "set back at midnight": (set_back_at_midnight, False, {"nothing fits", "refuted"}, ["by -60"]),
     "set back at midnight, by the log too": (set_back_by_the_log, True, {"nothing fits", "refuted", "unsupported"}, []),
@@ -90,6 +98,7 @@ CASES: dict[str, tuple[Callable[[], History], bool, set[str], list[str]]] = {
     "two camps": (two_camps, False, {"nothing fits"}, ["10.9.1.1 and 10.9.1.2 say", "10.9.1.3 and 10.9.1.4 say"]),
     "nobody answers": (nobody_answers, False, {"refuted"}, ["nobody answered, of"]),
     "no leap second": (leap_not_inserted, False, {"nothing fits"}, ["That is a leap second at the end of 2026-06-30"]),
+    "a leap second between polls": (leap_between_polls, False, {"nothing fits"}, ["to 23:59:57 before the step"]),
 }
 """Of each case the history, whether there are logs, the verdicts that it may have, and words that are said."""
 

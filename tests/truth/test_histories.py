@@ -11,6 +11,9 @@ from tests.truth.trial import BATCH, Judged, tried
 from tests.truth.use import CLEAN, TROUBLED
 
 NUMBER = 300
+ONCE_UNTRUE = 9004, 9005, 9108, 9128
+"""Seeds of others. The clock is stepped to and fro, or just before the end, and one server was asked there once; or it
+moves fast, and servers contradict themselves."""
 MINUTE = 60 * SECOND
 
 
@@ -24,6 +27,8 @@ def some(seeds: range, place: Path) -> list[Judged]:
 def cases() -> Iterator[tuple[str, Callable[[Path], list[Judged]]]]:
     for first in range(0, NUMBER, BATCH):
         yield f"truth.histories.{first}", partial(some, range(first, first + BATCH))
+    for seed in ONCE_UNTRUE:
+        yield f"truth.histories.{seed}", partial(some, range(seed, seed + 1))
 
 
 def is_at_an_edge(history: History) -> bool:

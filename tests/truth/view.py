@@ -132,11 +132,6 @@ class View:
         return len(wrong_groups(self.of, counted(self.of))) > self.of.false_max
 
     @property
-    def may_be_moved(self) -> bool:
-        """Whether the clock was stepped, or moved faster, and it is said that it may have been."""
-        return self.verdict == "nothing fits" and bool(self.clock.breaks)
-
-    @property
     def is_warned(self) -> bool:
         """Whether it is said beside a no that a log has a step that isn't presumed."""
         kinds = {one["kind"] for one in self.entry.get("warnings", [])}
