@@ -1,11 +1,13 @@
 """Verified by judging: each input and answer of a folder is held to its sum, and the program judges each answer.
 
 It takes a part of the time that making all again takes. What is only made, and states nothing that could be judged, is
-held to its sum alone: envelopes, least bounds, warnings, and all that pages make of them.
+held to its sum alone: envelopes, least bounds, warnings, and all that pages make of them. A yes is judged only with a
+course that fits the whole capture: a certificate may leave out what contradicts it.
 """
 from typing import NamedTuple
 
 from ..capture.captures import audited
+from ..capture.classic import Classic
 from ..fault import REFUSED, Fault
 from ..folder.answers import read_counts
 from ..folder.claim import Claim
@@ -48,6 +50,8 @@ class Judging:
         if record.refusal or record.options.days or len(record.entries) != 1:
             raise Other
         entry, = record.entries
+        if entry.answer == YES and (entry.moves or not entry.refutation):
+            raise Other  # (`check` says neither that the moves are found, nor that a course fits the whole capture)
         taken = take_inputs(self.folder, record)
         if changed := change_of(self.folder, record, taken.sums):
             return Judged(changed, "")
@@ -60,6 +64,8 @@ class Judging:
                 copy_of(self.folder, name, name)
         own = self.verdict_of(entry, taken)
         if own != entry.verdict and entry.answer == YES:
+            if own == UNSUPPORTED:
+                raise Other  # (what speaks against it may be beside all exchanges)
             return Judged(f"the verdict of audit.json is {entry.verdict}, and by the evidence and the list of leap "
                           f"seconds {own}", capture)
         return Judged(self.difference(entry, capture, record), capture)
@@ -72,13 +78,15 @@ class Judging:
         entry, = record.entries  # (a certificate's capture is held to its sum when it is judged)
         if whole.is_made and entry.answer != YES and sum_of_file(JOINED) != entry.outputs.get(JOINED):
             raise Other
+        self.whole = Classic(whole.path, whole.extent)
         return whole.path
 
     def verdict_of(self, entry: Entry, taken: Inputs) -> str:
-        """What a yes is by the folder's own evidence, and by one's own list of leap seconds."""
+        """What a yes is by the folder's own evidence and one's own list of leap seconds, over all that was recorded."""
         claim = entry.claim
-        margin = 1 + claim.bound_ns // 10**9
-        leap = look_up(self.leaps, min(entry.leap.from_, claim.first - margin), max(entry.leap.to, claim.last + margin))
+        stamps, second, margin = self.whole.extent.stamps, 10**9, 1 + claim.bound_ns // 10**9
+        times = [time // second for time in self.whole.nanoseconds([min(stamps), max(stamps)])] if stamps else []
+        leap = look_up(self.leaps, min([claim.first, *times]) - margin, max([claim.last, *times]) + margin)
         said = [*alerts_of(leap, self.leaps), *against(backing(self.folder, taken.sums), claim, leap, entry.moves)]
         return UNSUPPORTED if any(alert.kind in AGAINST for alert in said) else YES
 

@@ -115,10 +115,11 @@ def logged(logs: list[Tracking], claim: Claim, leap: Leap, moves: list[Move]) ->
         if not own and any(seconds_of(log.first) * SECOND <= first and last <= seconds_of(log.last) * SECOND
                            for log in logs):
             yield Alert("unlogged", before=first, after=last)
-    within = sorted(time for time, _ in left if leap.from_ - 1 <= time <= leap.to + 1)
+    inside = {(time, size) for time, size in left  # (by what the clock showed behind the step, or just before it)
+              if any(leap.from_ - 1 <= at <= leap.to + 1 for at in (time, time - int(float(size or 0))))}
+    within, others = sorted(time for time, _ in inside), sorted(time for time, _ in left - inside if moves)
     if within:
         yield Alert("step", len(within), before=within[0] * SECOND)
-    others = sorted(time for time, _ in left if moves and not leap.from_ - 1 <= time <= leap.to + 1)
     if others:
         yield Alert("logged", len(others), before=others[0] * SECOND)
 

@@ -9,7 +9,7 @@ from contextlib import suppress
 from datetime import datetime
 from fractions import Fraction
 
-from ..fault import fault
+from ..fault import Fault, fault
 from ..folder.files import sum_of
 from ..records import dataclass, field
 from ..schema import Count, Sum, Text, Time, is_time
@@ -25,8 +25,8 @@ MESSAGE = re.compile(r"(?:(\d{4}-\d\d-\d\d[T ]\d\d:\d\d:\d\d(?:[.,]\d+)?(?:Z|[+-
 """A message by its time, as syslog and journalctl write it, and what it says."""
 STEPPED = re.compile(r"System clock was stepped by (-?\d{1,12}\.\d{1,12}) seconds", re.ASCII)
 WRONG = re.compile(r"System clock wrong by (-?\d{1,12}\.\d{1,12}) seconds", re.ASCII)
-ABOUT_STEPS = re.compile("stepp|step time|jump|set the (system )?(clock|time)|clock (was )?(set|wrong|changed)"
-                         "|time (has been |was )?(set|changed)", re.IGNORECASE)
+ABOUT_STEPS = re.compile("stepp|step time|clock_step|time reset|changed local time|jump|set the (system )?(clock|time)"
+                         "|clock (was )?(set|wrong|changed)|time (has been |was )?(set|changed)", re.IGNORECASE)
 """What a message may say that is of a step, in words that aren't chronyd's."""
 HAPPENED, OFFSET, FALLS = "it says so", "an offset beyond makestep's threshold", "the times of the log fall back"
 TOGETHER = 600
@@ -111,7 +111,10 @@ def read_tracking(logs: dict[str, bytes], step_s: str | None, now: str) -> Track
     known = max((f"{update[1]}T{update[2]}Z" for line in lines if (update := UPDATE.match(line))), default="")
     reading = Reading(step_s, now, known if is_time(known) else "")
     for line in lines:
-        reading.take(line)
+        try:
+            reading.take(line)
+        except Fault:  # (its time is none: the others count all the same)
+            reading.unread += 1
     if not reading.offsets and not reading.steps:
         raise fault("the log has no update of chronyd's tracking.log in it")
     rates = [rate for _, rate in reading.rates] or [Fraction(0)]
