@@ -40,6 +40,8 @@ MOST_BYTES = 1 << 31
 """Of a capture that isn't thinned out."""
 NEXT, MOST_FALLS = 160, 1000
 """Records that are next to others, for each server; and how often the times of a capture may fall back for that."""
+BLOCKS, EACH = 64, 32
+"""Of all other records so many blocks are looked at, evenly apart, of so many records for each server."""
 PART, THINNED, CUT = "part.pcap", "thinned.pcap", "cut.pcap"
 
 
@@ -287,9 +289,9 @@ def cut(path: str, parts: list[Part], extent: Extent | None, margin: int = MARGI
 
 
 def around(whole: Classic, falls: list[int], part: Part) -> Callable[[str], bool]:
-    """A way to write what `cut` writes of a part, and the records that were made next to any of it, before and after;
-    False if there are no more: a clock that shows other hours may have come to them in between."""
-    stamps, more = whole.extent.stamps, NEXT * len(part.claim.servers)
+    """A way to write what `cut` writes of a part, the records that were made next to any of it, before and after, and
+    some of all others; False if there are no more: a clock that shows other hours may have come to them in between."""
+    stamps, more, each = whole.extent.stamps, NEXT * len(part.claim.servers), EACH * len(part.claim.servers)
     first, last = ((second << 32) for second in (max(0, part.claim.first - MARGIN), part.claim.last + MARGIN))
     found, runs, begin = 0, list[list[int]](), 0
     for end in [*falls, len(stamps)]:
@@ -298,6 +300,8 @@ def around(whole: Classic, falls: list[int], part: Part) -> Callable[[str], bool
             found += own[1] - own[0]
             runs.append([max(0, own[0] - more), min(len(stamps), own[1] + more)])
         begin = end
+    blocks = min(BLOCKS, len(stamps) // each + 1)
+    runs += [[at, min(len(stamps), at + each)] for at in (k * len(stamps) // blocks for k in range(blocks))]
     kept = sorted({record for begin, end in runs for record in range(begin, end)})
     if not found or len(kept) == found:
         return lambda _: False
