@@ -72,6 +72,17 @@ def nobody_answers() -> History:
     return history
 
 
+def hours_ahead() -> History:
+    """It is ten hours ahead, recorded until it shows 22:55, shows the span unrecorded, and is set back at noon."""
+    history = History(11, MIDNIGHT - DAY // 2, number=14 * 3600 // 64)
+    history.aim, at = DAY * 10 // 24, MIDNIGHT - DAY // 2 + 8400 * SECOND
+    history.events = [Event(STEP, at, at, -history.aim)]
+    history.first, history.last = MIDNIGHT + 300 * SECOND, MIDNIGHT + 1800 * SECOND
+    history.recorders = [Recorder("eth0-0.pcap", history.begin, history.begin + 3300 * SECOND),
+                         Recorder("eth0-1.pcap", at + 10 * SECOND, history.end)]
+    return history
+
+
 def leap_not_inserted() -> History:
     history = History(1, LEAP - 1800 * SECOND)
     history.leap, at = LEAP, LEAP + 300 * SECOND
@@ -97,6 +108,7 @@ CASES: dict[str, tuple[Callable[[], History], bool, set[str], list[str]]] = {
     "14 ms in 20 s": (fast, False, {"nothing fits"}, ["that takes 69", "and 600 are granted"]),
     "two camps": (two_camps, False, {"nothing fits"}, ["10.9.1.1 and 10.9.1.2 say", "10.9.1.3 and 10.9.1.4 say"]),
     "nobody answers": (nobody_answers, False, {"refuted"}, ["nobody answered, of"]),
+    "ten hours ahead on the day before": (hours_ahead, False, {"nothing fits"}, ["by -36,00"]),
     "no leap second": (leap_not_inserted, False, {"nothing fits"}, ["That is a leap second at the end of 2026-06-30"]),
     "a leap second between polls": (leap_between_polls, False, {"nothing fits"}, ["to 23:59:57 before the step"]),
 }
