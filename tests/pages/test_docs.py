@@ -174,7 +174,7 @@ LIMITS = {
     "docs/DECISIONS.md": 1950, "docs/FORMATS.md": 3900, "docs/GUIDE.md": 2850, "docs/REFUSALS.md": 1030,
     "docs/DOSSIER.md docs/AUDITING.md": 3310, "docs/FLEET.md": 1680, "docs/BOUND.md": 590,
     "docs/RATTLE.md": 1000,
-    "second/README.md": 260, "ARCHITECTURE.md CONTRIBUTING.md": 2260, "CHANGELOG.md": 980,
+    "second/README.md": 260, "ARCHITECTURE.md CONTRIBUTING.md": 2260, "CHANGELOG.md": 1000,
     "bench/README.md": 1190, "data/README.md": 740,
 }
 
