@@ -30,7 +30,7 @@ from pathlib import Path
 from typing import Any
 from unittest.mock import patch
 
-from tests.support import DATA, ROOT, SECONDS, check, children, files_in, run, sum_of, wait_until
+from tests.support import DATA, ROOT, SECONDS, Ran, check, children, files_in, run, sum_of, wait_until
 from tests.dossier.audits import (CLAIMS, ENVIRONMENT, PROGRAM, SCRIPT, TICKS_PER_MS, capture_of, check_page,
                                   dossier, folder_of, match_of, parts_left, rows, skipped, table)
 from tests.dossier.test_captures import records_of
@@ -788,10 +788,17 @@ def test_five_commands(place: Path) -> None:
     words = "draft --bound-ns 50000000 --chrony /etc/chrony/chrony.conf "
     check("they read the client's configuration", seen=(words in commands[1], True))
     for command in (command.replace("/etc/chrony", str(ROOT / "tests" / "dossier" / "client")) for command in commands):
-        end = ["timeout", "--preserve-status", "-s", "INT", "5"] if " record " in command else []
-        status, out, _ = run([*end, "sh", "-c", f"exec {command}"], cwd=place, env=with_tcpdump)
-        check(f"the command: {command}", status=(status, 0))
-    check("they end with", output=(out, b"web-1: verified: yes\n"))
+        if " record " in command:
+            call = subprocess.Popen(["sh", "-c", f"exec {command}"], cwd=place, env=with_tcpdump,
+                                    stderr=subprocess.DEVNULL)
+            whole = (DATA / "vlan-ns.pcap").stat().st_size
+            wait_until(lambda: sum(file.stat().st_size for file in place.glob("web-1/*.pcap")) >= whole)
+            call.send_signal(signal.SIGINT)
+            ran: Ran = call.wait(), b"", b""
+        else:
+            ran = run(["sh", "-c", command], cwd=place, env=with_tcpdump)
+        check(f"the command: {command}", status=(ran[0], 0))
+    check("they end with", output=(ran[1], b"web-1: verified: yes\n"))
     page = (place / "dossier.html").read_text("utf-8")
     check_page("the page of five commands", page)
     check("its verdict", badge=('<span class="verdict yes">' in page, True))
