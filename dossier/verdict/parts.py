@@ -108,15 +108,15 @@ class Parting:
 
     def latest(self, behind: Side) -> int | None:
         """The true time, in nanoseconds, at which a step came at the latest, by the first reply behind it."""
-        at = behind.recording.replies[0]
-        hull = self.hull(behind, at // SECOND, at // SECOND + 1)
-        return None if isinstance(hull, str) else at + COARSE + self.claim.reading_ns - down(hull[0])
+        end = behind.recording.replies[0] + COARSE + self.claim.reading_ns
+        hull = self.hull(behind, end // SECOND, end // SECOND + 1)
+        return None if isinstance(hull, str) else end - down(hull[0])
 
     def earliest(self, before: Side) -> int | None:
         """The true time at which it came at the earliest, by the last request before it."""
-        at = before.recording.requests[-1]
-        hull = self.hull(before, at // SECOND, at // SECOND + 1)
-        return None if isinstance(hull, str) else at - self.claim.reading_ns - up(hull[1])
+        begin = before.recording.requests[-1] - self.claim.reading_ns
+        hull = self.hull(before, begin // SECOND, begin // SECOND + 1)
+        return None if isinstance(hull, str) else begin - up(hull[1])
 
     def moved(self) -> list[Move]:
         """How the clock moved in each break; none if that isn't known of one of them, or if it isn't most servers that

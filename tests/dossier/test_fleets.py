@@ -129,6 +129,11 @@ def test_sample(place: Path) -> None:
         check(f"{number} of {all_}", seen=(abs(likelihood(number, all_, bad) - float(1 - missed)) < 1e-9, True))
 
 
+MOVE = {"after": 1_000_000_000_000_000_000, "by": 1_000_000_060_000_000_000, "low": 1, "high": 2, "rate_ppb": 0,
+        "is_step": True, "until": 0, "since": 0}
+"""A step that nobody made."""
+
+
 def test_answers(place: Path) -> None:
     """Each answer is held to its sum and judged by the program; what is forged beside right sums is seen."""
     own = machine(place / "fleet", "web-1", 3)
@@ -179,7 +184,11 @@ def test_answers(place: Path) -> None:
             ("a verdict", forged("report.txt", files["report.txt"], verdict="unsupported", reason={"why": "evidence"}),
              "the verdict of audit.json is unsupported"),
             ("counts", forged("report.txt", files["report.txt"],
-                              counts={**record["entries"][0]["counts"], "samples": 1}), "counts of audit.json aren't")):
+                              counts={**record["entries"][0]["counts"], "samples": 1}), "counts of audit.json aren't"),
+            ("a yes without its course", forged("report.txt", files["report.txt"], refutation=None),
+             "entries 0 refutation is `None`"),
+            ("a move that excuses a logged step", forged("report.txt", files["report.txt"], moves=[MOVE]),
+             "entries 0 moves is")):
         check(f"by answers: {what} that was forged", status=(said[0], "1"), said=(wanted in said, True))
     with open(other / "report.txt", "ab") as opened:
         opened.write(b"\n")
