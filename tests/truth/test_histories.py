@@ -44,7 +44,7 @@ def together(found: list[list[Judged]]) -> None:
     several = sum(len(history.kinds) > 1 for history in histories)
     check("steps at the span's edge, and two troubles or more", edges=(20 * edges >= NUMBER, True),
           several=(20 * several >= 3 * NUMBER, True))
-    for kind, share in ((CLEAN, 95), (TROUBLED, 85)):  # (docs/DOSSIER.md has what was measured)
+    for kind, share in ((CLEAN, 98), (TROUBLED, 92)):  # (docs/DOSSIER.md has what was measured)
         own = [one for each in found for one in each if one.use.kind == kind]
         good = sum(not one.use.missed for one in own)
         check(f"of what use: {kind}", share=(100 * good >= share * len(own), True))
