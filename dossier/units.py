@@ -112,8 +112,10 @@ def outward(before: int, after: int) -> tuple[int, int]:
 
 
 def inward(before: int, after: int) -> tuple[int, int]:
-    """Two times in nanoseconds as the whole seconds between them, or as the second of the first."""
-    return (first, last) if (first := ceil_div(before, SECOND)) <= (last := after // SECOND) else (last, last)
+    """Two times in nanoseconds as whole seconds between them, a second before the other one at the latest: what is
+    answered then may have been asked in that second. Of two that are too near the second of the first."""
+    first, last = before // SECOND + 1, after // SECOND - 1
+    return (first, last) if first <= last else (first - 1, first - 1)
 
 
 def span_of_seconds(seconds: float) -> str:

@@ -15,7 +15,7 @@ from ..folder.files import sum_of, sum_of_file
 from ..folder.placing import keep, make_private, move
 from ..folder.program import Program
 from ..records import replace
-from ..units import SECOND
+from ..units import inward
 from .apart import SEVERAL, Seen, seen_apart
 from .breaks import ANY, SOME
 from .judgement import Beside, Texts, judge, more_drift
@@ -134,7 +134,7 @@ class Settling:
         found = dict[Gap, Silence]()
         for gap, capture in sorted(gaps):
             whole = Classic(capture, self.extent if capture == self.capture else None)
-            runs, = runs_of(whole, [(gap[0] // SECOND + 1, max(gap[0] // SECOND, gap[1] // SECOND - 1))])
+            runs, = runs_of(whole, [inward(*gap)])
             write(SOME, [whole.data[:HEADER], *(whole.data[begin:end] for begin, end in runs)])
             counts = read_counts(self.call("samples", self.claim, SOME).splitlines()[-1].decode("ascii"))
             found[gap] = Silence(*gap, counts["requests"], counts["replies"])

@@ -414,8 +414,8 @@ def test_odd_day(place: Path) -> None:
     folder = days / "2001-09-09"
     status, _, _ = dossier("audit", folder)
     row = table(folder)[0]
-    said = ["No server was heard from 2001-09-09 12:59:01 to 2001-09-09 14:00:00", f"{names[5]} ends inside a record",
-            "No server was heard from 2001-09-09 20:59:01 to 2001-09-10 00:00:00",
+    said = ["No server was heard from 2001-09-09 12:59:01 to 2001-09-09 13:59:59", f"{names[5]} ends inside a record",
+            "No server was heard from 2001-09-09 20:59:01 to 2001-09-09 23:59:59",
             "The client logged a step of the clock at 2001-09-09 05:00:00"]
     text = "".join(check_page("a page of an odd day", dossier("page", folder)[1].decode()).words)
     check("an odd day", status=((status, row["verdict"]), (1, "refuted")),
