@@ -20,10 +20,9 @@ def number(found: Alert, one: str, many: str) -> str:
 
 
 def outside(found: Alert) -> str:
-    parts = [f"begins {length(found.before)} before the first NTP packet"] if found.before else []
-    if found.after:
-        parts.append(f"ends {length(found.after)} after the last{'' if parts else ' NTP packet'}")
-    return f"The span leaves the recording: it {' and '.join(parts)}. {ON_DRIFT}"
+    parts = [f"begins {length(found.before)} before the first"] if found.before else []
+    parts += [f"ends {length(found.after)} after the last"] if found.after else []
+    return f"The span goes beyond the packets that count: it {' and '.join(parts)}. {ON_DRIFT}"
 
 
 def falls(found: Alert) -> str:

@@ -201,8 +201,10 @@ def unheard(view: View, when: When, *_: int) -> str:
 
 
 def outside(view: View, *_: Any) -> str:
-    inside = view.packets and view.packets[0].stamp <= view.span[0] and view.span[1] <= view.packets[-1].stamp
-    return unless(not inside or view.entry.get("moves"), "the recording holds it")
+    stamps = [packet.stamp for packet in view.packets
+              if view.span[0] - MARGIN <= packet.stamp <= view.span[1] + MARGIN]  # (these count)
+    is_inside = stamps and stamps[0] <= view.span[0] and view.span[1] <= stamps[-1]
+    return unless(not is_inside or view.entry.get("moves"), "what counts holds it")
 
 
 def falls(view: View, *_: Any) -> str:
