@@ -159,5 +159,5 @@ def seen_apart(program: Program, part: Part, capture: str, extent: Extent | None
     times = [time for time in missed if time.server in search.met]
     own = {time.server for time in missed} - search.met
     if not least:
-        own |= {*always} - search.met
+        own |= {*always} - {time.server for time in times}
     return Seen([server for server in part.claim.servers if server in own], times)
