@@ -226,17 +226,24 @@ def test_no_right(folder: Path) -> None:
             f"  {EXPECTED[-1]}"])))
 
 
+def transcripts() -> str:
+    """The transcripts, and their tables as if they were some: a line of standard error a line."""
+    text = (ROOT / "tests/cases/words.txt").read_text("utf-8")
+    rows = re.findall(r"^> (.*?)(?: \[\d\])? \| ", text, flags=re.M)
+    return text + "".join(f"2> {row if row[:2] == '  ' else f'ntpaudit: {row}'}\n".replace("/  ", "\n2>   ")
+                          for row in rows)
+
+
 def test_mistakes() -> None:
-    """The mistakes that have a case in tests/cases/words.txt or are tried here: paths, operands, captures, claims."""
-    cases = re.findall(r"^# .*: mistake: (.+)$", (ROOT / "tests/cases/words.txt").read_text("utf-8"), flags=re.M)
-    check("the mistakes", different=(len(set(cases)), len(cases)), count=(len(cases), lambda count: count >= 25))
+    """The mistakes that have a case in tests/cases/words.txt: paths, operands, captures, claims."""
+    named = re.findall(r"^# .*: mistake: (.+)$|^> (?:.* \| ){2,}([ \w'`]+)$", transcripts(), flags=re.M)
+    check("the mistakes", different=(len(set(named)), len(named)), count=(len(named), lambda count: count >= 25))
 
 
 def test_pages() -> None:
     """FORMATS' fault lines are those that have words."""
     lines = fault_lines()
-    cases = (ROOT / "tests/cases/words.txt").read_text("utf-8")
-    told_of = re.findall(r"^2> ntpaudit: (.+)\n2>   .+\n2>   .+$", cases, flags=re.M)
+    told_of = re.findall(r"^2> ntpaudit: (.+)\n2>   .+\n2>   .+$", transcripts(), flags=re.M)
     for told in set(told_of):
         check(f"FORMATS has {told}", rows=(sum(is_like(told, line) for line in lines), 1))
     for line in lines:
@@ -246,7 +253,7 @@ def test_pages() -> None:
 def test_table() -> None:
     """Each text of the program's table is expected, by a case or by a test above: a whole remedy, or all that is said
     of what is wrong up to what was seen there."""
-    expected = [*EXPECTED, *re.findall(r"^2>   (.+)$", (ROOT / "tests/cases/words.txt").read_text("utf-8"), flags=re.M)]
+    expected = [*EXPECTED, *re.findall(r"^2>   (.+)$", transcripts(), flags=re.M)]
     for text in sentences.texts():
         pattern = sentences.pattern_of(text)
         whole = re.compile(rf"(^|: |\" ){pattern}($|[;:]| at line )" if text[0] != ";" else rf"{pattern}(;|$)")
