@@ -230,7 +230,8 @@ def other_calls(made: Inputs) -> list[Call]:
         Call("a refutation that is sought", ["find", made.tight, CAPTURE, "--refutation"],
              case("find/refutation-one-tick-over-the-bound")),
         Call("a claim that many samples show", ["settle", REAL_CLAIM, REAL], file("clients-us.settle.txt")),
-        Call("a claim that is refuted", ["settle", made.tight, CAPTURE], case("settle/refuted", 1)),
+        Call("a claim that is refuted", ["settle", made.tight, CAPTURE],
+             (1, b'{"error":42953969,"false":[],"reading":4294967296000000000}\n', b"")),
         Call("a claim that nothing fits", ["settle", made.none, REAL], case("settle/nothing-fits", 1)),
         Call("a claim of which many samples say nothing", ["settle", DATA / "clients-us.few.claim.json", REAL],
              (1, (DATA / "clients-us.few.settle.txt").read_bytes(), b"")),
@@ -245,7 +246,7 @@ def other_calls(made: Inputs) -> list[Call]:
         Call("the least bound of many samples", ["envelope", REAL_CLAIM, REAL, "--step", "8", "--servers", "--least"],
              case("envelope/clients-us-8-servers-least")),
         Call("the least bound where there is none", ["envelope", CLAIM, made.asked, "--least"],
-             case("envelope/least-of-no-sample", 1)),
+             (1, b"0 1000000000 1000000000 unbounded\nbound_ns none piece 0\nleast_ns none\n", b"")),
     ]
 
 
