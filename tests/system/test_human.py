@@ -12,8 +12,8 @@ compared byte for byte
 
 Each range that is shown is also held to the range in ticks, each time to its second, and each error to its ticks and to
 the bound. Fault lines have to be the same with the option and without, and so has each status. What `settle` tells is
-compared by tests/system/test_readings.py, and what is said on standard error of numbers that look like a slip of the pen
-by tests/second/slips.py.
+compared by tests/system/test_readings.py, and what is said of numbers that look like a slip of the pen by
+tests/second/slips.py.
 """
 import hashlib
 import json

@@ -139,12 +139,17 @@ def is_carried(asked: Asked, least: int | None) -> bool:
 def changes_of(asked: Asked) -> Iterator[dict[str, object]]:
     """What is changed of a claim: nothing first."""
     claim = asked.claim
-    yield from ({}, {"drift_ppb": 0}, *({"false_max": most} for most in {0, 1, len(claim["servers"])}), {"bound_ns": 0})
+    yield {}
+    yield {"drift_ppb": 0}
+    yield {"bound_ns": 0}
+    for most in {0, 1, len(claim["servers"])}:
+        yield {"false_max": most}
     later = {name: (datetime.strptime(time, FORM) + timedelta(days=1)).strftime(FORM)
              for name, time in (("from", claim["from"]), ("to", claim["to"]))}
-    for times in ({}, later):
-        if (least := asked.with_(**times).least()) is not None:
-            yield from ({**times, "bound_ns": least - below} for below in BELOW if 0 <= least - below <= 10**15)
+    for times in dict[str, str](), later:
+        least = asked.with_(**times).least()
+        for bound in [] if least is None else [least - below for below in BELOW if 0 <= least - below <= 10**15]:
+            yield {**times, "bound_ns": bound}
 
 
 def is_confirmed(asked: Asked, kind: str, text: bytes) -> bool:
@@ -170,7 +175,7 @@ def told(asked: Asked, kind: str, text: bytes, least: int | None) -> bytes:
 
 def settled(asked: Asked) -> tuple[str, Pairs]:
     """The kind of the answer, and what is compared of it."""
-    ran, (status, wanted, _) = asked.call("settle"), ran_of(answers.settle(asked.evidence))
+    ran, wanted = asked.call("settle"), ran_of(answers.settle(asked.evidence))[1]
     kind, least = kind_of(ran[1]), asked.least()
     is_other = kind == "refuted" and kind_of(wanted) in ("refuted", "open")
     human, said, slip = asked.call("settle", "--human")
