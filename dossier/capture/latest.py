@@ -14,7 +14,7 @@ from ..folder.placing import keep
 from ..units import SECOND
 from .classic import HEADER
 from .recorder import Written
-from .tail import Growing
+from .tail import Ending, Growing
 
 MOST = 64_000_000
 """Bytes that are read of a recorder's files."""
@@ -24,6 +24,8 @@ FITS, AHEAD = 60, 2
 """Seconds by which that may come after the last record, and by which a record may be later than now."""
 GAP = 60
 """Seconds as which a gap counts at the most, or a quarter of all that are wanted."""
+ALIKE = 2000
+"""Bytes at a file's end by which it is known as a copy of another's begin."""
 LATEST = "latest.pcap"
 """A private file."""
 
@@ -40,20 +42,20 @@ class Latest(NamedTuple):
 def latest(folder: Folder, files: Iterable[Written], order: list[str], seconds: int, now: int,
            bad: list[str]) -> Latest:
     """Of a recorder's files, and the order in which it says that it began them. What can't be read is left out, and
-    its fault is kept."""
-    parts, header, room, left, last, ahead = list[bytes](), b"", MOST, seconds, 0, 0
+    its fault is kept, and so is a copy of another's begin."""
+    found, header, ahead = list[Ending](), b"", 0
     for file, at in in_order(folder, files, order, now, bad):
         ahead = max(ahead, at - now)
+        left, room = seconds - sum(one.seconds for one in found), MOST - sum(len(one.data) for one in found)
         if left <= 0 or header and file.header != header:
             continue
         own = file.ending(left, max(GAP, seconds // 4), room, bad)
-        if own:
-            header, room, left = file.header, room - len(own.data), left - own.seconds
-            last, ahead = last or own.last, max(ahead, own.latest - now)
-            parts.insert(0, own.data)
-    if parts:
-        keep(LATEST, header + b"".join(parts))
-    return Latest(LATEST, last, ahead if ahead > AHEAD else 0)
+        if own and not any(own.data[-ALIKE:] in one.data for one in found):
+            found = [own, *(one for one in found if one.data[-ALIKE:] not in own.data)]
+            header, ahead = file.header, max(ahead, own.latest - now)
+    if found:
+        keep(LATEST, header + b"".join(one.data for one in found))
+    return Latest(LATEST, found[-1].last if found else 0, ahead if ahead > AHEAD else 0)
 
 
 def in_order(folder: Folder, files: Iterable[Written], order: list[str], now: int,

@@ -53,7 +53,7 @@ class State:
     kind: Literal["recording"]
     at: Count
     last: Count
-    """When its last packet came; 0 if none did."""
+    """When its last record was written; 0 if none was."""
     files: Annotated[list[Text], length(0, 20)]
     """The last files, in the order in which they were begun."""
     kept: Count
@@ -321,8 +321,6 @@ class Watch:
             at, number = end, number + 1
         self.rest = data[at:]
         self.taken, self.left_out = self.taken + number, self.left_out + number - len(kept)
-        if number:
-            self.last = since_boot()
         if kept:
             self.write(b"".join(kept), len(kept))
 
@@ -335,7 +333,7 @@ class Watch:
                 self.begin_file()
             if self.file:
                 self.file.take(records)
-                self.kept += number
+                self.kept, self.last = self.kept + number, since_boot() if number else self.last
                 return
         except OSError as error:
             self.close_file()

@@ -10,8 +10,8 @@ from ..units import (SECOND, TICKS, bound_ticks, ceil_div, civil, high_ms, low_m
                      span_of_seconds)
 from .metrics import Sample, labels_of
 
-ROWS, LEFT, HOUR = 9, 12, 3600
-"""Rows of the band, characters at its left, and seconds in it."""
+ROWS, LEFT, HOUR, MINUTE = 9, 12, 3600, 60
+"""Rows of the band, characters at its left, and seconds in it and in a minute."""
 NARROW, WIDE = 60, 160
 """Characters of a line at the least and at the most."""
 GREEN, RED, PLAIN = "\x1b[32m", "\x1b[31m", "\x1b[0m"
@@ -41,7 +41,7 @@ def fields_of(moment: Moment) -> list[str]:
     for move in moment.moves[:-1]:
         said.append(moved(move))
     since = f"{moved(moment.moves[-1])}; since then " if moment.moves else ""
-    since += "nothing fits with what was before; since then " if moment.is_cut else ""
+    since += f"{moment.before}; since then " if moment.before else ""
     if not isinstance(hull, str):
         said.append(f"{since}{range_of(hull)} of {exact_ms(moment.bound_ns)} ms")
     elif since:
@@ -61,8 +61,11 @@ def unheard(moment: Moment) -> str:
     """That nothing was recorded, and since when."""
     if not moment.last:
         return "nothing was recorded"
-    age = f", {span_of_seconds(moment.age)} ago" if moment.age is not None else ""
-    return f"nothing was recorded since {civil(moment.last)}{age}"
+    by_clock, age = moment.end - moment.last, moment.age
+    ago = f", {span_of_seconds(by_clock)} ago" if by_clock > 0 else ""
+    if age is not None and abs(age - by_clock) > MINUTE:
+        ago += f", by the recorder's word {span_of_seconds(max(1, age))}"
+    return f"nothing was recorded since {civil(moment.last)}{ago}"
 
 
 def moved(move: Move) -> str:

@@ -151,7 +151,7 @@ def look(wanted: Wanted, recorder: str, _: int) -> Result:
         span = MINUTE * wanted.minutes
         found = latest(folder, files, state.files if state and runs else [], span + MARGIN, end, bad)
     moment = Moment(recorder, end - span, end, NO_EVIDENCE, claim.bound_ns, len(claim.grouped),
-                    2 * claim.false_max + 1, found.last, age_of(state, found, now, end), found.ahead,
+                    2 * claim.false_max + 1, found.last, age_of(state, runs, found, now, end), found.ahead,
                     troubles=[] if state is None else state.troubles if runs else ["dead"],
                     lost=state.lost if state else 0, left_out=state.left_out if state else 0)
     if found.last:
@@ -159,11 +159,13 @@ def look(wanted: Wanted, recorder: str, _: int) -> Result:
     return Result(moments=[replace(moment, bad=list(map(plain, dict.fromkeys(bad))))])
 
 
-def age_of(state: State | None, found: Latest, now: int, end: int) -> int | None:
-    """Seconds since the last record was made: by the recorder's word, else by the machine's clock."""
+def age_of(state: State | None, runs: bool, found: Latest, now: int, end: int) -> int | None:
+    """Seconds since the last record was made: by the recorder's word, or by the machine's clock; the more of both if it
+    doesn't run, since the machine may have been begun again."""
+    by_clock = max(0, end - found.last) if found.last else None
     if state and 0 < state.last <= now:
-        return now - state.last
-    return max(0, end - found.last) if found.last else None
+        return max(now - state.last, 0 if runs else by_clock or 0)
+    return by_clock
 
 
 def told_of(wanted: Wanted, claim: Claim, found: Latest, moment: Moment) -> Moment:
@@ -172,7 +174,7 @@ def told_of(wanted: Wanted, claim: Claim, found: Latest, moment: Moment) -> Mome
     own = replace(claim, from_=civil(found.last), to=civil(found.last))
     keep(CLAIM, own.text)
     hearing = Hearing(wanted.program, own, whole, path)
-    if moment.age is not None and moment.age > max(SILENT, 2 * hearing.poll):
+    if max(moment.age or 0, moment.end - found.last) > max(SILENT, 2 * hearing.poll):  # (its word may be another's)
         return moment
     if (fell := fell_at(whole)) > hearing.enough:  # (too few were heard since)
         path = cut(whole, 0, fell, UNTIL)
@@ -182,18 +184,18 @@ def told_of(wanted: Wanted, claim: Claim, found: Latest, moment: Moment) -> Mome
     own = replace(own, from_=civil(min(end, max(end - span, min(whole.extent.stamps[fell:]) >> 32))), to=civil(end))
     step, program = 1 + span // MOST_PIECES, wanted.program
     parts = parted(program, own, path, whole.extent, step)
-    settled, capture = read_settled(parts.settled), parts.capture
+    settled, capture, before = read_settled(parts.settled), parts.capture, ""
     if parts.moves:
         begin, capture = ceil_div(parts.moves[-1].by, SECOND), f"stretch-{len(parts.moves)}.pcap"
         end = end if begin <= end else max(begin, found.last)
         own = replace(own, from_=civil(max(own.first, begin)), to=civil(end))
         settled = settle(program, own, capture)
     elif fell:  # (what was shown before may be the same readings)
-        capture = cut(whole, fell, len(whole.extent.stamps), SINCE)
+        capture, before = cut(whole, fell, len(whole.extent.stamps), SINCE), "the times of records fall back"
         settled = settle(program, own, capture)
-    is_cut = settled.answer == NOTHING_FITS
-    if is_cut:
+    if settled.answer == NOTHING_FITS:
         settled, own, capture = fitting(program, own, settled, capture, 2 * hearing.poll)
+        before = "nothing fits with what was before"
     keep(CLAIM, own.text)
     words = ("envelope", CLAIM, capture, "--servers", "--least", "--step", str(step))
     envelope = read_envelope(program.run(*words).text)
@@ -209,7 +211,7 @@ def told_of(wanted: Wanted, claim: Claim, found: Latest, moment: Moment) -> Mome
         verdict=UNSUPPORTED if settled.answer == YES and against else settled.answer,
         heard=sum(any(own.servers[k] not in silent for k in group) for group in own.grouped),
         camps=[] if fits else [list(camp) for camp in camps_at(envelope, len(envelope.hulls) - 1)],
-        moves=[move for move in parts.moves if move.by > (own.last - span) * SECOND], is_cut=is_cut and fits,
+        moves=[move for move in parts.moves if move.by > (own.last - span) * SECOND], before=before if fits else "",
         least_ns=envelope.least_ns if fits else None,
         pieces=[piece_of(envelope, k) for k in range(len(envelope.hulls))])
 

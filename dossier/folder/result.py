@@ -93,8 +93,8 @@ class Moment:
     camps: list[list[Address]] = field(default_factory=list)
     """The servers that agree with one another at the end, if nothing fits."""
     moves: list[Move] = field(default_factory=list)
-    is_cut: bool = False
-    """Whether nothing fits them together with what was recorded before in the minutes that were asked for."""
+    before: Text = ""
+    """Why what was recorded before in the minutes that were asked for is left out, but for moves."""
     least_ns: int | None = None
     against: str = ""
     """What takes a yes away, if anything does."""
@@ -121,7 +121,7 @@ class Moment:
     @property
     def is_shown(self) -> bool:
         """Whether the clock was within its bound in all of these minutes."""
-        return self.verdict == YES and not self.moves and not self.is_cut
+        return self.verdict == YES and not self.moves and not self.before
 
     @property
     def badness(self) -> tuple[bool, int, int]:

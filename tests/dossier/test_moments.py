@@ -13,7 +13,7 @@ from collections.abc import Sequence
 from pathlib import Path
 
 from tests.support import SECONDS, check
-from tests.dossier.audits import ENVIRONMENT, SCRIPT, capture_of, dossier
+from tests.dossier.audits import CAPTURE, ENVIRONMENT, SCRIPT, capture_of, dossier
 from tests.dossier.test_captures import records_of
 from tests.dossier.test_daily import metrics_of
 
@@ -146,6 +146,51 @@ def test_silence(place: Path) -> None:
         unseen=((found["now_seen", ""], ("now_clock_off", "") in found), ("0", False)))
 
 
+def test_word_of_a_recorder(place: Path) -> None:
+    """What stands beside the files as a recorder's word makes no old minutes a yes: it may be a stranger's, or be left
+    by a crash or on a copied disk, or its recorder has no room."""
+    last, metrics = int(time.time()) - 5, place / "m.prom"
+    last -= last % 10
+    for name, age, wanted in (("alone", 0, 0), ("before others", 0, 0), ("of a dead one", 100, 3600)):
+        folder, at = place / name, int(time.clock_gettime(time.CLOCK_BOOTTIME)) - age
+        old = recorded(folder, last - 4500, (last - 4500, last - 3599, RIGHT))
+        if name == "before others":
+            recorded(folder, last - 900, (last - 900, last + 1, AHEAD))
+        (folder / "eth0.recording").write_text(json.dumps({
+            "kind": "recording", "at": at, "last": at, "files": [old.name], "kept": 9, "left_out": 0, "lost": 0}))
+        status, lines, _ = now(folder, "--metrics", metrics)
+        found = {key: value for (key, *_), value in metrics_of(metrics).items()}
+        words = f"since {civil(last - 3600)}, 6[01][.][0-9] min ago" + (
+            "" if age else ", by the recorder's word [0-9].0 s")
+        check(f"a recorder's word: {name}", status=(status, 1), verdict=(lines[0].split("  ")[2], "no evidence"),
+              said=(bool(re.search(f"{words}  ", f"{lines[0]}  ")), True),
+              age=(0 <= float(found["now_last_record_age_seconds"]) - wanted <= 60, True),
+              trouble=("the recorder doesn't run" in lines[0], bool(age)))
+
+
+def test_fall(place: Path) -> None:
+    """A clock that falls back by 2 s, which far servers leave open: the error is that of what was recorded since, for
+    the same readings were shown twice. By hand: it was within -1 .. +3 s, and is within -4 .. -0.5 s."""
+    last, records = int(time.time()) - 2, list[bytes]()
+    for begin, end, way, ahead in ((last - 300, last - 10, 4, 1), (last - 8, last - 4, 3.5, 4)):
+        own = list[bytes]()
+        for second in range(begin, end):
+            words = [f"{1 + second % 4}:0..0@{time}" for time in (second, second + int(way))]
+            asked, _, _, answered = records_of(CAPTURE(words))
+            mark = struct.pack(">Q", 1 + len(records) + len(own))
+            said = struct.pack(">QQ", *2 * [(second + ahead + 2_208_988_800) << 32])
+            answered = answered[:4] + struct.pack("<I", int(way % 1 * 1e9) + 1000) + answered[8:-24]
+            own += [asked[:-8] + mark, answered + mark + said]
+        records += sorted(own, key=lambda record: struct.unpack("<II", record[:8]))
+    (place / "rec").mkdir()
+    path = place / "rec" / name_of(last - 300, "eth0")
+    path.write_bytes(CAPTURE([])[:24] + b"".join(records))
+    status, lines, _ = now(place / "rec", claim=claim_in(place, bound_ns=5_000_000_000))
+    check("a clock that falls back a little", status=(status, 1), said=(lines[0].split("  ")[2:5], [
+        "yes", "the times of records fall back; since then -4,000.001 .. -499.998 ms of 5,000.000 ms",
+        "now -4,000.001 .. -499.998 ms"]))
+
+
 def test_set_back(place: Path) -> None:
     """A clock that was set back: records later than the machine's clock are the finding, whichever file has them, and
     never a yes; and what follows is read as it was written."""
@@ -204,6 +249,12 @@ def test_newest(place: Path) -> None:
     os.utime(old / name_of(last - 1, "eth0"))
     status, lines, _ = now(old)
     check("an old file under the newest name", status=(status, 0), verdict=(lines[0].split("  ")[2], "yes"))
+    own = recorded(place / "copied", last - 300, (last - 300, last + 1, RIGHT))
+    for name, size in (("copy", 301 * 4 * 106 // 5), ("part", 24 + 60 * 4 * 106)):
+        copy = own.with_name(own.name.replace(".pcap", f"-{name}.pcap"))
+        copy.write_bytes(own.read_bytes()[:size])
+        check(f"a {name} beside", line=(now(place / "copied")[1][0].split("  ")[2:], lines[0].split("  ")[2:]))
+        copy.unlink()
 
 
 def test_now_of_files(place: Path) -> None:

@@ -106,13 +106,17 @@ def full(place: Path) -> dict[str, Any]:
     rig.packets(300)
     is_said = rig.until("nothing can be written (No space left on device)")
     named = rig.state_with(lambda state: "room" in state["troubles"])
+    last, came = rig.state()["last"], int(time.clock_gettime(time.CLOCK_BOOTTIME)) + 1
+    time.sleep(2)
+    rig.packets(3)
+    held = rig.state()["last"] == last < came
     (folder / "fill").unlink()
     for number in (3, 3, 3, 4):
         rig.packets(number)
     again = rig.until("there is room again")
     files = (rig.end(), rig.files())
     said = rig.said().count("nothing can be written")
-    return {"said": (is_said, said), "named": named, "again": again, "status": files[0],
+    return {"said": (is_said, said), "named": named, "held": held, "again": again, "status": files[0],
             "whole": -1 not in files[1], "later": len(files[1]) == 2 and files[1][1] >= 4}
 
 
@@ -164,7 +168,7 @@ def link(place: Path) -> dict[str, Any]:
 
 
 WANTED: dict[Callable[[Path], dict[str, Any]], dict[str, Any]] = {
-    full: {"said": (True, 1), "named": True, "again": True, "status": 0, "whole": True, "later": True},
+    full: {"said": (True, 1), "named": True, "held": True, "again": True, "status": 0, "whole": True, "later": True},
     stopped: {"hangs": (True, True), "killed": (True, True), "status": 0, "files": [2, 2, 3]},
     removed: {"file": (True, [3]), "folder": (4, True)},
     link: {"again": (0, 5), "gone": (4, True)},
