@@ -12,6 +12,7 @@ import sys
 import tempfile
 from collections import Counter
 from collections.abc import Iterator
+from copy import copy
 from pathlib import Path
 from types import SimpleNamespace
 from typing import Any
@@ -21,6 +22,8 @@ from tests.truth import network
 from tests.truth.clock import BILLION, FAST, SECOND, STEP, Event
 from tests.truth.files import capture
 from tests.truth.history import History, Trouble
+from tests.truth.network import paired
+from tests.truth.sight import hidden
 
 sys.path[0:0] = [str(Path(__file__).resolve().parents[2])]
 
@@ -73,6 +76,8 @@ class Played(History):
 
 class Player:
     """Plays a history, and notes what isn't so."""
+    BEFORE = 12 * 60 * SECOND
+    """How long before the minutes that are named what was recorded counts."""
 
     def __init__(self, history: Played, place: Path):
         from dossier.fleet import now
@@ -86,7 +91,7 @@ class Player:
         self.wanted = now.Wanted(str(self.record), str(place / "claim.json"), 10, LeapList("none", good_until=1 << 40),
                                  Program(program(), Made("", "")))
         self.data = capture(history, history.recorders[0])
-        self.looks = 0
+        self.looks = self.unseen = 0
 
     def play(self) -> None:
         recorder, = self.of.recorders
@@ -118,10 +123,13 @@ class Player:
         from dossier.fleet.band import line_of
         self.looks += 1
         line = line_of(moment)
-        for words in [*self.untrue(time, moment, seen), *self.untold(time, moment)]:
+        untrue = [*self.untrue(moment, seen), *self.untrue_of_servers(moment, seen)]
+        if untrue and self.is_unseen(seen):
+            untrue, self.unseen = [], self.unseen + 1
+        for words in [*untrue, *self.untold(time, moment)]:
             self.wrong.append(f"{words} | at {(time - self.of.begin) // SECOND} s | {line}")
 
-    def untrue(self, time: int, moment: Any, seen: list[Any]) -> Iterator[str]:
+    def untrue(self, moment: Any, seen: list[Any]) -> Iterator[str]:
         """What isn't so of the minutes that are named."""
         clock = self.of.clock
         near = range((moment.end - 2) * SECOND - 2 * self.of.poll, (moment.end + 1) * SECOND)
@@ -135,10 +143,14 @@ class Player:
                     ends = f"{shown[0] / 1e6:.3f} .. {shown[1] / 1e6:.3f} ms"
                     yield f"the error was {ends} in {piece.from_} .. {piece.to}"
                     break
-        if moment.verdict == "yes":
-            shown = clock.errors(moment.begin * SECOND, moment.end * SECOND, since, last + 1)
-            if shown and max(-shown[0], shown[1]) > self.of.bound:
-                yield f"a yes, and the error was {shown}"
+        shown = clock.errors(moment.begin * SECOND, moment.end * SECOND, since, last + 1)
+        if shown and moment.verdict == "yes" and max(-shown[0], shown[1]) > self.of.bound:
+            yield f"a yes, and the error was {shown}"
+        if shown and moment.least_ns is not None and max(-shown[0], shown[1]) > moment.least_ns:
+            yield f"the least bound {moment.least_ns}, and the error was {shown}"
+        if moment.before and not any(since - self.BEFORE < end and begin < last for begin, end in clock.breaks) and \
+                sum(one.is_wrong(since) or one.is_wrong(last) for one in self.of.servers) <= self.of.false_max:
+            yield "all fits with what was before"
         at = {packet.stamp: packet.at for packet in seen}
         for move in moment.moves:
             held = [jump for jump in clock.breaks if at[move.after] <= jump[0] and jump[1] <= at[move.by]]
@@ -147,10 +159,39 @@ class Player:
                 yield "it didn't move then"
             elif not move.low * SECOND / TICKS - 2 <= changed <= move.high * SECOND / TICKS + 2:
                 yield f"it moved by {changed / 1e6:.3f} ms"
+            rates = [abs(one.size) * BILLION // (one.end - one.begin) for one in clock.fast
+                     if at[move.after] <= one.begin and one.end <= at[move.by]]
+            if held and not any(begin == end for begin, end in held) and move.rate_ppb > max(rates) + self.of.ppb:
+                yield f"it moved at {max(rates)} ppb"
+
+    def is_unseen(self, seen: list[Any]) -> bool:
+        """Whether what was recorded in these minutes would be the same without a step or a fast movement."""
+        first, last = seen[-1].at - self.BEFORE, seen[-1].at
+        breaks = [one for one in self.of.clock.breaks if first < one[1] and one[0] < last]
+        own = copy(self.of)
+        own.exchanges = paired([packet for packet in seen if packet.at > first])
+        own.first, own.last, own.clock = first, last, SimpleNamespace(breaks=breaks)  # type: ignore
+        return bool(hidden(own))
+
+    def untrue_of_servers(self, moment: Any, seen: list[Any]) -> Iterator[str]:
+        """What isn't so of the servers: which are silent, off, or contradict one another."""
+        last, silent, heard = seen[-1].at, {one.address for one in moment.servers if one.is_silent}, 0
+        right = {one.address for one in self.of.servers
+                 if not one.is_wrong(last) and not one.is_wrong(last - self.BEFORE)}
+        camps = [camp for camp in moment.camps if right & set(camp)]
+        if len(camps) > 1 and not any(last - self.BEFORE < end and begin < last
+                                      for begin, end in self.of.clock.breaks):
+            yield f"servers that are right contradict one another: {camps}"
         for server in moment.servers:
             own = next(one for one in self.of.servers if one.address == server.address)
-            replies = [packet for packet in seen if packet.is_reply and packet.server is own
-                       and packet.stamp <= moment.end * SECOND]
+            every = [packet for packet in seen if packet.is_reply and packet.server is own]
+            is_heard = every and last - every[-1].at <= max(60 * SECOND, 2 * self.of.poll)
+            heard += server.address not in silent
+            if is_heard and server.is_silent:
+                yield f"{server.address} was heard"
+            if server.is_silent is False and (not every or last - every[-1].at > max(90 * SECOND, 4 * self.of.poll)):
+                yield f"{server.address} wasn't heard"
+            replies = [packet for packet in every if packet.stamp <= moment.end * SECOND]
             if server.error and replies:
                 error = own.error(replies[-1].at)
                 low, high = (end * SECOND / TICKS for end in server.error)
@@ -159,6 +200,8 @@ class Player:
                     yield f"{server.address} was off by {error / 1e6:.3f} ms, not by {ends}"
                 if server.is_apart and not own.is_wrong(replies[-1].at):
                     yield f"{server.address} was right"
+        if moment.servers and heard != moment.heard:
+            yield f"{heard} groups were heard"
 
     def untold(self, time: int, moment: Any) -> Iterator[str]:
         """An error beyond the bound for four minutes that isn't told, or one that is told and was over for as long."""
@@ -180,19 +223,20 @@ def main() -> int:
     parser.add_argument("--number", type=int, default=20)
     parser.add_argument("--seed", type=int, default=0)
     given = parser.parse_args()
-    bad, looks, kinds = 0, 0, Counter[str]()
+    bad, looks, unseen, kinds = 0, 0, 0, Counter[str]()
     for seed in range(given.seed, given.seed + given.number):
         with tempfile.TemporaryDirectory(prefix="ntpaudit-minutes-") as made:
             player = Player(Played(seed), Path(made))
             player.play()
             os.chdir("/")
-        looks += player.looks
+        looks, unseen = looks + player.looks, unseen + player.unseen
         kinds.update(player.of.kinds)
         for words in player.wrong[:3]:
             print(f"{seed} {player.of.kinds} poll {player.of.poll // SECOND}: {words}", flush=True)
         bad += bool(player.wrong)
         print(f"{seed} {player.looks}", file=sys.stderr, flush=True)
-    print(f"{given.number} histories, {looks} looks, {bad} with something that isn't so; {dict(kinds)}")
+    print(f"{given.number} histories, {looks} looks ({unseen} with what can't be seen), {bad} with something untrue; "
+          f"{dict(kinds)}")
     return int(bad > 0)
 
 
