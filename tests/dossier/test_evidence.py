@@ -14,14 +14,13 @@ from html import unescape
 from pathlib import Path
 from typing import Any
 
-from tests.support import ROOT, SECONDS, check, children, run, wait_until
+from tests.support import DATA, ROOT, SECONDS, check, children, run, wait_until
 from tests.dossier.audits import (ENVIRONMENT, PROGRAM, SCRIPT, capture_of, check_page, dossier, folder_of, parts_left,
                                   rows, skipped, table)
 from tests.dossier.leaps import leap_list
 
+
 # ---- signatures
-
-
 def key_of(place: Path, name: str) -> tuple[Path, str]:
     """A key, and the line that lets its owner sign."""
     run(["ssh-keygen", "-q", "-t", "ed25519", "-N", "", "-C", "", "-f", place / name])
@@ -268,7 +267,6 @@ def test_older_records(place: Path) -> None:
 
 
 # ---- leap seconds
-
 MINUTE: dict[str, Any] = {
     "client": "192.0.2.10", "servers": ["192.0.2.1"], "false_max": 0, "from": "2001-09-09T01:46:40Z",
     "to": "2001-09-09T01:47:44Z", "bound_ns": 60_000_000, "drift_ppb": 100_000, "reading_ns": 0}
@@ -377,8 +375,6 @@ def test_lists(place: Path) -> None:
 
 
 # ---- what is measured
-
-
 def why_no_recording(*user: object) -> str:
     """Why tcpdump can't record here, as a user that these words call it by; nothing if it can."""
     if not shutil.which("tcpdump"):
@@ -532,7 +528,6 @@ def test_measuring(place: Path) -> None:
 
 
 # ---- by what it is recorded
-
 RECORDER: dict[str, Any] = {
     "kind": "recorder", "interface": "eth0", "stamp": "host", "tool": "tcpdump 4.99", "kernel": "Linux 6.1.0",
     "machine": "web-1", "addresses": ["192.0.2.10"], "since": "2026-11-22T07:00:00Z"}
@@ -702,8 +697,7 @@ def test_no_right(place: Path) -> None:
 
 
 # ---- what a client's configuration says
-
-CLIENT = ROOT / "tests" / "dossier" / "client"
+CLIENT = DATA / "client"
 
 
 def unix(text: str) -> int:
@@ -824,8 +818,6 @@ def test_steps(place: Path) -> None:
 
 
 # ---- copies
-
-
 def test_copies(place: Path) -> None:
     """A script that was copied without what it needs says what is missing and what to set."""
     shutil.copy(SCRIPT, place / "ntpaudit-dossier")

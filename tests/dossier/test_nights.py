@@ -57,7 +57,7 @@ def test_drafts_of_nights(place: Path) -> None:
     status, out, err = dossier("draft", twice / "f.pcap", VLAN[0])
     check("a draft of packets twice", run=((status, out), (1, b"")), said=(b"Each packet is there twice" in err, True))
     words = 'exec "$0" draft --chrony <(cat "$1") "$2"'
-    configuration = ROOT / "tests/dossier/client/chrony.conf"
+    configuration = DATA / "client/chrony.conf"
     piped = run(["bash", "-c", words, SCRIPT, configuration, VLAN[0]], env=ENVIRONMENT)
     named = dossier("draft", "--chrony", configuration, VLAN[0])
     check("a configuration by a pipe", status=(piped[0], 0), same=(piped[1], named[1]),

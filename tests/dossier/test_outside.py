@@ -16,7 +16,7 @@ from tests.dossier.test_captures import records_of
 from tests.dossier.test_daily import DAY, hours_of, recorded
 from tests.dossier.test_evidence import key_of
 
-CLIENT = Path(__file__).parent / "client" / "chrony.conf"
+CLIENT = DATA / "client/chrony.conf"
 
 
 def at(clock: float, *words: object, **how: object) -> Ran:

@@ -134,7 +134,6 @@ def test_changed(place: Path) -> None:
 
 
 # ---- the form of audit.json
-
 KINDS: dict[str, tuple[type, ...]] = {"integer": (int,), "number": (int, float), "string": (str,), "null": (NoneType,),
                                       "array": (list,), "object": (dict,), "boolean": (bool,)}
 

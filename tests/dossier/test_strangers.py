@@ -48,8 +48,6 @@ def forge(folder: Path, change: Callable[[Any, Any], object]) -> None:
 
 
 # ---- what isn't so
-
-
 def test_forged_audit(place: Path) -> None:
     """An audit.json that somebody wrote by hand: no yes comes of it."""
     folder = folder_of(place, "forged", DATA / "chrony-ns.pcap", DATA / "chrony-ns.tight.claim.json")
@@ -164,8 +162,6 @@ def test_swapped_record(place: Path) -> None:
 
 
 # ---- what is no file
-
-
 def make_fifo(path: Path, place: Path) -> None:
     os.mkfifo(path)
 
@@ -283,8 +279,6 @@ def test_socket_and_rights(place: Path) -> None:
 
 
 # ---- what is written, and where
-
-
 def test_links_of_parts(place: Path) -> None:
     """Nothing is written through a link, whatever its name, and nothing is deleted behind one."""
     victim = place / "victim"
@@ -366,7 +360,7 @@ def test_named_outputs(place: Path) -> None:
     os.mknod(null, stat.S_IFCHR | 0o666, os.makedev(1, 3))
     check("-o to a device", status=(dossier("page", "-o", null, folder)[0], 0),
           there=(stat.S_ISCHR(null.lstat().st_mode), True))
-    client = Path(__file__).parent / "client" / "chrony.conf"
+    client = DATA / "client/chrony.conf"
     check("--evidence to a device",
           status=(dossier("draft", "--chrony", client, "--evidence", null, folder / "f.pcap")[0], 0),
           there=(stat.S_ISCHR(null.lstat().st_mode), True))
@@ -494,8 +488,6 @@ def test_at_once(place: Path) -> None:
 
 
 # ---- what is called
-
-
 def is_running(process: str) -> bool:
     try:
         return Path(f"/proc/{process}/stat").read_text().split()[2] != "Z"
@@ -553,7 +545,6 @@ def test_names_of_modules(place: Path) -> None:
 
 
 # ---- what is said
-
 DEEP = "[" * 10_000 + "]" * 10_000
 HOSTILE = {"HTML": '"<img src=http://192.0.2.1/x onerror=alert(1)>"',
            "a shell's words": '"1; touch owned $(touch owned) `touch owned`"', "an escape": '"\\u001b[31m"',

@@ -36,9 +36,8 @@ from tests.dossier.audits import (CLAIMS, ENVIRONMENT, PROGRAM, SCRIPT, TICKS_PE
 from tests.dossier.test_captures import records_of
 from tests.system.fault_lines import fault_lines
 
+
 # ---- figures
-
-
 def seen_of_program(claim: Path, capture: Path, entry: dict[str, Any]) -> tuple[str, str, int, int, int, bytes]:
     """Verdict, least bound, its piece and the number of samples, straight from the program."""
     asked = [PROGRAM, "envelope", claim, capture, "--least", "--step", str(entry["envelope_step"])]
@@ -192,8 +191,6 @@ def test_looks_at_captures() -> None:
 
 
 # ---- pictures
-
-
 def path_of(svg: str, name: str, after: int = 0) -> Any:
     return match_of(rf'<path class="{name}" d="([^"]*)"', svg[after:])[1]
 
@@ -305,8 +302,6 @@ def test_looks() -> None:
 
 
 # ---- pages
-
-
 def test_names(place: Path) -> None:
     """Names of strangers: nothing in them is interpreted."""
     names = ["a b", "line\nfeed", "<b>bold</b> & \"quotes' -->", "$(touch owned) `touch owned`; x", "-n", "=1+1",
@@ -390,8 +385,6 @@ def test_remedies() -> None:
 
 
 # ---- many folders
-
-
 def test_side_by_side(place: Path) -> None:
     parent, hold, held = place / "many", place / "hold", place / "held"
     folders = [folder_of(parent, f"host-{number:03}") for number in range(200)]
@@ -553,8 +546,6 @@ def test_full_disk(place: Path) -> None:
 
 
 # ---- verify
-
-
 def test_verify(place: Path) -> None:
     """What differs from what the inputs come to, with both values."""
     folder = folder_of(place, "verified")
@@ -621,8 +612,6 @@ def test_verify(place: Path) -> None:
 
 
 # ---- files that change
-
-
 def stand_in(path: Path, script: str) -> dict[str, str]:
     """A program that does something and then is the program."""
     path.write_text(f'#!/bin/sh\n{script}\nexec "{PROGRAM}" "$@"\n')
@@ -698,8 +687,6 @@ def test_sums(place: Path) -> None:
 
 
 # ---- drafts, days, verdicts
-
-
 def test_draft(place: Path) -> None:
     status, out, err = dossier("draft", DATA / "vlan-ns.pcap")
     claim = json.loads(out)
@@ -734,7 +721,7 @@ def test_draft(place: Path) -> None:
           told=(f" {-(-least // 1000) / 1000:.3f} ms; 123.456789 ms stands there, as asked for." in err.decode(), True))
     for option, word in (("--bound-ns", "1000000000000001"), ("--drift-ppb", "-1"), ("--reading-ns", "1000000001")):
         check(f"a draft with {option} {word}", status=(dossier("draft", option, word, DATA / "vlan-ns.pcap")[0], 5))
-    for words in rows(["--drift-ppb", "600000"], ["--chrony", ROOT / "tests/dossier/client/chrony.conf"]):
+    for words in rows(["--drift-ppb", "600000"], ["--chrony", DATA / "client/chrony.conf"]):
         status, out, err = dossier("draft", *words, DATA / "vlan-ns.pcap")
         check(f"a draft by {words[0]}", drift=(json.loads(out)["drift_ppb"], 600_000),
               alone=(b"NOT in it" in err, False), told=(b"\ndrift_ppb is 600000: how fast" in b"\n" + err, True))
@@ -787,7 +774,7 @@ def test_five_commands(place: Path) -> None:
     with_tcpdump = {**ENVIRONMENT, "PATH": f"{place}:{os.environ['PATH']}"}
     words = "draft --bound-ns 50000000 --chrony /etc/chrony/chrony.conf "
     check("they read the client's configuration", seen=(words in commands[1], True))
-    for command in (command.replace("/etc/chrony", str(ROOT / "tests" / "dossier" / "client")) for command in commands):
+    for command in (command.replace("/etc/chrony", str(DATA / "client")) for command in commands):
         if " record " in command:
             call = subprocess.Popen(["sh", "-c", f"exec {command}"], cwd=place, env=with_tcpdump,
                                     stderr=subprocess.DEVNULL)

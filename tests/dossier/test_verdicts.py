@@ -10,7 +10,7 @@ import shutil
 from pathlib import Path
 from typing import Any
 
-from tests.support import DATA, ROOT, check, run
+from tests.support import DATA, check, run
 from tests.dossier.audits import PROGRAM, SEARCH, called, capture_of, check_page, dossier, folder_of, rows, table
 from tests.dossier.leaps import LATER, leap_list
 
@@ -142,7 +142,7 @@ def test_no_audit(place: Path) -> None:
 
 def test_interleaved(place: Path) -> None:
     """A server that answers in interleaved mode is named by draft and page: by what a real chronyd sent."""
-    capture = ROOT / "tests" / "dossier" / "client" / "interleaved.pcap"
+    capture = DATA / "client/interleaved.pcap"
     said = "10.9.0.1 mostly answers in interleaved mode, which can't be used: take `xleave` out of its line"
     status, out, err = dossier("draft", "--client", "10.9.0.2", capture)
     check("a draft of interleaved mode", status=(status, 0), said=(said.replace("`", "") in err.decode(), True),

@@ -45,8 +45,6 @@ WORD = re.compile(r"[A-Za-z_]\w*")
 
 
 # ---- what the blocks print
-
-
 def blocks(text: str) -> Iterator[tuple[str, list[str]]]:
     """The commands of the blocks that begin with `$ `, each with the lines that it has to print."""
     for block in re.findall(r"(?:^    .*\n)+", text, flags=re.M):
@@ -166,7 +164,6 @@ def test_columns() -> None:
 
 
 # ---- how much they say, and where
-
 # The most words of a page, or of several together.
 LIMITS = {
     "README.md": 930, "SECURITY.md": 150, "docs/STABILITY.md": 440, "docs/PROMISES.md": 1840,
@@ -239,8 +236,6 @@ def test_ticks() -> None:
 
 
 # ---- what the documents name
-
-
 def hold_links(document: Path) -> None:
     text = document.read_text("utf-8")
     for link in re.findall(r"\]\(([^)#]+)(?:#[^)]*)?\)", text):
@@ -408,8 +403,6 @@ def test_comments() -> None:
 
 
 # ---- want of memory
-
-
 def test_wants_of_memory() -> None:
     for source in sorted((ROOT / "crates").glob("*/src/**/*.rt")):
         name = str(source.relative_to(ROOT / "crates"))
@@ -425,8 +418,6 @@ def test_wants_of_memory() -> None:
 
 
 # ---- wrong bodies
-
-
 def is_applicable(crate: Path, edit: Path) -> bool:
     """Whether a wrong body replaces something, and each text that it replaces stands once in its file, after the pairs
     before it."""
@@ -481,8 +472,6 @@ def test_wrong_bodies() -> None:
 
 
 # ---- listings and pictures
-
-
 def test_listings() -> None:
     for fields in files_in(DATA, "*.tshark.tsv"):
         capture = fields.with_name(fields.name.replace(".tshark.tsv", ".pcap"))

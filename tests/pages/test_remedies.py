@@ -40,8 +40,6 @@ Maker = Callable[[Path, bytes], object]
 
 
 # ---- files that need a remedy
-
-
 def records(whole: bytes) -> list[bytes]:
     """The records of a little-endian capture."""
     found, at = list[bytes](), 24
@@ -129,8 +127,6 @@ def sums(folder: Path, whole: bytes) -> None:
 
 
 # ---- what the program says
-
-
 def links(folder: Path, whole: bytes) -> None:
     whole_capture(folder, whole)
     os.symlink("claim.json", folder / "link")
@@ -281,8 +277,6 @@ def test_program(place: Path) -> None:
 
 
 # ---- what the pages say
-
-
 def tagged(frame: bytes) -> bytes:
     """A frame with an outer tag."""
     return frame[:12] + bytes.fromhex("88a80005") + frame[12:]
@@ -359,8 +353,6 @@ def test_pages(place: Path) -> None:
 
 
 # ---- what the dossier says by itself
-
-
 CALLED = {
     "ntpaudit list": "ntpaudit list f.pcap",
     "ntpaudit-dossier draft *.pcap > claim.json": "rm claim.json; ntpaudit-dossier draft *.pcap > claim.json",

@@ -43,8 +43,6 @@ def step_of(words: Sequence[object]) -> int:
 
 
 # ---- each command
-
-
 def samples(evidence: Evidence) -> Answer:
     """A line for each sample, and the counts."""
     servers, rows = evidence.claim["servers"], enumerate(zip(evidence.samples, evidence.records, strict=True))

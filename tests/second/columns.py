@@ -55,7 +55,6 @@ SERVER = Column("SERVER", ADDRESS, "server")
 HULL = Column("LOW", LOW, "low error ms"), Column("HIGH", HIGH, "high error ms")
 
 # ---- the lines
-
 LISTING = ("record time source destination version mode leap stratum precision delay dispersion identifier reference "
            "origin receive transmit first last t2 t3").split()
 """The fields of `list`, which has no headings."""
@@ -106,8 +105,6 @@ def read(columns: Columns, line: str) -> dict[str, str]:
 
 
 # ---- what is shown of them
-
-
 def cells(columns: Columns, fields: Mapping[str, str]) -> list[str]:
     texts = (fields.get(column.name, "") for column in columns)
     return [text if text in ("", *NO_ENDS) else column.kind.show(text) for text, column in zip(texts, columns)]

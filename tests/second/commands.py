@@ -71,8 +71,6 @@ def fault_alone(ran: Ran, options: Sequence[str], may_lack_words: bool = False) 
 
 
 # ---- what is answered to the first records
-
-
 def evidence(records: int) -> Evidence:
     """What they say about the claim."""
     closing = f"records {records} packets {records}\n".encode()
@@ -119,8 +117,6 @@ def told(name: str, words: Sequence[Path | str], records: int) -> Answer:
 
 
 # ---- the commands
-
-
 def help_of(name: str) -> str:
     return run([PROGRAM, name, "--help"])[1].decode()
 

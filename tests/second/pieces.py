@@ -22,8 +22,6 @@ MOST_BOUND_NS = 10**15
 
 
 # ---- hulls of any piece
-
-
 NONE = -1 << 200
 """Below every end, with any drift."""
 
@@ -118,8 +116,6 @@ def bound_in_ticks(bound_ns: int) -> int:
 
 
 # ---- the certificate of fewest pieces
-
-
 class Over(Protocol):
     """What gives the hull of any piece."""
 
@@ -195,8 +191,6 @@ def fewest(claim: Claim, samples: list[Sample]) -> tuple[Certificate | None, Sto
 
 
 # ---- the tick that needs most
-
-
 def neediest(hulls: Hulls, begin: int, end: int, most: int) -> tuple[int, int, int] | None:
     """The piece of one tick that needs most, of those with a hull: what it needs, and its ends; None where none has
     one. A piece within a piece needs no more, so the one that needs most is halved until it has one tick. After so
@@ -219,8 +213,6 @@ def neediest(hulls: Hulls, begin: int, end: int, most: int) -> tuple[int, int, i
 
 
 # ---- the least bound
-
-
 def least(claim: Claim, samples: list[Sample], step: int) -> tuple[int, int] | None:
     """The least bound in nanoseconds, and the piece of so many seconds that it is told for. Where no course fits there
     may be several such bounds, and this is one."""

@@ -65,8 +65,6 @@ def differs(ran: Ran, status: int, lines: list[str], error: bytes = b"") -> str:
 
 
 # ---- a claim and its capture
-
-
 class Way(NamedTuple):
     """How questions on a capture are asked: of which program, in which folder (with the capture in capture.pcap), how
     many seconds of the processor a call may take, and whether the reading makes all pieces, where there are many; and
@@ -152,8 +150,6 @@ class Question:
 
 
 # ---- settle
-
-
 def settle_case(question: Question) -> Iterator[Case]:
     """`settle`, and `check` or `refute --drift` of what it printed."""
     ran = question.call("settle")
@@ -239,8 +235,6 @@ def unaccepted(question: Question, certificate: bytes) -> str:
 
 
 # ---- envelope
-
-
 def envelope_case(question: Question) -> Iterator[Case]:
     """`envelope` with each of its options. The line of the least bound is looked at by itself: once for claims that
     differ in nothing but their bound."""
@@ -309,8 +303,6 @@ def below_wrong(question: Question, bound_ns: int, piece: int) -> str:
 
 
 # ---- the other commands
-
-
 def find_case(question: Question, step: int | None = None) -> Iterator[Case]:
     """`find`, and `check` of what it found."""
     if question.is_asked_enough:

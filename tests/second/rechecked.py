@@ -45,8 +45,6 @@ def recheck(*words: object) -> tuple[int, bytes, bytes]:
 
 
 # ---- of samples
-
-
 def exchanges_of(samples: list[Sample]) -> list[Any]:
     return [MODULE.Exchange(sample.server, 2 * k, 2 * k + 1, sample.sent, sample.received, sample.t2, sample.t3,
                             sample.distance) for k, sample in enumerate(samples)]

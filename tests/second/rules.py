@@ -36,8 +36,6 @@ def running(of: Callable[[int, int], int], numbers: Iterable[int]) -> list[int]:
 
 
 # ---- a claim
-
-
 def ticks_of(time: str) -> int:
     return int(datetime.datetime.fromisoformat(time.replace("Z", "+00:00")).timestamp()) * TICKS
 
@@ -71,8 +69,6 @@ def pieces_of(claim: Claim, step: int) -> list[Ends]:
 
 
 # ---- samples
-
-
 class Sample:
     """An exchange: its server, the windows in which the request left and the reply came, the reply's two timestamps,
     and its root distance. Where the clock doesn't drift its error lies between `low` and `high`."""
@@ -159,8 +155,6 @@ def is_inside(bound: int, found: Hull) -> bool:
 
 
 # ---- what the commands print
-
-
 def hull_fields(hull: Hull) -> tuple[object, object]:
     """The two ends, or a word and nothing."""
     return hull if hull else (NO_ENDS[hull is not None], "")
@@ -175,8 +169,6 @@ def compact(value: object) -> str:
 
 
 # ---- refutations
-
-
 def admits(sample: Sample, error: int) -> bool:
     """Whether the moments of an exchange can come one after another, if the clock is off by this error throughout."""
     (w, _), (_, z), t2, t3, r = sample.sent, sample.received, sample.t2, sample.t3, sample.distance

@@ -30,8 +30,6 @@ def reference(digits: str) -> str:
 
 
 # ---- each command's lines
-
-
 def samples(lines: list[str]) -> list[str]:
     *rows, counts = lines
     return [*table(SAMPLE, [read(SAMPLE, row) for row in rows]), counts]
@@ -168,8 +166,6 @@ def check(lines: list[str], fits: bool, about: Sequence[str]) -> list[str]:
 
 
 # ---- the inputs
-
-
 INPUTS = {"check": ("claim", "capture", "certificate"), "refute": ("claim", "capture", "refutation"),
           "settle": ("claim", "capture")}
 """The commands that name their inputs to a person, and these in the order of the command line."""
@@ -203,8 +199,6 @@ def without_about(text: bytes) -> bytes:
 
 
 # ---- all of them
-
-
 def of(words: Sequence[str], text: bytes, fits: bool = True, about: Sequence[str] = (ABOUT,)) -> bytes:
     """What a command prints with `--human`, of its words and what it prints without. `fits` says whether any course
     fits the whole capture, and `about` what is said of the inputs."""

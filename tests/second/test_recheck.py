@@ -184,8 +184,6 @@ def records_of(capture: bytes) -> list[bytes]:
 
 
 # ---- what is compared
-
-
 Job = Callable[[Trial], None]
 
 

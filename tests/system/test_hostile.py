@@ -43,6 +43,8 @@ from tests.tools.families import Exchanges
 PROGRAM = program()
 LIMIT = 60
 SIZES = (64, 1000, 8)
+LARGE = 250_000
+"""Exchanges of an ordinary hour: no command gives up because an input is large."""
 
 WHOLE = {"hair-10000-half", "gaps-100ppm", "many-pieces"}
 """The families of which the reading makes all 100,000 pieces, with 64 exchanges."""
@@ -60,8 +62,6 @@ class Told(NamedTuple):
 
 
 # ---- captures
-
-
 def tried(questions: Iterable[Question], cases: Iterable[Asks] = CASES) -> Told:
     called, kinds = set[str](), list[str]()
     for question in questions:
@@ -128,6 +128,7 @@ def try_file(name: str) -> Told:
 
 def cases() -> Iterator[tuple[str, Callable[[], Told]]]:
     """What is tried: the longest first."""
+    yield "system.hostile.large", partial(try_family, "hour", LARGE)
     yield "system.hostile.exact", try_exact
     for name in ("teeth", "hour", "gap"):
         yield f"system.hostile.file.{name}", partial(try_file, name)

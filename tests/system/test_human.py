@@ -72,8 +72,6 @@ def compare_all(calls: Sequence[tuple[str, Words]]) -> Iterator[tuple[str, str]]
 
 
 # ---- the captures of data/
-
-
 def moments_of(claim: Claim) -> list[str]:
     """The first and the last moment of a claim, one between them, and two far away."""
     begin, end = (datetime.fromisoformat(time.replace("Z", "+00:00")) for time in (claim["from"], claim["to"]))
@@ -177,8 +175,6 @@ def test_option() -> None:
 
 
 # ---- random ranges
-
-
 def end_of(rng: random.Random) -> int:
     """An end of a range in ticks: any, at a whole nanosecond, one tick beside it, or small."""
     sign, kind = rng.choice((-1, 1)), rng.randrange(5)
@@ -242,8 +238,6 @@ def test_ranges(folder: Path) -> None:
 
 
 # ---- refutations
-
-
 def error_of(rng: random.Random, bound_ns: int) -> int:
     """An error in ticks: at a bound, beside it, or any."""
     at = bound_ns * TICKS // 10**9 + rng.choice((-1, 0, 1, 2, 5))
@@ -275,8 +269,6 @@ def test_refutations(folder: Path) -> None:
 
 
 # ---- times
-
-
 def test_times(folder: Path) -> None:
     """The pieces of a day's length cut the time from 1970 to 2106 into days: each has its begin at the same time of
     day."""

@@ -78,8 +78,6 @@ def ran_of(answer: answers.Answer) -> Ran:
 
 
 # ---- each command but `settle`
-
-
 def times_of(claim: Claim) -> list[str]:
     """Moments of the span, and some before and after it."""
     begin, end = (datetime.strptime(time, FORM) for time in (claim["from"], claim["to"]))
@@ -134,8 +132,6 @@ def is_carried(asked: Asked, least: int | None) -> bool:
 
 
 # ---- settle
-
-
 def changes_of(asked: Asked) -> Iterator[dict[str, object]]:
     """What is changed of a claim: nothing first."""
     claim = asked.claim
@@ -207,8 +203,6 @@ def try_settle(file: Path) -> Counter[str]:
 
 
 # ---- claims that are refuted at one place alone
-
-
 def of_two_covers() -> tuple[families.Exchanges, Claim]:
     """A server is apart from another one by some 20 ms, and a third agrees with both: with the second one false the
     clock is up to 90,000,000 ticks ahead, with the first one false hardly at all. Nothing drifts."""
@@ -241,7 +235,7 @@ def try_lone_place(exchanges: families.Exchanges, claim: Claim) -> None:
         status, text, _ = run([PROGRAM, "settle", file, capture])
     found = json.loads(text) if kind_of(text) == "refuted" else {"reading": 0}
     wanted = settlement.refutation_at(claim, samples, covers[-1], found["reading"], 1)
-    elsewhere = [other for reading in (stop[:2] if stop else ()) for side in (1, -1)
+    elsewhere = [other for reading in ((stop.begin, stop.end) if stop else ()) for side in (1, -1)
                  if (other := settlement.refutation_at(claim, samples, covers[0], reading, side))
                  and rechecked.stands_with_drift(claim, samples, other)]
     check("a lone place", status=(status, 1), found=(found, wanted), elsewhere=(elsewhere, []),

@@ -147,8 +147,6 @@ def refuse_each(library: Path, mark: Path, call: Call) -> list[tuple[Ran, bytes 
 
 
 # ---- the calls
-
-
 class Inputs:
     """Inputs that are made of those in data/."""
 

@@ -13,8 +13,6 @@ from tests.system.sum_calls import Call, MOST, NOTHING, RANDOM, digest, fault, i
 
 
 # ---- the files of data/
-
-
 def calls_of_data() -> Iterator[Call]:
     """Each claim of data/, alone and with each certificate and refutation that is there for its capture."""
     for claim in files_in(DATA, "*.claim.json"):
@@ -104,8 +102,6 @@ def try_changes(call: Call) -> None:
 
 
 # ---- SHA-256
-
-
 EXAMPLES = {
     b"": "e3b0c44298fc1c149afbf4c8996fb92427ae41e4649b934ca495991b7852b855",
     b"abc": "ba7816bf8f01cfea414140de5dae2223b00361a396177a9cb410ff61f20015ad",

@@ -212,8 +212,6 @@ def test_size(folder: Path) -> None:
 
 
 # ---- bytes at random
-
-
 def test_random(folder: Path) -> None:
     """Files of sums with bytes changed, put in and left out: the first refusal is that of a plain reading."""
     call = inputs_in(folder, "two-packets", "two-packets.certificate.json")

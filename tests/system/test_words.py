@@ -117,8 +117,6 @@ def test_claims(folder: Path) -> None:
 
 
 # ---- other faults, and where words mustn't matter
-
-
 EXPECTED: list[str] = []
 """The words that the tests below expect, without their two blanks."""
 

@@ -152,8 +152,6 @@ def groups() -> Iterator[Edge]:
 
 
 # ---- texts
-
-
 def texts() -> Iterator[Text]:
     """Files that are at a limit or just beyond it."""
     claim, upto = json.dumps(CLAIM).encode(), (BASE + 4) * TICKS

@@ -38,8 +38,6 @@ Row = tuple[int, int, int, int, int]
 
 
 # ---- exchanges
-
-
 class Exchanges:
     """Exchanges in columns: servers, nanoseconds of request and reply, receive and transmit timestamps in Unix
     ticks."""
@@ -106,8 +104,6 @@ def write(exchanges: Exchanges, path: Path) -> None:
 
 
 # ---- claims
-
-
 def spelled(second: int) -> str:
     return datetime.fromtimestamp(second, timezone.utc).strftime("%Y-%m-%dT%H:%M:%SZ")
 
@@ -149,8 +145,6 @@ class Hostile(NamedTuple):
 
 
 # ---- servers that miss each other by a hair
-
-
 def hairs(setting: Setting, count: int, gaps: tuple[int, ...]) -> Hostile:
     """Two servers of the right time, and two far ahead that miss each other by a hair all along the span: the low ends
     of one rise and fall with the clock's drift, and so do the high ends of the other, so many ticks below. If several
@@ -185,8 +179,6 @@ def four(ppb: int, seconds: int = DAY, begin: int = BEGIN) -> Setting:
 
 
 # ---- one server, or servers that agree
-
-
 def teeth(setting: Setting, count: int, width: int = WIDTH) -> Hostile:
     """Equal exchanges at equal distances, of all servers in turn."""
     spacing = setting.spacing(count)
@@ -255,8 +247,6 @@ def hour(count: int) -> Hostile:
 
 
 # ---- conflicts
-
-
 def conflicting(setting: Setting, count: int) -> Hostile:
     """Each server is a second ahead of the one before, so that all contradict each other. With a thousand times the
     drift some ticks have an empty hull, and longer pieces have none."""
@@ -318,8 +308,6 @@ def last_conflicts(setting: Setting, count: int) -> Hostile:
 
 
 # ---- many pieces
-
-
 def many_pieces(count: int) -> Hostile:
     """Hairs so wide that some day takes 100,000 pieces: one claim needs a few less, the others need more."""
     setting = four(100_000, DAY * 11 // 10)
@@ -331,8 +319,6 @@ def many_pieces(count: int) -> Hostile:
 
 
 # ---- the families
-
-
 RATES = {"1ppb": 1, "10ppm": 10_000, "100ppm": 100_000, "half": HALF, "none": 0}
 
 

@@ -142,8 +142,6 @@ class Scene:
 
 
 # ---- what is asked of a scene
-
-
 def made_certificate(rng: random.Random, claim: Claim, of_servers: list[list[int]], samples: int) -> Certificate:
     """A certificate of any samples, where these are those of each server."""
     first, last = (seconds_of(time) * TICKS for time in (claim["from"], claim["to"]))
