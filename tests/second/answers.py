@@ -3,8 +3,7 @@ tests/second/rules.py, tests/second/pieces.py and tests/second/settlement.py say
 function here, and its options are the words that it is typed with.
 
 Nothing here is shared with the program. tests/tools/samples_from_list prints these texts, and
-tests/system/test_readings.py, tests/system/test_courses.py, tests/system/test_hostile.py and tests/system/test_large.py
-hold the program to them.
+tests/system/test_readings.py, tests/system/test_courses.py and tests/system/test_hostile.py hold the program to them.
 """
 from collections.abc import Callable, Iterator, Sequence
 from typing import NamedTuple

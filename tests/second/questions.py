@@ -1,6 +1,6 @@
 """What commands answer about a claim and a capture, held to the second reading of tests/second/answers.py,
-tests/second/marks.py and tests/second/settlement.py: for tests/system/test_hostile.py and tests/system/test_large.py,
-whose captures are made by tests/tools/families.py.
+tests/second/marks.py and tests/second/settlement.py: for tests/system/test_hostile.py, whose captures are made by
+tests/tools/families.py.
 
 A question is a claim on a capture. Of each there are cases: what was tried, and what is wrong with it.
 """

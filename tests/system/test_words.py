@@ -41,7 +41,7 @@ LIMITS = {"false_max": 31, "bound_ns": 10**15, "drift_ppb": 500_000_000, "readin
 
 ELSEWHERE = ("capture 8 too-many", "exchanges over 1000000", "memory", "certificate 4 too-many-entries piece K",
              "certificate 5 too-many-pieces")
-"""Fault lines that no transcript has room for: tests/system/test_large.py and tests/system/test_refused_memory.py have
+"""Fault lines that no transcript has room for: tests/system/test_refused_memory.py has
 them, or the tests below."""
 
 NEVER = ("had a fault before", "read it again from its beginning")
