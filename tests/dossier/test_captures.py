@@ -211,35 +211,6 @@ def test_torn(place: Path) -> None:
     check("a draft of a torn capture", status=(status, 0), told=(b"\nf.pcap ends inside a record" in b"\n" + err, True))
 
 
-def test_step(place: Path) -> None:
-    """Where a step is seen it is said between when and by how much, it is drawn, and the two claims that the words tell
-    hold, each with the whole capture."""
-    for name, size in (("forwards", 50 * MS), ("backwards", -50 * MS)):
-        words = [f"{server}:{low}..{low + 9}@{second}" for second in range(NOON, NOON + 1200, 30)
-                 for low in [size if second > NOON + 600 else 0] for server in (1, 2)]
-        folder = days_of(place, name, words, to="2001-09-09T12:19:30Z")
-        _, line, _ = dossier("audit", folder)
-        row, text = table(folder)[0], dossier("page", folder)[1].decode()
-        said = re.search(r"stepped, or moved at (\S+) ppm or more, between 2001-09-09 (\S+) and (\S+) by (\S+) to "
-                         r"(\S+) ms", row["reason"])
-        assert said, row["reason"]
-        low, high = sorted(float(each) for each in said.groups()[3:])
-        check(f"a step {name}", verdict=(row["verdict"], "nothing fits"), line=(said[0] in line.decode(), True),
-              between=("12:09" < said[2] <= "12:10:00" < said[3] < "12:12", True),
-              size=(low <= size / MS <= high and high - low < 1, True), rate=(0 < int(said[1]) <= 1667, True),
-              drawn=(len(re.findall(r'class="step" d="M(\d+) 0V', text)), 1), worst=(row["worst_begin"], ""),
-              verified=(dossier("verify", folder)[0], 1))
-        spans = re.findall(r'`?"from": "([^"]*)", "to": "([^"]*)"', row["to_do"])
-        check(f"the claims beside a step {name}", number=(len(spans), 2))
-        for number, (begin, end) in enumerate(spans):
-            half = folder_of(place, f"{name} {number}", folder / "f.pcap", folder / "claim.json",
-                             **{"from": begin, "to": end})
-            status, (row,) = dossier("audit", half)[0], table(half)
-            check(f"a claim beside a step {name}", status=(status, 0), verdict=(row["verdict"], "yes"),
-                  said=(row["warnings"][0].startswith("This presumes that the clock was stepped, or moved at "), True),
-                  verified=(dossier("verify", half)[0], 0))
-
-
 DAY, NOON = 86_400, 1_000_000_000 - 1_000_000_000 % 86_400 + 43_200
 MS = 4_294_967
 

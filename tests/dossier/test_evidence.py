@@ -251,21 +251,6 @@ def test_elsewhere(place: Path) -> None:
         check(f"a record with {change}", run=(dossier("verify", folder)[:2], (2, line.encode())))
 
 
-def test_older_records(place: Path) -> None:
-    """A folder of an older form is verified, isn't shown or signed, and is audited again (test_stable.py has more)."""
-    folder = folder_of(place, "older")
-    dossier("audit", folder)
-    record = json.loads((folder / "audit.json").read_text())
-    (folder / "audit.json").write_text(json.dumps({**record, "dossier": record["dossier"] - 1}))
-    check("an older record",
-          verify=(dossier("verify", folder)[:2], (0, (
-              f"{folder}: verified: yes\n{folder}: (form {record['dossier'] - 1} of audit.json: verdicts, figures and "
-              "files are the same; what it warns of isn't compared)\n").encode())),
-          sign=(dossier("sign", "--key", "any", folder)[0], 4), row=(table(folder)[0]["verdict"], "not verified"))
-    check("an older record is audited again", unchanged=(b"(unchanged)" in dossier("audit", folder)[1], False),
-          form=(json.loads((folder / "audit.json").read_text())["dossier"], record["dossier"]))
-
-
 # ---- leap seconds
 MINUTE: dict[str, Any] = {
     "client": "192.0.2.10", "servers": ["192.0.2.1"], "false_max": 0, "from": "2001-09-09T01:46:40Z",

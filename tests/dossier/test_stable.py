@@ -75,6 +75,7 @@ def test_verify(place: Path) -> None:
             check(f"verify of {version}, {kept.name}", status=(status, int(verdict != "yes")), err=(err, b""),
                   line=(out.decode().splitlines()[0], f"{folder}: verified: {verdict}"),
                   form=(f"form {form} of audit.json" in out.decode(), form < VERSION),
+                  sign=(form < VERSION and dossier("sign", "--key", "any", folder)[0], form < VERSION and 4),
                   left=({path.name: path.read_bytes() for path in folder.iterdir()},
                         {path.name: path.read_bytes() for path in kept.iterdir()}))
 

@@ -858,28 +858,6 @@ def test_own_faults(place: Path) -> None:
     check("an error of one's own", status=(run(["python3", "-c", script], env=ENVIRONMENT)[0], 70))
 
 
-def test_no_evidence(place: Path) -> None:
-    """A capture that says nothing: the verdict, its words, report.txt, and no refutation."""
-    claim = {**json.loads((DATA / "clients-us.claim.json").read_text()), "client": "203.0.113.9"}
-    (place / "claim.json").write_text(json.dumps(claim))
-    folder = folder_of(place, "silent", DATA / "clients-us.pcap", place / "claim.json")
-    status, out, _ = dossier("audit", folder)
-    row, entry = table(folder)[0], json.loads((folder / "audit.json").read_text())["entries"][0]
-    text = dossier("page", folder)[1].decode()
-    words = "".join(check_page("a page of no evidence", text).words)
-    check("no evidence", status=(status, 1),
-          line=(out.decode(), f"no evidence   {folder}: 203.0.113.9 asks nobody in this capture: 192.0.2.10 does\n"),
-          row=((row["verdict"], row["least_bound_ns"]), ("no evidence", None)),
-          report=((folder / "report.txt").read_text().startswith("no evidence groups 0 of "), True),
-          refutation=((folder / "refutation.json").exists() or "refutation" in entry, False),
-          badge=('class="verdict no-evidence"' in text, True),
-          said=("the capture says nothing about this clock. 203.0.113.9 asks nobody in this capture: 192.0.2.10 does."
-                in words, True),
-          to_do=("names the right client" in row["to_do"] and "names the right client" in words, True),
-          csv=(",no evidence," in dossier("page", "--csv", folder)[1].decode(), True),
-          verified=(dossier("verify", folder), (1, f"{folder}: verified: no evidence\n".encode(), b"")))
-
-
 def test_browser(place: Path) -> None:
     """A page with hostile strings in a browser: no request leaves, nothing runs, and the title is what it should be."""
     browser = shutil.which("chromium") or shutil.which("google-chrome")

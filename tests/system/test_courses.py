@@ -226,22 +226,6 @@ def try_hulls(course: Course, samples: list[Sample], rng: random.Random) -> list
     return wrong
 
 
-def try_marks(course: Course, samples: list[Sample]) -> list[str]:
-    """What is wrong with the contradictions of tests/second/marks.py, by looking at every pair of marks."""
-    claim, wrong = course.claim(0), []
-    for a in course.groups:
-        for b in course.groups:
-            pairs = [(i, j) for i, low in enumerate(samples) for j, high in enumerate(samples)
-                     if low.server in a and high.server in b
-                     and (not marks.are_compatible(claim, marks.low_mark(low), marks.high_mark(high))
-                          or i == j and not marks.is_possible(low))]
-            own = marks.GroupMarks(claim, samples, a)
-            found = own.contradiction(own if a == b else marks.GroupMarks(claim, samples, b))
-            if found != min(pairs, default=None):
-                wrong.append(f"groups {a} and {b} contradict each other by {pairs[:1]}, and by sorted lists by {found}")
-    return wrong
-
-
 def try_least(course: Course, samples: list[Sample], folder: str, capture: str, rng: random.Random) -> list[str]:
     """What is wrong with `envelope --least`: its text, or that the bound hasn't the property that makes it one."""
     step, words = rng.choice((1, 2, 7, 64)), rng.choice((list[str](), ["--servers"]))
@@ -463,7 +447,6 @@ def try_course(seed: int) -> tuple[int, int, int, list[str]]:
         wrong += try_finding(course, samples, folder, capture, bounds, rng)
         wrong += try_envelope(course, samples, folder, capture, rng)
         wrong += try_hulls(course, samples, rng)
-        wrong += try_marks(course, samples)
         wrong += try_least(course, samples, folder, capture, rng)
         wrong += try_refutations(course, samples, folder, capture, [*bounds, 0], certificate, rng)
         wrong += try_drift(course, samples, folder, capture, certificate, rng)

@@ -110,20 +110,6 @@ def test_captures(folder: Path) -> None:
           seen=(names, {command.name for command in every_command()} - {"settle"}))
 
 
-def test_references(folder: Path) -> None:
-    """Reference identifiers that are one to four characters, or aren't by one byte, or are an address."""
-    capture, calls = CAPTURE.read_bytes(), list[tuple[str, Words]]()
-    references = (b"GPS1", b"GPS\0", b"!!~~", b" GPS", b"GP S", b"GPS\x7f", b"\x80GPS", b"LOCL", bytes((192, 0, 2, 1)),
-                  bytes(4), b"\xff" * 4, b"X\0\0\0", b"~~\0\0", b"\0GPS", b"G\0PS", b"GP\0S", b"G\0\0\1", b"GP \0")
-    for named in references:
-        file = folder / f"{named.hex()}.pcap"
-        file.write_bytes(capture[:200] + named + capture[204:])
-        calls.append((f"reference {named.hex()}", ["check", CLAIM, file, CERTIFICATE]))
-    for named, (text, plain) in zip(references, compare_all(calls)):
-        check(f"{named.hex()} is advised about", there=(f"advice reference {named.hex()}\n" in plain, True),
-              shown=("advice reference " in text, True))
-
-
 def test_other_texts(folder: Path) -> None:
     """Faults and statuses are the same with the option and without."""
     torn, none = folder / "torn.pcap", folder / "none"

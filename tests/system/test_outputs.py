@@ -314,17 +314,3 @@ def test_rights(folder: Path) -> None:
             status, _, error = call(command, sticky / "f", claim, capture, **dict(how))
             check(f"{command.title} to a file that may not be replaced", run=((status, b"", error), NO_OUTPUT),
                   files=(files_of(sticky), {"f": OLD}))
-
-
-def test_command_lines(folder: Path) -> None:
-    """Outputs that are no path, or that don't go with another option, are refused before anything is done."""
-    file = folder / "f"
-    given: list[list[Path | str]] = [["-o", "-"], ["-o", ""], ["--output="], ["-o"], ["-o", file, "-o", file]]
-    for words in given:
-        status, output, error = run([PROGRAM, "settle", CLAIM, CAPTURE, *words])
-        check(f"settle with {words}", run=((status, output, error[:7]), (5, b"", b"error: ")),
-              files=(files_of(folder), {}))
-    for command in ("samples", "envelope", "check"):
-        second = ["x"] if command == "check" else []
-        status, output, _ = run([PROGRAM, command, CLAIM, CAPTURE, *second, "-o", file])
-        check(f"{command} with -o", run=((status, output), (5, b"")), files=(files_of(folder), {}))

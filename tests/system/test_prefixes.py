@@ -1,18 +1,15 @@
-"""Gives each command each prefix of data/two-packets.pcap, of its claim, its certificate and its refutation, and of a
-file of their sums: files that were cut. The commands are those of tests/second/commands.py, and there is no other. Each
-takes an option that has no value once.
+"""Gives each command each prefix of data/two-packets.pcap, of its claim, its certificate and its refutation: files that
+were cut. The commands are those of tests/second/commands.py, and there is no other. Each takes an option that has no
+value once.
 """
 import re
-import tempfile
 from collections.abc import Callable
 from concurrent.futures import ThreadPoolExecutor
 from pathlib import Path
 
-from tests.support import DATA, Ran, check, program, run, sum_of
-from tests.second import sum_form
+from tests.support import DATA, Ran, check, program, run
 from tests.second.answers import Answer
 from tests.second.commands import CAPTURE, CLAIM, Command, every_command, fault_alone, flags_of, SECOND
-from tests.system import test_outputs
 
 BYTES = CAPTURE.read_bytes()
 LINES = (DATA / "two-packets.list.txt").read_bytes().splitlines(keepends=True)
@@ -72,44 +69,6 @@ def try_command(command: Command) -> None:
         check_prefixes(operand, whole, lambda length: refused(name) if length < len(whole) else None)
 
 
-def try_sums(command: Command) -> None:
-    """A file of sums of which a part is left: a line that was cut isn't of the form, or has another name; and of the
-    lines that aren't there the first that is asked for is missing."""
-    operands = {"claim": CLAIM, SECOND[command.name]: Path(command.others[0]), "capture": CAPTURE}
-    ends, sums = [], b""
-    for operand in operands.values():
-        sums += sum_form.line_of(str(operand).encode(), sum_of(operand.read_bytes()).encode())
-        ends.append(len(sums) - 1)
-    words = [PROGRAM, command.name, CLAIM, CAPTURE, *command.words, "--sums", "/dev/stdin"]
-    for length, ran in enumerate(runs(words, sums)):
-        whole = sum(end <= length for end in ends)
-        rest = length - ([-1, *ends][whole] + 1)
-        if 0 < rest < len(sum_of(b"")) + 3:
-            wanted: Ran = 2, b"", f"ntpaudit: sums form line {whole + 1}\n".encode()
-        elif whole < 3:
-            wanted = 2, b"", f"ntpaudit: sums missing {list(operands)[whole]}\n".encode()
-        else:
-            wanted = answer_of(len(BYTES), command.answer)
-        check(f"{command.title}: the first {length} bytes of sums", run=(fault_alone(ran, command.options), wanted))
-
-
-def try_outputs(command: Command) -> None:
-    """With `-o` a prefix of the capture leaves a whole file, or none if it's refused."""
-    def tried(length: int, folder: Path) -> tuple[Ran, dict[str, bytes]]:
-        inside = folder / str(length)
-        inside.mkdir()
-        words = [PROGRAM, command.name, CLAIM, "/dev/stdin", *command.words, "-o", inside / "f"]
-        return fault_alone(run(words, BYTES[:length]), command.options), test_outputs.files_of(inside)
-
-    plain, lengths = test_outputs.for_a_program(command), range(len(BYTES) + 1)
-    with tempfile.TemporaryDirectory(prefix="ntpaudit-") as folder, ThreadPoolExecutor() as pool:
-        for length, (ran, files) in enumerate(pool.map(lambda length: tried(length, Path(folder)), lengths)):
-            status, text, error = answer_of(length, command.answer)
-            left = {"f": answer_of(length, plain.answer)[1]} if status in (0, 1) else {}
-            check(f"{command.title} -o: the first {length} bytes", files=(files, left),
-                  run=(ran, (status, text if "--human" in command.options else b"", error)))
-
-
 def test_names() -> None:
     named = set(re.findall(r"^  (\w+)  ", run([PROGRAM, "--help"])[1].decode(), flags=re.M))
     check("the commands of the program", seen=({command.name for command in every_command()}, named - {"list", "help"}))
@@ -132,7 +91,3 @@ def test_flags() -> None:
 def test_commands() -> None:
     for command in every_command():
         try_command(command)
-        if command.name in SECOND:
-            try_sums(command)
-        if command in test_outputs.writers():
-            try_outputs(command)

@@ -1,8 +1,6 @@
 """That what is summed are the bytes of the inputs: the files of data/ and each byte of them, NIST's examples of
 SHA-256, lengths around a block of it, and large inputs."""
-import os
 import random
-import tempfile
 from collections.abc import Iterable, Iterator
 from concurrent.futures import ThreadPoolExecutor
 from pathlib import Path
@@ -27,49 +25,15 @@ def calls_of_data() -> Iterator[Call]:
                     yield Call(DATA, command, claim.name, f"{name}.pcap", second.name, option)
 
 
-def try_data(call: Call) -> list[tuple[str, Ran, Ran]]:
-    """A call with sums, with each of its inputs changed in a byte, and with each of its sums changed in a digit."""
-    name, sums, plain = f"{' '.join(call.words[1:])}", call.sums(), call.plain()
-    found = [(name, call.by(sums), plain)]
-    lines, chosen = sums.splitlines(keepends=True), random.Random(name)
-    for number, kind in enumerate(call.inputs):
-        at = chosen.randrange(64)
-        digits = lines[number]
-        other = b"%x" % (int(digits[at : at + 1], 16) ^ chosen.randrange(1, 16))
-        changed = [*lines[:number], digits[:at] + other + digits[at + 1 :], *lines[number + 1 :]]
-        found.append((f"{name}: digit {at} of the sum of the {kind}", call.by(b"".join(changed)),
-                      fault(f"sums differ {kind}")))
-        with tempfile.TemporaryDirectory(prefix="ntpaudit-") as folder:
-            for file in call.inputs.values():
-                os.symlink(DATA / file, Path(folder) / file)
-            data = bytearray(call.data(kind))
-            at = chosen.randrange(len(data))
-            data[at] ^= 1 << chosen.randrange(8)
-            (Path(folder) / call.inputs[kind]).unlink()
-            (Path(folder) / call.inputs[kind]).write_bytes(data)
-            found.append((f"{name}: byte {at} of the {kind}", call._replace(folder=Path(folder)).by(sums),
-                          fault(f"sums differ {kind}")))
-    return found
-
-
 def test_data(folder: Path) -> None:
     calls = list(calls_of_data())
     check("calls on data/", count=(len(calls), lambda count: count > 60),
           commands=({call.command for call in calls}, {"check", "refute", "settle"}), kinds=(
               {call.plain()[:2] == (0, b"refuted yes\n") for call in calls if call.command == "refute"}, {True, False}))
     with ThreadPoolExecutor() as pool:
-        for tried in pool.map(try_data, calls):
-            for name, seen, wanted in tried:
-                check(name, run=(seen, wanted))
-
-
-def test_each_file(folder: Path) -> None:
-    """Each file of data/ as a claim: never another sum than its own."""
-    (folder / "data").symlink_to(DATA)
-    for file in sorted(filter(Path.is_file, DATA.iterdir())):
-        call = Call(folder, "check", f"data/{file.name}", "data/two-packets.pcap", "data/two-packets.certificate.json")
-        wanted = fault("too-big claim") if file.stat().st_size > MOST else call.plain()
-        call.says(f"data/{file.name} as a claim", call.sums(), wanted)
+        by_sums: Iterator[Ran] = pool.map(lambda call: call.by(call.sums()), calls)
+        for call, seen, plain in zip(calls, by_sums, pool.map(Call.plain, calls)):
+            check(" ".join(call.words[1:]), run=(seen, plain))
 
 
 def test_changes(folder: Path) -> None:
