@@ -10,7 +10,7 @@ from ..fault import DEVICE, Fault, fault
 from ..folder.claim import Claim
 from ..folder.evidence import evidence, named_in
 from ..folder.files import EVIDENCE, Folder, data_named, is_capture
-from ..folder.jobs import find_tool, private_folder, run
+from ..folder.jobs import find_tool, told
 from ..folder.placing import place
 from ..records import dataclass, replace
 from ..schema import Address, Text, Time, is_time, json_text, length, matching, read_typed
@@ -73,23 +73,21 @@ def filter_of(path: str | None, clients: Iterable[str] = ()) -> str:
 
 def recorder(tool: str, interface: str) -> Recorder:
     system = os.uname()
-    with private_folder() as own:
-        return Recorder("recorder", interface, "host", version_of(tool, own), f"{system.sysname} {system.release}",
-                        plain(system.nodename), addresses_of(interface, own), now())
+    return Recorder("recorder", interface, "host", version_of(tool), f"{system.sysname} {system.release}",
+                    plain(system.nodename), addresses_of(interface), now())
 
 
-def addresses_of(interface: str, own: str) -> list[str]:
+def addresses_of(interface: str) -> list[str]:
     tool = find_tool("ip", "ip isn't installed (iproute2), which knows the interface's addresses")
-    status, text, _ = run([tool, "-4", "-o", "addr", "show", "dev", interface], cwd=own)
+    status, text = told([tool, "-4", "-o", "addr", "show", "dev", interface])
     if status:
         raise fault(f"there is no interface {interface}", DEVICE)
-    return sorted(set(re.findall(r" inet ([0-9.]+)", text.decode("utf-8", "replace"))))
+    return sorted(set(re.findall(r" inet ([0-9.]+)", text)))
 
 
-def version_of(tool: str, own: str = ".") -> str:
+def version_of(tool: str) -> str:
     """What tcpdump says of its version, and of libpcap's."""
-    _, text, _ = run([tool, "--version"], cwd=own)
-    return plain(", ".join(text.decode("utf-8", "replace").splitlines()[:2]))
+    return plain(", ".join(told([tool, "--version"])[1].splitlines()[:2]))
 
 
 def keep(path: str, found: Recorder) -> None:

@@ -166,7 +166,7 @@ class Watch:
 
     def look(self) -> None:
         with suppress(Fault):
-            if self.found and addresses_of(self.wanted.interface, ".") != self.found.addresses:
+            if self.found and addresses_of(self.wanted.interface) != self.found.addresses:
                 note(f"ntpaudit-dossier: {self.wanted.interface}: its addresses have changed")
                 self.drop()
         self.look_at_tool()
@@ -269,7 +269,7 @@ class Watch:
     def addresses_fault(self) -> Fault | None:
         """Why the interface's addresses can't be told; a fault of a device if it isn't there."""
         try:
-            addresses_of(self.wanted.interface, ".")
+            addresses_of(self.wanted.interface)
         except Fault as found:
             return found
         return None

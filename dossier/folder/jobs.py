@@ -109,6 +109,13 @@ def run(words: Sequence[str], given: str = os.devnull, cwd: str = ".") -> tuple[
     return status, b"".join(blocks), error
 
 
+def told(words: Sequence[str]) -> tuple[int, str]:
+    """The status of a program, and what it prints, which is little. Nothing has to be writable for that."""
+    with begun(words, stdout=PIPE, stderr=DEVNULL) as call:
+        text, _ = call.communicate()
+    return call.returncode, text.decode("utf-8", "replace")
+
+
 class Beside:
     """A program that runs beside this one for long. What it prints is taken as it comes."""
     ROOM = 1 << 20

@@ -33,13 +33,13 @@ sys.exit(main(sys.argv[1:]))
 
 
 class Rig:
-    """A recorder in this network, and packets for it."""
+    """A recorder in this network, begun where nothing can be written, as its unit is; and packets for it."""
 
     def __init__(self, place: Path, interface: str = "lo", *words: str) -> None:
         self.folder = place / "rec"
         self.err = open(place / "err", "w+b")
         self.call = subprocess.Popen([sys.executable, "-I", "-B", "-c", RECORDER, str(ROOT), "record", "--interface",
-                                      interface, *words, str(self.folder)], stderr=self.err)
+                                      interface, *words, str(self.folder)], stderr=self.err, cwd="/proc")
         self.until("listening on")
 
     def until(self, words: str, number: int = 1) -> bool:
