@@ -1,1 +1,9 @@
+pub mod Common
 pub mod CoverCertificate
+pub mod Fault
+pub mod PieceReading
+pub mod Parts
+pub mod PartsData
+pub mod CoverReading
+pub mod CoverParts
+pub mod CoverWriting
