@@ -1,32 +1,17 @@
-"""Runs the program as a user would, and compares what it prints with the transcripts in this folder.
-
-A transcript tests/cases/COMMAND.txt, or inputs.txt of all commands, has one case after another, as
+"""Runs the program as a user would, and compares what it prints with the transcripts tests/cases/COMMAND.txt:
 
     # bad-fraction: 1000000 microseconds
     $ patched data/two-packets.pcap 134=40420f00 > bad.pcap
     $ ntpaudit list bad.pcap | wc -l
     1
     2> ntpaudit: capture 7 bad-fraction at 130
-    $ ntpaudit samples data/two-packets.claim.json bad.pcap
-    2> ntpaudit: capture 7 bad-fraction at 130
     [2]
 
-A case begins with `# `, its name and maybe what is peculiar to it. Its commands are run one after another in a shell
-and a folder of its own, as transcript.py says: `ntpaudit` is the program, and `patched`, `claimed`, `capture_of`
-and more are the scripts in tests/tools, which make inputs. Below a command stands what it prints, byte for byte:
-
-    LINE             a line of standard output
-    2> LINE          a line of standard error
-    [N]              the exit status, as the last line; 0 where it's left out
-    FILE (file)      instead of a stream's lines: they are those of this file
-    PATTERN (re)     instead of a stream's lines: all of them match this regular expression, for words that aren't fixed
-
-So `2> PATTERN (re)` is a pattern for standard error. `ntpaudit VERSION logic LOGIC` stands for the line that tells a
-person of the program. Where nothing stands, nothing is printed. A blank line of the
-transcript counts as nothing, so an empty line of output needs a file or a pattern. What stands in a case before its
-first command is for the reader.
-
-ntpaudit_in_memory, whose files are in memory, has all cases but ON_DISK.
+A case begins with `# `, its name and maybe what is peculiar to it. Its commands run in a shell and a folder of its own
+(transcript.py); `patched`, `rows` and more are scripts in tests/tools. Below a command stands what it prints, byte for
+byte; `2> ` begins a line of standard error, `[N]` is the status where it isn't 0, and in place of a stream's lines may
+stand `FILE (file)`, whose they are, or `PATTERN (re)`, which they match. `ntpaudit VERSION logic LOGIC` is the line
+that tells of the program. A blank line counts as nothing. ntpaudit_in_memory has all cases but ON_DISK.
 """
 import difflib
 import os

@@ -1,10 +1,9 @@
-"""Runs the script ntpaudit-dossier again and again, each time in a process of its own, as one that Python begins, but
-that the dossier's modules are loaded already: that takes longer than most of what is asked.
+"""Runs the script ntpaudit-dossier again and again, each time in a process of its own, with its modules loaded already.
 
 usage: python3 -I -S -B -X utf8 tests/dossier/forks.py SCRIPT < SOCKET
 
-A call comes over the socket: its words, folder, environment and limit of memory, with its standard input, output and
-error. What goes back is the process's number, and at its end its status.
+A call comes over the socket: words, folder, environment, limit of memory, and its three streams. What goes back is the
+process's number, and at its end its status.
 """
 import importlib
 import json

@@ -1,8 +1,5 @@
-"""Holds what docs/STABILITY.md promises: folders that older versions audited (data/older) are read, verified and shown.
-
-The texts of a folder are what today's program and second/recheck say of its claim and capture, byte for byte; `verify`
-and `page --verify` come to the verdict that stands there; and what was changed in a folder is said. The schema of
-audit.json is what the dossier reads.
+"""Holds what docs/STABILITY.md promises: folders that older versions audited (data/older) are read, verified and shown,
+and their texts are today's, byte for byte. The schema of audit.json is what the dossier reads.
 """
 import json
 import os

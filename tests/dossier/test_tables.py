@@ -1,11 +1,6 @@
-"""Audits captures of data/ with ntpaudit-dossier, and holds its tables, pages and pictures to what the program prints.
-
-- The figures of the table are those of `settle`, `check` and `envelope`, and a picture's coordinates those of the
-  envelope.
-- Pages are well-formed, fetch and run nothing, and interpret no name, whatever stands in it.
-- Folders side by side, resumed after a kill, refused, on a full disk, broken off; changed and then verified.
-- Files that change between their sums and the verdict, by a stand-in for the program that changes them.
-- Drafts of claims, days, GNU parallel, a Slurm array. What is said of a clock is held to histories (tests/truth).
+"""Audits captures of data/ with ntpaudit-dossier, and holds its tables, pages and pictures to what the program prints:
+figures, coordinates, names of strangers, many folders, files that change meanwhile, drafts. What is said of a clock is
+held to histories (tests/truth).
 """
 import csv
 import hashlib

@@ -1,15 +1,11 @@
 """Where a source of the crates makes up a want of memory: an `AllocError`, or a fault's variant `Memory`, that no
 refused allocation has led to. No clause can say that an allocation was refused, so this is a rule on what is written:
 
-- `AllocError` stands in `use std::alloc::..`, in a type, in the pattern `Err(AllocError) =>` and in a conversion
-  `map_err(AllocError::from)`. It is never a value.
-- `Memory` is a value only where a want of memory was just matched (in an arm whose pattern is `Err(AllocError)`,
-  `FAULT::Memory` or `Err(FAULT::Memory)`), or is converted (in `impl From<AllocError> for FAULT`).
+- `AllocError` stands in imports, types, the pattern `Err(AllocError) =>` and `map_err(AllocError::from)`, never a
+  value.
+- `Memory` is a value only where a want of memory was just matched, or is converted (`impl From<AllocError>`).
 - Neither gets another name, and std's `AllocFailed`, which anybody could make, isn't named at all.
-- What `with_capacity`, `reserve` and `vec!` are asked for is a length, a count or a name, a part or a sum of these, or
-  one more: no other number that is written there, and no constant that is made of the greatest number that there is.
-
-So a want of memory that is answered came out of a call of the toolchain's library, but for the EXCEPTIONS.
+- What asks for memory asks for a length, a count or a name, a part or a sum of these, or one more: no other number.
 """
 import re
 from collections.abc import Iterable, Sequence

@@ -1,29 +1,7 @@
-"""Holds the documents to the program and to the repository.
+"""Holds the documents to the program and to the repository: what their blocks print, figures, quotes, links, names, how
+many words a page has and which is a fact's home; and the sources of the crates to what pages say of them.
 
-- Each block of a document that begins with `$ ` is run, and what it prints is compared with what the document shows. A
-  line `..` stands for any lines. `./ntpaudit` is the program, `./ntpaudit-dossier` the script around it, and data/ the
-  folder of captures; what a block writes is there for the later blocks of the document.
-- FORMATS.md has the fields of tests/second/columns.py.
-- GUIDE.md's table of steps says what `find` finds in data/chrony-ns.pcap.
-- What is quoted from the crates stands there as it is quoted, and each library's root documentation has an example.
-- THEOREM.md says how many lines docs/statement counts, and they are 400 at most; with `run` they are 100 at most.
-- No page has more words than its limit, as `wc -w` counts all of it: prose, tables, blocks.
-- A fact that used to stand in many places has one home: no other page states it, and may only link to it.
-- Where a person reads, a number of ticks has its milliseconds or nanoseconds beside it.
-- Each link leads to a file of the repository and to a heading in it, and each path in code font is there.
-- What ARCHITECTURE.md and CONTRIBUTING.md name beside a path of a crate is in that crate.
-- The listings in data/ are what data/list_from_tshark makes of tshark's fields, and the pictures in docs/pictures are
-  what `ntpaudit-dossier picture` draws of them.
-- ARCHITECTURE.md has a line for each crate, and README.md names the crates of the toolchain that they stand on.
-- README.md names the kit of dist/MANIFEST, and the program's version names its logic.
-- Each wrong body can be applied: what it replaces stands once in its file. (`rt ci` doesn't fail if one can't, and it
-  never looks at those in must-fail-more.) The clause that its first line calls false is there. A crate has at most 15,
-  and PROMISES.md says how many there are.
-- No paragraph of DECISIONS.md has more than 700 characters, and each has a bold lead; tables have neither.
-- Each function and clause in the table of docs/PROMISES.md is in the crates, and each word in code font of a section
-  of docs/DEFINITIONS.md in those that it names.
-- What the comments of the crates name is there: files, modules of specs, and words in code font or with a `_`.
-- No source of the crates makes up a want of memory (made_up.py has the rule), and what would do so is seen.
+In a block a line `..` stands for any lines. What a block writes is there for the later blocks of its document.
 """
 import functools
 import json

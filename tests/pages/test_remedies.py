@@ -1,11 +1,6 @@
-"""Runs every command that stands in a remedy of the program or in a page about faults, on a file that needs it.
-
-What the program says with `--human` is run as it is printed, with the names that it has put in, in a shell. The
-commands of the pages are those in code font that begin with a tool of TOOLS. What comes out is audited: a capture has
-to settle the claim as the one does of which it was spoiled, and a part of one has to be listed. A command for which
-no file is made here fails. Of the dossier's own remedies whatever is in code font is run, but for the names of NAMES.
-
-It prints a line for each case that failed or was skipped, and last 'N passed, M failed'.
+"""Runs every command that stands in a remedy of the program or in a page about faults, on a file that needs it, as it
+is printed. What comes out is audited: a capture has to settle the claim as the one does of which it was spoiled, and a
+part of one has to be listed. A command for which no file is made here fails.
 """
 import ast
 import gzip

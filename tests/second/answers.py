@@ -1,9 +1,5 @@
-"""What the commands with a claim print, restated: the second reading of each command's text, by what the rules of
-tests/second/rules.py, tests/second/pieces.py and tests/second/settlement.py say of the samples. A command has one
-function here, and its options are the words that it is typed with.
-
-Nothing here is shared with the program. tests/tools/samples_from_list prints these texts, and
-tests/system/test_readings.py, tests/system/test_courses.py and tests/system/test_hostile.py hold the program to them.
+"""What the commands with a claim print, restated by what rules.py, pieces.py and settlement.py say of the samples. A
+command has one function here, and its options are the words that it is typed with. Nothing is shared with the program.
 """
 from collections.abc import Callable, Iterator, Sequence
 from typing import NamedTuple

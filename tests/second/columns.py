@@ -1,9 +1,8 @@
 """The fields of the lines that the program prints: of each its name, its kind and its heading. What a second reading
-writes or reads of a line goes by these tables, and tests/pages/test_docs.py holds docs/FORMATS.md to them. Nothing here
-is shared with the program.
+writes or reads of a line goes by these tables, and tests/pages/test_docs.py holds docs/FORMATS.md to them.
 
-With `--human` an end of a range, in ticks of 2^-32 s, is in milliseconds with six decimals: a low end rounded down, a
-high end up. A Unix second is a time of UTC. Columns stand one space apart, and everything ends where its column ends.
+With `--human` an end of a range is in milliseconds with six decimals, rounded outwards, and a Unix second is a time of
+UTC. Columns stand one space apart, and everything ends where its column ends.
 """
 from collections.abc import Callable, Iterable, Mapping
 from datetime import datetime, timedelta

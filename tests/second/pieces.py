@@ -1,10 +1,6 @@
 """The certificate of fewest pieces and the least bound, restated: section 11 of docs/DEFINITIONS.md on pieces that are
-as long as they can be.
-
-This shares nothing with the program. A certificate may have 100,000 pieces, each of them sought by some hulls, so a
-hull is made here of two sorted lists a server (`Hulls`), and not by looking at every sample:
-tests/system/test_courses.py holds such hulls to those of tests/second/rules.py. What is sought is what the rules say,
-by doubling and halving, and nothing more. Times are in ticks of 2^-32 s.
+as long as they can be. A hull is made of two sorted lists a server (`Hulls`), which tests/system/test_courses.py holds
+to those of rules.py. What is sought is what the rules say, by doubling and halving. Times are in ticks of 2^-32 s.
 """
 import heapq
 from bisect import bisect_right

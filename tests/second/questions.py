@@ -1,8 +1,5 @@
-"""What commands answer about a claim and a capture, held to the second reading of tests/second/answers.py,
-tests/second/marks.py and tests/second/settlement.py: for tests/system/test_hostile.py, whose captures are made by
-tests/tools/families.py.
-
-A question is a claim on a capture. Of each there are cases: what was tried, and what is wrong with it.
+"""What commands answer about a claim and a capture, held to the second reading. A question is a claim on a capture. Of
+each there are cases: what was tried, and what is wrong with it.
 """
 import json
 from collections.abc import Callable, Iterator

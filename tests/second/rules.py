@@ -1,9 +1,6 @@
 """The rules of docs/DEFINITIONS.md on the samples of a claim, restated: what an exchange says of the clock's error, and
-what hulls, envelopes and the certificates and refutations that are found have to be. What `check` and `refute` say of
-others is second/recheck's (tests/second/rechecked.py).
-
-This shares nothing with the program, and it is slow: it looks at every sample, and at every point that an interval's
-end could be. tests/second/answers.py makes of it what the commands print.
+what hulls, envelopes and the certificates and refutations that are found have to be. It looks at every sample, and at
+every point that an interval's end could be. What `check` and `refute` say of others is second/recheck's.
 
 A claim is the value of its file, and servers and samples go by their numbers. Times are in ticks of 2^-32 s.
 """

@@ -1,13 +1,5 @@
 """What `--human` shows, read off the lines that the same command prints without it: a second reading, in whole numbers.
-tests/second/columns.py says how the fields of a table are shown, and this file all else:
-
-- nanoseconds are milliseconds, parts of 10^9 are parts of 10^6
-- a reference identifier is its one to four letters, before zero bytes alone, or else an address
-- a record's time and the ends of a tick have nanoseconds, unless it is a whole second
-- a certificate or a refutation is told of, with what the claim says
-- `check`, `refute` and `settle` name their inputs, the sums that these are held to, and the program's version
-
-Nothing here is shared with the program.
+columns.py says how the fields of a table are shown, and this file all else. Nothing is shared with the program.
 """
 import json
 import re

@@ -1,13 +1,7 @@
-"""Holds the certificate by covers that is to be found, and the second checker of it, to brute force over each set of
-false groups and each critical reading (tests/second/exact.py), on systems of exchanges made of a seed.
-
-- The least bound that a certificate by covers carries is the exact one, or a tick above it; there is one exactly if
-  some course fits and not every error has one. What is below it and can't be refuted is told of.
-- Whatever is found under a bound, second/recheck accepts, and says no under a bound that a course is beyond; and so
-  of that certificate with something in it altered.
-- No certificate as ever carries less.
-
-NTPAUDIT_CLAIMS says how many claims there are; 4,000 by itself.
+"""Holds the certificate by covers that is to be found, and the second checker of it, to brute force (exact.py), on
+systems of exchanges made of a seed: the least bound that one carries is the exact one, or a tick above it; there is one
+exactly if some course fits and not every error has one; what is found is accepted, and no bound that a course is
+beyond, nor what was altered; and no certificate as ever carries less.
 """
 import copy
 import os

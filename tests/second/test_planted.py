@@ -1,10 +1,6 @@
-"""Plants a bug in second/recheck, one after another, and says whether test_recheck.py sees it. Not part of the gate.
-
-The first list has slips of whoever writes such a checker. The second has what could be wrong in the program's own
-definitions: there the prover would accept the wrong program, since it is held to nothing else. A copy of recheck that
-has it stands in for that program, and recheck has to tell the two apart.
-
-Whatever test_recheck.py asks is asked of each copy too, until something sees it.
+"""Plants a bug in second/recheck, one after another, and says whether test_recheck.py sees it: slips of whoever writes
+such a checker, and what could be wrong in the program's own definitions. Not part of the gate. Whatever test_recheck.py
+asks is asked of each copy too, until something sees it.
 """
 import multiprocessing
 import os

@@ -1,18 +1,9 @@
-"""Compares second/recheck with the program, which shares nothing with it: no answer may differ, to the byte.
+"""Compares second/recheck with the program, which shares nothing with it: no answer may differ, to the byte, for what
+the transcripts ask, for data/, at the edges of the rules and a tick beside (directed.py), and for scenes made up from a
+seed (scenes.py), with what the program finds, what is like it, what nobody would claim, and a byte spoiled.
 
-What is compared:
-
-- what `check`, `refute` and `settle` are asked in the transcripts of tests/cases;
-- the certificates, refutations and answers in data/;
-- claims, captures and texts at the edges of the rules (tests/tools/directed.py): what decides, and a tick beside it;
-- scenes made up from a seed (tests/tools/scenes.py): what the program finds, what is like it, what nobody would claim,
-  and each with a byte spoiled.
-
-A certificate or a refutation has to get the same last line and status from both, and both have to refuse the same
-files. Of what `settle` says in words, `recheck` has to print the last line again; what is left of it when lines are
-missing or altered is right if a search over all groups, or `settle` of just its exchanges, says so.
-
-It says how many comparisons there were.
+Of what `settle` says in words, `recheck` has to print the last line again; what is left of it when lines are missing or
+altered is right if a search over all groups, or `settle` of just its exchanges, says so.
 """
 import json
 import os

@@ -1,13 +1,7 @@
 """Gives the program captures whose requests would all fall on one place of its index, if the index hashed them without
-a key or with one that is always the same.
-
-Whoever writes a capture chooses the timestamps of its requests. The hash goes through a key's parts one after another,
-and takes the timestamp last: it joins it to the state so far by xor. So if the state at the start is known, there is a
-timestamp for each server and port with which the state becomes the same, and so does the hash, whatever is done with it
-afterwards. The program would compare each request with all before it.
-
-And the test can see that: where strace puts zeros in the place of the program's random key, a capture for that key has
-to cost more than the limit.
+a key or with one that is always the same. The hash takes a request's timestamp last, by xor: so if the state at the
+start is known, whoever writes a capture chooses timestamps with which all come to one state. And the test can see that:
+where strace puts zeros in the place of the program's random key, such a capture has to cost more than the limit.
 """
 import json
 import resource

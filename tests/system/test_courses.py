@@ -1,22 +1,14 @@
-"""A plain reading of the theorem. It makes courses of events at random, writes the captures that
-they would give, and sees that
+"""A plain reading of the theorem. It makes courses of events at random, writes their captures, and sees that
 
-- wherever `check` says yes the clock was within the bound in that course, and it says yes to what `find` gives; also
-  where the clock was stepped before the exchanges that the certificate names, and where other servers are false in
-  other pieces
-- the hulls that `at` and `envelope` give hold the clock's error at each moment that is tried, and the bound that
-  `envelope` gives is the least for which `find` finds a certificate
-- under the bound that `envelope --least` gives there is a certificate that `check` accepts, and one nanosecond below it
-  none; no cuts that are tried need fewer pieces than the certificate that is made of pieces as long as they can be
-- all of that holds too where requests are stamped early and replies late, by up to 20 ms with no allowance; and with
-  the signs turned the clock's error is outside of the hulls
-- to each refutation that stands there is a course that fits, made here by plain arithmetic, and no certificate that is
-  made here gets a yes beside it; and what happened in the course is never refused as a refutation with drift
+- wherever `check` says yes the clock was within the bound in that course, and it says yes to what `find` gives
+- the hulls of `at` and `envelope` hold the clock's error, and the bound that `envelope` gives is the least for `find`
+- under the bound of `envelope --least` there is a certificate, one nanosecond below none, and no other cuts need fewer
+  pieces
+- all of that holds where requests are stamped early and replies late, and not with the signs turned
+- to each refutation that stands there is a course that fits, and no certificate; and what happened is never refused
 
-A course has a clock whose error wanders within the drift rate, servers with delays of any kind, and up to false_max
-groups of servers that say what they like. Certificates and refutations are made here too, good ones and spoiled ones,
-and each answer is compared with the one that tests/second/rules.py, tests/second/marks.py and second/recheck give. Each
-seed is one course.
+A course has a clock whose error wanders within the drift rate, and up to false_max groups that say what they like. Each
+answer is compared with the second readings' too. Each seed is one course.
 """
 import functools
 import hashlib

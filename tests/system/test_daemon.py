@@ -1,8 +1,5 @@
-"""Compares what `list` and `samples` read of each reply with what the client's chronyd has logged of it.
-
-data/logged has a recording of a chronyd that asked three servers, one of which follows another by a slow path, and the
-measurements.log that it wrote meanwhile: its own reading of each reply's fields (RFC 5905, section 7.3), and of the
-offset and the delay of each exchange (section 8). It took its times from the kernel, as tcpdump did.
+"""Compares what `list` and `samples` read of each reply with what the client's chronyd has logged of it: data/logged
+has a recording, and the measurements.log that it wrote meanwhile (RFC 5905, sections 7.3 and 8).
 """
 import json
 import tempfile

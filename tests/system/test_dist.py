@@ -1,8 +1,5 @@
-"""Holds the program that the repository ships to the sources, and to the one that was built of them.
-
-dist/MANIFEST names the sum of dist/ntpaudit, the sum of the sources that are here, and a toolchain of the same logic as
-the one that is here; and dist/ntpaudit is what was built, byte for byte. (Two kits of one logic may build the same
-program. If another kit builds another one, the last case fails.)
+"""Holds the program that the repository ships to the sources, and to the one that was built of them, byte for byte. (If
+another kit of the toolchain builds another program, the last case fails.)
 """
 import os
 from pathlib import Path

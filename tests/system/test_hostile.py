@@ -1,25 +1,10 @@
-"""Captures that are made to be slow: every command comes back, with the right answer. A limit of 60 s of the processor
-ends a call that wouldn't. How long calls take, and how that grows, no test asks: bench/hostile measures it.
+"""Captures that are made to be slow: every command comes back within 60 s of the processor, with the right answer. How
+long calls take, and how that grows, bench/hostile measures.
 
-The families are those of tests/tools/families.py, with 64 exchanges, and where another number may show something else
-with 8 and 1,000. Of each capture and each of its claims `settle`, `envelope`, `find`, `check`, `refute --drift`, `at`
-and `samples` are held to a second reading, which shares nothing with the program:
-
-- `samples`, `at`, `envelope` and `find` are the same, byte for byte (a certificate of `find` as far as its samples can
-  be looked for one by one)
-- the pieces that `settle` prints lie inside the bound, and with one more tick none does: all pieces of some families,
-  and of the others some thousands at the most; conflicts, what is no evidence and what stays open are the same, byte
-  for byte, and where a refutation is printed `refute --drift` and the reading accept it. Where the reading finds a
-  refutation the program has one too
-- `pieces over 100000` is answered where more are needed: by some families up to the last piece, else up to some
-  thousands
-- the least bound has the property that makes it one: at it a certificate, one nanosecond below none, and there the
-  pieces stop in the piece that is told. Where no course fits there may be several, and any is right. Of claims that
-  differ in nothing but their bound one is asked: the first with 64 exchanges, else the last
-- `check` says yes to each certificate
-
-The three captures of data/slow, on which version 0.6.1 didn't come back, and claims that take exactly 100,000 pieces
-and one more are tried too.
+Of each capture of tests/tools/families.py and each of its claims all commands are held to a second reading: lines byte
+for byte; of certificates that the pieces lie inside the bound, and with one more tick don't; of refutations that they
+stand, and are there where the reading finds one; and the least bound by the property that makes it one. So are the
+captures of data/slow, a large one, and claims that take exactly 100,000 pieces and one more.
 """
 import json
 import tempfile

@@ -1,19 +1,7 @@
-"""Compares what `--human` shows with a second reading, made of what the same command prints without it.
-
-The reading is tests/second/shown.py, some lines of Python in whole numbers that share nothing with the program. It is
-compared byte for byte
-
-- for the claims and captures of data/, with each command that has the option; that a course fits is worked out from
-  the listing
-- for 1,024 random ranges: with ends below zero, at whole nanoseconds, and one tick beside them
-- for each day from 1970 to 2106, and for random times of a day
-- for 300 random refutations: with errors at a bound, one tick beside it, and as far as errors go
-- for inputs with names that a terminal would obey, with sums and without
-
-Each range that is shown is also held to the range in ticks, each time to its second, and each error to its ticks and to
-the bound. Fault lines have to be the same with the option and without, and so has each status. What `settle` tells is
-compared by tests/system/test_readings.py, and what is said of numbers that look like a slip of the pen by
-tests/second/slips.py.
+"""Compares what `--human` shows with a second reading (tests/second/shown.py), made of what the same command prints
+without it, byte for byte: for data/, 1,024 random ranges, each day from 1970 to 2106, 300 random refutations, and
+inputs with names that a terminal would obey. Each range that is shown is also held to the range in ticks, each time to
+its second, and each error to the bound. What `settle` tells is compared by tests/system/test_readings.py.
 """
 import hashlib
 import json

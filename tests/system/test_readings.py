@@ -1,15 +1,11 @@
-"""Compares what the commands with a claim print with a second reading, made of what `list` prints of the same capture.
-`check` has to say yes to each certificate that `find` gives, and `refute` to each refutation; no claim gets both. With
-the bound that `envelope --least` gives `check` says yes to the reading's own certificate of fewest pieces, and one
-nanosecond below it `find` finds nothing.
+"""Compares what the commands with a claim print with a second reading (tests/second/answers.py), made of what `list`
+prints of the same capture. `check` has to say yes to each certificate, and `refute` to each refutation; no claim gets
+both. Under the least bound `check` says yes to the reading's own certificate, and a nanosecond below it `find` finds
+nothing.
 
-The reading is tests/second/answers.py, of exchanges that tests/second/exchanges.py pairs: it shares nothing with the
-program, and looks at every point and every pair. Each command that it has is compared, with each of its options.
-
-`settle` is asked of each claim of data/, and of these with other bounds (0, and some around the least), with other
-numbers of groups that may be wrong, with no drift, and a day later, where certificates allow for more drift than there
-can be, so that some bounds stay open. Its answer is the same, byte for byte, but for which refutation it is; `check`,
-`refute --drift` and `find` agree with it; and `--human` tells of it as tests/second/shown.py does.
+`settle` is asked of each claim of data/, and of these with other bounds and numbers of groups that may be wrong, with
+no drift, and a day later, where some bounds stay open. Its answer is the same, byte for byte, but for which refutation
+it is; `check`, `refute --drift` and `find` agree with it; and `--human` tells of it as tests/second/shown.py does.
 """
 import json
 import tempfile

@@ -1,13 +1,7 @@
-"""Refuses each allocation of the built program in turn, and looks at what it answers.
-
-A small library, made with the C compiler, stands before the C library's allocation and refuses the call of one number.
-The number counts upwards until a run meets no refusal. Each run before that one has to answer that it is out of memory:
-status 3 with the line for it, which takes no memory, and nothing on standard output: `list` takes all memory before a
-byte is read, and the other commands write nothing before their whole text is made. If a block is only to be made
-smaller, nothing is lacking when that is refused, and the usual answer is right too. Once the line of a fault is out,
-or an answer, the words that `--human` puts behind it may lack, and nothing else: once they do, no later refusal ends
-the run. If fewer allocations are refused than any such program makes, the library isn't at work, and that is a failure
-as well.
+"""Refuses each allocation of the built program in turn, by a small library before the C library's allocation, until a
+run meets no refusal. Each run before has to answer that it is out of memory, with nothing on standard output. (If a
+block is only to be made smaller the usual answer is right too; and the words of `--human` behind a fault line or an
+answer may lack.) If fewer allocations are refused than any such program makes, the library isn't at work.
 """
 import os
 import shutil

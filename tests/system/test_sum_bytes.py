@@ -25,14 +25,17 @@ def calls_of_data() -> Iterator[Call]:
                     yield Call(DATA, command, claim.name, f"{name}.pcap", second.name, option)
 
 
+def by_its_sums(call: Call) -> Ran:
+    return call.by(call.sums())
+
+
 def test_data(folder: Path) -> None:
     calls = list(calls_of_data())
     check("calls on data/", count=(len(calls), lambda count: count > 60),
           commands=({call.command for call in calls}, {"check", "refute", "settle"}), kinds=(
               {call.plain()[:2] == (0, b"refuted yes\n") for call in calls if call.command == "refute"}, {True, False}))
     with ThreadPoolExecutor() as pool:
-        by_sums: Iterator[Ran] = pool.map(lambda call: call.by(call.sums()), calls)
-        for call, seen, plain in zip(calls, by_sums, pool.map(Call.plain, calls)):
+        for call, seen, plain in zip(calls, pool.map(by_its_sums, calls), pool.map(Call.plain, calls)):
             check(" ".join(call.words[1:]), run=(seen, plain))
 
 

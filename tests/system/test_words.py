@@ -1,10 +1,6 @@
-"""What `--human` says on standard error, where a transcript (tests/cases/words.txt) has no room for it.
-
-- Each fault of a claim, made out of a good claim, one by one, is held to a second reading: which field is named, what
-  docs/FORMATS.md says has to stand there, and what stands there.
-- Names are escaped, pipes and devices aren't looked at again, and at a terminal a hint follows a fault line.
-- Each text of the program's table (tests/system/sentences.py) is expected by a case here or there.
-- docs/FORMATS.md has the faults that have words.
+"""What `--human` says on standard error, where a transcript (tests/cases/words.txt) has no room for it: each fault of a
+claim is held to a second reading; names are escaped, pipes and devices aren't looked at again, and at a terminal a hint
+follows a fault line; each text of the program's table is expected by a case, and docs/FORMATS.md has the faults.
 """
 import json
 import os

@@ -1,9 +1,6 @@
 """Captures made to be slow, in families: the same exchanges at every run, as many as are asked for, and claims about
-them.
-
-tests/system/test_hostile.py tries the small ones of each family, and bench/hostile measures the large ones. An exchange
-stands here as the ends of its sample in ticks of 2^-32 s (a low end, which is its low mark too, and a high end) and as
-the nanoseconds at which its request was sent and its reply came. Nothing is shared with the program.
+them. An exchange stands here as the ends of its sample in ticks of 2^-32 s (a low end, which is its low mark too, and a
+high end) and as the nanoseconds at which its request was sent and its reply came.
 """
 import struct
 from array import array

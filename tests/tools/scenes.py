@@ -1,8 +1,5 @@
 """Made-up claims and captures, for programs that have to agree about them: a few servers of which some are wrong, a
-clock that drifts, and in half of the scenes what isn't usual too: broken frames, doubled and lost packets, fields out
-of their limits.
-
-A scene comes of a random generator alone, so its seed makes it again.
+clock that drifts, and in half of the scenes broken frames, doubled and lost packets, fields out of their limits.
 """
 import json
 import random
