@@ -1,6 +1,6 @@
 """The certificate of fewest pieces and the least bound, restated: section 11 of docs/DEFINITIONS.md on pieces that are
-as long as they can be. A hull is made of two sorted lists a server (`Hulls`), which tests/system/test_courses.py holds
-to those of rules.py. What is sought is what the rules say, by doubling and halving. Times are in ticks of 2^-32 s.
+as long as they can be. A hull is made of two sorted lists a server (`Hulls`). What is sought is what the rules say, by
+doubling and halving. Times are in ticks of 2^-32 s.
 """
 import heapq
 from bisect import bisect_right
@@ -247,17 +247,3 @@ def piece_of(claim: Claim, hulls: Hulls, bound_ns: int, step: int) -> int:
 
 def last_piece(span: tuple[int, int], step: int) -> int:
     return max(0, rules.ceiling(span[1] - span[0], step * TICKS) - 1)
-
-
-def has_property(claim: Claim, samples: list[Sample], told: tuple[int, int] | None, step: int) -> bool:
-    """Whether what is told of a least bound and its piece has the property that makes it one: at the bound a
-    certificate, one nanosecond below it none, and there the pieces stop in this piece."""
-    hulls, span = Hulls(claim, samples), rules.span_of(claim)
-    if told is None:
-        return ends_of(span, hulls, bound_in_ticks(MOST_BOUND_NS))[1] is not None
-    bound_ns, piece = told
-    if not 0 <= bound_ns <= MOST_BOUND_NS or ends_of(span, hulls, bound_in_ticks(bound_ns))[1]:
-        return False
-    if bound_ns and not ends_of(span, hulls, bound_in_ticks(bound_ns - 1))[1]:
-        return False
-    return piece == piece_of(claim, hulls, bound_ns, step)

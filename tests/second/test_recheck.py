@@ -1,6 +1,6 @@
 """Compares second/recheck with the program, which shares nothing with it: no answer may differ, to the byte, for what
-the transcripts ask, for data/, at the edges of the rules and a tick beside (directed.py), and for scenes made up from a
-seed (scenes.py), with what the program finds, what is like it, what nobody would claim, and a byte spoiled.
+the transcripts ask, for data/, at the edges of the rules and a tick beside (directed.py), and for courses made from
+a seed (events.py), with what the program finds, what is like it, what nobody would claim, and a byte spoiled.
 
 Of what `settle` says in words, `recheck` has to print the last line again; what is left of it when lines are missing or
 altered is right if a search over all groups, or `settle` of just its exchanges, says so.
@@ -23,7 +23,7 @@ from tests.second.claims import Claim, changed
 from tests.second.columns import TICKS
 from tests.second.rechecked import recheck
 from tests.tools import directed, scenes
-from tests.tools.scenes import Scene
+from tests.tools.events import Course
 
 SEED, SCENES = "2026", 125
 """tests/second/test_planted.py needs 60 scenes, beside what is directed, to see each bug that it plants."""
@@ -181,9 +181,9 @@ Job = Callable[[Trial], None]
 def scene(trial: Trial) -> None:
     """What the program finds of a scene, what is near it, and what is made up."""
     rng = trial.rng
-    made = Scene(rng)
-    claim = made.claim
-    trial.capture.write_bytes(made.capture)
+    made = Course(rng)
+    claim, capture = made.claim(rng.choice([0, 1, 10**6, 10**8, 10**15])), made.capture()
+    trial.capture.write_bytes(scenes.odd(rng, capture) if rng.random() < .5 else capture)
     trial.claim.write_text(json.dumps(claim))
     step = str(rng.choice([1, 2, 8, 64]))
     bounds = re.findall(r"(?:bound_ns|least_ns) ([0-9]+)", trial.ask("envelope", "--step", step, "--least")[1].decode())

@@ -18,17 +18,18 @@ import random
 import tempfile
 from collections.abc import Callable, Iterator
 from functools import partial
+from pathlib import Path
 
 from tests.support import Ran, program, run
-from tests.second import answers, marks, pieces, rechecked, rules
-from tests.second.answers import Evidence, by_rules
+from tests.second import answers, marks, pieces, questions, rechecked, rules
+from tests.second.answers import by_rules
+from tests.second.questions import Question, Way
 from tests.second.claims import Certificate, Claim, Piece, Refutation
 from tests.second.columns import TICKS
 from tests.second.rules import BILLION, Sample, ceiling
 from tests.tools.events import Course, FINE, PartedCourse, StampedCourse
-from tests.tools.families import spelled
 
-COURSES = 500
+COURSES, LIMIT = 300, 60
 """Of ten slips in the second reading 50 courses show seven, and 60 to 100 no other."""
 
 
@@ -81,16 +82,6 @@ def written(folder: str, name: str, value: object) -> str:
     return path
 
 
-def text_of(lines: list[str]) -> str:
-    return "".join(f"{line}\n" for line in lines)
-
-
-def ran_of(evidence: Evidence, words: list[str]) -> Ran:
-    """What `envelope` has to give."""
-    status, lines = answers.envelope(evidence, *words)
-    return status, text_of(lines).encode(), b""
-
-
 def spelled_out(certificate: Certificate | bytes, bound_ns: int) -> bytes:
     """The certificate as it stands, or a value's text: with spaces, and without them for bounds that are odd."""
     if isinstance(certificate, bytes):
@@ -113,67 +104,32 @@ def checked(*files: str) -> Ran:
     return run([PROGRAM, "check", *files])
 
 
-def try_moments(course: Course, samples: list[Sample], folder: str, capture: str, rng: random.Random) -> list[str]:
-    """What is wrong with `at` of some moments: a whole second that the clock passed in the course, and any other."""
-    passed = sorted(course.clock.at_second)
-    seconds = rng.sample(passed, min(2, len(passed))) + [max(0, course.first + rng.choice((-100, -1, 0, 1, 7, 100000)))]
-    claim, wrong = course.claim(10**6), []
-    for second in seconds:
-        want = text_of(answers.at(by_rules(claim, samples), spelled(second))[1])
-        ran = run([PROGRAM, "at", written(folder, "claim", claim), capture, spelled(second)])
-        if ran != (0, want.encode(), b""):
-            wrong.append(f"at {second}: {ran} in place of {want!r}")
-        told = ran[1].decode().splitlines()[-1:]
-        if (error := course.clock.at_second.get(second)) is not None and told != ["hull unbounded"]:
-            ends = told[0].split()[1:] if told else []
-            if len(ends) != 2 or not FINE * int(ends[0]) <= error <= FINE * int(ends[1]):
-                wrong.append(f"at {second}: an error of {error} and {told}")
-    return wrong
-
-
-def try_finding(course: Course, samples: list[Sample], folder: str, capture: str, bounds: list[int],
-                rng: random.Random) -> list[str]:
-    """What is wrong with `find` for some steps and bounds."""
-    wrong = []
-    for step in (1, rng.choice((2, 3, 7, 64, 86400))):
-        bound_ns = rng.choice([*bounds, 2 * bounds[0]])
+def answers_wrong(course: Course, samples: list[Sample], folder: str, capture: str,
+                  bounds: list[int]) -> Iterator[str]:
+    """What is wrong with what the commands answer of a claim with each of these bounds, by the second reading."""
+    os.link(capture, os.path.join(folder, "capture.pcap"))
+    for bound_ns in bounds:
         claim = course.claim(bound_ns)
-        want_status, lines = answers.find(by_rules(claim, samples), "--step", step)
-        want = text_of(lines)
-        ran = run([PROGRAM, "find", written(folder, "claim", claim), capture, "--step", str(step)])
-        if ran != (want_status, want.encode(), b""):
-            wrong.append(f"find --step {step}: {ran} in place of {want!r}")
-        elif ran[0] == 0 and (said := verdict_line(folder, course, capture, bound_ns, ran[1])) != "yes":
-            wrong.append(f"find --step {step}, and then {said}")
-        if want.endswith("hull empty\n"):
-            begin = course.first + int(want.split()[2]) * step
-            end = min(begin + step, course.first + course.seconds)
-            if any(begin <= second <= end for second in course.clock.at_second):
-                wrong.append(f"find --step {step}: an empty hull over a second that the clock passed")
-    return wrong
+        question = Question("", claim, samples, course.records, marks.contradictions(claim, samples),
+                            Way(PROGRAM, Path(folder), LIMIT, True, {}, set()))
+        for case in questions.CASES:
+            yield from (f"{name}, with a bound of {bound_ns}: {wrong}" for name, wrong in case(question) if wrong)
 
 
-def try_envelope(course: Course, samples: list[Sample], folder: str, capture: str, rng: random.Random) -> list[str]:
-    """What is wrong with `envelope` for a step: its text, an error outside of its hulls, or its least bound."""
-    step, with_servers = rng.choice((1, 2, 7, 64)), rng.random() < 0.5
-    claim = course.claim(rng.choice((0, 10**9)))
-    evidence = by_rules(claim, samples)
-    found = list(answers.drawn(evidence, step))
-    least, _ = answers.bound_over(found)
-    words = ["--step", str(step), *(["--servers"] if with_servers else [])]
-    ran, want = run([PROGRAM, "envelope", written(folder, "claim", claim), capture, *words]), ran_of(evidence, words)
-    wrong = [] if ran == want else [f"envelope {' '.join(words)}: {ran} in place of {want}"]
-    for time, error in course.clock.error.items():
-        for begin, upto, _, hull in found:
+def hulls_wrong(course: Course, samples: list[Sample], rng: random.Random) -> list[str]:
+    """Where the clock's error isn't in a hull: at whole seconds that the clock passed in the course, and in pieces."""
+    wrong, passed = list[str](), course.clock.at_second
+    evidence = by_rules(course.claim(0), samples)
+    for second in rng.sample(sorted(passed), min(2, len(passed))):
+        place, error = second * TICKS, passed[second]
+        hull = rules.hull_of(evidence.claim, evidence.intervals(place, place))
+        if hull is not None and (not hull or not FINE * hull[0] <= error <= FINE * hull[1]):
+            wrong.append(f"at {second}: an error of {error} outside of {hull}")
+    for begin, upto, _, hull in answers.drawn(evidence, step := rng.choice((1, 2, 7, 64))):
+        for time, error in course.clock.error.items():
             if FINE * begin <= time + error <= FINE * upto and hull is not None:
                 if not hull or not FINE * hull[0] <= error <= FINE * hull[1]:
-                    wrong.append(f"envelope --step {step}: an error of {error} outside of {hull}")
-    if least is not None and least <= 10**15:
-        for bound, status in ((least, 0), (least - 1, 1)):
-            if bound >= 0:
-                file = written(folder, "claim", course.claim(bound))
-                said = run([PROGRAM, "find", file, capture, "--step", str(step)])[0]
-                wrong += [] if said == status else [f"find --step {step} with a bound of {bound}: status {said}"]
+                    wrong.append(f"pieces of {step} s: an error of {error} outside of {hull}")
     return wrong
 
 
@@ -198,66 +154,18 @@ def fewest_over(claim: Claim, samples: list[Sample], ends: list[int]) -> int | N
     return needed.get(last)
 
 
-def try_hulls(course: Course, samples: list[Sample], rng: random.Random) -> list[str]:
-    """What is wrong with the hulls of tests/second/pieces.py, by those of tests/second/rules.py; and with the tick that
-    needs most of nine, by looking at each of them."""
-    claim, wrong, last = course.claim(0), [], course.seconds * TICKS + 10
-    hulls, begin = pieces.Hulls(claim, samples), course.first * TICKS
-    for _ in range(5):
-        place = begin + rng.randint(-10, last)
-        end = place + rng.choice((0, 1, rng.randint(0, last)))
-        entries = rules.best_entries(claim, samples, place, end)
-        plain = rules.intervals(claim, samples, entries, place, end), rules.hull(claim, samples, entries, place, end)
-        if plain != (hulls.intervals(place, end), hulls.over(place, end)):
-            wrong.append(f"the hull from {place} to {end} is {plain}, and by sorted lists another one")
-    needs = [rules.need_of(hulls.over(tick, tick + 1)) for tick in range(place, place + 9)]
-    most = max((need for need in needs if need is not None), default=None)
-    found = pieces.neediest(hulls, place, place + 9, 99)
-    if most != (found and found[0]):
-        wrong.append(f"the 9 ticks from {place} on need {most}, and {found} by halving")
-    return wrong
-
-
-def try_least(course: Course, samples: list[Sample], folder: str, capture: str, rng: random.Random) -> list[str]:
-    """What is wrong with `envelope --least`: its text, or that the bound hasn't the property that makes it one."""
-    step, words = rng.choice((1, 2, 7, 64)), rng.choice((list[str](), ["--servers"]))
-    claim, words = course.claim(0), ["--step", str(step), *words, "--least"]
-    want = ran_of(by_rules(claim, samples), words)
-    ran = run([PROGRAM, "envelope", written(folder, "claim", claim), capture, *words])
-    wrong = [] if ran == want else [f"envelope {' '.join(words)}: {ran} in place of {want}"]
-    found = answers.told_least(want[1].decode().splitlines()[-1])
-    if not pieces.has_property(claim, samples, found, step):
-        wrong.append(f"a least bound of {found} hasn't the property of one")
-    if found is None or found[0] >= 10**14:
-        return wrong
-    for bound_ns in (found[0], found[0] - 1, found[0] + rng.randint(0, found[0] + 10**6)):
-        if bound_ns >= 0:
-            wrong += try_fewest(course, samples, folder, capture, bound_ns, bound_ns >= found[0], rng)
-    return wrong
-
-
-def try_fewest(course: Course, samples: list[Sample], folder: str, capture: str, bound_ns: int, is_carried: bool,
-               rng: random.Random) -> list[str]:
-    """What is wrong with the certificate of fewest pieces for a bound, where there is one or not."""
-    claim, wrong = course.claim(bound_ns), []
-    certificate, stop = pieces.fewest(claim, samples)
-    begin, last = rules.span_of(claim)
-    ends = [piece["upto"] for piece in certificate["pieces"]] if certificate else [stop.begin, stop.end] if stop else []
-    if is_carried != bool(certificate):
-        wrong.append(f"a bound of {bound_ns} is carried {is_carried}: {stop}")
-    if len(ends) <= 6 and not (stop and stop.is_over):
-        tried = [*ends, *(end + way for end in ends for way in (-1, 1)), *(rng.randint(begin, last) for _ in range(4))]
-        if (fewer := fewest_over(claim, samples, tried)) != (len(ends) if certificate else None):
-            known = len(ends) if certificate else "no"
-            wrong.append(f"a bound of {bound_ns}: {known} pieces, and by other cuts {fewer}")
-    if certificate:
-        if (said := verdict_line(folder, course, capture, bound_ns, certificate)) != "yes":
-            wrong.append(f"{said} to the certificate of fewest pieces for a bound of {bound_ns}")
-    else:
-        step = rng.choice((1, 1, 3, 86400))
-        ran = run([PROGRAM, "find", written(folder, "claim", claim), capture, "--step", str(step)])
-        if ran[0] != 1 or not ran[1].startswith(b"nothing piece "):
-            wrong.append(f"find --step {step} with a bound of {bound_ns}, which none carries: {ran}")
+def try_fewest(course: Course, samples: list[Sample], bounds: list[int], rng: random.Random) -> list[str]:
+    """What is wrong with the certificate of fewest pieces: other cuts need fewer, or have one alone."""
+    wrong = []
+    for bound_ns in bounds:
+        claim = course.claim(bound_ns)
+        certificate, stop = pieces.fewest(claim, samples)
+        ends = [piece["upto"] for piece in certificate["pieces"]] if certificate else []
+        if len(ends) <= 6 and not (stop and stop.is_over):
+            tried = [*ends, *(end + way for end in ends for way in (-1, 1)),
+                     *(rng.randint(*rules.span_of(claim)) for _ in range(4))]
+            if (fewer := fewest_over(claim, samples, tried)) != (len(ends) if certificate else None):
+                wrong.append(f"a bound of {bound_ns}: {len(ends)} pieces or none, and by other cuts {fewer}")
     return wrong
 
 
@@ -394,18 +302,17 @@ def try_stamps(folder: str, rng: random.Random) -> list[str]:
     capture = written(folder, "capture", course.capture())
     samples = course.samples()
     certificate, least = certify(course, samples, rng)
-    wrong = [*try_moments(course, samples, folder, capture, rng), *try_envelope(course, samples, folder, capture, rng),
-             *try_drift(course, samples, folder, capture, certificate, rng)]
+    wrong = [*hulls_wrong(course, samples, rng), *try_drift(course, samples, folder, capture, certificate, rng)]
     if least is None or (said := verdict_line(folder, course, capture, least, certificate)) != "yes":
         wrong.append(f"{said if least is not None else 'no bound'}")
     elif course.worst() > FINE * (least * TICKS // BILLION):
         wrong.append(f"an error of {course.worst()} and a yes for a bound of {least}")
     course.stamp(-1, rng)
-    capture = written(folder, "capture", course.capture())
-    turned = try_envelope(course, course.samples(), folder, capture, rng)
+    course.capture()
+    turned = hulls_wrong(course, course.samples(), rng)
     low, high = course.first * TICKS * FINE, (course.first + course.seconds) * TICKS * FINE
     seen = sum(low <= time + error <= high for time, error in course.clock.error.items())
-    if not 0 < seen <= len(turned) or not all("outside of" in fault for fault in turned):
+    if not 0 < seen <= len(turned):
         wrong.append(f"with the signs turned, of {seen} errors outside: {turned}")
     return [f"stamps that are early and late: {fault}" for fault in wrong]
 
@@ -435,11 +342,9 @@ def try_course(seed: int) -> tuple[int, int, int, list[str]]:
                 near += bound > 0 and 100 * course.worst() >= 99 * bound
                 if course.worst() > bound:
                     wrong.append(f"an error of {course.worst()} and a yes for a bound of {bound}")
-        wrong += try_moments(course, samples, folder, capture, rng)
-        wrong += try_finding(course, samples, folder, capture, bounds, rng)
-        wrong += try_envelope(course, samples, folder, capture, rng)
-        wrong += try_hulls(course, samples, rng)
-        wrong += try_least(course, samples, folder, capture, rng)
+        wrong += answers_wrong(course, samples, folder, capture, bounds[:2])
+        wrong += hulls_wrong(course, samples, rng)
+        wrong += try_fewest(course, samples, bounds, rng)
         wrong += try_refutations(course, samples, folder, capture, [*bounds, 0], certificate, rng)
         wrong += try_drift(course, samples, folder, capture, certificate, rng)
         wrong += try_parted(folder, rng)

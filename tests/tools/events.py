@@ -166,8 +166,9 @@ class Course:
             records.append((x.t1, x.request, ethernet(CLIENT, server, 40000, 123, asked)))
             records.append((x.t4, x.reply, ethernet(server, CLIENT, 123, 40000, told)))
         records.sort(key=lambda r: r[0])
-        replies = [r for _, r, _ in records]
-        self.exchanges.sort(key=lambda x: replies.index(x.reply))
+        order = [r for _, r, _ in records]
+        self.exchanges.sort(key=lambda x: order.index(x.reply))
+        self.records = [(order.index(x.request), order.index(x.reply)) for x in self.exchanges]
         out = [struct.pack("<IHHIIII", magic, 2, 4, 0, 0, 262144, 1)]
         out += [struct.pack("<IIII", r.sec, r.sub, len(frame), len(frame)) + frame for _, r, frame in records]
         return b"".join(out)

@@ -1,5 +1,5 @@
-"""Made-up claims and captures, for programs that have to agree about them: a few servers of which some are wrong, a
-clock that drifts, and in half of the scenes broken frames, doubled and lost packets, fields out of their limits.
+"""What is asked of a course of events by programs that have to agree about it: what is like its certificates and
+refutations, what nobody would claim, and captures with broken frames, doubled and lost packets.
 """
 import json
 import random
@@ -9,13 +9,6 @@ from typing import Any
 
 from tests.second.claims import Certificate, Claim, Refutation
 from tests.second.columns import TICKS
-from tests.tools.wire import CLIENT, Clock, Frame, SERVER, address, header, stamp
-
-BEGINS = 10**9, 1795331016, 2085978496 - 5, 2**32 - 41, 3
-"""Ordinary years, the end of an era, the end of what a claim can say, and the begin."""
-
-SCALES = TICKS // 10**6, TICKS // 1000, TICKS // 10, TICKS
-"""How large errors and delays are."""
 
 
 def time_text(seconds: int) -> str:
@@ -26,119 +19,24 @@ def seconds_of(time: str) -> int:
     return int(datetime.strptime(time, "%Y-%m-%dT%H:%M:%SZ").replace(tzinfo=timezone.utc).timestamp())
 
 
-class Scene:
-    """The claim and the capture that a random generator gives."""
-
-    def __init__(self, rng: random.Random) -> None:
-        self.rng = rng
-        self.clock = Clock(rng.choice("<>"), rng.choice([10**6, 10**9]))
-        self.is_odd = rng.random() < .5
-        self.base, self.span = rng.choice(BEGINS), rng.choice([1, 3, 10, 30])
-        self.scale = rng.choice(SCALES)
-        self.servers = [SERVER + k for k in range(rng.choice([1, 2, 2, 3, 3, 4, 5, 6]))]
-        self.capture = self.clock.capture(self.records())
-        self.claim = self.made_claim()
-
-    def rarely(self, part: float) -> bool:
-        """True in this part of the odd scenes' cases."""
-        return self.is_odd and self.rng.random() < part
-
-    def records(self) -> list[tuple[int, bytes]]:
-        rng, count = self.rng, len(self.servers)
-        offsets = [rng.choice([0, 0, 0, 1, -1, 5]) * self.scale * rng.randrange(1, 20) // 4 for _ in self.servers]
-        rate = rng.choice([0, 0, 10, 100, -100])                                   # parts in a million
-        polls = sorted((rng.randrange(-self.span * 100, self.span * 1100), k) for k in range(count)
-                       for _ in range(rng.choice([0, 1, 2, 3, 5, 8])) if rng.random() < .9)
-        records = [record for milliseconds, k in polls for record in self.exchange(
-            self.servers[k], milliseconds * TICKS // 1000, offsets[k], rate)]
-        if rng.random() < .05:
-            records += self.exchange(0x08080808, 0, 0, 0)                           # of no server of the claim
-        order = rng.random()
-        if order < .8:
-            records.sort(key=lambda record: record[0])
-        elif order < .9:
-            rng.shuffle(records)
-        if rng.random() < .1:
-            records.insert(0, (self.base * self.clock.per_second, b"short"))
-        return records
-
-    def exchange(self, server: int, after: int, offset: int, rate: int) -> list[tuple[int, bytes]]:
-        """The records of a request and its reply, where the server is off by the offset, and the clock by the rate."""
-        rng, scale = self.rng, self.scale
-        t1 = max(0, self.base * TICKS + after)
-        error = after * rate // 10**6
-        t2 = t1 - error + rng.randrange(1, scale // 2 + 2) + offset
-        t3 = t2 + rng.choice([0, 1, 1000, rng.randrange(scale + 1), -rng.randrange(scale + 1) if self.is_odd else 0])
-        t4 = max(t1, t3 + rng.randrange(1, scale // 2 + 2) - offset + error)
-        if rng.random() < .03:
-            t4 = t1 - rng.randrange(scale + 1)
-        port = rng.choice([123, 40_000 + rng.randrange(3)])
-        transmit = rng.choice([stamp(t1), rng.randrange(1, 2**64)])
-        if self.rarely(.06):
-            transmit = rng.choice([0, 7, 7])
-        reply: dict[str, int] = dict(
-            origin=transmit, receive=stamp(t2), transmit=stamp(t3), stratum=rng.randrange(1, 16),
-            precision=rng.randrange(-40, -9), delay=rng.randrange(2 + scale // 2**15),
-            dispersion=rng.randrange(2 + scale // 2**16))
-        for name, part, values in (
-                ("leap", .05, range(4)), ("stratum", .05, (0, 15, 16, 255)), ("version", .03, range(8)),
-                ("precision", .05, (-128, 127, 17, 16, 15, 0, -31, -32, -33)), ("mode", .03, range(8)),
-                ("delay", .02, range(2**32)), ("dispersion", .02, range(2**32)), ("origin", .04, (0, stamp(t2), 7)),
-                ("receive", .03, (0, 1, reply["receive"] ^ 2**63)), ("transmit", .03, (0, 5, reply["transmit"] + 1))):
-            if self.rarely(part):
-                reply[name] = rng.choice(values) % 2**64 if name in ("receive", "transmit") else rng.choice(values)
-        tail = bytes(rng.choice([0, 0, 0, 20]))
-        asked, said = header(mode=3, stratum=0, precision=0, transmit=transmit) + tail, header(**reply) + tail
-        if self.rarely(.02):
-            said = said[:rng.randrange(len(said))]
-        asks = [(t1, self.frame(CLIENT, server, port, 123, asked))] * (2 if self.rarely(.04) else 1)
-        if self.rarely(.04):
-            asks = []
-        says = [(t4, self.frame(server, CLIENT, 124 if self.rarely(.02) else 123, 9 if self.rarely(.02) else port,
-                                said))]
-        if self.rarely(.05):
-            says.append((t4 + rng.randrange(scale + 1), says[0][1]))
-        return [(self.clock.units(ticks), frame) for ticks, frame in asks + says]
-
-    def frame(self, source: int, destination: int, source_port: int, destination_port: int, payload: bytes) -> bytes:
-        rng = self.rng
-        tag = b"\x81\x00" + rng.randbytes(2) if rng.random() < .25 else b""
-        around: dict[str, Any] = dict(
-            tags=tag, options=bytes(4 * rng.choice([1, 2, 10])) if rng.random() < .1 else b"",
-            fragment=rng.choice([0, 0x4000, 0x8000]), behind=bytes(4) if rng.random() < .03 else b"",
-            padding=bytes(rng.choice([0, 0, 6, 18])))
-        if self.rarely(.15):
-            name, values = rng.choice([
-                ("tags", (tag + b"\x81\x00\x00\x01", tag + b"\x88\xa8\x00\x01")), ("kind", (b"\x86\xdd", b"\x08\x06")),
-                ("version", (0, 5, 6)), ("words", range(16)), ("fragment", (0x2000, 1, 0x1fff, 0x2001)),
-                ("protocol", (6, 1, 0)), ("total_more", (-1, 1, -30, 7, -60, 100)),
-                ("udp_more", (-9, -1, 1, 5, -60, 2000))])
-            around[name] = rng.choice(values)
-        whole = Frame(source, destination, source_port, destination_port, payload, **around).bytes()
-        return whole[:rng.randrange(len(whole) + 1)] if self.rarely(.03) else whole
-
-    def made_claim(self) -> Claim:
-        rng, count = self.rng, len(self.servers)
-        begin = self.base + rng.choice([0, 0, 0, 1, self.span // 2, -1])
-        end = begin + rng.choice([0, self.span, self.span, self.span + 3])
-        claim: Claim = {
-            "client": address(CLIENT), "servers": list(map(address, self.servers)),
-            "false_max": rng.choice([0, 0, 0, 1, 1, 2, count]),
-            "from": time_text(begin), "to": time_text(min(2**32 - 1, end)),
-            "bound_ns": rng.choice([0, 1, 10**6, 10**8, 10**15]),
-            "drift_ppb": rng.choice([0, 1, 100_000, 100_000, 10**7, 500_000_000]),
-            "reading_ns": rng.choice([0, 0, 1, 1000, 100_000, 10**9 if rng.random() < .2 else 0])}
-        if rng.random() < .4:
-            left = rng.sample(range(count), count)
-            claim["groups"] = []
-            while left:
-                size = rng.randrange(1, len(left) + 1)
-                claim["groups"].append(left[:size])
-                left = left[size:]
-        return claim
+def odd(rng: random.Random, capture: bytes) -> bytes:
+    """A little-endian capture with records doubled, lost or in another order, and bytes of their frames changed."""
+    records, at = list[bytes](), 24
+    while at < len(capture):
+        records.append(capture[at:at + 16 + int.from_bytes(capture[at + 8:at + 12], "little")])
+        at += len(records[-1])
+    for _ in range(rng.randrange(1, 9)):
+        number = rng.randrange(len(records))
+        record = bytearray(records[number])
+        place = rng.randrange(16, len(record))
+        record[place] = rng.choice((0, 1, 16, 255, record[place] ^ 1 << rng.randrange(8)))
+        records[number] = bytes(record)
+    records += rng.sample(records, rng.randrange(2))
+    if rng.random() < .3:
+        rng.shuffle(records)
+    return capture[:24] + b"".join(records[rng.randrange(2):])
 
 
-# ---- what is asked of a scene
 def made_certificate(rng: random.Random, claim: Claim, of_servers: list[list[int]], samples: int) -> Certificate:
     """A certificate of any samples, where these are those of each server."""
     first, last = (seconds_of(time) * TICKS for time in (claim["from"], claim["to"]))
