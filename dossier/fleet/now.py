@@ -204,13 +204,14 @@ def told_of(wanted: Wanted, claim: Claim, found: Latest, moment: Moment) -> Mome
     if found.ahead:
         against = f"the clock was set back: records up to {span_of_seconds(found.ahead)} ahead of it"
     fits, silent = settled.answer != NOTHING_FITS, set(filter(hearing.is_silent, own.servers))
+    camps = () if fits else camps_at(envelope, len(envelope.hulls) - 1)
     last = Hearing(program, own, Classic(capture), capture)
     return replace(
         moment, begin=own.first, end=own.last, against=against,
         servers=[last.heard(server, envelope, server in silent) for server in own.servers],
         verdict=UNSUPPORTED if settled.answer == YES and against else settled.answer,
         heard=sum(any(own.servers[k] not in silent for k in group) for group in own.grouped),
-        camps=[] if fits else [list(camp) for camp in camps_at(envelope, len(envelope.hulls) - 1)],
+        camps=[list(camp) for camp in camps] if len(camps) > 1 else [],
         moves=[move for move in parts.moves if move.by > (own.last - span) * SECOND], before=before if fits else "",
         least_ns=envelope.least_ns if fits else None,
         pieces=[piece_of(envelope, k) for k in range(len(envelope.hulls))])

@@ -191,6 +191,21 @@ def test_fall(place: Path) -> None:
         "now -4,000.001 .. -499.998 ms"]))
 
 
+def test_one_camp(place: Path) -> None:
+    """A server that contradicts itself, where none may be wrong: of the others, which agree, nothing is said."""
+    last = int(time.time()) - 5
+    last -= last % 10
+    begin = last - 200
+    (place / "rec").mkdir()
+    path = capture_of(place / "rec" / name_of(begin, "eth0"), *by_time(
+        words_of([(begin, last + 1, RIGHT)], (1, 2, 3)),
+        [f"4:{(RIGHT, AHEAD)[second // 10 % 2]}@{second}" for second in range(begin, last + 1, 10)]))
+    written(path)
+    line = now(place / "rec", claim=claim_in(place, false_max=0))[1][0]
+    check("a server that contradicts itself", verdict=(line.split("  ")[2], "nothing fits"),
+          said=("192.0.2.1" in line, False))
+
+
 def test_set_back(place: Path) -> None:
     """A clock that was set back: records later than the machine's clock are the finding, whichever file has them, and
     never a yes; and what follows is read as it was written."""

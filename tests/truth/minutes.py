@@ -179,6 +179,8 @@ class Player:
         right = {one.address for one in self.of.servers
                  if not one.is_wrong(last) and not one.is_wrong(last - self.BEFORE)}
         camps = [camp for camp in moment.camps if right & set(camp)]
+        if len(moment.camps) == 1:
+            yield "one camp doesn't contradict"
         if len(camps) > 1 and not any(last - self.BEFORE < end and begin < last
                                       for begin, end in self.of.clock.breaks):
             yield f"servers that are right contradict one another: {camps}"
