@@ -1,10 +1,11 @@
 """What a folder's own evidence says of the clock, and what of it speaks against the claim.
 
 Files of JSON that evidence.json names beside a premise are read: what it was recorded by, what was measured, and what
-was read of the client; and its logs, named `*.log`.
+was read of the client; and its logs, by their names.
 """
 from __future__ import annotations
 
+import re
 from collections.abc import Collection, Iterator
 from typing import TYPE_CHECKING, NamedTuple, TypeVar
 
@@ -14,13 +15,13 @@ from ..folder.entry import Alert, Leap, Move
 from ..folder.evidence import evidence, named_in
 from ..folder.files import CLAIM, EVIDENCE, Folder
 from ..schema import is_name, read_typed
-from ..units import DAY, LAST_SECOND, SECOND, civil, seconds_of
+from ..units import DAY, LAST_SECOND, SECOND, TICKS, civil, seconds_of
 
 if TYPE_CHECKING:
     from ..capture.recorder import Recorder
     from .correction import Correction
     from .measurement import Measurement
-    from .tracking import Tracking
+    from .tracking import Step, Tracking
 
 Kind = TypeVar("Kind")
 
@@ -44,12 +45,12 @@ def backing(folder: Folder, inputs: Collection[str]) -> Backing:
     from .measurement import Measurement
     kept = evidence(folder)
 
-    def named(premise: str, ending: str = ".json") -> list[str]:
-        return [name for name in named_in(kept.get(premise, "")) if name in inputs and name.endswith(ending)]
+    def named(premise: str, form: str = r"\.json$") -> list[str]:
+        return [name for name in named_in(kept.get(premise, "")) if name in inputs and re.search(form, name)]
     reading, read = named("reading"), all_of(Correction, folder, named("drift"))
     logs, unread = [log for one in read for log in one.logs], dict[str, int]()
     step = next((one.configuration.step_s for one in read), None)
-    for name in named("drift", ".log"):
+    for name in named("drift", r"\.log(\.\d+)?$|^(syslog|messages)(\.\d+)?$"):
         log, lines = log_of(folder, name, step)
         logs += [log] if log else []
         unread |= {name: lines} if lines else {}
@@ -106,22 +107,33 @@ def logged(logs: list[Tracking], claim: Claim, leap: Leap, moves: list[Move]) ->
         yield Alert("rate", rate)
     if offset > claim.bound_ns:
         yield Alert("offset", offset)
-    steps = {(seconds_of(time), size) for log in logs for time, size, _ in log.steps}
+    steps = {step for log in logs for step in log.steps}
+    are_known = not any(how.endswith(tracking.NO_ZONE) or time == tracking.UNKNOWN for time, _, how in steps)
     left = set(steps)
     for move in moves:
         first, last = move.around
-        own = {step for step in steps if first // SECOND - NEAR <= step[0] <= last // SECOND + NEAR}
-        left -= set(sorted(own)[:1])
-        if not own and any(seconds_of(log.first) * SECOND <= first and last <= seconds_of(log.last) * SECOND
-                           for log in logs):
+        own = sorted((step for step in steps if is_of(move, step)), reverse=True)
+        left -= set({how: (time, size, how) for time, size, how in own}.values())  # (each way to see it sees it once)
+        if not own and are_known and any(seconds_of(log.first) * SECOND <= first and
+                                         last <= seconds_of(log.last) * SECOND for log in logs):
             yield Alert("unlogged", before=first, after=last)
-    inside = {(time, size) for time, size in left  # (by what the clock showed behind the step, or just before it)
-              if any(leap.from_ - 1 <= at <= leap.to + 1 for at in (time, time - int(float(size or 0))))}
-    within, others = sorted(time for time, _ in inside), sorted(time for time, _ in left - inside if moves)
+    inside = {step for step in left if tracking.is_within(step, leap.from_, leap.to)}
+    within, others = sorted(inside), sorted(left - inside) if moves else []
     if within:
-        yield Alert("step", len(within), before=within[0] * SECOND)
+        yield Alert("step", len(within), before=seconds_of(within[0][0]) * SECOND)
     if others:
-        yield Alert("logged", len(others), before=others[0] * SECOND)
+        yield Alert("logged", len(others), before=seconds_of(others[0][0]) * SECOND)
+    if any(how.endswith(tracking.NO_ZONE) for *_, how in inside):
+        yield Alert("zone")
+
+
+def is_of(move: Move, step: Step) -> bool:
+    """Whether a log may mean a move by a step: its time is one that the clock had just before it, or just behind it; or
+    between them, if it is only seen that times fall back."""
+    from .tracking import FALLS
+    time, change = seconds_of(step[0]), move.low * SECOND // TICKS
+    ends = [move.around] if step[2] == FALLS else [(move.after, move.by - change), (move.after + change, move.by)]
+    return any(first // SECOND - NEAR <= time <= last // SECOND + NEAR for first, last in ends)
 
 
 NEAR = 2

@@ -19,16 +19,27 @@ from ..units import DAY, EPOCH, FORM, civil, seconds_of, shown_time
 UPDATE = re.compile(r"(\d{4}-\d\d-\d\d) (\d\d:\d\d:\d\d) +\S+ +(\d+) +(-?\d{1,9}\.\d{1,9}) +\d+\.\d+ +"
                     r"(-?\d\.\d{1,9}e[+-]\d\d) ", re.ASCII)
 HEADS = re.compile(r"=+$|   Date \(UTC\) Time |$")
-MESSAGE = re.compile(r"(?:(\d{4}-\d\d-\d\d[T ]\d\d:\d\d:\d\d(?:[.,]\d+)?(?:Z|[+-]\d\d:?\d\d)?)"
+MESSAGE = re.compile(r"(?:<\d{1,3}>\d? ?|[A-Z][a-z]{2} (?=\d{4}-))?(?:(\d{10}\.\d+|"
+                     r"\d{4}-\d\d-\d\d[T ]\d\d:\d\d:\d\d(?:[.,]\d+)?(?:Z|[+-]\d\d:?\d\d| UTC| GMT)?)"
                      r"|([A-Z][a-z]{2} [ \d]\d \d\d:\d\d:\d\d(?:\.\d+)?)) (?:.*?\bchronyd(?:\[\d+\])?: )?(.*)",
                      re.ASCII)
 """A message by its time, as syslog and journalctl write it, and what it says."""
-STEPPED = re.compile(r"System clock was stepped by (-?\d{1,12}\.\d{1,12}) seconds", re.ASCII)
+ZONE = re.compile(r"^\d{10}\.|:\d\d(?:[.,]\d+)?(Z|[+-]\d\d:?\d\d| UTC| GMT)$")
+STEPPED = re.compile(r"(?:stepped by|clock_step|time (?:re)?set|step time server \S+ offset|setting time to .*\(offset)"
+                     r" \+?(-?\d{1,12}\.\d{1,12}) ?s", re.ASCII)
+"""What chronyd says of a step, ntpd, ntpdate, and busybox."""
 WRONG = re.compile(r"System clock wrong by (-?\d{1,12}\.\d{1,12}) seconds", re.ASCII)
-ABOUT_STEPS = re.compile("stepp|step time|clock_step|time reset|changed local time|jump|set the (system )?(clock|time)"
-                         "|clock (was )?(set|wrong|changed)|time (has been |was )?(set|changed)", re.IGNORECASE)
-"""What a message may say that is of a step, in words that aren't chronyd's."""
+ABOUT_STEPS = re.compile("stepp|step time|clock_step|time reset|changed local time|jumped|(time|clock) jump|time change"
+                         r"|\bset(ting)? (the )?(system )?(clock|time)\b|clock (was )?(set|wrong|changed)|\bs1 freq\b"
+                         r"|time (has been |was )?(set|changed)|initial (clock )?synchroni|\bdate (-s|--set)",
+                         re.IGNORECASE)
+"""What a message may say that is of a step, in other words: systemd's, phc2sys's, virtual machines'."""
 HAPPENED, OFFSET, FALLS = "it says so", "an offset beyond makestep's threshold", "the times of the log fall back"
+SPOKEN, NO_ZONE = "it speaks of one", ", by a time without a zone"
+UNKNOWN = "1970-01-01T00:00:00Z"
+"""The time of a step in a line of no known form."""
+ZONES = -12 * 3600, 14 * 3600
+"""Seconds by which local times may be ahead of UTC."""
 TOGETHER = 600
 """Seconds of which a log's extremes are kept."""
 
@@ -70,12 +81,15 @@ class Reading:
         if update := UPDATE.match(line):
             self.update(update)
         elif (message := MESSAGE.match(line)) and (time := self.time_of(message)):
+            zone = "" if ZONE.search(message[1] or "") else NO_ZONE
             if stepped := STEPPED.search(message[3]):
-                self.steps.append((time, stepped[1], HAPPENED))
+                self.steps.append((time, stepped[1], HAPPENED + zone))
             elif wrong := WRONG.search(message[3]):
                 self.offsets.append((time, Fraction(wrong[1])))
-            else:
-                self.unread += bool(ABOUT_STEPS.search(message[3]))
+            elif ABOUT_STEPS.search(message[3]):
+                self.steps.append((time, "", SPOKEN + zone))
+        elif ABOUT_STEPS.search(line):
+            self.steps.append((UNKNOWN, "", SPOKEN))
         else:
             self.unread += not HEADS.match(line)
 
@@ -96,7 +110,7 @@ class Reading:
         """The time of a message in UTC. Without a zone it is taken for UTC, without a year for the day nearest to what
         is known, else for the last such day."""
         if message[1]:
-            return in_utc(message[1].replace(",", "."))
+            return civil(int(message[1][:10])) if message[1][4] != "-" else in_utc(message[1].replace(",", "."))
         near, found = seconds_of(self.known or self.now), list[str]()
         for year in range(int(civil(near)[:4]) - 4, int(civil(near)[:4]) + 2):
             with suppress(ValueError):  # (29 February of another year, or no day at all)
@@ -119,7 +133,8 @@ def read_tracking(logs: dict[str, bytes], step_s: str | None, now: str) -> Track
         raise fault("the log has no update of chronyd's tracking.log in it")
     rates = [rate for _, rate in reading.rates] or [Fraction(0)]
     change = max((abs(b - a) for a, b in zip(rates, rates[1:])), default=Fraction(0))
-    times = sorted([time for time, _ in reading.rates or reading.offsets] + [step[0] for step in reading.steps])
+    times = sorted([time for time, _ in reading.rates or reading.offsets] + [step[0] for step in reading.steps
+                                                                             if step[0] != UNKNOWN]) or [UNKNOWN]
     return Tracking({name: sum_of(data) for name, data in logs.items()}, len(reading.rates), times[0], times[-1],
                     ppm(min(rates)), ppm(max(rates)), ppm(change), sorted(reading.steps), extremes_of(reading),
                     reading.unread)
@@ -139,7 +154,8 @@ def extremes_of(reading: Reading) -> list[Extremes]:
 
 def in_utc(time: str) -> str:
     try:
-        moment = datetime.fromisoformat(time if re.search(r"(Z|[+-]\d\d:?\d\d)$", time[19:]) else f"{time}+00:00")
+        time = re.sub(" (UTC|GMT)$", "Z", time)
+        moment = datetime.fromisoformat(time if ZONE.search(time) else f"{time}+00:00")
         return (EPOCH + (moment - datetime.fromisoformat("1970-01-01T00:00:00+00:00"))).strftime(FORM)
     except (ValueError, OverflowError):
         raise fault("the log has a time that is none") from None
@@ -154,21 +170,26 @@ def in_words(found: Tracking) -> str:
     """What a page and a draft say of it."""
     steps = count(len(found.steps), "step") if found.steps else "no step"
     updates = count(found.updates, "update")
-    span = f"from {shown(found.first)} to {shown(found.last)}"
+    span = f" from {shown(found.first)} to {shown(found.last)}" if found.last != UNKNOWN else ""
     unread = f" {count(found.unread, 'line')} of another form {'says' if found.unread == 1 else 'say'} nothing that " \
         "is known." if found.unread else ""
-    return (f"{', '.join(found.files)}, as chronyd wrote it: {updates} {span}, its frequency from "
+    return (f"{', '.join(found.files)}, as chronyd wrote it: {updates}{span}, its frequency from "
             f"{found.least_ppm} to {found.greatest_ppm} ppm, with {found.change_ppm} ppm at the most from one to the "
             f"next; {steps}.{unread}")
 
 
 def shown(time: str) -> str:
-    return shown_time(seconds_of(time))
+    return shown_time(seconds_of(time)) if time != UNKNOWN else "a time of no known form"
 
 
-def within(found: Tracking, first: int, last: int) -> list[Step]:
-    """The steps inside a span of Unix seconds. The log's times are cut to seconds."""
-    return [step for step in found.steps if first - 1 <= seconds_of(step[0]) <= last + 1]
+def is_within(step: Step, first: int, last: int) -> bool:
+    """Whether a step may have left a reading of a span of Unix seconds, or come to one. A log has the time behind the
+    step, cut to seconds."""
+    if step[0] == UNKNOWN:
+        return True
+    behind, zones = seconds_of(step[0]), ZONES if step[2].endswith(NO_ZONE) else (0, 0)
+    return any(first - 1 <= at - zones[0] and at - zones[1] <= last + 1
+               for at in (behind, behind - int(float(step[1] or 0))))
 
 
 def greatest(found: Tracking, first: int, last: int) -> tuple[int, int]:
@@ -183,8 +204,9 @@ def greatest(found: Tracking, first: int, last: int) -> tuple[int, int]:
 
 def cautions(found: Tracking, first: int, last: int) -> list[str]:
     """What a person has to look at over a span of Unix seconds: the steps inside it, and whether the log covers it."""
-    said = [f"A step{f' of {seconds} s' if seconds else ''} at {shown(time)} ({how}) is inside the span."
-            for time, seconds, how in within(found, first, last)]
+    said = [f"A step{f' of {seconds} s' if seconds else ''} at {shown(time)} ({how}) "
+            f"{'may be' if how.endswith(NO_ZONE) else 'is'} inside the span."
+            for time, seconds, how in found.steps if is_within((time, "", how), first, last)]
     if seconds_of(found.first) > first or seconds_of(found.last) + 1 < last:
         said.append("The log doesn't cover the whole span.")
     return said

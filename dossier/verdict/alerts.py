@@ -80,6 +80,10 @@ def without_xleave(found: Alert) -> str:
     return f"take `xleave` out of {number(found, 'its line', 'their lines')} in chrony.conf, and record again"
 
 
+def logged_at(found: Alert) -> str:
+    return shown_time(found.before // SECOND) if found.before else "a time of no known form"
+
+
 WORDS: dict[str, Callable[[Alert], str]] = {
     "outside": outside, "falls": falls, "silence": silence, "far": far, "torn": torn, "twice": twice,
     "apart-for-a-time": apart_for_a_time,
@@ -103,7 +107,7 @@ WORDS: dict[str, Callable[[Alert], str]] = {
     "flood": lambda found: f"{count(found.count, 'record')} of the capture {is_or_are(found.count)} of others than "
                            "the claim's client and servers, or answer no request of it, and left out of what is "
                            "audited: the recorder's filter may name these servers.",
-    "step": lambda found: f"The client logged a step of the clock at {shown_time(found.before // SECOND)}"
+    "step": lambda found: f"The client logged a step of the clock at {logged_at(found)}"
                           f"{f', the first of {found.count:,} steps' if found.count > 1 else ''}. No drift covers a "
                           "step.",
     "rate": lambda found: f"The client logged a frequency, or a change of it, of {found.count:,} parts in 10^9 in the "
@@ -111,7 +115,9 @@ WORDS: dict[str, Callable[[Alert], str]] = {
     "offset": lambda found: f"The client logged an offset of {ns_ms(found.count)} ms in the span or near it. That is "
                             "beyond the bound.",
     "logged": lambda found: "The client logged a step of the clock at "
-                            f"{shown_time(found.before // SECOND)}, where none is presumed.",
+                            f"{logged_at(found)}, where none is presumed.",
+    "zone": lambda _: "A log names no zone, so a step in it counts from 14 hours before its time to 12 behind it: "
+                      "`journalctl --utc -o short-iso` names one.",
     "unlogged": lambda found: f"The client's log has no step {between(*outward(found.before, found.after))}, where one "
                               "is presumed.",
     "unread": lambda found: f"{count(found.count, 'line')} of {plain(found.file) or 'logs'} "
