@@ -46,9 +46,12 @@ class Recording:
 
     @cached_property
     def by_address(self) -> dict[str, list[tuple[int, int]]]:
-        """When the request and the reply of each server's samples were recorded."""
-        times = {server: self.at(map(self.stamps.__getitem__, own)) for server, own in self.pairs.items()}
-        return {server.decode("ascii"): list(zip(own[::2], own[1::2])) for server, own in times.items()}
+        """The records of request and reply of each server's samples."""
+        return {server.decode("ascii"): list(zip(own[::2], own[1::2])) for server, own in self.pairs.items()}
+
+    def time(self, record: int) -> int:
+        """When a record was made."""
+        return self.at([self.stamps[record]])[0]
 
     @cached_property
     def times(self) -> list[int]:

@@ -10,7 +10,7 @@ from ..records import dataclass, field
 from ..schema import (Address, Count, Mangled, Name, Nanoseconds, Seconds, Small, Sum, Text, Ticks, Time, is_name,
                       is_time, length, mangled, matching, or_nothing, parsed, said, typed, within)
 from ..text import plain
-from ..units import now
+from ..units import SECOND, TICKS, now
 from .claim import Claim
 from .files import AUDIT, CLAIM, JOINED, LEFT, LIMITS, is_capture, sum_of
 
@@ -115,8 +115,9 @@ class Move:
 
     @property
     def around(self) -> tuple[int, int]:
-        """The two times, the earlier first."""
-        return min(self.after, self.by), max(self.after, self.by)
+        """The outermost readings that the clock may have had just before it, or just behind it."""
+        back = min(0, self.low * SECOND // TICKS)
+        return self.after + back, self.by - back
 
 
 @dataclass(frozen=True)
@@ -228,7 +229,7 @@ class Alert:
     kind: Literal["outside", "no-drift", "falls", "silence", "far", "leap", "leap-second", "leap-ends", "sources",
                   "reference", "apart", "apart-for-a-time", "drift", "reading", "step", "oscillator", "torn",
                   "interleaved", "no-list", "flood", "slip", "twice", "address", "unread", "rate",
-                  "offset", "unlogged", "logged"]
+                  "offset", "unlogged", "logged", "zone"]
     count: Count = 0
     record: Count = 0
     before: Nanoseconds = 0
@@ -323,6 +324,12 @@ class Entry:
     @property
     def ends_off(self) -> bool:
         return self.is_off and self.parts[-1].beyond[-1].to == self.parts[-1].to
+
+    @property
+    def is_void(self) -> bool:
+        """Whether nothing that rests on the drift holds: no course fits, and it isn't known between which moves one
+        would."""
+        return self.verdict == NOTHING_FITS and not self.moves
 
     @property
     def answer(self) -> Answer:

@@ -75,10 +75,10 @@ def seen(name: str, folder: Folder, record: Record, entry: Entry) -> dict[str, o
                        one.high, one.reply, shown_time(one.answered // SECOND), minus(high_ms(one.most)))
                       for one in reason.conflicts] if entry.verdict == NOTHING_FITS and reason else [],
         "label": label, "picture": "" if is_beside else
-        picture(joined(drawn_of), claim.bound_ns, name, label, steps_of(entry)),
+        picture(joined(drawn_of), claim.bound_ns, name, label, steps_of(entry), entry.is_void),
         "legend": legend(joined(drawn_of), claim.bound_ns),
         "servers": [(server, drawn.get(server.address), strokes.get(server.address, "")) for server in entry.servers],
-        "apart": apart,
+        "apart": apart, "is_void": entry.is_void,
         "premises": [(premise, list(support(premise.name, backed, record, entry)), kept.get(premise.name, ""))
                      for premise in premises(claim)],
         "counts": [(what, f"{number:,}", COUNTS.get(what, "")) for what, number in entry.counts.items()],

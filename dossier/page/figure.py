@@ -62,9 +62,10 @@ def path(kind: str, drawn: str) -> str:
 HULL = [path("hull", "M0 2H26V12H0Z"), path("edge", "M0 2H26M0 12H26")]
 
 
-def picture(envelope: Envelope, bound_ns: int, name: str, label: str, steps: Collection[int] = ()) -> str:
+def picture(envelope: Envelope, bound_ns: int, name: str, label: str, steps: Collection[int] = (),
+            is_void: bool = False) -> str:
     """The picture, with ids that begin with a name of its own, and steps of the clock at some Unix seconds. Its words
-    stand at the left of it."""
+    stand at the left of it. Where no course fits it has no figures in words."""
     bound = bound_ticks(bound_ns)
     cells = cells_of(envelope, bound)
     low, high = extent(cells, bound)
@@ -78,7 +79,7 @@ def picture(envelope: Envelope, bound_ns: int, name: str, label: str, steps: Col
     inner += [path(kind, f"M0 {y(ticks):.1f}H{WIDTH}") for ticks, kind in lines]
     inner += [path("step", f"M{x(part)} 0V{HEIGHT}") for part in parts_of(envelope, steps)]
     drawn = [element("title", words=label, id=f"{name}-t"),
-             element("desc", words=described(envelope, bound_ns), id=f"{name}-d"),
+             element("desc", words=described(envelope, bound_ns, is_void), id=f"{name}-d"),
              stretched(TOP, HEIGHT, inner),
              element("rect", class_="frame", y=TOP, width="100%", height=HEIGHT),
              stretched(TOP + HEIGHT, STRIP, marks(cells)),
@@ -223,10 +224,10 @@ def beside(height: float, text: str, kind: str = "") -> str:
     return element("text", words=text, class_=kind, x=-6, y=f"{TOP + height + 4:.1f}", text_anchor="end")
 
 
-def described(envelope: Envelope, bound_ns: int) -> str:
+def described(envelope: Envelope, bound_ns: int, is_void: bool) -> str:
     """The picture in words, for whoever doesn't see it."""
     bound = bound_ticks(bound_ns)
-    bounded = [hull for hull in envelope.hulls if not isinstance(hull, str)]
+    bounded = [hull for hull in envelope.hulls if not isinstance(hull, str) and not is_void]
     times = listed([from_to(*run) for run in runs_in(envelope)])
     said = [f"The clock's error {times} UTC, in {count(len(envelope.hulls), 'piece')}."]
     if bounded:

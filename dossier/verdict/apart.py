@@ -97,12 +97,6 @@ def apart_of(envelope: Envelope, gaps: list[Gap]) -> list[str]:
     return [address for address, own in met_of(envelope, gaps).items() if own and not any(own)]
 
 
-def suspects_of(envelope: Envelope, gaps: list[Gap]) -> list[str]:
-    """The servers of which some interval misses the hull, and another one meets it or holds nothing."""
-    return [address for address, own in met_of(envelope, gaps).items()
-            if not all(own) and (any(own) or any(map(gt, *envelope.servers[address])))]
-
-
 class Search:
     """Looks for the times in which servers stand apart."""
 
@@ -142,9 +136,9 @@ class Search:
 
 def search_of(program: Program, claim: Claim, capture: str, extent: Extent | None, envelope: Envelope,
               gaps: list[Gap]) -> Search:
-    """All samples that miss the hull, of servers that may stand apart."""
+    """All samples that miss the hull, of servers of which some interval does."""
     search = Search(envelope, gaps, Classic(capture, extent))
-    if suspects := list(dict.fromkeys([*apart_of(envelope, gaps), *suspects_of(envelope, gaps)])):
+    if suspects := [address for address, own in met_of(envelope, gaps).items() if not all(own)]:
         keep(SUSPECTS, replace(claim, servers=suspects, false_max=0, groups=[]).text)
         program.blocks(search.take, "samples", SUSPECTS, capture)
     return search
@@ -159,5 +153,5 @@ def seen_apart(program: Program, part: Part, capture: str, extent: Extent | None
     times = [time for time in missed if time.server in search.met]
     own = {time.server for time in missed} - search.met
     if not least:
-        own |= {*always} - {time.server for time in times}
+        own |= {*always} - search.met
     return Seen([server for server in part.claim.servers if server in own], times)

@@ -5,10 +5,10 @@ every course with just so many steps each step lies in its break: behind the rec
 and before the one that ends one from the left (design: what a capture settles, cut at a step).
 """
 from array import array
-from itertools import pairwise
 from typing import NamedTuple
 
 from ..capture.classic import HEADER, Classic, Extent, write
+from ..capture.recording import read_recording
 from ..folder.answers import read_settled
 from ..folder.claim import GREATEST_BOUND, Claim
 from ..folder.entry import FEW, NOTHING_FITS
@@ -44,12 +44,17 @@ class Search:
 
     def found(self) -> list[Break]:
         """None if there are many, or they can't be told: then it isn't steps."""
-        left = self.from_left()
+        left = self.from_left(0, self.number)
         right = self.from_right(left) if 0 < len(left) <= FEW else []
         if self.calls <= 0 or self.bytes <= 0 or len(left) != len(right) or not left:
             return []
-        breaks = [self.narrowed(Break(min(m, n) - 1, max(m, n) + 1, m < n)) for m, n in zip(right, left)]
-        return breaks if all(one.by <= other.after for one, other in pairwise(breaks)) else []
+        found = list[Break]()
+        for one in (self.narrowed(Break(min(m, n) - 1, max(m, n) + 1, m < n)) for m, n in zip(right, left)):
+            if found and one.after < found[-1].by:
+                found[-1] = Break(found[-1].after, one.by, False)
+            else:
+                found.append(one)
+        return found
 
     def narrowed(self, one: Break) -> Break:
         """A break in which the times of the records fall back once by more than a second: there it was, if it was a
@@ -59,10 +64,20 @@ class Search:
                  if (stamps[k] >> 32) + 1 < stamps[k - 1] >> 32]
         return Break(falls[0] - 1, falls[0], one.is_met) if len(falls) == 1 else one
 
-    def from_left(self) -> list[int]:
+    def is_one(self, wide: Break, claim: Claim) -> bool:
+        """Whether the records of a break, its ends among them, fall into two stretches by a claim, and each exchange of
+        theirs into one of the two."""
+        keep(ANY, replace(claim, bound_ns=GREATEST_BOUND).text)
+        left = self.from_left(wide.after, wide.by + 1)
+        self.cut(wide.after, wide.by + 1, SOME)
+        requests = [wide.after + request for own in read_recording(self.program, ANY, SOME).by_address.values()
+                    for request, reply in own if wide.after + reply >= left[0]] if len(left) == 1 else []
+        return bool(requests) and not self.conflict(min(requests), wide.by + 1)
+
+    def from_left(self, first: int, end: int) -> list[int]:
         """The record with which each stretch is fitted no more, if it is as long as may be."""
-        found, first = list[int](), 0
-        while len(found) <= FEW and (seen := self.conflict(first, self.number)):
+        found = list[int]()
+        while len(found) <= FEW and (seen := self.conflict(first, end)):
             low, high, back = first, seen[1] + 1, 1
             while high - low > 1:
                 middle, back = max((low + high) // 2, high - back), 2 * back

@@ -18,7 +18,7 @@ from ..premise.backing import Backing, against
 from ..premise.leap import entry_by, look_up, stretch
 from ..units import SECOND, bound_ticks
 from .apart import Seen as Apart, Time, are_in
-from .parts import gaps_of, inner_gaps, longest_of, told_of
+from .gaps import gaps_of, inner_gaps, longest_of, told_of
 from .seen import camps_of
 
 FAR = 10
@@ -219,12 +219,16 @@ def warnings(claim: Claim, recording: Recording, texts: Texts, advice: dict[str,
 
 
 def for_a_time(times: list[Time]) -> Iterator[Alert]:
-    """The longest time in which servers stand apart, and how many there are."""
-    if times:
-        longest = max(times, key=lambda time: (time.last - time.first, time))
-        own = [time for time in times if time.first <= longest.last and longest.first <= time.last]
-        yield Alert("apart-for-a-time", len(times) - len(own), before=min(time.first for time in own),
-                    after=max(time.last for time in own), servers=sorted({time.server for time in own}, key=number_of))
+    """The longest times in which servers stand apart, until each of them is named, and how many there are besides."""
+    left = times
+    while left:
+        longest = max(left, key=lambda time: (time.last - time.first, time))
+        own = [time for time in left if time.first <= longest.last and longest.first <= time.last]
+        named = {time.server for time in own}
+        left = [time for time in left if time.server not in named]
+        yield Alert("apart-for-a-time", sum(time.server in named for time in times) - len(own),
+                    before=min(time.first for time in own), after=max(time.last for time in own),
+                    servers=sorted(named, key=number_of))
 
 
 def far_pieces(claim: Claim, recording: Recording, envelope: Envelope, gaps: list[Gap]) -> Iterator[Alert]:

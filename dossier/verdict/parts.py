@@ -7,7 +7,7 @@ less the least error by the stretch behind; and no earlier than a request before
 a reading only later than that, by the most error that its own exchanges let be, never showed it.
 """
 from bisect import bisect_left, bisect_right
-from collections.abc import Iterable, Iterator, Sequence
+from collections.abc import Callable, Iterable, Iterator, Sequence
 from itertools import groupby, pairwise
 from operator import sub
 from typing import NamedTuple
@@ -21,16 +21,15 @@ from ..folder.placing import keep
 from ..folder.program import Program
 from ..records import replace
 from ..units import SECOND, TICKS, bound_ticks, ceil_div, civil
-from .apart import SEVERAL, apart_of, are_in, outermost, pieces_of, search_of
-from .breaks import SOME, Search
+from .apart import SEVERAL, Time, apart_of, are_in, outermost, pieces_of, search_of
+from .breaks import SOME, Break, Search
+from .gaps import SILENCE, gaps_of, inner_gaps, told_of
 
 ALONE = "alone.claim.json"
 """A private file: a claim of some servers, or of some time."""
 ENOUGH = 8
 """Exchanges of a group that a stretch has to have, of more groups than may be wrong."""
 MOST_PARTS, LONGEST = 100, 86_400
-SILENCE, UNUSUAL = 60 * SECOND, 10
-"""Servers are silent if none is heard for this time, and for so many times as long as usual."""
 COARSE = 1000
 """Nanoseconds in the coarsest unit of a capture's times."""
 
@@ -48,6 +47,8 @@ class Parted(NamedTuple):
     """Of the envelopes, as the program printed them."""
     gaps: list[tuple[Gap, str]]
     """In which no server was heard, each with the private file that has what was recorded then."""
+    apart: list[Time] = []
+    """In which servers stand apart."""
 
 
 class Side(NamedTuple):
@@ -69,25 +70,62 @@ class Parting:
         """The ends of leap seconds, in Unix seconds, and whether the claim takes more servers for wrong than is
         granted."""
         self.search = Search(program, claim, capture, extent)
-        self.breaks = self.search.found()
-        self.sides = list(self.stretches()) if self.breaks else []
-        self.are_whole = bool(self.breaks) and all(map(self.is_enough, self.sides)) and \
-            all(one.is_met for one in self.breaks)
-        self.hidden = 0
-        """By how much a clock that moved faster than is granted may have moved in a stretch that a course fits."""
-        self.moves = self.moved() if self.sides else []
+        self.breaks, self.first, self.end = self.search.found(), 0, self.search.number
+        self.times = dict[int, tuple[int, int]]()
+        self.are_whole, self.hidden = bool(self.breaks), 0
+        """Whether a yes of one stretch may stand; and by how much a clock that moved faster than is granted may have
+        moved in a stretch that a course fits."""
+        self.sides = self.with_exchanges()
+        are_whole, self.breaks = self.are_whole, [self.widened(number) for number in range(len(self.breaks))]
+        self.are_whole, self.hidden = are_whole, 0
+        self.sides = self.with_exchanges()
+        self.are_whole &= all(map(self.is_enough, self.sides)) and all(one.is_met for one in self.breaks)
+        self.moves = self.moved()
 
-    def stretches(self) -> Iterator[Side]:
+    def with_exchanges(self) -> list[Side]:
+        """The stretches, each of which has an exchange: what is on both sides of another one is one break, and what is
+        beyond the first or the last is left out."""
+        while self.breaks:
+            sides = list(self.stretches())
+            number = next((number for number, side in enumerate(sides) if not side or not side.recording.replies), None)
+            if number is None:
+                return [side for side in sides if side]
+            self.are_whole = False
+            if not number:
+                self.first = self.breaks.pop(0).by
+            elif number == len(self.breaks):
+                self.end = self.breaks.pop().after + 1
+            else:
+                before, behind = self.breaks[number - 1 : number + 1]
+                self.breaks[number - 1 : number + 1] = [Break(before.after, behind.by, False)]
+        return []
+
+    def stretches(self) -> Iterator[Side | None]:
         whole, claim = self.search.whole, self.named(self.claim)
-        begins = [0, *(one.by for one in self.breaks)]
-        ends = [*(one.after + 1 for one in self.breaks), self.search.number]
-        if any(begin >= end for begin, end in zip(begins, ends)):
-            return
-        for number, (begin, end) in enumerate(zip(begins, ends)):
+        for number, (begin, end) in enumerate(self.ends()):
+            if begin >= end:
+                yield None
+                continue
             path = f"stretch-{number}.pcap"
             self.search.cut(begin, end, path)
             first, last = whole.nanoseconds(whole.extent.stamps[at] for at in (begin, end - 1))
             yield Side(path, first, last, read_recording(self.program, claim, path))
+
+    def ends(self) -> list[tuple[int, int]]:
+        """The first record of each stretch, and the one behind its last."""
+        return list(zip([self.first, *(one.by for one in self.breaks)],
+                        [*(one.after + 1 for one in self.breaks), self.end]))
+
+    def widened(self, number: int) -> Break:
+        """A break so wide that nothing beside it was recorded while the clock was on its way, if it moved for longer or
+        was stepped again: between records by which each group was asked before it, and had answered behind it. A step
+        stays as it is if these rounds have one alone, with no server wrong."""
+        one, (begin, _), (first, _) = self.breaks[number], *self.ends()[number : number + 2]
+        wide = Break(begin + self.round(self.sides[number], -1), first + self.round(self.sides[number + 1], 0),
+                     one.is_met)
+        move = self.move(number)
+        is_clear = move and move.is_step and self.search.is_one(wide, replace(self.claim, groups=[], false_max=0))
+        return one if is_clear else wide
 
     def named(self, claim: Claim) -> str:
         keep(ALONE, claim.text)
@@ -121,25 +159,19 @@ class Parting:
     def moved(self) -> list[Move]:
         """How the clock moved in each break; none if that isn't known of one of them, or if it isn't most servers that
         show it."""
-        self.times, found = list[tuple[int, int]](), list[Move]()
-        for before, behind in pairwise(self.sides):
-            if not before.recording.requests or not behind.recording.replies:
-                return []
-            earliest, latest = self.earliest(before), self.latest(behind)
-            if earliest is None or latest is None or not self.is_seen(before, behind):
-                return []
-            self.times.append((earliest, latest))
-            move = self.move(before, behind, earliest, latest)
-            if move is None:
-                return []
-            found.append(move)
-        are_apart = all(one.is_step or other.is_step or one.by <= other.after for one, other in pairwise(found))
-        return found if are_apart else []
+        found = [self.move(number) if self.is_seen(number) else None for number in range(len(self.breaks))]
+        moves = [move for move in found if move]
+        are_apart = all(one.is_step or other.is_step or one.by <= other.after for one, other in pairwise(moves))
+        return moves if len(moves) == len(found) and are_apart else []
 
-    def move(self, before: Side, behind: Side, earliest: int, latest: int) -> Move | None:
+    def move(self, number: int) -> Move | None:
         """A step, if the hulls of both sides are apart wherever in this time it came, and no drift does that; or else a
-        movement from a time at which each group was still asked before it to one at which each had answered behind it.
-        None if the error may have stayed as it was."""
+        movement. None if the error may have stayed as it was."""
+        before, behind = self.sides[number : number + 2]
+        earliest, latest = self.earliest(before), self.latest(behind)
+        if earliest is None or latest is None:
+            return None
+        self.times[number] = earliest, latest
         longest = max(1, latest - earliest)
         last, first, more = before.last // SECOND, behind.first // SECOND, 2 * ceil_div(longest, SECOND) + 2
         around = self.hull(before, last, last + more), self.hull(behind, first - more, first + 1)
@@ -156,42 +188,28 @@ class Parting:
         if wide is not None and are_apart and (rate > GREATEST_DRIFT or behind.first < before.last):
             return Move(before.last, behind.first, *wide, 0, True, max(0, until), max(0, since))
         self.hidden = max([self.hidden, *(up(hull[1] - hull[0]) for hull in near if not isinstance(hull, str))])
-        after, by = self.last_round(before), self.first_round(behind)
-        size = change(self.hull(before, after // SECOND, after // SECOND + 1),
-                      self.hull(behind, by // SECOND, by // SECOND + 1))
-        if size is None or size[0] <= 0 <= size[1]:
-            self.are_whole = False
-            return None
-        rate = down(min(abs(size[0]), abs(size[1]))) * SECOND // max(longest, by - after)
-        return Move(after, by, *size, rate, False, max(0, until), max(0, since))
+        rate = max(rate, self.claim.drift_ppb)
+        return Move(before.last, behind.first, *size, rate, False, max(0, until), max(0, since))
 
-    def last_round(self, side: Side) -> int:
-        """The last time from which on each group that was heard in a stretch was asked once more."""
-        return min(self.rounds(side, -1), default=side.last)
+    def round(self, side: Side, place: int) -> int:
+        """The record of a stretch from which on each group was asked once more (-1), or by which each had answered (0);
+        of one that was silent there for long none."""
+        pairs, time = side.recording.by_address, side.recording.time
+        found = [(own[place][0 if place else 1], (time(own[-1][0]) - time(own[0][0])) // len(own))
+                 for group in self.claim.grouped
+                 for own in [sorted(one for k in group for one in pairs.get(self.claim.servers[k], []))] if own]
+        end = max(found)[0] if place else min(found)[0]
+        near = [record for record, usual in found if abs(time(end) - time(record)) <= max(SILENCE, 2 * usual)]
+        return min(near) if place else max(near)
 
-    def first_round(self, side: Side) -> int:
-        """The first time by which each group that was heard in a stretch had answered."""
-        return max(self.rounds(side, 0), default=side.first)
-
-    def rounds(self, side: Side, place: int) -> list[int]:
-        """Of each group the time of its last request that was answered (-1), or of its first answer (0); but of one
-        that was silent there for long none."""
-        times = side.recording.by_address
-        found = [(own[place][0 if place else 1], (own[-1][0] - own[0][0]) // len(own)) for group in self.claim.grouped
-                 for own in [sorted(one for k in group for one in times.get(self.claim.servers[k], []))] if own]
-        end = max((time for time, _ in found), default=0) if place else min((time for time, _ in found), default=0)
-        return [time for time, usual in found if abs(end - time) <= max(SILENCE, 2 * usual)]
-
-    def is_seen(self, before: Side, behind: Side) -> bool:
+    def is_seen(self, number: int) -> bool:
         """Whether it is the clock that moved there: most servers contradict themselves, each taken by itself; or
         whichever group is left out, no course of events fits the others."""
-        number = self.sides.index(before)
-        begin = self.breaks[number - 1].by if number else 0
-        end = self.breaks[number + 1].after + 1 if number + 1 < len(self.breaks) else self.search.number
+        (begin, _), (_, end) = self.ends()[number : number + 2]
         self.search.cut(begin, end, SOME)
         alone = self.settled(replace(self.claim, groups=[], false_max=0))
         seen = {low for low, _, high, _ in alone.conflicts if low == high}
-        heard = before.recording.by_server.keys() | behind.recording.by_server.keys()
+        heard = {server for side in self.sides[number : number + 2] for server in side.recording.by_server}
         return 2 * len(seen) > len(heard) or all(
             self.settled(without(self.claim, group)).answer == NOTHING_FITS for group in self.claim.grouped)
 
@@ -230,15 +248,16 @@ class Parting:
         """Of each stretch its number and the claims of the readings of the span that it has records beside, if there
         are any, but for those that may have been shown elsewhere too."""
         for number, side in enumerate(self.sides):
-            first = max(self.claim.first, ceil_div(self.moves[number - 1].by, SECOND)) if number else self.claim.first
-            last = min(self.claim.last, self.moves[number].after // SECOND) if number < len(self.moves) else \
-                self.claim.last
+            first = max(self.claim.first, ceil_div(side.first, SECOND)) if number or self.first else self.claim.first
+            last = min(self.claim.last, side.last // SECOND) if number < len(self.moves) or \
+                self.end < self.search.number else self.claim.last
             for begin, end in self.undoubted(side, first, last, step) if first <= last else ():
                 yield number, side, replace(self.claim, from_=civil(begin), to=civil(end))
 
     def undoubted(self, side: Side, first: int, last: int, step: int) -> Iterator[tuple[int, int]]:
         """From when to when it is known that a stretch didn't show the same readings with another error, in seconds."""
-        doubts = sorted([*self.at_leaps(side, first, last),
+        doubts = sorted([*at_leaps(self.leaps, first, last, side.recording.times,
+                                   lambda end: self.hull(side, end - 1, end + 1)), *self.left_out(),
                          *(self.doubts(side, first, last, step) if self.is_spared else ())])
         for begin, end in doubts if len(doubts) <= FEW else [(first * SECOND, last * SECOND)]:
             if first < begin // SECOND:
@@ -246,6 +265,15 @@ class Parting:
             first = max(first, ceil_div(end, SECOND))
         if first < last or not doubts:
             yield first, last
+
+    def left_out(self) -> Iterator[Gap]:
+        """From when to when what is left out was recorded, and as far beside it as some record is from the next."""
+        for first, end in (0, self.first), (self.end, self.search.number):
+            if first < end:
+                whole = self.search.whole
+                times = whole.nanoseconds(whole.extent.stamps[max(0, first - 1) : end + 1])
+                more = max(map(sub, times[1:], times), default=0)
+                yield min(times) - more, max(times) + more
 
     def doubts(self, side: Side, first: int, last: int, step: int) -> list[Gap]:
         """The readings that the clock may have shown once more, if it was stepped to and fro: a server is taken for
@@ -260,21 +288,10 @@ class Parting:
                               times[after] + off if after < len(times) else last * SECOND))
         return found
 
-    def at_leaps(self, side: Side, first: int, last: int) -> Iterator[Gap]:
-        """The readings that the clock may have shown with an error of a second more, or twice: from a leap second until
-        a server was heard again."""
-        for end in self.leaps:
-            if first - LONGEST <= end <= last + LONGEST:
-                hull, times = self.hull(side, end - 1, end + 1), side.recording.times
-                low, high = (0, 0) if isinstance(hull, str) else (down(hull[0]), up(hull[1]))
-                begin, after = (end - 2) * SECOND + low, bisect_right(times, (end + 1) * SECOND + high)
-                until = times[after] + SECOND if after < len(times) else max(begin, last * SECOND)
-                if begin <= last * SECOND and first * SECOND <= until:
-                    yield begin, until
-
     def beside(self, own: Side) -> list[Gap]:
         """From when to when the other stretches were recorded, and what lies in breaks."""
         whole, found = self.search.whole, [(side.first, side.last) for side in self.sides if side is not own]
+        found += self.left_out()
         for one in self.breaks:
             if left_out := whole.nanoseconds(whole.extent.stamps[one.after + 1 : one.by]):
                 found.append((min(left_out), max(left_out)))
@@ -301,6 +318,8 @@ def parted(program: Program, claim: Claim, capture: str, extent: Extent | None, 
         keep(ALONE, claim.text)
         settled, capture = program.run("settle", ALONE, own.path).text, own.path
     elif parting:
+        if parting.end < parting.search.number:
+            parting.moves = []  # (what came last would be left out)
         return in_parts(program, parting, settled, capture, step)
     keep(ALONE, claim.text)
     recording = read_recording(program, ALONE, capture)
@@ -314,7 +333,7 @@ def parted(program: Program, claim: Claim, capture: str, extent: Extent | None, 
 
 def in_parts(program: Program, parting: Parting, settled: bytes, capture: str, step: int) -> Parted:
     """Where no stretch speaks for the span alone: what holds in each, if the clock's moves are known."""
-    found = Parted(settled, capture, parting.moves, [], [], [], [])
+    found = Parted(settled, capture, parting.moves, [], [], [], [], [])
     for number, side, claim in parting.spans(step) if parting.moves else ():
         words = ("envelope", parting.named(claim), side.path, "--servers", "--step", str(step))
         text = program.run(*words).text
@@ -323,6 +342,8 @@ def in_parts(program: Program, parting: Parting, settled: bytes, capture: str, s
         own = [replace(part, moves=number) for part in split(envelope, gaps, claim)]
         elsewhere = parting.beside(side)
         found.gaps.extend((gap, side.path) for gap in told_of(inner_gaps(side.recording, gaps), elsewhere))
+        found.apart.extend(time for time in search_of(program, claim, side.path, None, envelope, gaps).missed
+                           if time.samples >= SEVERAL)
         if own and number:
             is_first = all(part.moves < number for part in found.parts)
             own[0] = replace(own[0], begins="step" if is_first else "gap")
@@ -344,6 +365,20 @@ def split(envelope: Envelope, gaps: list[Gap], claim: Claim) -> list[Stretch]:
     return found[-MOST_PARTS:]
 
 
+def at_leaps(leaps: Iterable[int], first: int, last: int, times: list[int],
+             hull_at: Callable[[int], Hull]) -> Iterator[Gap]:
+    """The readings that the clock may have shown with an error of a second more, or twice: from a leap second until a
+    server was heard again."""
+    for end in leaps:
+        if first - LONGEST <= end <= last + LONGEST:
+            hull = hull_at(end)
+            low, high = (0, 0) if isinstance(hull, str) else (down(hull[0]), up(hull[1]))
+            begin, after = (end - 2) * SECOND + low, bisect_right(times, (end + 1) * SECOND + high)
+            until = times[after] + SECOND if after < len(times) else max(begin, last * SECOND)
+            if begin <= last * SECOND and first * SECOND <= until:
+                yield begin, until
+
+
 def beyond_in(envelope: Envelope, bound: int) -> list[Beyond]:
     """The longest times in which the whole hull lies beyond the bound, all on one side."""
     runs, at = list[Beyond](), 0
@@ -353,35 +388,6 @@ def beyond_in(envelope: Envelope, bound: int) -> list[Beyond]:
         if side and not isinstance(hull, str):
             runs.append(Beyond(envelope.begins[begin], envelope.ends[at - 1], *hull))
     return sorted(sorted(runs, key=lambda run: run.from_ - run.to)[:FEW], key=lambda run: run.from_)
-
-
-def gaps_of(claim: Claim, recording: Recording) -> list[Gap]:
-    """The times within the span in which no server was heard for longer than usual, its begin and its end among
-    them."""
-    first, last, times = claim.first * SECOND, claim.last * SECOND, recording.times
-    ends = [min(first, times[0]), *times, max(last, times[-1])] if times else []
-    if max(map(sub, ends[1:], ends), default=0) <= SILENCE:
-        return []
-    wide = [(before, after) for before, after in pairwise(ends)
-            if after - before > SILENCE and before < last and first < after]
-    usual = sorted(map(sub, times[1:], times))[(len(times) - 1) // 2] if len(times) > 1 else 0
-    return [(before, after) for before, after in wide if after - before > UNUSUAL * usual]
-
-
-def inner_gaps(recording: Recording, gaps: list[Gap]) -> list[Gap]:
-    """Those between samples."""
-    times = recording.times
-    return [gap for gap in gaps if times[0] <= gap[0] and gap[1] <= times[-1]]
-
-
-def told_of(gaps: list[Gap], elsewhere: list[Gap]) -> list[Gap]:
-    """The gaps in whose readings nothing was recorded elsewhere, where the clock showed the same again."""
-    return [gap for gap in gaps if all(last < gap[0] or gap[1] < first for first, last in elsewhere)]
-
-
-def longest_of(gaps: list[Gap]) -> list[Gap]:
-    """The longest gaps, the longest first."""
-    return sorted(gaps, key=lambda gap: (gap[1] - gap[0], gap), reverse=True)[:FEW]
 
 
 def change(before: Hull, behind: Hull) -> tuple[int, int] | None:

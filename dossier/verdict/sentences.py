@@ -295,8 +295,6 @@ TO_DO = {
 def after_moves(entry: Entry) -> str:
     """Who moved the clock, and what mends it if that left it off; and what may be claimed by itself."""
     times = [time for move in entry.moves for time in move.around]
-    times += [time for move in entry.moves for change in [min(0, move.low * SECOND // TICKS)]
-              for time in (move.after + change, move.by - change)]
     mend = f" At the end it was beyond the bound. {MEND}" if entry.ends_off else ""
     spans = [f'`"from": "{civil(first)}", "to": "{civil(last)}"`' for first, last in claimable(entry)]
     claims = (f" Claim a part of it by itself, in a folder of its own with a copy of the capture: "

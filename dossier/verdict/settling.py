@@ -16,10 +16,11 @@ from ..folder.placing import keep, make_private, move
 from ..folder.program import Program
 from ..records import replace
 from ..units import inward
-from .apart import SEVERAL, Seen, seen_apart
+from .apart import SEVERAL, Seen, outermost, seen_apart
 from .breaks import ANY, SOME
+from .gaps import gaps_of, inner_gaps, longest_of, told_of
 from .judgement import Beside, Texts, judge, more_drift
-from .parts import ALONE, Parting, gaps_of, in_parts, inner_gaps, longest_of, split, told_of
+from .parts import ALONE, Parting, at_leaps, in_parts, split
 from .seen import read_shown
 
 MOST_LINES = 1_000_000
@@ -59,7 +60,8 @@ class Settling:
         if cut_to(own):
             self.take(own, own)
         texts = self.decide()
-        if parting := self.broken(texts, around_to, [end for end, _ in beside.leaps.seconds]):
+        leaps = [end for end, _ in beside.leaps.seconds]
+        if parting := self.broken(texts, around_to, leaps):
             texts = self.by_parts(parting, texts, own)
         recording = read_recording(self.program, self.claim, self.capture, self.extent)
         if read_settled(texts.settled).answer == NO_EVIDENCE or do_many_miss(recording, len(self.part.claim.servers)):
@@ -73,7 +75,10 @@ class Settling:
             [(gap, self.capture) for gap in {*longest_of(gaps), *longest_of(inner_gaps(recording, gaps))}]))
         is_fitted, gaps = read_settled(texts.settled).answer != NOTHING_FITS, gaps_of(self.part.claim, recording)
         if is_fitted:
-            texts = texts._replace(parts=split(envelope, gaps, self.part.claim))
+            claim, hull = self.part.claim, outermost(envelope.hulls)
+            doubts = at_leaps(leaps, claim.first, claim.last, recording.times, lambda _: hull) \
+                if read_settled(texts.settled).answer == REFUTED else ()
+            texts = texts._replace(parts=split(envelope, sorted([*gaps, *doubts]), claim))
         if is_fitted or texts.spared and not texts.moves:
             texts = texts._replace(apart=self.seen_apart(texts, gaps))
         return judge(self.part, recording, beside, texts, self.step, self.left)
@@ -97,7 +102,8 @@ class Settling:
         if found.texts:
             self.keep(files.PARTS, b"".join(found.texts))
         shown = read_shown(self.program, self.claim, self.capture, self.extent, texts.settled)
-        return texts._replace(moves=found.moves, parts=found.parts, conflicts=shown, spared=spared, gaps=found.gaps)
+        return texts._replace(moves=found.moves, parts=found.parts, conflicts=shown, spared=spared, gaps=found.gaps,
+                              apart=Seen([], found.apart))
 
     def spared(self) -> int:
         """With how many wrong groups, fewer than half, a course of events fits, or it is known how the clock moved; 0
