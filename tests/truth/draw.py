@@ -27,7 +27,7 @@ class Drawn(History):
         begin = (LEAP if has_leap else rng.randint(20_000, 20_500) * DAY) + rng.choice(
             (0, -length * rng.randint(0, 100) // 100, 0 if has_leap else rng.randrange(DAY)))
         super().__init__(seed, begin, poll, number, rng.choice((1, 2, 3, 4, 4, 4, 5, 6)), rng.choice((0.05, 0.3, 1.0)))
-        self.rng, self.kinds = rng, list(dict.fromkeys(kinds))
+        self.rng, self.kinds, self.more = rng, list(dict.fromkeys(kinds)), random.Random(f"more {seed}")
         self.first = self.whole(self.begin + self.length * rng.choice((-1, 0, 1, 5, 15, 30)) // 100)
         last = self.begin + self.length * rng.choice((60, 85, 95, 100, 101)) // 100
         self.last = max(self.first + SECOND, self.whole(last))
@@ -77,6 +77,9 @@ class Drawn(History):
             if rng.random() < 0.25:  # (and another one follows)
                 time = max(time + 10 * SECOND, self.place())
                 self.events.append(Event(STEP, time, time, rng.choice((-size, self.size()))))
+            if self.more.random() < 0.15:  # (and another one soon)
+                time += self.more.randint(2, 45) * SECOND
+                self.events.append(Event(STEP, time, time, self.more.choice((-size, size // 3, SECOND, -SECOND))))
         elif kind == FAST:
             rate = log_uniform(rng, 3 * self.ppb, max(4 * self.ppb, 20_000_000)) * rng.choice((-1, 1))
             while_ = log_uniform(rng, 5 * SECOND, 4 * self.poll)

@@ -1,5 +1,6 @@
 """What is left of a history: captures, a claim, and the client's configuration and logs."""
 import json
+import random
 import struct
 from datetime import datetime, timezone
 from pathlib import Path
@@ -78,11 +79,22 @@ def stamp_of(time: int) -> int:
 
 
 def log_time(time: int, form: str) -> str:
-    return datetime.fromtimestamp(time // SECOND, timezone.utc).strftime(form)
+    return datetime.fromtimestamp(time // SECOND, timezone.utc).strftime(form) if form else f"{time // SECOND}.250000"
+
+
+SAID = (*3 * ["chronyd[{pid}]: System clock was stepped by {size:.6f} seconds"],
+        "ntpd[{pid}]: setting time to {to} (offset {size:+.6f}s)",
+        "ntpd[{pid}]: 0.0.0.0 c61c 0c clock_step {size:+.6f} s", "ntpd[{pid}]: time reset {size:+.6f} s",
+        "ntpdate[{pid}]: step time server 10.9.1.1 offset {size:.6f} sec",
+        "phc2sys: [8.1] CLOCK_REALTIME phc offset {ns} s1 freq +0 delay 1200",
+        "chronyd[{pid}]: {way} time jump detected!",
+        "systemd-timesyncd[{pid}]: Initial synchronization to time server 10.9.1.1:123 (10.9.1.1).",
+        "systemd[1]: Time has been changed", "VBoxService[{pid}]: Radical guest time change: {ns}ns (GuestNow={to})")
+"""What a program says that stepped a clock, or that saw it."""
 
 
 class Logs:
-    """The configuration, tracking.log and messages of chronyd, as far as they go: true, short, or without messages.
+    """The configuration and tracking.log of chronyd, and messages, as far as they go: true, short, or without messages.
     They are read for a draft, or stand in the folder as they are."""
 
     def __init__(self, history: History):
@@ -109,9 +121,23 @@ class Logs:
             self.offset = max(self.offset, int(abs(offset * 1e9)))
             lines.append(f"{log_time(stamp, '%Y-%m-%d %H:%M:%S')} {'10.9.1.1':15}  2 {ppm + rate:10.3f}      0.010 "
                          f"{offset:10.3e} N  4 1.000e-05 1.0e-06 1e-3 1e-3 1e-3")
-        tag = f"web-1 chronyd[{rng.randint(300, 9000)}]: System clock was stepped by"
+        pid = rng.randint(300, 9000)
         form = rng.choice(("%b %e %H:%M:%S", "%Y-%m-%dT%H:%M:%S+0000", "%Y-%m-%dT%H:%M:%SZ"))
-        said = [f"{log_time(jump.after, form)} {tag} {jump.size / SECOND:.6f} seconds" for jump in self.steps]
+        more = random.Random(f"logs {history.seed}")
+        self.has_zone, self.zone, tag = not form.startswith("%b"), 0, more.choice(SAID)
+        """Whether messages say of which zone their times are, and nanoseconds by which these are ahead of UTC."""
+        if not self.has_zone:
+            self.zone = more.choice((0, 0, 2, -5, 9, 13, -11)) * 3600 * SECOND
+        if more.random() < 0.3:
+            form = more.choice(("%a %Y-%m-%d %H:%M:%S UTC", "", "<30>1 %Y-%m-%dT%H:%M:%SZ", "%d/%m/%Y %H:%M:%S",
+                                "%a %Y-%m-%d %H:%M:%S CET"))
+            self.has_zone = form[-3:] in ("UTC", "", "%SZ")
+            self.zone = 0 if self.has_zone else 3600 * SECOND
+        self.is_known = not form.startswith("%d")
+        """Whether the form of their times is known."""
+        said = [f"{log_time(jump.after + self.zone, form)} web-1 " + tag.format(
+            pid=pid, size=jump.size / SECOND, ns=jump.size, way="Forward" if jump.size > 0 else "Backward",
+            to=log_time(jump.after + self.zone, "%Y-%m-%d %H:%M:%S")) for jump in self.steps]
         half = history.ppb // 2
         self.oscillator = history.ppb - half
         self.files = {"tracking.log": "\n".join(lines) + "\n"}
@@ -124,6 +150,11 @@ class Logs:
     @property
     def steps_at(self) -> list[int]:
         """When a log says that the clock was stepped, as far as it does."""
+        return sorted([*(jump.after + self.zone for jump in self.steps), *self.falls])
+
+    @property
+    def true_steps(self) -> list[int]:
+        """When it was stepped that a log says, by what the clock showed behind it."""
         return sorted([*(jump.after for jump in self.steps), *self.falls])
 
     def draft(self, folder: Path) -> list[str]:

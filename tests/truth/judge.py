@@ -144,6 +144,9 @@ def camps(view: View, when: When, found: list[tuple[list[str], Range]]) -> str:
     """What camps of servers say of the error: so it was, if they were right; but it is said beside that the clock may
     have been stepped, and then it says nothing."""
     view.named.update(server for servers, _ in found for server in servers)
+    for side in (1, -1):
+        if all(min(side * end for end in errors) > view.of.bound for _, errors in found):
+            view.sides.add(side)
     right = [errors for servers, errors in found if not any(map(view.is_ever_wrong, servers))]
     if view.clock.breaks:
         return ""
@@ -179,8 +182,10 @@ def by_a_server(view: View, server: str, errors: Range) -> str:
     """The clock's error by a server: of one that was always right all errors lie in it, where a course fits."""
     if errors[0] > errors[1]:
         return "no error lies in it"
-    if view.is_void or view.is_ever_wrong(server) or view.entry.get("moves"):
+    if view.is_ever_wrong(server):
         return ""
+    if view.entry.get("moves"):
+        return view.in_parts([(errors, when) for _, when in view.parts], [])
     return view.within(view.span, *errors)
 
 
@@ -225,7 +230,7 @@ def copied(view: View, others: str) -> str:
 
 
 def picture(view: View, times: list[When], number: int, *rest: Any) -> str:
-    if "empty" in view.text or "unbounded" in view.text or not isinstance(rest[0], tuple) or view.is_void:
+    if not isinstance(rest[0], tuple):
         return ""
     low, high = rest[0]
     return view.in_parts([((low, high), each) for each in times], [])
@@ -264,8 +269,12 @@ def logged(view: View, *values: Any) -> str:
     return unless(any(abs(step - time) <= 2 * SECOND for step in steps) if time else steps, f"the logs have {steps}")
 
 
+def no_zone(view: View) -> str:
+    return unless(view.logs and not view.logs.has_zone, "it does")
+
+
 def unlogged(view: View, when: When) -> str:
-    return unless(not any(when.first <= time <= when.last for time in (view.logs.steps_at if view.logs else ())),
+    return unless(not any(when.first <= time <= when.last for time in (view.logs.true_steps if view.logs else ())),
                   "it has one")
 
 
@@ -277,8 +286,8 @@ def logged_offset(view: View, offset: int = 0) -> str:
     return unless(view.logs and view.logs.offset >= max(offset, view.of.bound) - 1000, "no log has it")
 
 
-def of_the_log(view: View, files: str, updates: int, when: When, low: str, high: str, change: str,
-               steps: int = 0) -> str:
+def of_the_log(view: View, files: str, *values: Any) -> str:
+    steps = values[-1] if isinstance(values[-1], int) else 0
     own = len(view.logs.steps) if view.logs and "messages.log" in files else 0
     backs = len(view.logs.falls) if view.logs and "tracking.log" in files else 0
     return unless(own <= steps <= own + backs, f"it has {own} steps")

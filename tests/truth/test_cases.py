@@ -12,9 +12,9 @@ from tests.truth.trial import read, untrue
 MIDNIGHT = 20_010 * DAY
 
 
-def stepped(at: int, size: int, aim: int = 0, seed: int = 1) -> History:
+def stepped(at: int, size: int, aim: int = 0, seed: int = 1, near: float = 0.3) -> History:
     """A clock that is stepped once; it is off before by `aim`, and four polls are recorded beside the span."""
-    history = History(seed, MIDNIGHT - 4 * 64 * SECOND)
+    history = History(seed, MIDNIGHT - 4 * 64 * SECOND, near=near)
     history.first, history.last = MIDNIGHT, MIDNIGHT + 3000 * SECOND
     history.aim, history.events = aim, [Event(STEP, at, at, size)]
     return history
@@ -44,7 +44,7 @@ def set_back_behind_the_end() -> History:
 
 
 def step_and_gap() -> History:
-    history = stepped(MIDNIGHT + 600 * SECOND, -20 * SECOND // 1000)
+    history = stepped(MIDNIGHT + 600 * SECOND, -20 * SECOND // 1000, near=0.05)
     history.bound = 10_000_000
     history.recorders = [Recorder("eth0-0.pcap", history.begin, MIDNIGHT + 1500 * SECOND),
                          Recorder("eth0-1.pcap", MIDNIGHT + 2300 * SECOND, history.end)]
@@ -98,6 +98,19 @@ def leap_between_polls() -> History:
     return history
 
 
+def leap_in_no_record() -> History:
+    """It isn't inserted, and that is mended before anybody is asked; the clock is ahead by 60 ms all the time."""
+    history = leap_between_polls()
+    history.events.pop()
+    history.aim = 60 * SECOND // 1000
+    return history
+
+
+def stepped_unseen(seed: int) -> Callable[[], History]:
+    """By so little that no record shows it."""
+    return lambda: stepped(MIDNIGHT + 1503 * SECOND, 4 * SECOND // 1000, seed=seed)
+
+
 CASES: dict[str, tuple[Callable[[], History], bool, set[str], list[str]]] = {
     "set back at midnight": (set_back_at_midnight, False, {"nothing fits", "refuted"}, ["by -60"]),
     "set back at midnight, by the log too": (set_back_by_the_log, True, {"nothing fits", "refuted", "unsupported"}, []),
@@ -110,6 +123,9 @@ CASES: dict[str, tuple[Callable[[], History], bool, set[str], list[str]]] = {
     "nobody answers": (nobody_answers, False, {"refuted"}, ["nobody answered, of"]),
     "ten hours ahead on the day before": (hours_ahead, False, {"nothing fits"}, ["by -36,00"]),
     "no leap second": (leap_not_inserted, False, {"nothing fits"}, ["That is a leap second at the end of 2026-06-30"]),
+    "a step by a log in local time": (stepped_unseen(32), True, {"unsupported"}, ["journalctl --utc -o short-iso"]),
+    "a step by busybox's log": (stepped_unseen(43), True, {"unsupported"}, ["logged a step of the clock"]),
+    "a leap second in no record": (leap_in_no_record, False, {"refuted"}, ["to 23:59:58", "from 2026-07-01 00:0"]),
     "a leap second between polls": (leap_between_polls, False, {"nothing fits"}, ["to 23:59:57 before the step"]),
 }
 """Of each case the history, whether there are logs, the verdicts that it may have, and words that are said."""

@@ -1,4 +1,5 @@
-"""Plants bugs in a copy of the dossier, one after another, and says whether a case sees them. Not part of the gate."""
+"""Plants bugs in a copy of the dossier, one after another, and says which history sees them, by a sentence that isn't
+so, or that isn't said. Not part of the gate."""
 import os
 import shutil
 from concurrent.futures import ProcessPoolExecutor
@@ -7,6 +8,7 @@ from pathlib import Path
 from tests.support import ROOT, count
 from tests.truth import trial
 from tests.truth.test_cases import CASES, wrong_in
+from tests.truth.test_histories import ONCE_UNTRUE
 
 PLANTS = [
     ("a yes by the stretch that was recorded last, whatever another one may have shown", "verdict/parts.py",
@@ -19,11 +21,19 @@ PLANTS = [
      '"stepped" if True else'),
     ("the part before for the part behind", "verdict/sentences.py", "'behind' if part.moves else 'before'",
      "'before' if part.moves else 'behind'"),
-    ("a gap passed over", "verdict/parts.py", "for before, after in wide if after - before > UNUSUAL * usual]",
+    ("a gap passed over", "verdict/gaps.py", "for before, after in wide if after - before > UNUSUAL * usual]",
      "for before, after in wide if False]"),
     ("nobody answered where nothing was recorded", "verdict/alerts.py", "if not gap.requests:", "if gap.requests:"),
     ("a server's name swapped", "verdict/seen.py", "camps[-1].append(server)", "camps[-1].append(ends[0][2])"),
-    ("a line of a log ignored", "premise/tracking.py", "System clock was stepped by", "The clock was stepped by"),
+    ("a line of a log ignored", "premise/tracking.py", "self.steps.append((time, stepped[1], HAPPENED + zone))",
+     "pass"),
+    ("a log's zone passed over", "premise/tracking.py", "else NO_ZONE", 'else ""'),
+    ("a break as narrow as it seems", "verdict/parts.py", "return one if is_clear else wide", "return one"),
+    ("a server apart that was right for a time", "verdict/apart.py", "{*always} - search.met", "{*always}"),
+    ("figures where no course fits", "folder/entry.py", "return self.verdict == NOTHING_FITS and not self.moves",
+     "return False"),
+    ("a leap second that no record shows", "verdict/parts.py", "if first - LONGEST <= end <= last + LONGEST:",
+     "if False:"),
     ("off at the end, if it ever was", "folder/entry.py", "def ends_off(self) -> bool:",
      "def ends_off(self) -> bool:\n        return any(part.beyond for part in self.parts)\n"),
     ("a side for the other", "verdict/sentences.py", "'ahead of' if hull[0] > 0 else 'behind'",
@@ -34,7 +44,7 @@ PLANTS = [
 
 
 def seen(number: int, place: Path) -> str:
-    """The first case in which something is said that isn't so, or isn't said."""
+    """The first history in which something is said that isn't so; else the first case in which something isn't said."""
     _, file, old, new = PLANTS[number]
     copy = place / str(number)
     shutil.copytree(ROOT / "dossier", copy / "dossier", ignore=shutil.ignore_patterns("__pycache__"))
@@ -42,10 +52,15 @@ def seen(number: int, place: Path) -> str:
     text = (copy / "dossier" / file).read_text()
     (copy / "dossier" / file).write_text(text.replace(old, new))
     trial.SCRIPT = str(copy / "ntpaudit-dossier")
-    for case in CASES:
-        if wrong := wrong_in([case], copy)[case]:
+    found = wrong_in(list(CASES), copy)
+    for case, wrong in found.items():
+        if wrong and not wrong.startswith("not said"):
             return f"{case}: {wrong}"
-    return ""
+    for seed in (*ONCE_UNTRUE, *range(140, 150)):
+        for one in trial.tried(range(seed, seed + 1), copy):
+            if one.wrong:
+                return f"history {seed}: {one.wrong[0]}"
+    return next((f"by its words alone: {case}: {wrong}" for case, wrong in found.items() if wrong), "")
 
 
 def test_plants(place: Path) -> None:

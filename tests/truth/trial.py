@@ -39,12 +39,20 @@ CONFLICT = "By", "At", "And by", "At ", "Error in ms, at least", "At most"
 
 
 class Judged(NamedTuple):
-    """What came of a history: its verdict, its kinds of trouble, what isn't so, and of what use it was."""
+    """What came of a history: its verdict, its kinds of trouble, whether a step lies at the span's edge, what isn't so,
+    and of what use it was."""
     seed: int
     verdict: str
     kinds: list[str]
+    has_edge: bool
     wrong: list[str]
     use: Use
+
+
+def is_at_an_edge(history: History) -> bool:
+    """Whether a step left a reading within a minute of the span's begin or end, or came to one."""
+    return any(abs(reading - edge) <= 60 * SECOND for jump in history.clock.jumps
+               for reading in (jump.before, jump.after) for edge in (history.first, history.last))
 
 
 def call(*words: object, **env: str) -> str:
@@ -86,7 +94,7 @@ def read(histories: dict[Path, tuple[History, Logs | None]], step: Sequence[obje
     articles = Page(call("page", *histories, **env)).articles if has_page else []
     verified = call("verify", *histories, **env) if verifies else ""
     for folder, (history, logs) in histories.items():
-        article: list[tuple[str, str]] = next((blocks for blocks in articles if str(folder) in blocks[0][1]), [])
+        article: list[tuple[str, str]] = next((blocks for blocks in articles if f"{folder} " in blocks[0][1]), [])
         line = lines.get(folder, said)
         try:
             entry, = json.loads((folder / "audit.json").read_bytes())["entries"]
@@ -106,7 +114,7 @@ def tried(seeds: range, place: Path, has_page: bool = True) -> Iterator[Judged]:
     for one in read(histories, step, has_page, number % 15 == 1):
         history = one.view.of
         wrong = ([one.fault] if one.fault else []) + (untrue(one) if one.texts or not has_page else [])
-        yield Judged(history.seed, one.view.verdict, history.kinds, wrong,
+        yield Judged(history.seed, one.view.verdict, history.kinds, is_at_an_edge(history), wrong,
                      use_of(one.view) if one.view.verdict != "refused" else Use(OTHER, []))
 
 
@@ -157,11 +165,13 @@ def main(words: list[str]) -> int:
     batches = [seeds[at : at + BATCH] for at in range(0, len(seeds), BATCH)]
     if given.folder:
         Path(given.folder).mkdir(parents=True, exist_ok=True)
-    verdicts, failed, groups, uses = Counter[str](), 0, Counter[str](), Counter[str]()
+    verdicts, failed, edges, groups, uses = Counter[str](), 0, Counter[str](), Counter[str](), Counter[str]()
     with ProcessPoolExecutor(given.jobs) as pool:
         for found in pool.map(batch, batches, repeat(given.folder), repeat(not given.lines)):
             for one in found:
                 verdicts[one.verdict] += 1
+                edges["a step within a minute of the span's edge"] += one.has_edge
+                edges["two troubles or more"] += len(one.kinds) > 1
                 uses[one.use.kind + (" missed" if one.use.missed else "")] += 1
                 if given.count and one.use.missed:
                     print(f"seed {one.seed} ({', '.join(one.kinds)}), {one.verdict}: {one.use.kind}, but "
@@ -171,6 +181,6 @@ def main(words: list[str]) -> int:
                     groups[wrong.split(":")[0]] += 1
                     kinds = ", ".join(one.kinds) or "no trouble"
                     print(f"seed {one.seed} ({kinds}), {one.verdict}: {wrong}", flush=True)
-    print(f"{len(seeds)} histories, {failed} with something that isn't so: {dict(verdicts)} {dict(groups)} "
-          f"{dict(uses)}")
+    print(f"{len(seeds)} histories from seed {given.seed} on, {failed} with something that isn't so: {dict(edges)} "
+          f"{dict(verdicts)} {dict(groups)} {dict(uses)}")
     return int(failed > 0)

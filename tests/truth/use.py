@@ -34,9 +34,15 @@ def moments(view: View, begin: int, end: int) -> list[str]:
     """Steps and fast movements near the span that can be seen, and that no move of the entry and no conflict that is
     told holds."""
     told = [*view.moving, *view.conflicts]
-    return [f"it went wrong at {clock_time(view.clock.utc(one[0]))}"
-            for one in sorted(set(view.clock.breaks) - hidden(view.of)) if begin <= one[1] and one[0] <= end
-            and not any(after - view.of.poll <= one[0] and one[1] <= by + view.of.poll for after, by in told)]
+    near = (one for one in sorted(set(view.clock.breaks) - hidden(view.of)) if begin <= one[1] and one[0] <= end)
+    return [f"it went wrong at {clock_time(view.clock.utc(one[0]))}" for one in near if is_shown(view, one)
+            and not any(after - view.of.poll <= one[0] <= by + view.of.poll for after, by in told)]
+
+
+def is_shown(view: View, one: tuple[int, int]) -> bool:
+    """Whether the exchanges with right servers don't go together without a break."""
+    right = [each for each in counted(view.of) if not each.server.is_wrong(each.sent_at)]
+    return not all(go_together(own, view.of.ppb) for own in stretches(right, sorted(set(view.clock.breaks) - {one})))
 
 
 def servers(view: View, begin: int, end: int) -> list[str]:
@@ -61,14 +67,15 @@ def is_in(exchanges: list[Exchange], begin: int, end: int) -> bool:
 
 
 def sides(view: View) -> list[str]:
-    """Sides on which the clock was far beyond its bound for some polls, and that aren't told."""
-    far, long = view.of.bound + 2 * view.of.width, 6 * view.of.poll
+    """Sides on which the clock was far beyond its bound for some polls that were recorded, and that aren't told."""
+    far = view.of.bound + 2 * view.of.width
     missed = list[str]()
-    if view.excuse:
+    if view.excuse or view.most_agree:
         return missed
     for side in (1, -1):
-        length = sum(piece.end - piece.begin for piece in view.clock.shown(*view.span)
-                     if min(side * piece.low, side * piece.high) > far)
-        if length > long and side not in view.sides and view.verdict not in ("no evidence", "unsupported"):
+        number = sum(view.span[0] <= one.answered <= view.span[1] and not one.server.is_wrong(one.sent_at)
+                     and side * (view.clock.error(one.sent_at) or 0) > far for one in view.of.exchanges)
+        if number > 6 * len(view.heard) and side not in view.sides and \
+                view.verdict not in ("no evidence", "unsupported"):
             missed.append(f"it was {'ahead' if side > 0 else 'behind'}")
     return missed

@@ -34,7 +34,7 @@ class View:
     def unless_unseen(self, wrong: str) -> str:
         """Nothing if what went wrong can't be seen, or if the answer says itself that the folder speaks against it."""
         if not wrong or self.verdict == "unsupported" and self.logged_against() or self.is_warned or \
-                self.verdict == "nothing fits" and self.most_wrong:
+                self.verdict == "nothing fits" and self.most_agree:
             return ""
         return "" if self.excuse else wrong
 
@@ -138,9 +138,16 @@ class View:
         return self.verdict != "yes" and bool(kinds & {"logged", "step"})
 
     @cached_property
-    def most_wrong(self) -> bool:
-        """Whether half of the groups or more were wrong: if they agree, nobody can see that."""
-        return 2 * len(wrong_groups(self.of, counted(self.of))) >= len(self.heard)
+    def most_agree(self) -> bool:
+        """Whether half of the groups or more were wrong by the same: nobody can see that."""
+        group = {self.of.servers[k].address: number for number, own in enumerate(self.of.groups) for k in own}
+        for one in counted(self.of):
+            server, time = one.server, one.sent_at
+            agree = {group[other.address] for other in self.of.servers if other.is_wrong(time) and
+                     abs(other.error(time) - server.error(time)) <= other.distance + server.distance}
+            if server.is_wrong(time) and 2 * len(agree) >= len(self.heard):
+                return True
+        return False
 
     @cached_property
     def has_broken(self) -> bool:
@@ -168,7 +175,8 @@ class View:
         """What a log in the folder says against a yes, in the span or so far beside it."""
         if not self.logs:
             return ""
-        inside = [time for time in self.logs.steps_at if self.span[0] - beside <= time <= self.span[1] + beside]
+        beside += (14 * 3600 if self.logs.is_known else 1 << 60) * SECOND * bool(beside and not self.logs.has_zone)
+        inside = [time for time in self.logs.true_steps if self.span[0] - beside <= time <= self.span[1] + beside]
         fast = [event for event in self.logs.fast if self.fast(self.span)]
         return "a log says that it was stepped" if inside else "a log has such a frequency" if fast else ""
 
@@ -224,10 +232,17 @@ class View:
         ends = [(self.at(move["after"]), self.at(move["by"])) for move in self.entry.get("moves", [])]
         return [(begin, end) for begin, end in ends if begin is not None and end is not None]
 
+    @cached_property
+    def under_way(self) -> list[Range]:
+        """From when to when the clock was on its way in each move."""
+        own = [[one for one in self.clock.breaks if begin < one[1] and one[0] < end] or [(begin, end)]
+               for begin, end in self.moving]
+        return [(min(one[0] for one in some), max(one[1] for one in some)) for some in own]
+
     def is_behind(self, moves: int, piece: Stretch) -> bool:
         """Whether that was between a move and the next one."""
-        return not (moves and piece.begin < self.moving[moves - 1][1]) and \
-            not (moves < len(self.moving) and piece.end > self.moving[moves][0])
+        return not (moves and piece.begin < self.under_way[moves - 1][1]) and \
+            not (moves < len(self.moving) and piece.end > self.under_way[moves][0])
 
     def in_parts(self, said: list[tuple[Range, When]], others: list[tuple[Range, When]]) -> str:
         """Wrong if the clock showed a reading of a time that is told with an error that no such time has. Where it is
@@ -248,8 +263,8 @@ class View:
             own = [errors for errors, when in whole if when[0] <= first and last <= when[1]]
             for piece in self.clock.shown(first, last):
                 low, high = sorted((piece.low, piece.high))
-                if any(begin <= piece.end and piece.begin <= end for begin, end in self.moving):
-                    continue  # (of the time between two records of a move nothing is said but that it was there)
+                if any(begin <= piece.end and piece.begin <= end for begin, end in self.under_way):
+                    continue  # (of how it went on its way nothing is said)
                 if not any(errors[0] <= low and high <= errors[1] for errors in own):
                     return self.unless_unseen(f"at {clock_time(first)} and on its error was {ms((low, high))}")
         return ""
