@@ -75,7 +75,7 @@ def seen(name: str, folder: Folder, record: Record, entry: Entry) -> dict[str, o
                        one.high, one.reply, shown_time(one.answered // SECOND), minus(high_ms(one.most)))
                       for one in reason.conflicts] if entry.verdict == NOTHING_FITS and reason else [],
         "label": label, "picture": "" if is_beside else
-        picture(joined(drawn_of), claim.bound_ns, name, label, steps_of(entry), entry.is_void),
+        picture(joined(drawn_of), claim.bound_ns, name, label, steps_of(entry), entry.verdict == NOTHING_FITS),
         "legend": legend(joined(drawn_of), claim.bound_ns),
         "servers": [(server, drawn.get(server.address), strokes.get(server.address, "")) for server in entry.servers],
         "apart": apart, "is_void": entry.is_void,
