@@ -170,6 +170,13 @@ def files_in(folder: Path, pattern: str) -> list[Path]:
     return found
 
 
+def runnable(path: Path, text: str) -> Path:
+    """A program of this text."""
+    path.write_text(text)
+    path.chmod(0o755)
+    return path
+
+
 def sum_of(data: bytes) -> str:
     return hashlib.sha256(data).hexdigest()
 

@@ -121,6 +121,18 @@ def folder_of(parent: Path, name: str, capture: Path = DATA / "clients-us.pcap",
     return folder
 
 
+def audited(*given: Any, **changes: object) -> Path:
+    """The same, audited."""
+    folder = folder_of(*given, **changes)
+    dossier("audit", folder)
+    return folder
+
+
+def record_of(folder: Path) -> Any:
+    """What stands in a folder's audit.json."""
+    return json.loads((folder / "audit.json").read_text())
+
+
 def rows(*found: Any) -> tuple[Any, ...]:
     """Cases of which each has its own kinds of values."""
     return found

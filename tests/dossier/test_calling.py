@@ -7,8 +7,8 @@ from pathlib import Path
 from unittest.mock import patch
 from typing import Any
 
-from tests.support import DATA, ROOT, check, is_here, manifest_of, nobody, run, sum_of
-from tests.dossier.audits import ENVIRONMENT, PROGRAM, SCRIPT, dossier, folder_of, skipped
+from tests.support import DATA, ROOT, check, is_here, manifest_of, nobody, run, runnable, sum_of
+from tests.dossier.audits import ENVIRONMENT, PROGRAM, SCRIPT, audited, dossier, folder_of, skipped
 
 
 def test_owned(place: Path) -> None:
@@ -18,13 +18,11 @@ def test_owned(place: Path) -> None:
     (house / "bin").mkdir(parents=True)
     (house / "crates.txt").write_text("")
     shutil.copy(ROOT / "ntpaudit", house)
-    (house / "bin" / "rt").write_text(f"#!{sys.executable}\nimport json, sys\nsys.exit(sys.argv[1] != 'version')\n")
-    (house / "bin" / "rt").chmod(0o755)
+    runnable(house / "bin" / "rt", f"#!{sys.executable}\nimport json, sys\nsys.exit(sys.argv[1] != 'version')\n")
     script = f'#!/bin/sh\necho "$0" >> "{owned}"\n'
     names = "rt python3 env readlink find sha256sum sort zstd ssh-keygen tcpdump sh cp mv chmod mkdir touch sleep rm"
     for name in f"{names} nproc git dirname ntpaudit".split():
-        (folder / name).write_text(script)
-        (folder / name).chmod(0o755)
+        runnable(folder / name, script)
     for name in ("argparse", "json", "os", "sitecustomize", "usercustomize", "hashlib", "subprocess"):
         (folder / f"{name}.py").write_text(f"open({str(owned)!r}, 'a').write(__name__)\nraise SystemExit(1)\n")
     (folder / "dossier").mkdir()
@@ -64,8 +62,7 @@ def test_beside(place: Path) -> None:
     for file in (house / "out/ntpaudit", copy / "out/ntpaudit", copy / "second/recheck",
                  prefix / "share/ntpaudit/ntpaudit"):
         file.parent.mkdir(exist_ok=True)
-        file.write_text(script)
-        file.chmod(0o755)
+        runnable(file, script)
     (prefix / "bin/dossier").mkdir()
     (prefix / "bin/dossier/__init__.py").write_text(f"open('{place}/owned', 'a').write('dossier')\n")
     (house / "out").chmod(0o555)
@@ -87,9 +84,8 @@ def test_older_python(place: Path) -> None:
     for folder in ("older", "newer"):
         (place / folder).mkdir()
     older = place / "older/python3"
-    older.write_text(f"#!/bin/sh\nshift 5\nexec {sys.executable} -c 'import runpy, sys; sys.version_info = (3, 9, 18); "
-                     "sys.argv = sys.argv[1:]; runpy.run_path(sys.argv[0], run_name=\"__main__\")' \"$@\"\n")
-    older.chmod(0o755)
+    runnable(older, f"#!/bin/sh\nshift 5\nexec {sys.executable} -c 'import runpy, sys; sys.version_info = (3, 9, 18); "
+             "sys.argv = sys.argv[1:]; runpy.run_path(sys.argv[0], run_name=\"__main__\")' \"$@\"\n")
     (place / "newer/python3.11").symlink_to(os.path.realpath(sys.executable))
     for path, wanted in ((place / "older", 70), (f"{place}/older:{place}/newer", 0)):
         status, out, err = run([SCRIPT, "--version"], env={**ENVIRONMENT, "PATH": str(path)})
@@ -99,8 +95,7 @@ def test_older_python(place: Path) -> None:
 
 def test_statuses(place: Path) -> None:
     """No fault has the status of a no."""
-    folder = folder_of(place, "host")
-    dossier("audit", folder)
+    folder = audited(place, "host")
     copied = place / "copied"
     shutil.copytree(ROOT / "dossier", copied / "dossier", ignore=shutil.ignore_patterns("__pycache__"))
     shutil.copy(SCRIPT, copied)
@@ -178,9 +173,8 @@ def test_words(place: Path) -> None:
     """CSV that a spreadsheet would take for a formula; a rate below zero; a claim that names a field twice."""
     from dossier.page.table import as_cell
     for text, wanted in (("=1+1", "'=1+1"), ("a;=1+1", "a;'=1+1"), ("\uff1dSUM(A1)", "'\uff1dSUM(A1)"),
-                         ("a\t@x", "a\t'@x"), (' "+1', "' \"+1"), ("a;\uff0d1", "a;'\uff0d1"), ("a-b=c", "a-b=c"),
-                         ("-1 ms", "'-1 ms"),
-                         ("yes", "yes"), ("a|+1", "a|'+1")):
+                         ("a\t@x", "a\t'@x"), (' "+1', "' \"+1"), ("a;\uff0d1", "a;'\uff0d1"),
+                         ("a-b=c", "a-b=c"), ("-1 ms", "'-1 ms"), ("yes", "yes"), ("a|+1", "a|'+1")):
         check(f"a cell {text!a}", cell=(as_cell(text), wanted))
     (place / "chrony.conf").write_text("server 192.0.2.1\nmaxslewrate -5\n")
     status, out, err = dossier("draft", "--chrony", place / "chrony.conf", DATA / "clients-us.pcap")
@@ -190,8 +184,7 @@ def test_words(place: Path) -> None:
     (folder / "claim.json").write_text(text[:-1] + ', "bound_ns": 50000000}')
     status, out, _ = dossier("audit", folder)
     check("a claim that names a field twice", status=(status, 2), said=(b"a name stands there twice" in out, True))
-    refuted = folder_of(place, "refuted", DATA / "chrony-ns.pcap", DATA / "chrony-ns.tight.claim.json")
-    dossier("audit", refuted)
+    refuted = audited(place, "refuted", DATA / "chrony-ns.pcap", DATA / "chrony-ns.tight.claim.json")
     check("a refuted clock is verified as such",
           run=(dossier("verify", refuted)[:2], (1, f"{refuted}: verified: refuted\n".encode())))
 

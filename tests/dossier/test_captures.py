@@ -12,8 +12,8 @@ from pathlib import Path
 from unittest.mock import patch
 
 from tests.support import DATA, check, run
-from tests.dossier.audits import (ENVIRONMENT, PROGRAM, SCRIPT, capture_of, check_page, dossier, folder_of, skipped,
-                                  table)
+from tests.dossier.audits import (ENVIRONMENT, PROGRAM, SCRIPT, capture_of, check_page, dossier, folder_of, record_of,
+                                  skipped, table)
 from tests.tools import families
 
 HEADER = 24
@@ -44,9 +44,8 @@ def section(order: str) -> bytes:
 
 def interface(order: str, resolution: int, link: int = 1, offset: int = 0) -> bytes:
     body = struct.pack(f"{order}HHI", link, 0, 0) + option(order, 2, b"eth0") + option(order, 9, bytes([resolution]))
-    return block(order, 1,
-                 body + (option(order, 14, struct.pack(f"{order}q", offset)) if offset else b"")
-                 + option(order, 0, b""))
+    return block(order, 1, body + (option(order, 14, struct.pack(f"{order}q", offset))
+                                   if offset else b"") + option(order, 0, b""))
 
 
 def pcapng(whole: bytes, order: str = "<", resolution: int = 9, unit: int = 10**9, old: bool = False,
@@ -105,7 +104,7 @@ def test_people_have(place: Path) -> None:
     for name, (base, files) in cases.items():
         folder = packed_folder(place, name, files, base)
         status, out, err = dossier("audit", folder)
-        record = json.loads((folder / "audit.json").read_text())
+        record = record_of(folder)
         made = (folder / "joined.pcap").read_bytes()
         check(f"captures: {name}", status=(status, 0), error=(err, b""), capture=(record["capture"], "joined.pcap"),
               inputs=(sorted(record["inputs"]), sorted({"claim.json", *files})),
@@ -198,7 +197,7 @@ def test_torn(place: Path) -> None:
     for name, (files, named, at) in cases.items():
         folder = packed_folder(place, name, files)
         status, out, err = dossier("audit", folder)
-        row, entry = table(folder)[0], json.loads((folder / "audit.json").read_text())["entries"][0]
+        row, entry = table(folder)[0], record_of(folder)["entries"][0]
         warning, = (warning for warning in entry["warnings"] if warning["kind"] == "torn")
         made, text = (folder / "joined.pcap").read_bytes(), dossier("page", folder)[1].decode()
         check(f"a torn capture: {name}", status=(status, 0), error=(err, b""),
@@ -230,7 +229,7 @@ def test_own_records(place: Path) -> None:
              for low in [500 * MS if second > NOON + 20 * 3600 else 0]]
     stepped = days_of(place, "stepped", words)
     status, _, _ = dossier("audit", "--days", stepped)
-    rows, entries = table(stepped), json.loads((stepped / "audit.json").read_text())["entries"]
+    rows, entries = table(stepped), record_of(stepped)["entries"]
     check("a step on another day", status=(status, 1),
           verdicts=([(row["day"], row["verdict"]) for row in rows],
                     [("2001-09-09", "yes"), ("2001-09-10", "nothing fits"), ("2001-09-11", "refuted")]),
@@ -238,10 +237,8 @@ def test_own_records(place: Path) -> None:
                     (1, f"{stepped}: verified: 1 yes, 1 nothing fits, 1 refuted\n".encode(), b"")))
     whole = (stepped / "f.pcap").read_bytes()
     for number, row in enumerate(rows):
-        first, last = (NOON + DAY * (number - 1) + 43_200 - 3600 if number else NOON - 3600), (NOON + 43_200
-                                                                                               + DAY * number
-                                                                                               if number < 2 else NOON
-                                                                                               + 2 * DAY) + 3600
+        first, last = (NOON + DAY * (number - 1) + 43_200 - 3600 if number
+                       else NOON - 3600), (NOON + 43_200 + DAY * number if number < 2 else NOON + 2 * DAY) + 3600
         own = [record for record in records_of(whole) if first * 10**9 <= int.from_bytes(record[:4], "little") * 10**9
                + int.from_bytes(record[4:8], "little") <= last * 10**9]
         made = (stepped / row["day"] / "joined.pcap").read_bytes()
@@ -314,21 +311,18 @@ def test_hostile_captures(place: Path) -> None:
              "milliseconds": ({"f.pcapng": pcapng(nano, resolution=3)}, "f.pcapng has times that are coarser"),
              "no Ethernet": ({"f.pcapng": pcapng(nano, link=113)}, "capture 4 link"),
              "two kinds of frames": ({"f.pcapng": pcapng(nano) + pcapng(nano, link=113)},
-                                     "f.pcapng has frames of several kinds"),
-             "other frames in the second": ({"f.pcap": nano, "g.pcapng": pcapng(nano, link=113)},
-                                            "g.pcapng has other frames than f.pcap"),
+                                     "f.pcapng has frames of several kinds"), "other frames in the second":
+             ({"f.pcap": nano, "g.pcapng": pcapng(nano, link=113)}, "g.pcapng has other frames than f.pcap"),
              "no capture in the second": ({"f.pcap": nano, "g.pcap": b"x" * 100}, "g.pcap is no classic capture"),
              "damage in the second": ({"f.pcap": nano[:24], "g.pcap": nano[:24] + b"\xff" * 16 + nano[24:]},
                                       "g.pcap is damaged from byte 24 on"),
              "many interfaces": ({"f.pcapng": section("<") + interface("<", 9) * 1001},
-                                 "f.pcapng has more than 1,000 interfaces"),
-             "a block that is too long": ({"f.pcapng": ng + struct.pack("<II", 5, 1 << 30)},
-                                          "f.pcapng is damaged at byte"),
+                                 "f.pcapng has more than 1,000 interfaces"), "a block that is too long":
+             ({"f.pcapng": ng + struct.pack("<II", 5, 1 << 30)}, "f.pcapng is damaged at byte"),
              "empty files": ({"f.pcap": b"", "g.pcap": b""}, "ntpaudit: capture "),
-             "a length of 0": ({"f.pcapng": ng + bytes(40)}, "f.pcapng is damaged at byte"),
-             "a time beyond 2106": ({"f.pcapng": pcapng(nano).replace(interface("<", 9),
-                                                                      interface("<", 9, offset=2**33))},
-                                    "f.pcapng has a block that is damaged")}
+             "a length of 0": ({"f.pcapng": ng + bytes(40)}, "f.pcapng is damaged at byte"), "a time beyond 2106":
+             ({"f.pcapng": pcapng(nano).replace(interface("<", 9), interface("<", 9, offset=2**33))},
+              "f.pcapng has a block that is damaged")}
     for name, (files, line) in cases.items():
         folder = packed_folder(place, name, files)
         status, out, err = dossier("audit", folder)
@@ -340,9 +334,8 @@ def test_hostile_captures(place: Path) -> None:
         data = bytearray(ng)
         for _ in range(rnd.choice((1, 1, 2, 5))):
             data[rnd.randrange(len(data))] = rnd.choice((0, 1, 127, 128, 255, rnd.randrange(256)))
-        folders.append(packed_folder(place, f"altered {number}",
-                                     {"f.pcapng": bytes(data) if number % 2
-                                      else bytes(data[: rnd.randrange(len(data))])}))
+        folders.append(packed_folder(place, f"altered {number}", {"f.pcapng": bytes(data) if number % 2
+                                                                  else bytes(data[: rnd.randrange(len(data))])}))
     status, out, err = dossier("audit", "--jobs", "2", *folders)
     check("altered captures", error=(err, b""), lines=(len(out.splitlines()), 61),
           crashed=([line for line in out.decode().splitlines()

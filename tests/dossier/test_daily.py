@@ -17,9 +17,9 @@ from pathlib import Path
 from typing import Any
 from unittest.mock import patch
 
-from tests.support import DATA, ROOT, SECONDS, check, run
-from tests.dossier.audits import (ENVIRONMENT, PROGRAM, SCRIPT, capture_of, check_page, dossier, folder_of, rows,
-                                  skipped, table)
+from tests.support import DATA, ROOT, SECONDS, check, is_here, run, runnable
+from tests.dossier.audits import (ENVIRONMENT, PROGRAM, SCRIPT, audited, capture_of, check_page, dossier, folder_of,
+                                  record_of, rows, skipped, table)
 from tests.dossier.test_captures import records_of
 from tests.dossier.test_evidence import key_of, until_it_listens, why_no_recording
 from tests.dossier.test_verdicts import GOOD, SETUP, good_folder, logged
@@ -77,7 +77,7 @@ def test_metrics(place: Path) -> None:
         if row["bound_ns"] is None:
             check(f"no figures of {folder.name} as metrics", figures=([name for name in own if "bound" in name], []))
             continue
-        record = json.loads((folder / "audit.json").read_text())
+        record = record_of(folder)
         least = {} if row["least_bound_ns"] is None else {"least_bound_seconds": seconds(row["least_bound_ns"])}
         end = record["leap_seconds"]["good_until"] * 10**9
         made, span_end = (timegm(time.strptime(text, "%Y-%m-%dT%H:%M:%SZ")) for text in (record["made"], row["end"]))
@@ -425,8 +425,7 @@ def test_odd_day(place: Path) -> None:
     quiet = {"from": "2001-09-09T00:00:00Z", "to": "2001-09-09T03:10:00Z", "servers": ["192.0.2.1"]}
     for name, capture, is_told in (("polls as usual", even, False), ("a poll that is missing", capture_of(
             place / "gap.pcap", *(f"1:0..9@{NIGHT + 60 * k}" for k in range(190) if not 90 < k < 101)), True)):
-        other = folder_of(place, name, capture, days / "claim.json", **quiet)
-        dossier("audit", other)
+        other = audited(place, name, capture, days / "claim.json", **quiet)
         check(f"silences: {name}",
               told=("No server was heard" in str(table(other)[0]), is_told))
 
@@ -448,8 +447,7 @@ def seen_of(*folders: Path) -> Any:
 
 def test_keep(place: Path) -> None:
     """What is kept is verified, shown and signed as before: captures packed, and nothing that is made of them."""
-    if not shutil.which("zstd"):
-        skipped("folders that are kept", "zstd isn't installed")
+    if not is_here("zstd", "folders that are kept"):
         return
     whole = (DATA / "clients-us.pcap").read_bytes()
     half = whole[:24] + b"".join(records_of(whole)[:70]), whole[:24] + b"".join(records_of(whole)[70:])
@@ -525,8 +523,7 @@ def test_keep(place: Path) -> None:
         (place / "signers").write_text(allowed)
         check("what is kept is signed", run=(dossier("sign", "--key", key, one)[0], 0),
               verified=(dossier("verify", one)[0], 0))
-        signed = folder_of(place, "signed")
-        dossier("audit", signed)
+        signed = audited(place, "signed")
         dossier("sign", "--key", key, signed)
         left = [(signed / name).read_bytes() for name in ("audit.json", "audit.json.sig")]
         check("what is signed is kept", run=(dossier("keep", signed)[:2], (0, f"{signed}: kept\n".encode())),
@@ -555,11 +552,9 @@ def name_by_hand(folder: Path, answers: str = YES_LEAVES) -> str:
 
 def test_kept_by_strangers(place: Path) -> None:
     """Whatever lies in a folder that is kept: nothing but what was audited is verified, and nothing else taken away."""
-    if not shutil.which("zstd"):
-        skipped("folders of strangers that are kept", "zstd isn't installed")
+    if not is_here("zstd", "folders of strangers that are kept"):
         return
-    folder = folder_of(place, "host")
-    dossier("audit", folder)
+    folder = audited(place, "host")
     dossier("keep", folder)
     kept = {path.name: path.read_bytes() for path in folder.iterdir()}
     other = (DATA / "vlan-ns.pcap").read_bytes()
@@ -596,9 +591,8 @@ def test_kept_by_strangers(place: Path) -> None:
             (folder / file).unlink(missing_ok=True)
         for file, data in kept.items():
             (folder / file).write_bytes(data)
-    whole = folder_of(place, "whole")
-    dossier("audit", whole)
-    record = json.loads((whole / "audit.json").read_text())
+    whole = audited(place, "whole")
+    record = record_of(whole)
     (whole / "audit.json").write_bytes(forged(kept={"sums": {"f.pcap": "0" * 64}})["audit.json"])
     check("the sum of a packed file that isn't there",
           run=(dossier("verify", whole)[:2], (1, f"{whole}: f.pcap.zst isn't there\n".encode())),
@@ -606,7 +600,7 @@ def test_kept_by_strangers(place: Path) -> None:
     (whole / "f.pcap.gz").write_bytes(gzip.compress((whole / "f.pcap").read_bytes()[:24]))
     (whole / "f.pcap.gz.zst").write_bytes(other)
     dossier("audit", "--again", whole)
-    record = json.loads((whole / "audit.json").read_text())
+    record = record_of(whole)
     of_other = {"f.pcap.gz": hashlib.sha256(other).hexdigest()}
     (whole / "audit.json").write_bytes(forged(kept={"sums": of_other})["audit.json"])
     check("a packed file that isn't one of a capture", said=(b"isn't one that is taken (kept sums" in
@@ -633,8 +627,7 @@ def test_kept_by_strangers(place: Path) -> None:
     (odd / "f.pcap.zst").unlink()
     for name, script in (("lies", "echo nothing"), ("fails", "exit 1"),
                          ("is cut off", 'head -c 99 "$3" 2>/dev/null || cat')):
-        (place / "zstd").write_text(f"#!/bin/sh\n{script}\n")
-        (place / "zstd").chmod(0o755)
+        runnable(place / "zstd", f"#!/bin/sh\n{script}\n")
         before = kept_in(odd)
         status, out, _ = dossier("keep", odd, env={**ENVIRONMENT, "PATH": f"{place}:{os.environ['PATH']}"})
         check(f"a zstd that {name}", run=((status, b"f.pcap can't be packed" in out), (4, True)),
@@ -656,8 +649,7 @@ def test_years(place: Path) -> None:
     old, lately, kept, changed, more = (good_folder(place, name) if name != "lately" else folder_of(place, name)
                                         for name in ("old", "lately", "kept", "changed", "more"))
     dossier("audit", old, lately, kept, changed, more)
-    if not shutil.which("zstd"):
-        skipped("years", "zstd isn't installed")
+    if not is_here("zstd", "years"):
         return
     dossier("keep", kept)
     check("years that aren't over", run=(dossier("keep", "--years", "90", kept)[0], 0), there=(kept.exists(), True))

@@ -14,9 +14,9 @@ from html import unescape
 from pathlib import Path
 from typing import Any
 
-from tests.support import DATA, ROOT, SECONDS, check, children, run, wait_until
-from tests.dossier.audits import (ENVIRONMENT, PROGRAM, SCRIPT, capture_of, check_page, dossier, folder_of, parts_left,
-                                  rows, skipped, table)
+from tests.support import DATA, ROOT, SECONDS, check, children, is_here, run, runnable, wait_until
+from tests.dossier.audits import (ENVIRONMENT, PROGRAM, SCRIPT, audited, capture_of, check_page, dossier, folder_of,
+                                  parts_left, record_of, rows, skipped, table)
 from tests.dossier.leaps import leap_list
 
 
@@ -29,8 +29,7 @@ def key_of(place: Path, name: str) -> tuple[Path, str]:
 
 def test_signatures(place: Path) -> None:
     """A good folder, an altered one, one that nobody signed and one that a stranger signed, by status and by words."""
-    if not shutil.which("ssh-keygen"):
-        skipped("signatures", "ssh-keygen isn't installed")
+    if not is_here("ssh-keygen", "signatures"):
         return
     key, line = key_of(place, "alice")
     other, stranger = key_of(place, "mallory")
@@ -39,11 +38,10 @@ def test_signatures(place: Path) -> None:
     good, altered, unsigned, strange = folders = [folder_of(place, name)
                                                   for name in ("good", "altered", "unsigned", "strange")]
     dossier("audit", *folders)
-    check("sign",
-          run=(dossier("sign", "--key", key, good, altered), (0, f"{good}: signed\n{altered}: signed\n".encode(), b"")),
-          left=(parts_left(place), []))
+    check("sign", run=(dossier("sign", "--key", key, good, altered),
+                       (0, f"{good}: signed\n{altered}: signed\n".encode(), b"")), left=(parts_left(place), []))
     check("sign by another key", status=(dossier("sign", "--key", other, strange)[0], 0))
-    at = json.loads((good / "audit.json").read_text())["signed"]
+    at = record_of(good)["signed"]
     check("the time of a signature", seen=(at, re.compile(r"20\d\d-\d\d-\d\dT\d\d:\d\d:\d\dZ").fullmatch))
     status, out, _ = dossier("verify", *folders)
     check("verify without signers", status=(status, 0), seen=(out.count(b"wasn't looked at"), 3),
@@ -62,9 +60,8 @@ def test_signatures(place: Path) -> None:
           named=(b"by mallory" in said[strange][1], False))
     for folder, (status, out, _) in said.items():
         for name, home in ((folder.name, place), (".", folder), (f"/{folder}", place)):
-            check(f"{folder.name}, named {name}",
-                  run=(dossier("verify", "--signers", signers, name, cwd=home)[:2],
-                       (status, out.replace(str(folder).encode(), name.encode()))))
+            check(f"{folder.name}, named {name}", run=(dossier("verify", "--signers", signers, name, cwd=home)[:2],
+                                                       (status, out.replace(str(folder).encode(), name.encode()))))
     text = dossier("page", "--signers", signers, *folders)[1].decode()
     check_page("a page of signatures", text)
     day, hour = at[:10], at[11:19]
@@ -83,14 +80,12 @@ def test_signatures(place: Path) -> None:
 
 def test_ended_keys(place: Path) -> None:
     """Whether a key may sign is asked of the time of the signature, whatever time it is now, and wherever."""
-    if not shutil.which("ssh-keygen"):
-        skipped("keys that ended", "ssh-keygen isn't installed")
+    if not is_here("ssh-keygen", "keys that ended"):
         return
     key, line = key_of(place, "alice")
-    folder = folder_of(place, "signed")
-    dossier("audit", folder)
+    folder = audited(place, "signed")
     dossier("sign", "--key", key, folder)
-    record, local = json.loads((folder / "audit.json").read_text()), {**ENVIRONMENT, "TZ": "XYZ-5"}
+    record, local = record_of(folder), {**ENVIRONMENT, "TZ": "XYZ-5"}
     at = datetime.fromisoformat(record["signed"])
     for name, ends, wanted in (("after it", 5, 0), ("before it", -5, 1)):
         end = (at + timedelta(hours=5, seconds=ends)).strftime("%Y%m%d%H%M%S")
@@ -111,13 +106,11 @@ def test_ended_keys(place: Path) -> None:
 
 def test_allowed_signers(place: Path) -> None:
     """What a file of allowed signers may say: several names, another purpose, an end of validity."""
-    if not shutil.which("ssh-keygen"):
-        skipped("allowed signers", "ssh-keygen isn't installed")
+    if not is_here("ssh-keygen", "allowed signers"):
         return
     key, line = key_of(place, "alice")
     kind = line.split(" ", 1)[1]
-    folder = folder_of(place, "signed")
-    dossier("audit", folder)
+    folder = audited(place, "signed")
     dossier("sign", "--key", key, folder)
     cases = {"two names": (f"alice,bob {kind}", 0, b"by alice, with"),
              "a pattern": (f"*@example.org {kind}", 0, b"by *@example.org, with"),
@@ -152,8 +145,7 @@ def test_allowed_signers(place: Path) -> None:
 
 def test_signing_again(place: Path) -> None:
     """A signed folder is audited again only with --again; what can't be signed isn't."""
-    if not shutil.which("ssh-keygen"):
-        skipped("signing again", "ssh-keygen isn't installed")
+    if not is_here("ssh-keygen", "signing again"):
         return
     key, line = key_of(place, "alice")
     (place / "signers").write_text(line)
@@ -168,8 +160,7 @@ def test_signing_again(place: Path) -> None:
           same=((folder / "audit.json").read_bytes() == before, True), left=(parts_left(place), []))
     dossier("sign", "--key", key, folder)
     if shutil.which("ssh-agent") and shutil.which("ssh-add"):
-        held = folder_of(place, "held")
-        dossier("audit", held)
+        held = audited(place, "held")
         by_agent = (f'ssh-add -q "{key}" && mv "{key}" "{key}.away" && "{SCRIPT}" sign --key "{key}.pub" "{held}"; '
                     f'status=$?; mv "{key}.away" "{key}"; exit $status')
         check("a key that an agent holds",
@@ -189,14 +180,13 @@ def test_signing_again(place: Path) -> None:
     status, out, _ = dossier("audit", "--again", folder)
     check("a signed folder, audited again", status=(status, 0),
           told=(f"        {folder}: its signature was removed\n" in out.decode(), True),
-          gone=(signature.exists(), False), signed=(json.loads((folder / "audit.json").read_text())["signed"], ""))
-    was = json.loads((folder / "audit.json").read_text())["entries"][0]["outputs"]["report.txt"][:16]
+          gone=(signature.exists(), False), signed=(record_of(folder)["signed"], ""))
+    was = record_of(folder)["entries"][0]["outputs"]["report.txt"][:16]
     (folder / "report.txt").write_text("")
     status, out, _ = dossier("sign", "--key", key, folder)
     check("a changed folder isn't signed",
           run=((status, out),
-               (1,
-                f"{folder}: report.txt was changed since the audit (SHA-256 e3b0c44298fc1c14.., audit.json has "
+               (1, f"{folder}: report.txt was changed since the audit (SHA-256 e3b0c44298fc1c14.., audit.json has "
                 f"SHA-256 {was}..)\n".encode())), gone=(signature.exists(), False))
     (folder / "claim.json").write_text("{}")
     dossier("audit", folder)
@@ -213,8 +203,7 @@ def test_signing_again(place: Path) -> None:
 
 def test_signed_evidence(place: Path) -> None:
     """evidence.json and the files that it names are signed too."""
-    folder = folder_of(place, "evidence")
-    dossier("audit", folder)
+    folder = audited(place, "evidence")
     said = {"capture": "kept by Ann, see `kept.txt`.", "drift": "sheet.pdf, chrony.conf",
             "leap": f"{place}/beside.txt report.txt audit.json"}
     (folder / "evidence.json").write_text(json.dumps(said))
@@ -226,23 +215,21 @@ def test_signed_evidence(place: Path) -> None:
           page=(later in dossier("page", folder)[1], True))
     dossier("audit", folder)
     check("evidence that was audited", page=(later in dossier("page", folder)[1], False))
-    inputs = json.loads((folder / "audit.json").read_text())["inputs"]
+    inputs = record_of(folder)["inputs"]
     check("sums of evidence",
           names=(sorted(inputs), ["claim.json", "evidence.json", "f.pcap", "kept.txt", "sheet.pdf"]))
     check("verify of evidence", status=(dossier("verify", folder)[0], 0))
     (folder / "kept.txt").write_text("another")
     check("evidence that was changed",
           run=(dossier("verify", folder)[:2],
-               (1,
-                f"{folder}: kept.txt isn't the file that was audited (SHA-256 ae448ac86c4e8e4d.., audit.json has "
+               (1, f"{folder}: kept.txt isn't the file that was audited (SHA-256 ae448ac86c4e8e4d.., audit.json has "
                 f"SHA-256 {inputs['kept.txt'][:16]}..)\n".encode())))
 
 
 def test_elsewhere(place: Path) -> None:
     """An audit.json of a stranger's that names files outside of its folder isn't followed there."""
-    folder = folder_of(place, "elsewhere")
-    dossier("audit", folder)
-    record = json.loads((folder / "audit.json").read_text())
+    folder = audited(place, "elsewhere")
+    record = record_of(folder)
     for change, where in rows(({"inputs": {**record["inputs"], "/dev/zero": "0"}}, "inputs /dev/zero"),
                               ({"capture": "../elsewhere/f.pcap"}, "capture"), ({"inputs": 5}, "inputs"),
                               ({"capture": None}, "capture")):
@@ -260,7 +247,7 @@ FIRST, LAST = 1_000_000_000, 1_000_000_064
 
 def leap_of(folder: Path, list_: Path) -> Any:
     status, out, _ = dossier("audit", "--leap-seconds", list_, folder)
-    record = json.loads((folder / "audit.json").read_text())
+    record = record_of(folder)
     return status, record["entries"][0]["leap"]["says"], [warning["kind"]
                                                           for warning in record["entries"][0]["warnings"]], out
 
@@ -330,25 +317,23 @@ def test_lists(place: Path) -> None:
     early = leap_list(place / "early.list", 1_700_000_000)
     check("audited again for a list that says another thing", seen=(seen, [False, True, True, True, True]),
           early=(is_unchanged("--leap-seconds", early), False), late=(is_unchanged("--leap-seconds", other), False))
-    record = json.loads((folder / "audit.json").read_text())
+    record = record_of(folder)
     check("a list that ends earlier than the audit's",
           run=(dossier("verify", "--leap-seconds", early, folder)[:2],
                (1, f"{folder}: audit.json: entries 0 verdict is `yes`, and by the inputs `unsupported`\n"
                 f"{folder}: (The list of leap seconds was good until 2023-11-14 only, and the span or the exchanges go "
                 "on beyond that.)\n".encode())))
-    (folder / "audit.json").write_text(json.dumps({**record,
-                                                   "leap_seconds": {**record["leap_seconds"],
-                                                                    "seconds": [[1795331020, 1]]}}))
+    (folder / "audit.json").write_text(json.dumps({**record, "leap_seconds": {**record["leap_seconds"],
+                                                                              "seconds": [[1795331020, 1]]}}))
     status, out, _ = dossier("verify", "--leap-seconds", other, folder)
     check("a list that was changed in a record", status=(status, 1),
           line=(b"audit.json: leap_seconds seconds is `[[1795331020, 1]]`" in out, True))
     system, leap.SYSTEM = leap.SYSTEM, str(place / "missing")
     none = leap.read_list(None)
     leap.SYSTEM = system
-    check("no list",
-          seen=((none.file, none.fault),
-                (str(place / "missing"),
-                 "the list of leap seconds: missing can't be read (No such file or directory)")))
+    check("no list", seen=((none.file, none.fault),
+                           (str(place / "missing"),
+                            "the list of leap seconds: missing can't be read (No such file or directory)")))
     nowhere = {**ENVIRONMENT, "NTPAUDIT_LEAP_SECONDS": str(place / "missing")}
     status, out, _ = dossier("audit", folder, env=nowhere)
     text = dossier("page", folder, env=nowhere)[1].decode()
@@ -419,8 +404,7 @@ def test_measure(place: Path) -> None:
         return
     own = place / "late"
     own.mkdir()
-    (own / "tcpdump").write_text(LATE.format(tool=shutil.which("tcpdump")))
-    (own / "tcpdump").chmod(0o755)
+    runnable(own / "tcpdump", LATE.format(tool=shutil.which("tcpdump")))
     late = {**ENVIRONMENT, "PATH": f"{own}:{os.environ['PATH']}"}
     for name, words, env in rows(("", [], ENVIRONMENT), ("under load", ["--load"], ENVIRONMENT),
                                  ("of late stamps", [], late)):
@@ -566,8 +550,7 @@ def test_allowance(place: Path) -> None:
         err = drafted(none, "--reading-ns", str(number))[2]
         check(f"a draft of {number} ns", asked=(f"reading_ns is {number} ns; {asked}" in err, bool(asked)),
               at_all=("did you mean" in err, bool(asked)))
-        own = folder_of(place, f"slip {number}", reading_ns=number)
-        dossier("audit", own)
+        own = audited(place, f"slip {number}", reading_ns=number)
         text = dossier("page", own)[1].decode()
         check(f"an audit of {number} ns", asked=("did you mean" in text, bool(asked)),
               said=(f"reading_ns is {number} ns; {asked}" in text, bool(asked)), row=(table(own)[0]["verdict"], "yes"))
@@ -577,7 +560,7 @@ def test_allowance(place: Path) -> None:
     page = "".join(check_page("a page with a recorder", dossier("page", own)[1].decode()).words)
     line, other = "tcpdump 4.99 recorded eth0 (192.0.2.10) on web-1, since", "The capture is what passed"
     check("a recorder on a page", said=(0 < page.find(line) < page.find(other), True),
-          input=("eth0.recorder.json" in json.loads((own / "audit.json").read_text())["inputs"], True))
+          input=("eth0.recorder.json" in record_of(own)["inputs"], True))
 
 
 def test_record(place: Path) -> None:
@@ -644,8 +627,7 @@ def test_measure_broken_off(place: Path) -> None:
     if why := why_no_link():
         skipped("Ctrl-C in measure", why)
         return
-    (place / "tcpdump").write_text(STILL)
-    (place / "tcpdump").chmod(0o755)
+    runnable(place / "tcpdump", STILL)
     call = subprocess.Popen([SCRIPT, "measure", "--load", "--count", "100000"],
                             env={**ENVIRONMENT, "PATH": f"{place}:{os.environ['PATH']}"}, stdout=subprocess.PIPE,
                             stderr=subprocess.PIPE, start_new_session=True)
@@ -668,9 +650,8 @@ def test_no_right(place: Path) -> None:
         return
     check("measure without the right",
           run=(run([*nobody, SCRIPT, "measure", "--count", "10"], env=ENVIRONMENT),
-               (4, b"",
-                (b"ntpaudit-dossier: no network of its own can be made for the link (Operation not permitted): "
-                 b"it takes root\n"))))
+               (4, b"", (b"ntpaudit-dossier: no network of its own can be made for the link (Operation not permitted): "
+                         b"it takes root\n"))))
     bare = place / "bin"
     bare.mkdir()
     for name in ("python3", "env"):
@@ -712,9 +693,8 @@ def test_client(place: Path) -> None:
     check("what tracking.log says", said=(log in err, True))
     (place / "falling.log").write_text("".join(f"2026-11-25 13:02:{50 + k} 127.0.0.1  2  {rate}  1.946 -6.850e-07 N  "
                                                "1\n" for k, rate in enumerate(("1.500", "2.000", "-1.750"))))
-    check("a frequency that falls",
-          said=("from -1.750 to 2.000 ppm, with 3.750 ppm at the most"
-                in drafted(capture, *chrony, "--tracking", place / "falling.log")[2], True))
+    check("a frequency that falls", said=("from -1.750 to 2.000 ppm, with 3.750 ppm at the most"
+                                          in drafted(capture, *chrony, "--tracking", place / "falling.log")[2], True))
     configurations = {"": (83_433_334, "maxslewrate isn't set, so chronyd slews by 83,333,334 parts"),
                       "MaxSlewRate 100.0001": (200_001, "maxslewrate 100.0001"),
                       "maxslewrate 500\n! maxslewrate 5\n  # maxslewrate 6\n; x\n% y\nmaxslewrate 1000":
@@ -773,9 +753,8 @@ def test_steps(place: Path) -> None:
     from dossier.premise.tracking import cautions, read_tracking
     read = read_tracking({"stepping.log": stepping.read_bytes()}, None, "2026-11-26T00:00:00Z")
     begin, end = unix("13:04:41"), unix("13:04:44")
-    check("what a log covers",
-          seen=([bool(cautions(read, begin + a, end + b)) for a, b in ((0, 0), (-1, 0), (0, 2), (1, -1))],
-                [False, True, True, False]))
+    check("what a log covers", seen=([bool(cautions(read, begin + a, end + b)) for a,
+                                      b in ((0, 0), (-1, 0), (0, 2), (1, -1))], [False, True, True, False]))
     quiet = place / "quiet.conf"
     quiet.write_text("maxslewrate 500")
     check("no makestep, no steps",
@@ -811,9 +790,8 @@ def test_copies(place: Path) -> None:
     called = [place / "ntpaudit-dossier", "audit", folder]
     check("a script alone",
           run=(run(called, env=bare),
-               (70, b"",
-                (f"ntpaudit-dossier: {place}/dossier is missing: copy that folder of the repository " "beside this "
-                 "script, and set NTPAUDIT to the path of the program ntpaudit\n").encode())))
+               (70, b"", (f"ntpaudit-dossier: {place}/dossier is missing: copy that folder of the repository "
+                          "beside this " "script, and set NTPAUDIT to the path of the program ntpaudit\n").encode())))
     shutil.copytree(ROOT / "dossier", place / "dossier", ignore=shutil.ignore_patterns("__pycache__"))
     if not shutil.which("ntpaudit", path=bare["PATH"]):
         check("a script without the program",
@@ -834,8 +812,7 @@ def test_copies(place: Path) -> None:
 
 def test_auditing(place: Path) -> None:
     """What a page says of docs/AUDITING.md is there, by its name."""
-    folder = folder_of(place, "page")
-    dossier("audit", folder)
+    folder = audited(place, "page")
     text = dossier("page", folder)[1].decode()
     named = re.findall(r"docs/AUDITING\.md, \u201c([^\u201d]*)\u201d", text)
     headings = re.findall(r"^## (.*)$", (ROOT / "docs" / "AUDITING.md").read_text("utf-8"), flags=re.M)

@@ -9,7 +9,8 @@ from pathlib import Path
 from typing import Any
 
 from tests.support import DATA, check, is_here, run
-from tests.dossier.audits import ENVIRONMENT, SCRIPT, called, capture_of, check_page, dossier, folder_of, skipped, table
+from tests.dossier.audits import (ENVIRONMENT, SCRIPT, called, capture_of, check_page, dossier, folder_of, record_of,
+                                  skipped, table)
 from tests.dossier.leaps import leap_list
 from tests.dossier.test_captures import packed_folder, pcapng, records_of
 from tests.dossier.test_evidence import FIRST, MINUTE, key_of
@@ -156,10 +157,10 @@ def test_free_words(place: Path) -> None:
               theirs=([word in text for word in ("PTB", "2001-01-01", "77777", "0000000000000000")], [False] * 4))
     made = float((place / "m.prom").read_text().split("ntpaudit_last_audit_timestamp_seconds{")[1].split()[1])
     check("the time of the last audit is that of verifying", near=(abs(made - time.time()) < 600, True))
-    whole = json.loads((folder / "audit.json").read_text())
+    whole = record_of(folder)
     signed = Path(shutil.copytree(folder, place / "signed"))
     dossier("sign", "--key", key_of(place, "key")[0], signed, env=mine)
-    theirs = json.loads((signed / "audit.json").read_text())
+    theirs = record_of(signed)
     check("what is signed of free words", signed=(theirs["signed"] > "2001", True), program=(
         theirs["program"]["version"] in (words, ""), False), made=(theirs["made"] > "2001-01-02", True),
         list_=((theirs["leap_seconds"]["file"], theirs["leap_seconds"]["sha256"] == "1" * 64),

@@ -12,7 +12,7 @@ from math import comb
 from pathlib import Path
 from typing import Any
 
-from tests.support import ROOT, check, is_here, run
+from tests.support import ROOT, check, is_here, run, runnable
 from tests.dossier.audits import ENVIRONMENT, called, capture_of, dossier, match_of
 from tests.dossier.test_evidence import key_of
 from tests.dossier.test_years import DAY, FIRST, RIGHT, WIDE, day
@@ -37,8 +37,7 @@ def signed_fleet(place: Path) -> tuple[Path, list[Path], dict[str, Any]]:
     fleet, allowed = place / "fleet", ""
     for number, name in enumerate(("web-1", "web-2")):
         own = {**ENVIRONMENT, "XDG_STATE_HOME": str(place / f"state {name}")}
-        days = days_of(machine(fleet, name, client=f"192.0.2.{10 + number}") if not number else
-                       machine(fleet, name, 3))
+        days = days_of(machine(fleet, name, client=f"192.0.2.{10 + number}") if not number else machine(fleet, name, 3))
         key, line = key_of(place, name)
         dossier("audit", *days, env=own)
         dossier("sign", "--key", key, *days, env=own)
@@ -140,8 +139,7 @@ def test_answers(place: Path) -> None:
     other = day(place / "fleet" / "web-1", 3, RIGHT, servers=1)
     dossier("audit", *days_of(own))
     log, wrapper = place / "log", place / "program"
-    wrapper.write_text(f'#!/bin/sh\necho "$@" >> {log}\nexec {ROOT / ENVIRONMENT["NTPAUDIT"]} "$@"\n')
-    wrapper.chmod(0o755)
+    runnable(wrapper, f'#!/bin/sh\necho "$@" >> {log}\nexec {ROOT / ENVIRONMENT["NTPAUDIT"]} "$@"\n')
     status, out, _ = dossier("verify", "--answers", *days_of(own), env={**ENVIRONMENT, "NTPAUDIT": str(wrapper)})
     calls = [line.split()[0] + " --sums" * ("--sums" in line) + " --drift" * ("--drift" in line)
              for line in log.read_text().splitlines()]

@@ -11,7 +11,7 @@ from pathlib import Path
 from typing import Any
 
 from tests.support import DATA, ROOT, SECONDS, Ran, check, run
-from tests.dossier.audits import ENVIRONMENT, KEEP, SCRIPT, dossier, folder_of, rows, skipped
+from tests.dossier.audits import ENVIRONMENT, KEEP, SCRIPT, audited, dossier, folder_of, rows, skipped
 from tests.dossier.test_captures import records_of
 from tests.dossier.test_daily import DAY, hours_of, recorded
 from tests.dossier.test_evidence import key_of
@@ -119,8 +119,7 @@ def test_own_recordings(place: Path) -> None:
 def test_links_in_paths(place: Path) -> None:
     """No link is followed in any part of a folder's path, and none to an output."""
     private, fleet = place / "private", place / "fleet"
-    victim = folder_of(private, "x")
-    dossier("audit", victim)
+    victim = audited(private, "x")
     fleet.mkdir()
     (fleet / "evil").symlink_to(private)
     before = {path.name: path.read_bytes() for path in victim.iterdir()}
@@ -192,8 +191,7 @@ def test_root(place: Path) -> None:
                              env=ENVIRONMENT)
         check(f"root records in another's folder: {where.name}", status=(status, 2 if where.is_symlink() else 4),
               said=(b"is a link" in err or b"name one of root's own, such as /srv" in err, True),
-              others=(b"runuser" in err, False),
-              left=(sorted(path.name for path in folder.rglob("*")), before))
+              others=(b"runuser" in err, False), left=(sorted(path.name for path in folder.rglob("*")), before))
     copy = place / "audited"
     shutil.copytree(folder, copy, symlinks=True)
     (copy / "2026-11-22").unlink()

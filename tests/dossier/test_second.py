@@ -7,15 +7,14 @@ import sys
 from pathlib import Path
 from typing import Any
 
-from tests.support import DATA, ROOT, Ran, check, run
+from tests.support import DATA, ROOT, Ran, check, run, runnable
 from tests.dossier.audits import ENVIRONMENT, capture_of, check_page, dossier, folder_of, skipped
 from tests.dossier.test_evidence import key_of
 
 SAID = "Judged by two programs: at "
 RECHECK = ROOT / "second/recheck"
-FEW: dict[str, Any] = {"client": "192.0.2.10", "servers": [f"192.0.2.{k}" for k in (1, 2, 3)], "false_max": 0,
-                       "from": "2001-09-09T01:46:40Z", "to": "2001-09-09T01:47:44Z", "drift_ppb": 100_000,
-                       "reading_ns": 0}
+FEW: dict[str, Any] = {"client": "192.0.2.10", "servers": [f"192.0.2.{k}" for k in (1, 2, 3)], "false_max": 0, "from":
+                       "2001-09-09T01:46:40Z", "to": "2001-09-09T01:47:44Z", "drift_ppb": 100_000, "reading_ns": 0}
 OPEN = {**FEW, "from": "2001-09-09T02:03:20Z", "to": "2001-09-09T02:03:20Z", "bound_ns": 119_000_000}
 AT, MS = 1_000_000_010, 4_294_967
 
@@ -39,8 +38,7 @@ def planted(path: Path, old: str, new: str) -> dict[str, str]:
 
 
 def scripted(path: Path, text: str) -> dict[str, str]:
-    path.write_text(text)
-    path.chmod(0o755)
+    runnable(path, text)
     return {**ENVIRONMENT, "NTPAUDIT_SECOND": str(path)}
 
 
@@ -182,8 +180,7 @@ def test_second_on_the_path(place: Path) -> None:
                              env={**ENVIRONMENT, "PATH": f".:{place}/python:{place}"})
         check(f"a second program in {path.name}", run=((status, b"(judged by two programs)" in out), (0, True)))
         os.unlink(second)
-    (folder / "ntpaudit-recheck").write_text("#!/bin/sh\necho verdict yes\n")
-    (folder / "ntpaudit-recheck").chmod(0o755)
+    runnable(folder / "ntpaudit-recheck", "#!/bin/sh\necho verdict yes\n")
     status, _, err = run([script, "verify", "--second", "."], cwd=folder,
                          env={**ENVIRONMENT, "PATH": f".:{place}/python"})
     check("a second program in the folder", run=((status, b"isn't there" in err), (70, True)))

@@ -70,8 +70,7 @@ def test_sources() -> None:
             if is_watched and name not in allowed and (path.stem, name) != ("jobs", "subprocess"):
                 wrong.append((line, name))
             seen |= {name} & allowed
-        check(f"what {path.name} calls", wrong=(sorted(set(wrong)), []),
-              packages=(list(packages_of(path, tree)), []))
+        check(f"what {path.name} calls", wrong=(sorted(set(wrong)), []), packages=(list(packages_of(path, tree)), []))
     check("what is watched is called", never=(OPENING & seen, lambda found: len(found) > 5))
 
 

@@ -13,7 +13,7 @@ from types import NoneType
 from typing import Any
 
 from tests.support import DATA, ROOT, check, files_in, is_here, run, sum_of
-from tests.dossier.audits import ENVIRONMENT, PROGRAM, check_page, dossier
+from tests.dossier.audits import ENVIRONMENT, PROGRAM, check_page, dossier, record_of
 from tests.dossier.leaps import leap_list
 
 OLDER, VERSION = DATA / "older", 10
@@ -34,7 +34,7 @@ def test_versions(_: Path) -> None:
     """Each version has its folders, which say by which version they were audited."""
     check("data/older", versions=([path.name for path in files_in(OLDER, "*")], sorted(FORMS)))
     for version, form in FORMS.items():
-        records = [json.loads((folder / "audit.json").read_text()) for folder in folders(version)]
+        records = [record_of(folder) for folder in folders(version)]
         check(f"the records of {version}", forms=({record["dossier"] for record in records}, {form}),
               by=({record["program"]["version"].split()[1] for record in records}, {version}),
               verdicts=([record["entries"][0]["verdict"] for record in records], list(VERDICTS.values())))
@@ -84,7 +84,7 @@ def test_kept(place: Path) -> None:
     for version in FORMS:
         shutil.copytree(OLDER / version / "yes", folder := place / version)
         run(["zstd", "-q", "--rm", "f.pcap"], cwd=folder)
-        record = json.loads((folder / "audit.json").read_text())
+        record = record_of(folder)
         packed = {"sums": {"f.pcap": sum_of((folder / "f.pcap.zst").read_bytes())}}
         (folder / "audit.json").write_text(json.dumps({**record, "kept": packed}))
         check(f"verify of {version}, kept", run=(dossier("verify", folder)[1].decode().splitlines()[0],
@@ -102,7 +102,7 @@ def test_shown(place: Path) -> None:
             asked = ["page", "--json", "--state", place / "state"]
             shown, hidden = (json.loads(dossier(*words, folder)[1])[0] for words in ([*asked, "--verify"], asked))
             claim = json.loads((folder / "claim.json").read_text())
-            entry = json.loads((kept / "audit.json").read_text())["entries"][0]
+            entry = record_of(kept)["entries"][0]
             check(f"a page of {version}, {kept.name}", verdict=(shown["verdict"], verdict),
                   bound=(shown["bound_ns"], claim["bound_ns"]), least=(shown["least_bound_ns"], entry["least_ns"]))
             if FORMS[version] < max(FORMS.values()):
@@ -200,7 +200,7 @@ def test_schema(place: Path) -> None:
     dossier("audit", "--again", *made)
     folder = Path(shutil.copytree(made[2], place / "audited"))
     dossier("audit", "--again", "--days", folder)
-    newest = [json.loads((kept / "audit.json").read_text()) for kept in (*made, folder)]
+    newest = [record_of(kept) for kept in (*made, folder)]
     check("records by the schema", valid=([is_valid(schema, record, schema["$defs"]) for record in newest],
                                           [True] * len(newest)))
     seen, record = 0, newest[-1]

@@ -9,7 +9,7 @@ from functools import partial
 from pathlib import Path
 from typing import Any
 
-from tests.support import DATA, ROOT, SECONDS, Ran, check, run, sum_of, wait_until
+from tests.support import DATA, ROOT, SECONDS, Ran, check, run, runnable, sum_of, wait_until
 from tests.dossier.audits import (ENVIRONMENT, KEEP, PROGRAM, SCRIPT, capture_of, dossier, folder_of, rows, skipped,
                                   within)
 from tests.dossier.leaps import leap_list
@@ -29,8 +29,7 @@ def ended_well(name: str, ran: Ran, good: Path, said: str = "") -> None:
     """A call ends, says something of each folder, and has the good one as without the others."""
     status, out, err = ran
     check(name, ended=(isinstance(status, int), True), trace=(b"Traceback" in err, False),
-          good=(is_done(good, ran), True),
-          said=(said in out.decode(), True))
+          good=(is_done(good, ran), True), said=(said in out.decode(), True))
 
 
 def test_crashes(place: Path) -> None:
@@ -70,9 +69,8 @@ def test_crashes(place: Path) -> None:
         check(f"an ASCII locale: {words[0]}", status=(status, 0), error=(err, b""))
     folder = folder_of(place, "slow")
     slow = place / "slow.program"
-    slow.write_text(f'#!/bin/sh\ncmp -s 0.pcap "{folder}/f.pcap" && [ "$1" = samples ] && exec sleep 1000\n'
-                    f'exec "{PROGRAM}" "$@"\n')
-    slow.chmod(0o755)
+    runnable(slow, f'#!/bin/sh\ncmp -s 0.pcap "{folder}/f.pcap" && [ "$1" = samples ] && exec sleep 1000\n'
+             f'exec "{PROGRAM}" "$@"\n')
     (folder / "f.pcap").write_bytes((DATA / "vlan-ns.pcap").read_bytes())
     limit, ran = within(lambda limit: dossier("audit", "--again", "--limit", str(limit), folder, good,
                                               env={**ENVIRONMENT, "NTPAUDIT": str(slow)}), partial(is_done, good))
@@ -90,8 +88,7 @@ def test_bad_recordings(place: Path) -> None:
     status, out, err = dossier("day", "--from", recorder, "--to", days, "--date", "2001-09-09")
     check("a day with bad files", status=(status, 2), path=(out, f"{days}/2001-09-09\n".encode()),
           named=([f"{name} is {what}" in err.decode() for name, what in zip(names[1:3], ("too big", "a FIFO"))],
-                 [True] * 2),
-          files=(sorted(kept_in(days / "2001-09-09")), ["claim.json", names[0], names[3]]))
+                 [True] * 2), files=(sorted(kept_in(days / "2001-09-09")), ["claim.json", names[0], names[3]]))
     text = (ROOT / "systemd" / "ntpaudit-daily.service").read_text()
     steps = [line for line in text.splitlines() if line.startswith("ExecStart=")]
     check("no step of the daily unit stops another", steps=([line[10] for line in steps], ["-"] * len(steps)))
@@ -157,8 +154,7 @@ def test_killed(place: Path) -> None:
     """An audit that is killed leaves no private copies."""
     folder, private, slow = folder_of(place, "host"), place / "private", place / "ntpaudit"
     private.mkdir()
-    slow.write_text(f'#!/bin/sh\n[ "$1" != settle ] || sleep 600\nexec {PROGRAM} "$@"\n')
-    slow.chmod(0o755)
+    runnable(slow, f'#!/bin/sh\n[ "$1" != settle ] || sleep 600\nexec {PROGRAM} "$@"\n')
     call = subprocess.Popen([SCRIPT, "audit", folder], env={**ENVIRONMENT, "NTPAUDIT": str(slow),
                                                             "TMPDIR": str(private)})
     has_begun = wait_until(lambda: bool([*private.glob("ntpaudit-*/0/claim.json")]))

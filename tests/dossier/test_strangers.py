@@ -22,9 +22,9 @@ from pathlib import Path
 from typing import Any
 from unittest.mock import patch
 
-from tests.support import DATA, ROOT, SECONDS, check, children, is_here, run, wait_until
-from tests.dossier.audits import (ENVIRONMENT, KEEP, PROGRAM, SCRIPT, SEARCH, called, check_page, dossier,
-                                  folder_of, parts_left, rows, skipped, table, within)
+from tests.support import DATA, ROOT, SECONDS, check, children, is_here, run, runnable, wait_until
+from tests.dossier.audits import (ENVIRONMENT, KEEP, PROGRAM, SCRIPT, SEARCH, audited, called, check_page, dossier,
+                                  folder_of, parts_left, record_of, rows, skipped, table, within)
 from tests.dossier.test_evidence import key_of, why_no_link
 
 limited = functools.partial(dossier, memory=3 << 30)
@@ -42,7 +42,7 @@ def sums_of(folder: Path, *names: str) -> dict[str, str]:
 
 def forge(folder: Path, change: Callable[[Any, Any], object]) -> None:
     """Changes a folder's audit.json."""
-    record = json.loads((folder / "audit.json").read_text())
+    record = record_of(folder)
     change(record, record["entries"][0])
     (folder / "audit.json").write_text(json.dumps(record))
 
@@ -52,7 +52,7 @@ def test_forged_audit(place: Path) -> None:
     """An audit.json that somebody wrote by hand: no yes comes of it."""
     folder = folder_of(place, "forged", DATA / "chrony-ns.pcap", DATA / "chrony-ns.tight.claim.json")
     dossier("audit", folder, env=elsewhere(place))
-    made = json.loads((folder / "audit.json").read_text())["entries"][0]
+    made = record_of(folder)["entries"][0]
 
     def say_yes(_: object, entry: dict[str, Any]) -> None:
         entry.update(verdict="yes")
@@ -94,8 +94,7 @@ def test_forged_audit(place: Path) -> None:
 
 def test_hidden_capture(place: Path) -> None:
     """A verdict about another capture than the folder's."""
-    good = folder_of(place, "good")
-    dossier("audit", good)
+    good = audited(place, "good")
     hidden = folder_of(place, "hidden")
     (hidden / "f.pcap").rename(hidden / "hidden.dat")
     (hidden / "f.pcap").write_bytes((hidden / "hidden.dat").read_bytes()[:24])
@@ -122,13 +121,11 @@ def test_hidden_capture(place: Path) -> None:
 
 def test_swapped_record(place: Path) -> None:
     """Somebody's good signature beside an audit.json that nobody signed: the file is another at each reading."""
-    if not shutil.which("ssh-keygen"):
-        skipped("a record that is swapped", "ssh-keygen isn't installed")
+    if not is_here("ssh-keygen", "a record that is swapped"):
         return
     key, line = key_of(place, "alice")
     (place / "signers").write_text(line)
-    folder = folder_of(place, "swapped")
-    dossier("audit", folder)
+    folder = audited(place, "swapped")
     dossier("sign", "--key", key, folder)
     signed, record = folder.parent / "signed.json", folder / "audit.json"
     record.rename(signed)
@@ -312,7 +309,7 @@ def test_names_of_outputs(place: Path) -> None:
     folder, state = folder_of(place, "host"), place / "state"
     (place / "victim").write_text("victim")
     dossier("audit", "--state", state, folder)
-    record = json.loads((folder / "audit.json").read_text())
+    record = record_of(folder)
     for name in ("../victim", "/etc/hostname", "claim.json", "f.pcap", "2026-11-22/../../victim", "2026-11-22/f.pcap",
                  "x/report.txt", "../report.txt", "audit.json", ""):
         outputs = {**record["entries"][0]["outputs"], name: hashlib.sha256(b"victim").hexdigest()}
@@ -374,9 +371,8 @@ def test_every_write(place: Path) -> None:
     made = place / "made"
     made.mkdir()
     names = ("report.txt", "envelope.txt")
-    old, new = {"audit.json": b"old", "report.txt": b"old", "certificate.json": b"old"}, {"audit.json": b"new",
-                                                                                          "report.txt": b"new",
-                                                                                          "envelope.txt": b"new"}
+    old, new = {"audit.json": b"old", "report.txt": b"old",
+                "certificate.json": b"old"}, {"audit.json": b"new", "report.txt": b"new", "envelope.txt": b"new"}
     write, seen = os.write, []
     os.chdir(made)
     for name in names:
@@ -453,8 +449,7 @@ def test_at_once(place: Path) -> None:
     check("an audit after another wrote", status=(call.wait(SECONDS), 0), made=((folder / "audit.json").exists(), True))
     signature, kept = folder / "audit.json.sig", (state / "audits").read_text()
     signs = place / "signs"
-    signs.write_text(f'#!/bin/sh\n[ "$1" != envelope ] || : > "{signature}"\nexec "{PROGRAM}" "$@"\n')
-    signs.chmod(0o755)
+    runnable(signs, f'#!/bin/sh\n[ "$1" != envelope ] || : > "{signature}"\nexec "{PROGRAM}" "$@"\n')
     status, _, _ = dossier("audit", "--state", state, folder, env={**ENVIRONMENT, "NTPAUDIT": str(signs)})
     check("an audit of what is signed meanwhile", status=(status, 2), left=(signature.exists(), True))
     signature.unlink()
@@ -500,8 +495,7 @@ def test_programs(place: Path) -> None:
     folder = folder_of(place, "host")
     shutil.copy(folder / "f.pcap", folder / "g.pcap")
     for name in ("zstd", "ssh-keygen", "tcpdump"):
-        (folder / name).write_text(f'#!/bin/sh\ntouch "{place}/owned"\n')
-        (folder / name).chmod(0o755)
+        runnable(folder / name, f'#!/bin/sh\ntouch "{place}/owned"\n')
     path = {**ENVIRONMENT, "PATH": f".::{os.environ['PATH']}"}
     for cwd, named in ((place, "host"), (folder, ".")):
         status, _, _ = dossier("audit", "--again", named, cwd=cwd, env=path)
@@ -509,9 +503,8 @@ def test_programs(place: Path) -> None:
         check(f"programs of the folder, called in {cwd.name}", owned=((place / "owned").exists(), False),
               status=(status, 0))
     slow = place / "slow"
-    slow.write_text(f'#!/bin/sh\n[ "$1" = --version ] && exec "{PROGRAM}" "$1"\nsleep 1000 & echo $! >> '
-                    f'"{place}/sleeping"\nwait\n')
-    slow.chmod(0o755)
+    runnable(slow, f'#!/bin/sh\n[ "$1" = --version ] && exec "{PROGRAM}" "$1"\nsleep 1000 & echo $! >> '
+             f'"{place}/sleeping"\nwait\n')
     single, sleeping = folder_of(place, "single"), place / "sleeping"
     limit, (status, out, _) = within(lambda limit: dossier("audit", "--limit", str(limit), single,
                                                            env={**ENVIRONMENT, "NTPAUDIT": str(slow)}),
@@ -522,8 +515,7 @@ def test_programs(place: Path) -> None:
           left=(list(filter(is_running, sleeping.read_text().split())), []))
     said = place / "environment"
     keeps = place / "keeps"
-    keeps.write_text(f'#!/bin/sh\nenv > "{said}"\nexec "{PROGRAM}" "$@"\n')
-    keeps.chmod(0o755)
+    runnable(keeps, f'#!/bin/sh\nenv > "{said}"\nexec "{PROGRAM}" "$@"\n')
     dossier("audit", "--again", single,
             env={**ENVIRONMENT, "NTPAUDIT": str(keeps), "SECRET": "secret", "PATH": f".:{os.environ['PATH']}"})
     names = {line.split("=")[0] for line in said.read_text().splitlines()}
@@ -598,8 +590,7 @@ def test_fields(place: Path) -> None:
     dossier("audit", *folders)
     claim = json.loads((folders[0] / "claim.json").read_text())
     evidence = {"drift": "a text"}
-    cases: list[tuple[str, Any, Any]] = [
-        ("audit.json", read_record, json.loads((folder / "audit.json").read_text())) for folder in folders]
+    cases: list[tuple[str, Any, Any]] = [("audit.json", read_record, record_of(folder)) for folder in folders]
     cases += [("claim.json", lambda data: read_typed("claim.json", Claim, data), claim),
               ("evidence.json", lambda data: read_typed("evidence.json", dict[PREMISES, Text], data), evidence)]
     for name, read, whole in cases:
@@ -638,7 +629,7 @@ def test_hostile_records(place: Path) -> None:
     good = folder_of(place, "good")
     (good / "evidence.json").write_text(json.dumps({"drift": "<u>Ann's</u> \x1b[31m $(touch owned)"}))
     dossier("audit", good)
-    whole = json.loads((good / "audit.json").read_text())
+    whole = record_of(good)
     folders = []
     paths = {"false_max": ("entries", 0, "claim", "false_max"), "step": ("entries", 0, "envelope_step"),
              "verdict": ("entries", 0, "verdict"), "version": ("program", "version"), "seconds": ("seconds",),
@@ -712,7 +703,7 @@ exit 2
     rows, text = table(odd, made), dossier("page", *folders, odd, made)[1].decode()
     page = check_page("a page of hostile words", text, scripts=[SEARCH])
     words = "".join(page.words)
-    kept = [json.loads((folder / "audit.json").read_text())["refusal"] for folder in (odd, made)]
+    kept = [record_of(folder)["refusal"] for folder in (odd, made)]
     check("hostile words", kept=([(told["why"] + told["what"]).isprintable() for told in kept], [True, True]),
           tags=(page.tags & {"u", "i", "b", "img"}, set()), escape=("\x1b" in text, False),
           claim=('"client" has to be an IPv4 address; it is "<img src=http' in words, True),
@@ -723,8 +714,7 @@ exit 2
 
 def test_names_in_lines(place: Path) -> None:
     """Names that would say something where a line begins, that aren't seen, or that are no UTF-8."""
-    folder = folder_of(place, "host")
-    dossier("audit", folder)
+    folder = audited(place, "host")
     yes = folder / f"verified: yes{100 * ' '}.pcap"
     shutil.copy(folder / "f.pcap", yes)
     status, out, _ = dossier("verify", folder)

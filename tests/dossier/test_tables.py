@@ -25,9 +25,9 @@ from pathlib import Path
 from typing import Any
 from unittest.mock import patch
 
-from tests.support import DATA, ROOT, SECONDS, Ran, check, children, files_in, run, sum_of, wait_until
-from tests.dossier.audits import (CLAIMS, ENVIRONMENT, PROGRAM, SCRIPT, TICKS_PER_MS, capture_of, check_page,
-                                  dossier, folder_of, match_of, parts_left, rows, skipped, table)
+from tests.support import DATA, ROOT, SECONDS, Ran, check, children, files_in, run, runnable, sum_of, wait_until
+from tests.dossier.audits import (CLAIMS, ENVIRONMENT, PROGRAM, SCRIPT, TICKS_PER_MS, audited, capture_of, check_page,
+                                  dossier, folder_of, match_of, parts_left, record_of, rows, skipped, table)
 from tests.dossier.test_captures import records_of
 from tests.system.fault_lines import fault_lines
 
@@ -55,7 +55,7 @@ def test_figures(place: Path) -> None:
     rows = table(*folders)
     worst = 0
     for claim, folder, row in zip(CLAIMS, folders, rows):
-        entry = json.loads((folder / "audit.json").read_text())["entries"][0]
+        entry = record_of(folder)["entries"][0]
         verdict, least, begin, end, samples, report = seen_of_program(claim, DATA / f"{claim.name.split('.')[0]}.pcap",
                                                                       entry)
         worst = max(worst, verdict != "yes")
@@ -108,9 +108,8 @@ def test_rounding() -> None:
         low, high = (float(text.replace(",", "")) * TICKS_PER_MS for text in (low_ms(ticks), high_ms(ticks)))
         check(f"{ticks} ticks in milliseconds", low=(low <= ticks + 1e-3, True), high=(high >= ticks - 1e-3, True),
               near=(high - low < 4296, True))
-    check("nanoseconds in milliseconds",
-          seen=([ns_ms(5000000), ns_ms(956568), ns_up_ms(956568), ns_up_ms(956000)],
-                ["5", "0.956568", "0.957", "0.956"]))
+    check("nanoseconds in milliseconds", seen=([ns_ms(5000000), ns_ms(956568), ns_up_ms(956568), ns_up_ms(956000)],
+                                               ["5", "0.956568", "0.957", "0.956"]))
 
 
 def seen_in_texts(claim: Path, capture: Path) -> dict[str, Any]:
@@ -384,9 +383,8 @@ def test_side_by_side(place: Path) -> None:
     parent, hold, held = place / "many", place / "hold", place / "held"
     folders = [folder_of(parent, f"host-{number:03}") for number in range(200)]
     hold.touch()
-    held.write_text(f'#!/bin/sh\nwhile [ -e "{hold}" ] && [ -e "{folders[30]}/audit.json" ]; do sleep 0.1; done\n'
-                    f'exec "{PROGRAM}" "$@"\n')
-    held.chmod(0o755)
+    runnable(held, f'#!/bin/sh\nwhile [ -e "{hold}" ] && [ -e "{folders[30]}/audit.json" ]; do sleep 0.1; done\n'
+             f'exec "{PROGRAM}" "$@"\n')
     calls = {**ENVIRONMENT, "NTPAUDIT": str(held)}
     call = subprocess.Popen([SCRIPT, "audit", "--jobs", "4", *folders], env=calls, stdout=subprocess.DEVNULL,
                             stderr=subprocess.DEVNULL)
@@ -401,7 +399,7 @@ def test_side_by_side(place: Path) -> None:
           killed=(20 <= done < 200, True),
           order=([line.split()[1] for line in lines[:-1]], [f"{folder}:" for folder in folders]),
           again=(out.count(b"(unchanged)") in range(20, 200), True), left=(parts_left(parent), []))
-    sums = {json.dumps(json.loads((folder / "audit.json").read_text())["entries"]) for folder in folders}
+    sums = {json.dumps(record_of(folder)["entries"]) for folder in folders}
     check("200 copies, one answer", count=(len(sums), 1))
     status, out, _ = dossier("page", *folders)
     check("a page of 200", status=(status, 0), articles=(out.count(b"<article"), 200))
@@ -498,9 +496,8 @@ def test_slurm(place: Path) -> None:
         check(f"task {number} of the Slurm script", status=(status, 0), error=(err, b""))
         told += [line for line in out.decode().splitlines() if line.startswith("yes ")]
     check("the tasks of the Slurm script",
-          folders=(sorted(told),
-                   [f"yes           {folder.relative_to(place)}: least bound 0.619 ms, claimed 5 ms"
-                    for folder in folders]))
+          folders=(sorted(told), [f"yes           {folder.relative_to(place)}: least bound 0.619 ms, claimed 5 ms"
+                                  for folder in folders]))
     dossier("page", "--json", "--state", "state", "--metrics", "all.prom",
             *(folder.relative_to(place) for folder in folders), cwd=place)
     lines = {line for path in metrics.iterdir() for line in path.read_text().splitlines()}
@@ -543,8 +540,7 @@ def test_full_disk(place: Path) -> None:
 # ---- verify
 def test_verify(place: Path) -> None:
     """What differs from what the inputs come to, with both values."""
-    folder = folder_of(place, "verified")
-    dossier("audit", folder)
+    folder = audited(place, "verified")
     kept = {path.name: path.read_bytes() for path in folder.iterdir()}
     record = json.loads(kept["audit.json"])
     entry = record["entries"][0]
@@ -609,8 +605,7 @@ def test_verify(place: Path) -> None:
 # ---- files that change
 def stand_in(path: Path, script: str) -> dict[str, str]:
     """A program that does something and then is the program."""
-    path.write_text(f'#!/bin/sh\n{script}\nexec "{PROGRAM}" "$@"\n')
-    path.chmod(0o755)
+    runnable(path, f'#!/bin/sh\n{script}\nexec "{PROGRAM}" "$@"\n')
     return {**ENVIRONMENT, "NTPAUDIT": str(path)}
 
 
@@ -635,7 +630,7 @@ def test_changing(place: Path) -> None:
                                f'[ "$1" = {command} ] && {HARMLESS[name[-5:]]}"{folder}/{name}"')
                 before = sums_of(folder)
                 status, out, err = dossier("audit", folder, env=bad)
-                record = json.loads((folder / "audit.json").read_text())
+                record = record_of(folder)
                 check(label, status=(status, int(kind == "refuted")), error=(err, b""), sums=(record["inputs"], before))
                 status, out, _ = dossier("verify", folder)
                 check(f"{label}, by verify",
@@ -669,7 +664,7 @@ def test_sums(place: Path) -> None:
         os.rename(folder / "f.pcap", folder / name)
         check(f"the audit of {name!a} by {command}",
               status=(dossier("audit", folder, env=keeps)[0], int(command == "refute")))
-        record = json.loads((folder / "audit.json").read_text())
+        record = record_of(folder)
         recorded = {**record["inputs"], **record["entries"][0]["outputs"]}
         said, wanted = ((place / f"{command}.{end}").read_bytes() for end in ("sums", "wanted"))
         check(f"the sums that {command} gets of {name!a}", sums=(said, wanted),
@@ -763,8 +758,7 @@ def test_five_commands(place: Path) -> None:
                                                                    "a page")[1].split("## A folder")[0]
     commands = re.findall(r"^    (.*)", text, flags=re.M)
     check("five commands", count=(len(commands), 5))
-    (place / "tcpdump").write_text(TCPDUMP.format(capture=DATA / "vlan-ns.pcap"))
-    (place / "tcpdump").chmod(0o755)
+    runnable(place / "tcpdump", TCPDUMP.format(capture=DATA / "vlan-ns.pcap"))
     (place / "ntpaudit-dossier").symlink_to(SCRIPT)
     with_tcpdump = {**ENVIRONMENT, "PATH": f"{place}:{os.environ['PATH']}"}
     words = "draft --bound-ns 50000000 --chrony /etc/chrony/chrony.conf "
@@ -805,8 +799,7 @@ exec {program} "$@"
 def test_other_answers(place: Path) -> None:
     """What stays open; another refutation than the one that is kept; and a program that contradicts itself."""
     fake, folder = place / "ntpaudit", folder_of(place, "host", bound_ns=600_000)
-    fake.write_text(FAKE.format(program=PROGRAM))
-    fake.chmod(0o755)
+    runnable(fake, FAKE.format(program=PROGRAM))
     environment = {**ENVIRONMENT, "NTPAUDIT": str(fake)}
 
     def answers(text: str, word: str = "yes") -> None:
@@ -831,9 +824,8 @@ def test_other_answers(place: Path) -> None:
     with open(fake, "a") as opened:
         opened.write("# another build\n")
     other = b": (by another build of the program than the audit's)\n"
-    check("another refutation by another build",
-          run=(dossier("verify", folder, env=environment)[:2],
-               (1, f"{folder}: verified: refuted\n{folder}".encode() + other)))
+    check("another refutation by another build", run=(dossier("verify", folder, env=environment)[:2],
+                                                      (1, f"{folder}: verified: refuted\n{folder}".encode() + other)))
     kept, record = (folder / "refutation.json").read_bytes(), (folder / "audit.json").read_text()
     (folder / "refutation.json").write_bytes(b"\n" + kept)
     (folder / "audit.json").write_text(record.replace(sum_of(kept), sum_of(b"\n" + kept)))

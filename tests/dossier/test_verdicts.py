@@ -11,7 +11,8 @@ from pathlib import Path
 from typing import Any
 
 from tests.support import DATA, check, run
-from tests.dossier.audits import PROGRAM, SEARCH, called, capture_of, check_page, dossier, folder_of, rows, table
+from tests.dossier.audits import (PROGRAM, SEARCH, called, capture_of, check_page, dossier, folder_of, record_of, rows,
+                                  table)
 from tests.dossier.leaps import LATER, leap_list
 
 FIRST = 1_000_000_000
@@ -58,35 +59,32 @@ AGAINST: dict[str, Any] = {
 IN_SHORT = {"drift": "more drift than is granted", "reading": "a greater allowance than is granted",
             "step": "a logged step", "leap-second": "a leap second", "leap-ends": "the list of leap seconds has ended"}
 SUPPORTED: dict[str, Any] = {"drift": ({"drift": SETUP}, {"drift_ppb": 600_000}),
-                             "reading": ({"reading": measured(60_000)}, {"reading_ns": 60_000}),
-                             "step": ({"drift": {**SETUP, "tracking": logged("2001-09-09T02:00:00Z")}},
-                                      {"drift_ppb": 600_000})}
+                             "reading": ({"reading": measured(60_000)}, {"reading_ns": 60_000}), "step":
+                             ({"drift": {**SETUP, "tracking": logged("2001-09-09T02:00:00Z")}}, {"drift_ppb": 600_000})}
 """The same kinds, with evidence that doesn't speak against it."""
 
 
 def test_unsupported(place: Path) -> None:
     """A yes against which the folder's own evidence speaks has a badge of its own and isn't a yes, anywhere."""
-    lists: dict[str, Any] = {
-        "leap-second": (leap_list(place / "second.list", LATER, (FIRST + 30, 11)), "A leap second at the end of",
-                        "Claim another span"),
-        "leap-ends": (leap_list(place / "ended.list", FIRST - 86_400), "was good until 2001-09-08 only",
-                      "--leap-seconds")}
+    lists: dict[str, Any] = {"leap-second": (leap_list(place / "second.list", LATER, (FIRST + 30, 11)),
+                                             "A leap second at the end of", "Claim another span"),
+                             "leap-ends": (leap_list(place / "ended.list", FIRST - 86_400),
+                                           "was good until 2001-09-08 only", "--leap-seconds")}
     cases: dict[str, Any] = {
         kind: (evidence, changes, said, to_do, ()) for kind, (evidence, changes, said, to_do) in AGAINST.items()}
     cases |= {kind: ({}, {}, said, to_do, ("--leap-seconds", list_)) for kind, (list_, said, to_do) in lists.items()}
     for kind, (evidence, changes, said, to_do, words) in cases.items():
         folder = good_folder(place, kind, evidence, **changes)
         status, out, _ = dossier("audit", *words, folder)
-        record, row = json.loads((folder / "audit.json").read_text())["entries"][0], table(folder, words=words)[0]
+        record, row = record_of(folder)["entries"][0], table(folder, words=words)[0]
         text = dossier("page", *words, folder)[1].decode()
         page = "".join(check_page(f"a page of evidence against a yes: {kind}", text).words)
         line = next(csv.DictReader(io.StringIO(dossier("page", "--csv", *words, folder)[1].decode())))
         check(f"evidence against a yes: {kind}", status=(status, 1),
               line=((out.decode().startswith(f"unsupported   {folder}: "), out.decode().partition(" ms (")[2]),
-                    (True, f"{IN_SHORT[kind]})\n")),
-              record=((record["verdict"], record["reason"],
-                       kind in [warning["kind"] for warning in record["warnings"]]),
-                      ("unsupported", {"why": "evidence"}, True)),
+                    (True, f"{IN_SHORT[kind]})\n")), record=((record["verdict"], record["reason"], kind
+                                                              in [warning["kind"] for warning in record["warnings"]]),
+                                                             ("unsupported", {"why": "evidence"}, True)),
               json=((row["verdict"], said in row["reason"], to_do in row["to_do"]), ("unsupported", True, True)),
               csv=((line["verdict"], said in line["reason"]), ("unsupported", True)),
               badge=('class="verdict unsupported"' in text and 'class="verdict yes"' not in text, True),
@@ -171,8 +169,7 @@ def test_split(place: Path) -> None:
     made = place / "made" / "pages"
     names = [f"{called(folder)}.html" for folder in (*folders, days)]
     check("page --split", run=(dossier("page", "--split", made, *folders, days), (0, b"", b"")),
-          files=(sorted(path.name for path in made.iterdir()),
-                 sorted([*names, "index.html", "pages.sums"])))
+          files=(sorted(path.name for path in made.iterdir()), sorted([*names, "index.html", "pages.sums"])))
     listed = run(["sha256sum", "-c", "--quiet", "pages.sums"], cwd=made)
     check("the sums of pages", run=(listed, (0, b"", b"")))
     index = (made / "index.html").read_text()
@@ -247,10 +244,9 @@ def test_many_together(place: Path) -> None:
     seen = list(dict.fromkeys(row["verdict"].replace(" ", "-") for row in rows))
     check("the lines of one verdict alone", places=(sorted(re.findall(r'id="only-([a-z-]+)"', text)), sorted(seen)),
           links=(sorted(re.findall(r'href="#only-([a-z-]+)"', text)), sorted(seen)),
-          lines=(re.findall(r'<tbody class="of-([a-z-]+)"', text),
-                 [row["verdict"].replace(" ", "-") for row in rows]),
-          hidden=([kind for kind in seen if f"#only-{kind}:target~.audits tbody:not(.of-{kind}){{display:none}}"
-                   not in text], []))
+          lines=(re.findall(r'<tbody class="of-([a-z-]+)"', text), [row["verdict"].replace(" ", "-") for row in rows]),
+          hidden=([kind for kind in seen
+                   if f"#only-{kind}:target~.audits tbody:not(.of-{kind}){{display:none}}" not in text], []))
     day = folder_of(place, "days", DATA / "clients-us.pcap", DATA / "clients-us.claim.json",
                     **{"from": "2026-11-22T07:03:36Z", "to": "2026-11-24T00:00:00Z"})
     dossier("audit", "--days", day)

@@ -11,8 +11,8 @@ from html import unescape
 from pathlib import Path
 from typing import Any
 
-from tests.support import check, is_here, run, sum_of
-from tests.dossier.audits import ENVIRONMENT, called, capture_of, check_page, dossier
+from tests.support import check, is_here, run, runnable, sum_of
+from tests.dossier.audits import ENVIRONMENT, called, capture_of, check_page, dossier, record_of
 from tests.dossier.test_daily import name_by_hand
 from tests.dossier.test_evidence import key_of
 from tests.dossier.test_verdicts import CLAIM
@@ -99,8 +99,7 @@ def test_year(place: Path) -> None:
           by=([by for _, by, _ in lines], [*["verified"] * 3, "-", "verified", "verified"]),
           by_hand=(lines[2][0], name_by_hand(own / "2001-09-11", "refutation.json report.txt envelope.txt")))
     maybe = place / "second"
-    maybe.write_text("#!/bin/sh\necho verdict maybe\n")
-    maybe.chmod(0o755)
+    runnable(maybe, "#!/bin/sh\necho verdict maybe\n")
     state = {**ENVIRONMENT, "XDG_STATE_HOME": str(place / "disputed"), "NTPAUDIT_SECOND": str(maybe)}
     other = place / "other"
     once = day(other, 1, RIGHT)
@@ -119,8 +118,7 @@ def test_year(place: Path) -> None:
     dossier("audit", day(place / "ahead", 0, RIGHT, name=tomorrow, **span))
     text = dossier("year", "--year", tomorrow[:4], place / "ahead")[1].decode()
     said = f"<li>{tomorrow}: {tomorrow} hasn't ended yet</li>"
-    check("a day that hasn't ended", named=(said in unescape(text), True),
-          cell=(f'title="{tomorrow}' in text, False))
+    check("a day that hasn't ended", named=(said in unescape(text), True), cell=(f'title="{tomorrow}' in text, False))
     check("another year", none=("0 of 365" in dossier("year", "--year", "2002", own)[1].decode(), True))
 
 
@@ -316,7 +314,7 @@ def test_midnight(place: Path) -> None:
               said=("2001-09-10/claim.json is what an audit leaves, and none left this one" in out.decode(), True))
     own.write_text(left)
     (folder / "audit.json").write_text(record)
-    claims = [entry["claim"] for entry in json.loads((folder / "audit.json").read_text())["entries"]]
+    claims = [entry["claim"] for entry in record_of(folder)["entries"]]
     spans = [(own["from"], own["to"]) for own in claims]
     check("days join", ends=([end for _, end in spans[:-1]], [begin for begin, _ in spans[1:]]), number=(len(spans), 3),
           all=((spans[0][0], spans[-1][1]), (claim["from"], claim["to"])))

@@ -385,9 +385,8 @@ def own_codes() -> set[str]:
 
 def comments_of(path: Path) -> list[str]:
     """The texts that stand alone in a module: what its parts are."""
-    return [node.value.value for node in ast.walk(ast.parse(path.read_text("utf-8")))
-            if isinstance(node, ast.Expr) and isinstance(node.value, ast.Constant)
-            and isinstance(node.value.value, str)]
+    return [node.value.value for node in ast.walk(ast.parse(path.read_text("utf-8"))) if isinstance(node, ast.Expr)
+            and isinstance(node.value, ast.Constant) and isinstance(node.value.value, str)]
 
 
 def test_dossier(place: Path) -> None:

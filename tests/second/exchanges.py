@@ -62,9 +62,8 @@ def reason_of(reply: Packet, requests: list[Packet]) -> str | Packet:
         return "precision"
     if zero in (reply.origin, reply.receive, reply.transmit):
         return "zero"
-    found = [request for request in requests
-             if request.destination[0] == reply.source[0] and request.source[1] == reply.destination[1]
-             and request.transmit == reply.origin]
+    found = [request for request in requests if request.destination[0] == reply.source[0]
+             and request.source[1] == reply.destination[1] and request.transmit == reply.origin]
     return found[0] if len(found) == 1 else "ambiguous" if found else "norequest"
 
 

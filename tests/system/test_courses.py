@@ -104,8 +104,7 @@ def checked(*files: str) -> Ran:
     return run([PROGRAM, "check", *files])
 
 
-def answers_wrong(course: Course, samples: list[Sample], folder: str, capture: str,
-                  bounds: list[int]) -> Iterator[str]:
+def answers_wrong(course: Course, samples: list[Sample], folder: str, capture: str, bounds: list[int]) -> Iterator[str]:
     """What is wrong with what the commands answer of a claim with each of these bounds, by the second reading."""
     os.link(capture, os.path.join(folder, "capture.pcap"))
     for bound_ns in bounds:

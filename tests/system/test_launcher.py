@@ -12,7 +12,7 @@ from collections.abc import Callable
 from pathlib import Path
 from typing import Any
 
-from tests.support import ROOT, Ran, SECONDS, check, manifest_of, nobody, run, sum_of
+from tests.support import ROOT, SECONDS, Ran, check, manifest_of, nobody, run, runnable, sum_of
 
 STAND_IN = """#!/bin/sh
 # stands in for the toolchain: `rt run` in the crate's folder leaves the "program" that its source is
@@ -63,8 +63,7 @@ class Copy:
         (self.top / "crates/other/proofs/lemma/Answers.antt").write_text("-- a proof\n")
         self.source.write_text(PROGRAM)
         self.rt = self.toolchain / "rt"
-        self.rt.write_text(STAND_IN)
-        self.rt.chmod(0o755)
+        runnable(self.rt, STAND_IN)
         (self.toolchain / "version").write_text("stand-in 1\n")
         for tool in TOOLS:
             (self.tools / tool).symlink_to(str(shutil.which(tool)))
@@ -276,8 +275,7 @@ def test_strange_folders(folder: Path) -> None:
             if not is_there:
                 shutil.rmtree(copy.kept)
             copy.kept.mkdir(exist_ok=True)
-            (copy.kept / "ntpaudit").write_text(strange)
-            (copy.kept / "ntpaudit").chmod(0o755)
+            runnable(copy.kept / "ntpaudit", strange)
             found = os.stat(copy.kept / "ntpaudit")
             for third in (stamp[2], sum_of(strange.encode()) + "  -", f"{found.st_ino} {found.st_mtime:.10f}"):
                 (copy.kept / "ntpaudit.stamp").write_text("\n".join([*stamp[:2], third, *stamp[3:], ""]))

@@ -100,13 +100,12 @@ def compare(asked: Asked) -> Pairs:
     ran = {call: asked.call(*call) for call in calls_on(asked.claim)}
     wanted = {call: ran_of(answers.READINGS[call[0]](asked.evidence, *call[1:])) for call in ran}
     found = [text for call, (status, text, _) in ran.items() if call[:2] == ("find", "--step") and status == 0]
-    return {
-        **{" ".join(call): (ran[call], wanted[call]) for call in ran},
-        "counts": (asked.call("check", CERTIFICATE)[1].splitlines()[2:3], [asked.evidence.counts.encode()]),
-        "verdicts": ([asked.verdict(text) for text in found], [(0, b"verdict yes")] * len(found)),
-        "a yes and a refutation": (bool(found) and ran["find", "--refutation"][0] == 0, False),
-        **{f"refutations with {bound} ns": refutation(asked.with_(bound_ns=bound)) for bound in BOUNDS},
-        "refutations": refutation(asked), "least bounds": (is_carried(asked, asked.least()), True)}
+    return {**{" ".join(call): (ran[call], wanted[call]) for call in ran},
+            "counts": (asked.call("check", CERTIFICATE)[1].splitlines()[2:3], [asked.evidence.counts.encode()]),
+            "verdicts": ([asked.verdict(text) for text in found], [(0, b"verdict yes")] * len(found)),
+            "a yes and a refutation": (bool(found) and ran["find", "--refutation"][0] == 0, False),
+            **{f"refutations with {bound} ns": refutation(asked.with_(bound_ns=bound)) for bound in BOUNDS},
+            "refutations": refutation(asked), "least bounds": (is_carried(asked, asked.least()), True)}
 
 
 def refutation(asked: Asked) -> tuple[Any, Any]:
@@ -156,8 +155,7 @@ def is_confirmed(asked: Asked, kind: str, text: bytes) -> bool:
 def told(asked: Asked, kind: str, text: bytes, least: int | None) -> bytes:
     """What `settle --human` has to say for a person where `settle` says this."""
     rows = (row.split()[:2] for row in asked.listing.decode().splitlines()[:-1])
-    times = {int(number): int(whole + part.ljust(9, "0")) for number, time in rows
-             for whole, part in [time.split(".")]}
+    times = {int(number): int(whole + part.ljust(9, "0")) for number, time in rows for whole, part in [time.split(".")]}
     heard = {asked.claim["servers"][sample.server] for sample in asked.evidence.samples}
     lines = shown.settle(text.decode().splitlines(), asked.claim, times,
                          f"least_ns {'none' if least is None else least}", heard if kind == "no evidence" else set())

@@ -101,13 +101,11 @@ def test_examples(folder: Path) -> None:
         label = f"NIST's example {number}, of {len(message)} bytes"
         if len(message) <= MOST:
             call.of(claim="message").says(f"{label}, as a claim", line + rest[1] + rest[2], "claim 1 json")
-        call.of(second="message").says(f"{label}, as a certificate", rest[0] + line + rest[2],
-                                       "certificate 1 json")
+        call.of(second="message").says(f"{label}, as a certificate", rest[0] + line + rest[2], "certificate 1 json")
         refused = "capture 1 torn-header" if len(message) < 24 else "capture 2 magic"
         call.of(capture="message").says(f"{label}, as a capture", rest[0] + rest[1] + line, refused)
         other = b"%x" % (int(sum_[0], 16) ^ 8) + line[1:]
-        call.of(capture="message").says(f"{label}, with another sum", rest[0] + rest[1] + other,
-                                        "sums differ capture")
+        call.of(capture="message").says(f"{label}, with another sum", rest[0] + rest[1] + other, "sums differ capture")
 
 
 def test_lengths(folder: Path) -> None:

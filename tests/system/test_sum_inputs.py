@@ -83,9 +83,8 @@ def test_pipes(folder: Path) -> None:
                   run=(by_fifo(call, [kind], sums, {kind: [whole[:-1], pause, whole[-1:]]}), plain))
             check(f"{command} with a {kind} that ends early",
                   run=(by_fifo(call, [kind], sums, {kind: [whole[:-1]]}), fault(f"sums differ {kind}")))
-        check(f"{command} with sums that grow",
-              run=(by_fifo(call, ["sums"], sums, {"sums": [sums, pause, b"\n"]}),
-                   fault(f"sums form line {len(kinds)}")))
+        check(f"{command} with sums that grow", run=(by_fifo(call, ["sums"], sums, {"sums": [sums, pause, b"\n"]}),
+                                                     fault(f"sums form line {len(kinds)}")))
         line = 'exec "$0" "$@" --sums <(sha256sum "${@:2}")'
         check(f"{command} with a process in place of a file",
               run=(run(["bash", "-c", line, *call.words], cwd=own), plain))

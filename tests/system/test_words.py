@@ -26,9 +26,8 @@ FIELDS = {
     "reading_ns": "a whole number from 0 to 10^9", "groups": "an array of arrays of server numbers"}
 """The fields by rising code, each with what has to stand there."""
 
-GOOD: dict[str, object] = {
-    "client": "192.0.2.10", "servers": ["192.0.2.1", "192.0.2.2"], "false_max": 0, "from": TIME, "to": TIME,
-    "bound_ns": 10**6, "drift_ppb": 0, "reading_ns": 0, "groups": [[0], [1]]}
+GOOD: dict[str, object] = {"client": "192.0.2.10", "servers": ["192.0.2.1", "192.0.2.2"], "false_max": 0, "from": TIME,
+                           "to": TIME, "bound_ns": 10**6, "drift_ppb": 0, "reading_ns": 0, "groups": [[0], [1]]}
 
 TIMES = ("", "2001-09-09", "2001-09-09T01:46:40", "2001-09-09T01:46:40+00:00", "2001-09-09 01:46:40Z",
          "2001-02-29T00:00:00Z")

@@ -89,8 +89,7 @@ def edges() -> Iterator[Edge]:
             yield Edge(f"{name} {value}", CLAIM, capture_of(TWO[0]._replace(reply={name: value}), TWO[1]))
     for name, values in {"version": range(8), "mode": range(8), "transmit": (0, 5), "leap": (3,)}.items():
         for value in values:
-            yield Edge(f"request {name} {value}", CLAIM,
-                       capture_of(TWO[0]._replace(request={name: value}), TWO[1]))
+            yield Edge(f"request {name} {value}", CLAIM, capture_of(TWO[0]._replace(request={name: value}), TWO[1]))
     for delay in (0, 1, 9):
         distance = delay * 32768 + 1
         for early in (0, 1, 2 * distance - 1, 2 * distance, 2 * distance + 1):

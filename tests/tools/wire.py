@@ -52,9 +52,8 @@ class Frame(NamedTuple):
         words = 5 + len(self.options) // 4 if self.words is None else self.words
         total = max(0, 20 + len(self.options) + len(carried) + self.total_more)
         return (b"\2\0\0\0\0\2\2\0\0\0\0\1" + self.tags + self.kind
-                + struct.pack(">BBHHHBBHII", self.version << 4 | words, 0, total, 7, self.fragment, 64, self.protocol,
-                              0, self.source, self.destination)
-                + self.options + carried + self.padding)
+                + struct.pack(">BBHHHBBHII", self.version << 4 | words, 0, total, 7, self.fragment, 64,
+                              self.protocol, 0, self.source, self.destination) + self.options + carried + self.padding)
 
 
 class Clock(NamedTuple):
