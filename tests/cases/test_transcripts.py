@@ -34,8 +34,6 @@ ON_DISK = {
     "list/folder-on-standard-input": "a folder isn't opened in memory",
     "samples/one-pipe-for-both": "a pipe is read whole for its first reader",
     "samples/one-pipe-for-both-with-both": "a pipe is read whole for its first reader",
-    "settle/output-to-an-input": "nothing hinders a file in memory",
-    "settle/output-with-sums-to-them": "nothing hinders a file in memory",
     "words/output-as-an-input": "nothing hinders a file in memory",
     "words/output-beside-a-draft": "nothing hinders a file in memory",
     "words/output-that-cannot-be-written": "nothing hinders a file in memory",

@@ -154,28 +154,19 @@ def check_left(name: str, words: list[object], wanted: list[bytes], given: IO[by
 
 
 def test_early_end(folder: Path) -> None:
-    """A reader of a listing that goes away, where the capture is a file and where it comes by a pipe."""
-    long = folder / "long.pcap"
+    """A reader that goes away: of a listing, where the capture is a file and where it comes by a pipe; of samples; and
+    of a certificate, of which 100,000 pieces are some 4 MB in one line."""
+    long, claim = folder / "long.pcap", folder / "claim.json"
     long.write_bytes(BYTES[:24] + 50_000 * BYTES[24:])
     lines = LISTING.splitlines(keepends=True)
     wanted = [lines[0], lines[1], lines[0].replace(b"0 ", b"2 ", 1)]
     check_left("the listing of a file", ["list", long], wanted)
     with open(long, "rb") as opened, subprocess.Popen(["cat"], stdin=opened, stdout=PIPE) as feeds:
         check_left("the listing of a pipe", ["list"], wanted, feeds.stdout)
-
-
-def test_early_end_of_samples(folder: Path) -> None:
-    """A reader of samples that goes away: 50,000 replies to one request are as many samples."""
-    long = folder / "long.pcap"
     long.write_bytes(BYTES[:130] + 50_000 * BYTES[130:])
     ends = -4295, 1, 85895050, 85903641, -42949674, 42953969
     wanted = [f"{written(SAMPLE, k, '192.0.2.1', 0, k + 1, *ends)}\n".encode() for k in range(3)]
     check_left("samples", ["samples", CLAIM, long], wanted)
-
-
-def test_early_end_of_a_certificate(folder: Path) -> None:
-    """A reader of a certificate that goes away: 100,000 pieces are some 4 MB in one line."""
-    claim = folder / "claim.json"
     claim.write_text(CLAIM.read_text().replace('"to":"2001-09-09T01:46:40Z"', '"to":"2001-09-10T05:33:20Z"'))
     begin = b'{"pieces":[{"entries":[[0,0]],"upto":4294967300294967296},{"entries"'
     check_left("a certificate", ["find", claim, CAPTURE, "--step", "1"], [begin])
