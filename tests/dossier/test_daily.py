@@ -637,7 +637,7 @@ def test_kept_by_strangers(place: Path) -> None:
     (place / "bin" / "python3").symlink_to(sys.executable)
     (place / "bin" / "env").symlink_to(str(shutil.which("env")))
     check("keep without zstd", run=(dossier("keep", odd, env=bare)[0], 70), same=(kept_in(odd) == before, True))
-    # Of a bound of its own, as in tests/dossier/test_strangers.py.
+    # Of a bound of its own, as in tests/dossier/test_hostile.py.
     stranger = folder_of(place, "stranger", bound_ns=5_000_002)
     dossier("audit", stranger, env=state)
     check("what isn't known isn't kept", run=(dossier("keep", stranger)[0], 5),

@@ -14,7 +14,7 @@ from tests.dossier.audits import (ENVIRONMENT, SCRIPT, called, capture_of, check
 from tests.dossier.leaps import leap_list
 from tests.dossier.test_captures import packed_folder, pcapng, records_of
 from tests.dossier.test_evidence import FIRST, MINUTE, key_of
-from tests.dossier.test_strangers import elsewhere, forge, sums_of
+from tests.dossier.test_hostile import elsewhere, forge, sums_of
 
 LATER = FIRST + 10**9
 

@@ -16,7 +16,7 @@ from tests.dossier.leaps import leap_list
 from tests.dossier.test_captures import records_of
 from tests.dossier.test_daily import kept_in, recorded
 from tests.dossier.test_evidence import FIRST, MINUTE
-from tests.dossier.test_strangers import elsewhere, forge, limited
+from tests.dossier.test_hostile import elsewhere, forge, limited
 
 GOOD = "yes           {}: least bound 0.619 ms, claimed 5 ms"
 

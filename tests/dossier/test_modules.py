@@ -58,7 +58,7 @@ def packages_of(path: Path, tree: ast.AST) -> Iterator[tuple[int, str]]:
                 yield node.lineno, package
 
 
-def test_sources() -> None:
+def test_modules() -> None:
     seen = set[str]()
     for path in files_in(ROOT / "dossier", "**/*.py"):
         allowed, wrong = MODULES.get(path.stem, set[str]()), []
