@@ -25,15 +25,13 @@ ROOT = Path(__file__).resolve().parents[1]
 DATA = ROOT / "data"
 
 SECONDS = 600
-"""A run that takes longer than this by the clock has hung, however much else the machine does; no test depends on being
-quicker."""
+"""A run that takes longer than this by the clock has hung; no test depends on being quicker."""
 
 NOBODY = 65534
 LOCK = threading.Lock()
 
 Ran = tuple[int | str, bytes, bytes]
-"""Status, standard output and standard error of a command. A run that doesn't end, or that can't be begun, has a text
-for its status."""
+"""Status (a text where a run doesn't end or begin), standard output and standard error of a command."""
 
 
 class Case(unittest.TestCase):
@@ -182,8 +180,7 @@ def sum_of(data: bytes) -> str:
 
 
 def sum_of_sources(top: Path) -> str:
-    """The sum of the files that the program is built of, as the launcher takes it: of the sums of all files with their
-    paths, sorted by bytes."""
+    """The sum of the files that the program is built of, as the launcher takes it: of all sums with their paths."""
     folders = [folder for name in ("src", "specs", "proofs") for folder in top.glob(f"crates/*/{name}")]
     files = [top / "crates.txt", *(file for folder in folders for file in folder.rglob("*") if file.is_file())]
     lines = sorted(f"{sum_of(file.read_bytes())}  {file.relative_to(top)}\n".encode() for file in files)

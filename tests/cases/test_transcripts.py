@@ -62,8 +62,7 @@ def status_line(status: int | str) -> list[str]:
 
 
 class Trial:
-    """A case that was run: what each command printed and had to print, and the lines below each that say what it
-    printed."""
+    """A case that was run: what each command printed and had to print, and the lines below each that say it."""
 
     def __init__(self, path: str, case: Case) -> None:
         self.seen: list[tuple[str, Ran]] = []

@@ -71,8 +71,7 @@ def file_of(name: str) -> Path:
 
 
 def renewed(name: str, shown: list[list[str]]) -> str:
-    """The text of a case's file with other lines below the commands of the case. Its comments, its commands and its
-    blank lines stay."""
+    """The text of a case's file with other lines below the commands of the case, and all else as it was."""
     blocks = re.split(r"^(?=# )", file_of(name).read_text("utf-8"), flags=re.M)
     place = next(at for at, block in enumerate(blocks) if re.match(f"# {re.escape(name.split('/')[1])}[: \n]", block))
     lines, out, left = blocks[place].split("\n"), list[str](), list(shown)

@@ -134,8 +134,7 @@ def test_many_files(place: Path) -> None:
 
 
 def test_joins(place: Path) -> None:
-    """Records of several files come in order of time, as a merge by hand has them: of those of one time the first
-    file's, whether the files follow one another or not, and in the order of each file where its times fall."""
+    """Records of several files come in order of time, as a merge by hand has them; of one time the first file's."""
     from dossier.capture.classic import Classic, join
     rnd, seen, known = random.Random(11), {True: 0, False: 0}, {True: 0, False: 0}
     for trial in range(400):
@@ -280,8 +279,7 @@ def short_record(second: int) -> bytes:
 
 
 def test_remedies_work(place: Path) -> None:
-    """The command that the dossier's remedy names for a capture that isn't in order: what comes out is audited. (Those
-    of the program are tried by tests/pages/test_remedies.py.)"""
+    """The command that the dossier's remedy names for a capture that isn't in order: what comes out is audited."""
     from dossier.page.remedies import remedy
     name, whole = "the remedy of a capture: back and forth", (DATA / "clients-us.pcap").read_bytes()
     if not shutil.which("reordercap"):

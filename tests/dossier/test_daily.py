@@ -168,8 +168,7 @@ def series_of(name: str, values: object, **labels: str) -> dict[str, Any]:
 
 
 def timed_alerts() -> list[dict[str, Any]]:
-    """Tests of the alerts that look at times, and at several metrics: of two machines one falls silent, and one of
-    three that are near their bounds is a yes."""
+    """Alerts that look at times: of two machines one falls silent, and one of three near their bounds is a yes."""
     node = {"job": "node", "instance": "web-1"}
     first, second = ({**node, "machine": machine} for machine in ("fleet/a", "fleet/b"))
     audits = [series_of("last_audit_timestamp_seconds", "3600+3600x50", **first),
@@ -260,8 +259,7 @@ def test_alerts_of_now(place: Path) -> None:
 
 
 def labels_of(series: list[dict[str, str]], folder: object, name: str) -> dict[str, str]:
-    """The labels of the series of a folder that has an alert: its servers apart, that it was off, or the verdict that
-    is 1."""
+    """The labels of a folder's series that has an alert: its servers apart, that it was off, or its verdict."""
     kinds = {"ClockServerApart": "servers_apart", "ClockOff": "clock_off"}
     kind, value = kinds.get(name, "verdict"), "" if name in kinds else "1x"
     own, = (line["series"] for line in series if line["series"].startswith(f"ntpaudit_{kind}{{")
@@ -402,8 +400,7 @@ def test_day_of_others(place: Path) -> None:
 
 
 def test_odd_day(place: Path) -> None:
-    """A missing hour, a machine that was off, a recorder that was killed, a step in the log: all are told, and none
-    hides another."""
+    """A missing hour, a machine that was off, a recorder that was killed, a logged step: none hides another."""
     recorder, days, names = recorded(place, [hour for hour in range(-1, 21) if hour != 13])
     whole = (recorder / names[5]).read_bytes()
     (recorder / names[5]).write_bytes(whole[:-20])
@@ -666,8 +663,7 @@ def test_years(place: Path) -> None:
 
 
 def test_clear(place: Path) -> None:
-    """Recordings are taken away but those of the newest days that have any, whatever the clock says; only if folders
-    of days have the same, packed or not; and a tenth a call."""
+    """Recordings are taken away but the newest days', if folders of days have the same; and a tenth a call."""
     today = int(time.time()) // DAY * DAY
     recorder, days, names = recorded(place, range(-15 * 24, 0, 6), today)
     words = ("day", "--from", recorder, "--to", days, "--clear", "10")

@@ -98,8 +98,7 @@ def test_own_names(place: Path) -> None:
 
 
 def test_own_recordings(place: Path) -> None:
-    """A recording with the name of what an audit leaves: it stays, whatever the audit would put there, and however
-    often it is asked."""
+    """A recording with the name of what an audit leaves stays, whatever the audit would put there."""
     for name, beside in rows(("alone", {}), ("beside others", {"f.pcap": 60, "g.pcap": 120})):
         folder = folder_of(place, name)
         whole = (folder / "f.pcap").rename(folder / "joined.pcap").read_bytes()

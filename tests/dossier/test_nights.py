@@ -42,8 +42,7 @@ def test_twice_in_one(place: Path) -> None:
 
 
 def test_drafts_of_nights(place: Path) -> None:
-    """A draft says why nothing fits it, that packets are there twice, that the list of leap seconds has ended, and what
-    was meant by other operands; a configuration may come by a pipe."""
+    """A draft says why nothing fits it, and what was meant by other operands; a configuration may come by a pipe."""
     history = stepped(MIDNIGHT + 600 * SECOND, -SECOND // 20).live()
     stepping = place / "stepped.pcap"
     stepping.write_bytes(capture(history, history.recorders[0]))

@@ -191,8 +191,7 @@ def spoilt(record: Any) -> Iterator[tuple[str, Any]]:
 
 
 def test_schema(place: Path) -> None:
-    """docs/audit.schema.json is what the types say by which the dossier reads it; all that is read is valid by it, and
-    what isn't is refused too."""
+    """docs/audit.schema.json is what the types say; all that is read is valid by it, and what isn't is refused too."""
     text = (ROOT / "docs/audit.schema.json").read_text()
     check("docs/audit.schema.json", printed=(run([ROOT / "docs/schema"]), (0, text.encode(), b"")))
     schema = json.loads(text)
@@ -224,8 +223,7 @@ def is_read(path: Path) -> bool:
 
 
 def add() -> None:
-    """Audits the folders of today's version (`tests/renew older`), with a list of leap seconds that isn't this
-    machine's."""
+    """Audits the folders of today's version (`tests/renew older`), with a list of leap seconds of its own."""
     version = said("--version").split()[1].decode()
     (OLDER / version).mkdir()
     newest = OLDER / max(FORMS.keys() - {version})

@@ -244,8 +244,7 @@ def test_flood(place: Path) -> None:
 
 
 def test_dead_mounts(place: Path) -> None:
-    """Folders on a mount that never answers, or no more after some calls, as where a server of NFS dies: each is
-    refused when its time is over, and the good one is as without."""
+    """Folders on a mount that never answers: each is refused when its time is over, and the good one is as without."""
     mounted, good = place / "mounted", folder_of(place / "real", "good")
     mounted.mkdir()
     for kind, *command in (("read", "audit", "--again"), ("open", "audit", "--again"), ("readdir", "audit", "--again"),

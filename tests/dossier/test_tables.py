@@ -371,8 +371,7 @@ def test_refusals(place: Path) -> None:
 
 
 def test_remedies() -> None:
-    """Of each fault line the program says what it means (tests/system/test_words.py), and the dossier hasn't words of
-    its own, but for memory."""
+    """The program says of each fault line what it means, and the dossier hasn't words of its own, but for memory."""
     from dossier.page.remedies import remedy
     for line in fault_lines():
         check(f"the words of {line}", own=(bool(remedy(f"ntpaudit: {line}")[0]), line == "memory"))
@@ -650,8 +649,7 @@ def test_changing(place: Path) -> None:
 
 
 def test_sums(place: Path) -> None:
-    """What is handed to `check` and `refute` as a file of sums: what sha256sum writes of the very operands, and what
-    audit.json says."""
+    """What `check` and `refute` get as a file of sums: what sha256sum writes of the operands, and audit.json says."""
     keeps = stand_in(place / "program",
                      f'case "$*" in *" --sums sums") cat sums > "{place}/$1.sums"; sha256sum "$2" "$3" "$4" > '
                      f'"{place}/$1.wanted";; esac')

@@ -53,8 +53,7 @@ def hold_blocks(document: Path) -> None:
 
 
 def test_steps() -> None:
-    """Each row of the table: a step, the number of pieces, the certificate's bytes, and the least bound in milliseconds
-    with six decimals."""
+    """Each row of the table: a step, the number of pieces, the certificate's bytes, and the least bound."""
     claim = json.loads((DATA / "chrony-ns.claim.json").read_text())
     table = (ROOT / "docs/GUIDE.md").read_text("utf-8").split("| `--step` |")[1].split("\n\n")[0]
 
@@ -95,8 +94,7 @@ def hold_quotes(document: Path) -> None:
 
 
 def test_examples() -> None:
-    """The root documentation of each library opens with an example, which stands in the file that it names, indented or
-    not. lemma_base, which has no code, and the three crates that are there for the tests alone need none."""
+    """The root documentation of each library opens with an example, which stands in the file that it names."""
     for root in sorted(ROOT.glob("crates/*/src/lib.rt")):
         crate = root.relative_to(ROOT / "crates").parts[0]
         text = "\n".join(re.findall(r"^//! ?(.*)$", root.read_text("utf-8"), flags=re.M))
@@ -359,8 +357,7 @@ def names_in_code(text: str, comment: str) -> set[str]:
 
 
 def test_comments() -> None:
-    """The comments of the crates' sources: a path leads to a file, and a word in code font or with a `_` is in the
-    code."""
+    """In the comments of the crates' sources a path leads to a file, and a word in code font is in the code."""
     sources = sorted((ROOT / "crates").glob("*/src/**/*.rt"))
     modules = [module for folder in ("specs", "proofs") for module in (ROOT / "crates").glob(f"*/{folder}/**/*.antt")]
     known = names_in_code((ROOT / "crates.txt").read_text("utf-8"), "#") | {file.stem for file in [*sources, *modules]}
@@ -397,8 +394,7 @@ def test_wants_of_memory() -> None:
 
 # ---- wrong bodies
 def is_applicable(crate: Path, edit: Path) -> bool:
-    """Whether a wrong body replaces something, and each text that it replaces stands once in its file, after the pairs
-    before it."""
+    """Whether a wrong body replaces something, each text of which stands once in its file, after the pairs before."""
     texts, path, old, pairs = dict[str, str](), "", "", 0
     for line in edit.read_text("utf-8").splitlines():
         word, _, text = line.partition(":")

@@ -358,8 +358,7 @@ CALLED = {
     "apt-get update": "apt-get --print-uris update",
     "apt-get install tzdata": "apt-get --simulate install tzdata",
 }
-"""How its commands are called, beside those that are called as they are. (Those that change the system only say what
-they would do.)"""
+"""How its commands are called, beside those that are called as they are. (Those that change the system only say so.)"""
 
 DAEMON = ("ip link set lo up && chronyd -x -f \"$PWD/chrony.conf\" && "
           "for _ in $(seq 300); do chronyc -n tracking >/dev/null && break; sleep 0.2; done; {}; "

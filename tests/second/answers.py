@@ -76,8 +76,7 @@ def drawn(evidence: Evidence, step: int) -> Iterator[Drawn]:
 
 
 def bound_over(found: list[Drawn]) -> tuple[int | None, int]:
-    """The least bound in nanoseconds inside which all hulls lie, with the first piece that needs it: None where a piece
-    has no hull, the first of which is given."""
+    """The least bound in nanoseconds inside which all hulls lie, with the first piece that needs it or has no hull."""
     needs = [rules.need_of(piece.hull) for piece in found]
     if None in needs:
         return None, needs.index(None)

@@ -28,8 +28,7 @@ OPERANDS: dict[str, Path | str] = {"<CERTIFICATE>": CERTIFICATE, "<REFUTATION>":
 
 
 class Command(NamedTuple):
-    """A command's name, what it answers to so many records of the capture, what stands behind claim and capture, and
-    its options."""
+    """A command: its name, what it answers to so many records, what stands behind claim and capture, its options."""
     name: str
     answer: Callable[[int], Answer]
     others: tuple[Path | str, ...] = ()

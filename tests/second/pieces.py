@@ -161,8 +161,7 @@ def ends_of(span: tuple[int, int], hulls: Over, bound: int, most: int = MOST_PIE
 
 
 class Pieces:
-    """The pieces of claims that differ in nothing but their bound, and whether their least bound was judged. What was
-    made once isn't made again."""
+    """The pieces of claims that differ in nothing but their bound. What was made once isn't made again."""
 
     def __init__(self, claim: Claim, samples: list[Sample]) -> None:
         self.span, self.hulls = rules.span_of(claim), Hulls(claim, samples)
@@ -210,8 +209,7 @@ def neediest(hulls: Hulls, begin: int, end: int, most: int) -> tuple[int, int, i
 
 # ---- the least bound
 def least(claim: Claim, samples: list[Sample], step: int) -> tuple[int, int] | None:
-    """The least bound in nanoseconds, and the piece of so many seconds that it is told for. Where no course fits there
-    may be several such bounds, and this is one."""
+    """The least bound in nanoseconds, and its piece. Where no course fits there may be several, and this is one."""
     hulls, span = Hulls(claim, samples), rules.span_of(claim)
 
     def is_carried(bound_ns: int) -> bool:

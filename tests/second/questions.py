@@ -123,8 +123,7 @@ class Question:
         return marks.smallest_covers(self.claim, self.conflicts)
 
     def call(self, command: str, *words: object, claim: Path | None = None, given: bytes = b"") -> Ran:
-        """Runs a command on the claim and the capture. Its limit is of the processor's time, which no other load
-        changes."""
+        """Runs a command on the claim and the capture, with a limit of the processor's time."""
         limit = self.way.limit
         options = [str(word) for word in words if str(word).startswith("--") and word != "--step"]
         self.called.add(" ".join((command, *options)))
@@ -137,8 +136,7 @@ class Question:
 
     def ends(self, bound_ns: int,
              is_needed: Callable[[Stop], bool] = lambda stop: False) -> tuple[list[int], Stop | None]:
-        """The ends of the pieces under a bound and where they stop. Where some thousands aren't enough and the rest
-        isn't needed, as many."""
+        """The ends of the pieces under a bound and where they stop; some thousands, where that is enough."""
         bound = pieces.bound_in_ticks(bound_ns)
         ends, stop = self.pieces.ends(bound, SOME)
         if stop and stop.is_over and (self.way.is_whole or is_needed(stop)):
@@ -233,8 +231,7 @@ def unaccepted(question: Question, certificate: bytes) -> str:
 
 # ---- envelope
 def envelope_case(question: Question) -> Iterator[Case]:
-    """`envelope` with each of its options. The line of the least bound is looked at by itself: once for claims that
-    differ in nothing but their bound."""
+    """`envelope` with each of its options. The line of the least bound is looked at by itself, once a bound."""
     known = dict[tuple[object, ...], tuple[int, list[str]]]()
     for command in plain_commands():
         if command.name != "envelope" or question.is_asked_enough:
@@ -332,8 +329,7 @@ def plain_case(question: Question) -> Iterator[Case]:
 
 
 def refute_case(question: Question) -> Iterator[Case]:
-    """`refute`, with `--drift` and without, of the greatest error that all servers but those of a cover let be, and of
-    one tick more; and `find --refutation`."""
+    """`refute` of the greatest error that all servers but a cover's let be, and of a tick more; `find --refutation`."""
     claim, samples = question.claim, question.samples
     if question.covers:
         reading, named = sum(question.span) // 2, settlement.servers_of(claim, question.covers[0])

@@ -88,8 +88,7 @@ class Sample:
 
 
 def widening(claim: Claim, window: Ends, begin: int, end: int) -> int:
-    """What the clock can have drifted between a window and a piece: the least whole W with W (10^9 - ppb) >= ppb times
-    the way between them."""
+    """What the clock can have drifted between a window and a piece: the least W with W (10^9 - ppb) >= ppb * way."""
     ppb = claim["drift_ppb"]
     return ceiling(ppb * max(end - window[0], window[1] - begin), BILLION - ppb)
 

@@ -101,8 +101,7 @@ def moment(nanoseconds: int) -> str:
 
 
 def settle(lines: list[str], claim: Claim, times: dict[int, int], least: str, heard: set[str]) -> list[str]:
-    """Conflicts are shown with the times of the records by their numbers in Unix nanoseconds, and all else is told,
-    with the line of the least bound and the servers that have a sample."""
+    """Conflicts are shown with the times of the records, and all else is told, with the line of the least bound."""
     shown = [conflict(row, times) if row.startswith("conflict ") else row for row in lines]
     first = lines[0]
     if first.startswith('{"pieces"'):
@@ -172,8 +171,7 @@ def escaped(name: str) -> str:
 
 
 def about(words: Sequence[str], version: bytes, sums: Mapping[str, str] = {}) -> list[str]:
-    """What is said of the inputs that these words name, with the sums that they are held to by their names, and of the
-    program, which says this of its version."""
+    """What is said of the inputs that these words name, with the sums that they are held to, and of the program."""
     inputs = zip(INPUTS.get(words[0], ()), words[1:])
     lines = [f"{what} {escaped(name)}: {f'SHA-256 {sums[name]}' if name in sums else 'not held to a sum'}"
              for what, name in inputs]

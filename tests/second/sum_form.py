@@ -22,8 +22,7 @@ def said_by(line: bytes) -> tuple[bytes, bytes] | None:
 
 
 def read(text: bytes) -> tuple[dict[bytes, bytes], int]:
-    """The sums by their names, and the number of the first line that isn't of the form, or names a file that an earlier
-    line names with another sum: 0 if there is none."""
+    """The sums by their names, and the number of the first line that isn't of the form or contradicts: 0 if none."""
     sums: dict[bytes, bytes] = {}
     for number, line in enumerate(lines_of(text), 1):
         said = said_by(line)

@@ -63,8 +63,7 @@ class System:
 
 
 def of_some_conflicts(rng: random.Random, search: Search, bound: int) -> ByCovers:
-    """A certificate that names some of the conflicts, and maybe a pair that is none: what is found with it, or else one
-    piece for each cover."""
+    """A certificate that names some of the conflicts, and maybe a pair that is none."""
     kept = {ends: pair for ends, pair in search.conflicts.items() if rng.random() < .6}
     i, j = rng.choices(range(len(search.samples)), k=2)
     if rng.random() < .5:

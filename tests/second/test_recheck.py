@@ -258,8 +258,7 @@ def kept(claim: Path, third: Path, trial: Trial) -> None:
 
 
 def typed(name: str, trial: Trial) -> None:
-    """What `check`, `refute` and `settle` are asked in a transcript: tests/tools/asked, in the program's place, keeps
-    it."""
+    """What `check`, `refute` and `settle` are asked in a transcript: tests/tools/asked keeps it."""
     bin_folder, kept_in = trial.folder / "bin", trial.folder / "asked"
     bin_folder.mkdir()
     kept_in.mkdir()

@@ -139,8 +139,7 @@ def is_inside(claim: Claim, samples: list[Sample], begin: int, end: int) -> bool
 
 
 def fewest_over(claim: Claim, samples: list[Sample], ends: list[int]) -> int | None:
-    """How few pieces an accepted certificate needs whose pieces end at some of these ends, by looking at every pair:
-    None where none is accepted."""
+    """How few pieces an accepted certificate needs that ends at some of these ends: None where none is accepted."""
     begin, last = rules.span_of(claim)
     ends = sorted({end for end in ends if begin < end < last} | {begin, last})
     needed = {begin: 0 if begin < last else 1}
@@ -270,8 +269,7 @@ def try_drift(course: Course, samples: list[Sample], folder: str, capture: str, 
 
 
 def try_parted(folder: str, rng: random.Random) -> list[str]:
-    """What is wrong with a certificate whose pieces name exchanges of their half of the span alone, in a course that
-    the whole capture doesn't allow for."""
+    """What is wrong with a certificate whose pieces name exchanges of their half of the span alone."""
     course = PartedCourse(rng)
     capture = written(folder, "capture", course.capture())
     claim, samples, found, worst = course.claim(0), course.samples(), list[Piece](), 0
@@ -294,8 +292,7 @@ def try_parted(folder: str, rng: random.Random) -> list[str]:
 
 
 def try_stamps(folder: str, rng: random.Random) -> list[str]:
-    """What is wrong in a course whose requests are stamped early and its replies late; and whether its errors don't
-    come to lie outside of the hulls where the signs are turned."""
+    """What is wrong where requests are stamped early and replies late; and not, with the signs turned."""
     course = StampedCourse(rng)
     course.stamp(1, rng)
     capture = written(folder, "capture", course.capture())
@@ -317,8 +314,7 @@ def try_stamps(folder: str, rng: random.Random) -> list[str]:
 
 
 def try_course(seed: int) -> tuple[int, int, int, list[str]]:
-    """Counts the yeses of one course, those whose error comes near the bound, and what went wrong. Every yes has to be
-    true."""
+    """Counts the yeses of one course, those whose error comes near the bound, and what went wrong."""
     rng = random.Random(seed)
     course = Course(rng)
     with tempfile.TemporaryDirectory(prefix="ntpaudit-") as folder:

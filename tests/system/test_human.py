@@ -178,8 +178,7 @@ def exactly(text: str) -> int | None:
 
 
 def is_outside(ticks: int, text: str, side: int) -> bool:
-    """Whether what is shown of an end, in whole nanoseconds, isn't inside of it (a low end is on side -1, a high end on
-    side 1), and less than a nanosecond from it."""
+    """Whether what is shown of an end isn't inside of it, on side -1 a low end, and less than a nanosecond from it."""
     nanoseconds = exactly(text)
     return nanoseconds is not None and 0 <= side * (nanoseconds * TICKS - ticks * 10**9) < TICKS
 
@@ -220,8 +219,7 @@ def error_of(rng: random.Random, bound_ns: int) -> int:
 
 
 def test_refutations(folder: Path) -> None:
-    """The error that is shown is no nearer to zero than the error in ticks, and it is said to be beyond the bound just
-    if it is. A server that the claim hasn't is named by its number."""
+    """The error that is shown is no nearer to zero than the error in ticks, and beyond the bound just if it is."""
     rng, given, calls = random.Random(62), json.loads(CLAIM.read_text()), list[tuple[str, Words]]()
     said = list[tuple[int, int]]()
     for number in range(300):
@@ -244,8 +242,7 @@ def test_refutations(folder: Path) -> None:
 
 # ---- times
 def test_times(folder: Path) -> None:
-    """The pieces of a day's length cut the time from 1970 to 2106 into days: each has its begin at the same time of
-    day."""
+    """The pieces of a day's length cut the time from 1970 to 2106 into days, at the same time of day."""
     rng, given = random.Random(1970), json.loads(CLAIM.read_text())
     for number, begin in enumerate([0, *(rng.randrange(86400) for _ in range(3))]):
         first = EPOCH + timedelta(seconds=begin)

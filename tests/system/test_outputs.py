@@ -282,8 +282,7 @@ def test_side_by_side(folder: Path) -> None:
 
 
 def test_rights(folder: Path) -> None:
-    """A folder that may not be written to; and one in which a file of somebody else may not be replaced, which shows
-    only at the end, when a person has been told."""
+    """A folder that may not be written to; and a file of somebody else that may not be replaced, at the end."""
     public, shut, sticky = folder / "program", folder / "shut", folder / "sticky"
     shutil.copy(PROGRAM, public)
     for path, mode in ((folder, 0o755), (public, 0o755)):

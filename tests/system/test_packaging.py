@@ -326,8 +326,7 @@ def test_rpm(folder: Path) -> None:
 
 
 def hold_links(pages: Path) -> None:
-    """A link of a packed page to one of the repository's root or of docs/ that is packed too leads to it, and so does
-    one to the schema."""
+    """A link of a packed page to another that is packed too leads to it, and so does one to the schema."""
     packed = {*files_below(pages), "audit.schema.json"}
     for page in sorted(pages.glob("*.md")):
         links = [link.split("/") for link in re.findall(r"\]\(([^)#:]+)", page.read_text("utf-8"))]

@@ -116,8 +116,7 @@ def refutation(asked: Asked) -> tuple[Any, Any]:
 
 
 def is_carried(asked: Asked, least: int | None) -> bool:
-    """Whether a certificate carries the least bound, and none is found one nanosecond below it; where there is no such
-    bound, whether no certificate carries any."""
+    """Whether a certificate carries the least bound, and none a nanosecond less; or where there is none, no bound."""
     if least is None:
         return asked.call("find")[0] == 1
     at, below = asked.with_(bound_ns=least), asked.with_(bound_ns=least - 1)

@@ -91,8 +91,7 @@ EXAMPLES = {
 
 
 def test_examples(folder: Path) -> None:
-    """NIST's examples as a claim, or where that is too large as a capture: refused for what they say, and not for their
-    sum."""
+    """NIST's examples as claims or captures: refused for what they say, and not for their sum."""
     call = inputs_in(folder, "two-packets", "two-packets.certificate.json")
     rest = call.sums().splitlines(keepends=True)
     for number, (message, sum_) in enumerate(EXAMPLES.items()):

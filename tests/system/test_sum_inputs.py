@@ -62,8 +62,7 @@ def slowly(data: bytes) -> list[Block]:
 
 
 def test_pipes(folder: Path) -> None:
-    """Each input by a FIFO, alone and together, whole and in pieces. What comes by a FIFO can be read once only: so
-    what is summed is what is judged."""
+    """Each input by a FIFO, alone and together, whole and in pieces: what is summed is what is judged."""
     for name, second, command in (("clients-us", "clients-us.8.certificate.json", "check"),
                                   ("era1-ns", "era1-ns.refutation.json", "refute"), ("clients-us", "", "settle")):
         own = folder / command
@@ -99,8 +98,7 @@ def held_up(pipe: IO[bytes], data: bytes, then: Callable[[], None]) -> None:
 
 
 def test_changing(folder: Path) -> None:
-    """Files that change while the program runs. It stands still where it reads a FIFO: what was read before is judged
-    as it was then, and what is read later as it is by then."""
+    """Files that change while the program reads a FIFO: what was read before is judged as it was, and else as it is."""
     call = inputs_in(folder, "chrony-ns", "chrony-ns.1.certificate.json")
     whole = {kind: call.data(kind) for kind in call.inputs}
     files = {kind: folder / file for kind, file in call.inputs.items()}

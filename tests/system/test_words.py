@@ -36,8 +36,7 @@ LIMITS = {"false_max": 31, "bound_ns": 10**15, "drift_ppb": 500_000_000, "readin
 
 ELSEWHERE = ("capture 8 too-many", "exchanges over 1000000", "memory", "certificate 4 too-many-entries piece K",
              "certificate 5 too-many-pieces")
-"""Fault lines that no transcript has room for: tests/system/test_refused_memory.py has
-them, or the tests below."""
+"""Fault lines that no transcript has room for: test_refused_memory.py or a test below has them."""
 
 NEVER = ("had a fault before", "read it again from its beginning")
 """Texts about a fault that no run ends with, since it ends with the fault before."""
@@ -244,8 +243,7 @@ def test_pages() -> None:
 
 
 def test_table() -> None:
-    """Each text of the program's table is expected, by a case or by a test above: a whole remedy, or all that is said
-    of what is wrong up to what was seen there."""
+    """Each text of the program's table is expected by a case or a test above, up to what was seen there."""
     expected = [*EXPECTED, *re.findall(r"^2>   (.+)$", transcripts(), flags=re.M)]
     for text in sentences.texts():
         pattern = sentences.pattern_of(text)

@@ -36,8 +36,7 @@ Row = tuple[int, int, int, int, int]
 
 # ---- exchanges
 class Exchanges:
-    """Exchanges in columns: servers, nanoseconds of request and reply, receive and transmit timestamps in Unix
-    ticks."""
+    """Exchanges in columns: servers, nanoseconds of request and reply, receive and transmit timestamps in ticks."""
 
     def __init__(self, rows: Iterable[Row]) -> None:
         self.servers, columns = array("B"), [array("Q") for _ in range(4)]
