@@ -314,9 +314,10 @@ def find_case(question: Question, step: int | None = None) -> Iterator[Case]:
 
 
 def at_case(question: Question) -> Iterator[Case]:
-    """`at` of the first and the last moment, and one between them."""
+    """`at` of the first and the last moment, one between them, and some before and behind."""
     begin, last = (place // TICKS for place in question.span)
-    for time in map(families.spelled, sorted({begin, (begin + last) // 2, last})):
+    far = max(0, begin - 300 * 86_400), max(0, begin - 1), min(last + 5 * 3600, 2**32 - 1)
+    for time in map(families.spelled, sorted({begin, (begin + last) // 2, last, *far})):
         yield f"at {time}", differs(question.call("at", time), *answers.at(question.evidence, time))
 
 

@@ -12,13 +12,13 @@ from pathlib import Path
 
 from tests.support import check, is_here, program, run, skip
 from tests.second.columns import counted
+from tests.tools.families import CLIENT, Setting, address, frame
 
 PROGRAM = program()
 # The processor's time that a run may take, in seconds. A tenth of one is enough if nothing collides, and 40 are not if
 # all requests do.
 LIMIT = 5
 SERVERS, PORTS = 32, range(1024, 1024 + 6250)
-CLIENT = bytes((192, 0, 2, 10))
 SECOND = 1_000_000_000
 ALIKE = 0x0123_4567_89AB_CDEF                 # what the state is with the timestamp: any number will do
 WANTED = 0, f"{counted(records=200_000, requests=200_000)}\n".encode(), b""
@@ -63,10 +63,6 @@ def made_of_zero() -> int:
     return v0 ^ v1 ^ v2 ^ v3
 
 
-def address(server: int) -> bytes:
-    return bytes((192, 0, 2, 101 + server))
-
-
 def keys(start: int) -> Iterator[tuple[int, int, int]]:
     """Server, port and timestamp of each request: after the timestamp all are in one state."""
     for server in range(SERVERS):
@@ -77,12 +73,9 @@ def keys(start: int) -> Iterator[tuple[int, int, int]]:
 
 def request(number: int, server: int, port: int, stamp: int) -> bytes:
     """The record of a request, one in a millisecond."""
-    ntp = struct.pack(">B39xQ", 0x23, stamp)
-    udp = struct.pack(">HHHH", port, 123, 56, 0) + ntp
-    ip = struct.pack(">BBHHHBBH4s4s", 0x45, 0, 76, 0, 0, 64, 17, 0, CLIENT, address(server))
-    frame = bytes(12) + struct.pack(">H", 0x0800) + ip + udp
+    whole = frame(CLIENT, address(server), (port, 123), struct.pack(">B39xQ", 0x23, stamp))
     second, millisecond = divmod(number, 1000)
-    return struct.pack("<IIII", SECOND + second, 1000 * millisecond, len(frame), len(frame)) + frame
+    return struct.pack("<IIII", SECOND + second, 1000 * millisecond, len(whole), len(whole)) + whole
 
 
 def capture(start: int) -> bytes:
@@ -100,11 +93,8 @@ def test_model() -> None:
 
 def claim_of(folder: Path) -> Path:
     """A claim on all servers."""
-    claim, dotted = folder / "claim.json", [".".join(map(str, address(server))) for server in range(SERVERS)]
-    claim.write_text(json.dumps({
-        "client": "192.0.2.10", "servers": dotted, "false_max": 0, "from": "2001-09-09T01:46:40Z",
-        "to": "2001-09-09T01:46:40Z", "bound_ns": 1000000, "drift_ppb": 0, "reading_ns": 0}))
-    return claim
+    (folder / "claim.json").write_text(json.dumps(Setting(SERVERS, 0, 0, 0).claim(1_000_000)))
+    return folder / "claim.json"
 
 
 def test_program(folder: Path) -> None:

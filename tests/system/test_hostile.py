@@ -7,14 +7,16 @@ stand, and are there where the reading finds one; and the least bound by the pro
 captures of data/slow, a large one, and claims that take exactly 100,000 pieces and one more.
 """
 import json
+import shutil
 import tempfile
 from collections import Counter
 from collections.abc import Callable, Iterable, Iterator
 from functools import partial
+from itertools import product
 from pathlib import Path
 from typing import NamedTuple
 
-from tests.support import check, count, program, run
+from tests.support import DATA, check, count, files_in, program, run
 from tests.second import marks, pieces, rules
 from tests.second.claims import Claim, changed
 from tests.second.columns import TICKS
@@ -99,15 +101,16 @@ def try_exact() -> Told:
     return told
 
 
-def try_file(name: str) -> Told:
-    """A capture of data/slow, whose samples are read off `list`."""
-    claim = json.loads((families.FILES / f"{name}.claim.json").read_text())
+def try_file(file: Path, step: int) -> Told:
+    """A claim of data/ with a step, whose samples are read off `list`."""
+    claim, name = json.loads(file.read_text()), file.name.removesuffix(".claim.json")
     with tempfile.TemporaryDirectory(prefix="ntpaudit-") as folder:
         place = Path(folder)
-        (place / "capture.pcap").write_bytes((families.FILES / f"{name}.pcap").read_bytes())
+        shutil.copy(file.with_name(f"{name.split('.')[0]}.pcap"), place / "capture.pcap")
         known = evidence_of(claim, run([PROGRAM, "list", place / "capture.pcap"])[1])
-        question = Question(f"data/slow/{name}", claim, known.samples, known.records,
+        question = Question(f"{name} by {step} s", claim, known.samples, known.records,
                             marks.contradictions(claim, known.samples), Way(PROGRAM, place, LIMIT, True, {}, set()))
+        question.evidence, question.step = known, step
         return tried([question])
 
 
@@ -115,8 +118,9 @@ def cases() -> Iterator[tuple[str, Callable[[], Told]]]:
     """What is tried: the longest first."""
     yield "system.hostile.large", partial(try_family, "hour", LARGE)
     yield "system.hostile.exact", try_exact
-    for name in ("teeth", "hour", "gap"):
-        yield f"system.hostile.file.{name}", partial(try_file, name)
+    for file, step in [*product(files_in(families.FILES, "*.claim.json"), [3600]),
+                       *product(files_in(DATA, "*.claim.json"), [1, 3, 8, 64, 86_400])]:
+        yield f"system.hostile.{file.name.removesuffix('.claim.json')}.{step}", partial(try_file, file, step)
     names = sorted(families.FAMILIES, key=lambda name: name not in WHOLE)
     for size in SIZES:
         for name in (name for name in names if size in sizes_of(name)):

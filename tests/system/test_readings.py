@@ -1,11 +1,7 @@
-"""Compares what the commands with a claim print with a second reading (tests/second/answers.py), made of what `list`
-prints of the same capture. `check` has to say yes to each certificate, and `refute` to each refutation; no claim gets
-both. Under the least bound `check` says yes to the reading's own certificate, and a nanosecond below it `find` finds
-nothing.
-
-`settle` is asked of each claim of data/, and of these with other bounds and numbers of groups that may be wrong, with
-no drift, and a day later, where some bounds stay open. Its answer is the same, byte for byte, but for which refutation
-it is; `check`, `refute --drift` and `find` agree with it; and `--human` tells of it as tests/second/shown.py does.
+"""Compares what `settle` answers with a second reading, made of what `list` prints of the same capture: for each claim
+of data/, and these with other bounds and numbers of groups that may be wrong, with no drift, and a day later, where
+some bounds stay open. It is the same, byte for byte, but for which refutation it is; `check`, `refute --drift` and
+`find` agree with it; and `--human` tells of it as tests/second/shown.py does.
 """
 import json
 import tempfile
@@ -19,17 +15,13 @@ from typing import Any
 from tests.support import DATA, Ran, check, files_in, program, run
 from tests.second import answers, marks, pieces, rechecked, settlement, shown, slips
 from tests.second.claims import Claim, changed, read_claim
-from tests.second.commands import plain_commands, variants
 from tests.second.exchanges import evidence_of
 from tests.second.settlement import kind_of
 from tests.tools import families
 
-CERTIFICATE = DATA / "two-packets.certificate.json"
 Pairs = dict[str, tuple[Any, Any]]
 """What was seen, and what is wanted."""
 
-STEPS = ["1", "3", "8", "64", "86400"]
-BOUNDS = (0, 10**6, 10**9)
 BELOW = (-1000, 0, 1, 9, 50)
 """Nanoseconds below the least bound."""
 FORM = "%Y-%m-%dT%H:%M:%SZ"
@@ -73,59 +65,6 @@ def ran_of(answer: answers.Answer) -> Ran:
     return status, "".join(f"{line}\n" for line in lines).encode(), b""
 
 
-# ---- each command but `settle`
-def times_of(claim: Claim) -> list[str]:
-    """Moments of the span, and some before and after it."""
-    begin, end = (datetime.strptime(time, FORM) for time in (claim["from"], claim["to"]))
-    middle = begin + timedelta(seconds=(end - begin).total_seconds() // 2)
-    moments = [begin - timedelta(days=300), begin - timedelta(seconds=1), begin, middle, end, end + timedelta(hours=5)]
-    return [moment.strftime(FORM) for moment in moments]
-
-
-def calls_on(claim: Claim) -> Iterator[tuple[str, ...]]:
-    """Each command with a reading, and what stands behind claim and capture."""
-    for name in sorted({command.name for command in plain_commands()} & set(answers.READINGS) - {"settle"}):
-        steps = STEPS if name in ("find", "envelope") else []
-        for options in variants(name):
-            if name == "at":
-                yield from ((name, time, *options) for time in times_of(claim))
-            elif steps and "--refutation" not in options:
-                yield from ((name, "--step", step, *options) for step in steps)
-            else:
-                yield name, *options
-
-
-def compare(asked: Asked) -> Pairs:
-    """What is compared for a claim: pairs of what was seen and what is wanted."""
-    ran = {call: asked.call(*call) for call in calls_on(asked.claim)}
-    wanted = {call: ran_of(answers.READINGS[call[0]](asked.evidence, *call[1:])) for call in ran}
-    found = [text for call, (status, text, _) in ran.items() if call[:2] == ("find", "--step") and status == 0]
-    return {**{" ".join(call): (ran[call], wanted[call]) for call in ran},
-            "counts": (asked.call("check", CERTIFICATE)[1].splitlines()[2:3], [asked.evidence.counts.encode()]),
-            "verdicts": ([asked.verdict(text) for text in found], [(0, b"verdict yes")] * len(found)),
-            "a yes and a refutation": (bool(found) and ran["find", "--refutation"][0] == 0, False),
-            **{f"refutations with {bound} ns": refutation(asked.with_(bound_ns=bound)) for bound in BOUNDS},
-            "refutations": refutation(asked), "least bounds": (is_carried(asked, asked.least()), True)}
-
-
-def refutation(asked: Asked) -> tuple[Any, Any]:
-    """What `find --refutation` and then `refute` print, and what they have to."""
-    wanted, ran = ran_of(answers.find(asked.evidence, "--refutation")), asked.call("find", "--refutation")
-    judged = asked.call("refute", "/dev/stdin", given=ran[1])[:2] if ran[0] == 0 else None
-    return (ran, judged), (wanted, (0, b"refuted yes\n") if wanted[0] == 0 else None)
-
-
-def is_carried(asked: Asked, least: int | None) -> bool:
-    """Whether a certificate carries the least bound, and none a nanosecond less; or where there is none, no bound."""
-    if least is None:
-        return asked.call("find")[0] == 1
-    at, below = asked.with_(bound_ns=least), asked.with_(bound_ns=least - 1)
-    status, (certificate,) = answers.fewest(at.evidence)
-    return (status == 0 and at.verdict(certificate.encode()) == (0, b"verdict yes")
-            and answers.fewest(below.evidence)[0] == 1 and below.call("find", "--step", "1")[0] == 1)
-
-
-# ---- settle
 def changes_of(asked: Asked) -> Iterator[dict[str, object]]:
     """What is changed of a claim: nothing first."""
     claim = asked.claim
@@ -235,17 +174,10 @@ def try_lone_place(exchanges: families.Exchanges, claim: Claim) -> None:
           stands=(wanted is not None and rechecked.stands_with_drift(claim, samples, wanted), True))
 
 
-def try_claim(file: Path) -> None:
-    with tempfile.TemporaryDirectory(prefix="ntpaudit-") as folder:
-        for what, pair in compare(asked_of(file, folder)).items():
-            check(what, answer=pair)
-
-
 def cases() -> Iterator[tuple[str, Callable[[], Counter[str] | None]]]:
     for file in files_in(DATA, "*.claim.json"):
         name = file.name.removesuffix(".claim.json")
-        yield f"system.readings.settle.{name}", partial(try_settle, file)
-        yield f"system.readings.{name}", partial(try_claim, file)
+        yield f"system.readings.{name}", partial(try_settle, file)
     yield "system.readings.a second cover alone refutes", partial(try_lone_place, *of_two_covers())
     yield "system.readings.another reading alone refutes", partial(try_lone_place, *of_two_readings())
 
