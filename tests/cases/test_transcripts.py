@@ -82,9 +82,10 @@ class Trial:
 
     def difference(self) -> str:
         """The lines that differ from the transcript, and the first ones of them if there are many."""
-        wanted, seen = ([line for command, (status, out, err) in answers
-                         for line in (*f"$ {command}".replace("\n", "\n> ").split("\n"), *told(out),
-                                      *told(err, ERROR), *status_line(status))] for answers in (self.wanted, self.seen))
+        wanted, seen = (
+            [line for command, (status, out, err) in answers for line in (
+                *f"$ {command}".replace("\n", "\n> ").split("\n"), *told(out), *told(err, ERROR), *status_line(status))]
+            for answers in (self.wanted, self.seen))
         lines = [] if self.wanted == self.seen else [
             "- wanted, + seen", *list(difflib.unified_diff(wanted, seen, lineterm=""))[2:]]
         return "\n".join(lines[:SHOWN] + ([f".. and {len(lines) - SHOWN} lines more"] if lines[SHOWN:] else []))

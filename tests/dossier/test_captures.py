@@ -309,18 +309,21 @@ def test_hostile_captures(place: Path) -> None:
              "milliseconds": ({"f.pcapng": pcapng(nano, resolution=3)}, "f.pcapng has times that are coarser"),
              "no Ethernet": ({"f.pcapng": pcapng(nano, link=113)}, "capture 4 link"),
              "two kinds of frames": ({"f.pcapng": pcapng(nano) + pcapng(nano, link=113)},
-                                     "f.pcapng has frames of several kinds"), "other frames in the second":
-             ({"f.pcap": nano, "g.pcapng": pcapng(nano, link=113)}, "g.pcapng has other frames than f.pcap"),
+                                     "f.pcapng has frames of several kinds"),
+             "other frames in the second": ({"f.pcap": nano, "g.pcapng": pcapng(nano, link=113)},
+                                            "g.pcapng has other frames than f.pcap"),
              "no capture in the second": ({"f.pcap": nano, "g.pcap": b"x" * 100}, "g.pcap is no classic capture"),
              "damage in the second": ({"f.pcap": nano[:24], "g.pcap": nano[:24] + b"\xff" * 16 + nano[24:]},
                                       "g.pcap is damaged from byte 24 on"),
              "many interfaces": ({"f.pcapng": section("<") + interface("<", 9) * 1001},
-                                 "f.pcapng has more than 1,000 interfaces"), "a block that is too long":
-             ({"f.pcapng": ng + struct.pack("<II", 5, 1 << 30)}, "f.pcapng is damaged at byte"),
+                                 "f.pcapng has more than 1,000 interfaces"),
+             "a block that is too long": ({"f.pcapng": ng + struct.pack("<II", 5, 1 << 30)},
+                                          "f.pcapng is damaged at byte"),
              "empty files": ({"f.pcap": b"", "g.pcap": b""}, "ntpaudit: capture "),
-             "a length of 0": ({"f.pcapng": ng + bytes(40)}, "f.pcapng is damaged at byte"), "a time beyond 2106":
-             ({"f.pcapng": pcapng(nano).replace(interface("<", 9), interface("<", 9, offset=2**33))},
-              "f.pcapng has a block that is damaged")}
+             "a length of 0": ({"f.pcapng": ng + bytes(40)}, "f.pcapng is damaged at byte"),
+             "a time beyond 2106": ({"f.pcapng": pcapng(nano).replace(interface("<", 9),
+                                                                      interface("<", 9, offset=2**33))},
+                                    "f.pcapng has a block that is damaged")}
     for name, (files, line) in cases.items():
         folder = packed_folder(place, name, files)
         status, out, err = dossier("audit", folder)

@@ -25,7 +25,7 @@ from unittest.mock import patch
 from tests.support import DATA, ROOT, SECONDS, check, children, is_here, run, runnable, wait_until
 from tests.dossier.audits import (ENVIRONMENT, KEEP, PROGRAM, SCRIPT, SEARCH, audited, called, check_page, dossier,
                                   folder_of, parts_left, record_of, rows, skipped, table, within)
-from tests.dossier.test_evidence import key_of, why_no_link
+from tests.dossier.test_evidence import key_of
 
 limited = functools.partial(dossier, memory=3 << 30)
 """A call with a limit of memory, so that one that takes all of it fails by itself."""
@@ -276,16 +276,9 @@ def test_socket_and_rights(place: Path) -> None:
 
 
 # ---- what is written, and where
-def test_links_of_parts(place: Path) -> None:
-    """Nothing is written through a link, whatever its name, and nothing is deleted behind one."""
-    victim = place / "victim"
-    victim.write_text("victim")
-    folder = folder_of(place, "parts")
-    script = ('for name in report.txt audit.json certificate.json envelope.txt; do ln -s "$2" "$1/.$name.$$.part"; ln '
-              '-s "$2" "$1/$name"; done; exec "$0" audit "$1"')
-    status, _, _ = run(["sh", "-c", script, SCRIPT, folder, victim], env=ENVIRONMENT)
-    check("links with the names of parts", status=(status, 0), victim=(victim.read_text(), "victim"),
-          report=((folder / "report.txt").is_symlink(), False))
+def test_linked_days(place: Path) -> None:
+    """Nothing is written through a day that is a link, and nothing is deleted behind it."""
+    folder = audited(place, "parts")
     (folder / ".x.99999999.part").write_text("kept")
     other = place / "other"
     other.mkdir()
@@ -326,16 +319,8 @@ def test_names_of_outputs(place: Path) -> None:
 
 
 def test_named_outputs(place: Path) -> None:
-    """-o: no link is followed, and what is a device or a FIFO is written into."""
-    folder, target, link = folder_of(place, "host"), place / "target.html", place / "link.html"
-    dossier("audit", folder)
-    target.write_text("old")
-    link.symlink_to(target)
-    for where, said in ((link, b"link.html is a link"), ("/proc/self/fd/1", b"self in its path is a link")):
-        status, out, err = dossier("page", "-o", where, folder)
-        check(f"-o to a link {where}", status=(status, lambda status: status in (2, 4)), said=(said in err, True),
-              link=(link.is_symlink(), True), target=(target.read_text(), "old"), left=(parts_left(place), []),
-              out=(out, b""))
+    """-o: what is a device or a FIFO is written into. (Links are tried by dossier.losses.)"""
+    folder = audited(place, "host")
     fifo = place / "fifo"
     os.mkfifo(fifo)
     reader = subprocess.Popen(["timeout", str(SECONDS), "cat", fifo], stdout=subprocess.PIPE)
@@ -345,11 +330,6 @@ def test_named_outputs(place: Path) -> None:
           there=(stat.S_ISFIFO(fifo.lstat().st_mode), True))
     status, _, err = dossier("page", "-o", fifo, folder)
     check("-o to a FIFO that nobody reads", status=(status, 4), said=(b"nobody reads fifo" in err, True))
-    if not why_no_link():
-        check("measure -o to a link", status=(dossier("measure", "--count", "10", "-o", link)[0], 4),
-              link=(link.is_symlink(), True), target=(target.read_text(), "old"))
-    else:
-        skipped("measure -o to a link", why_no_link())
     if os.geteuid():
         skipped("-o to a device", "it takes root to make one")
         return

@@ -13,8 +13,9 @@ from tests.dossier.test_evidence import key_of
 
 SAID = "Judged by two programs: at "
 RECHECK = ROOT / "second/recheck"
-FEW: dict[str, Any] = {"client": "192.0.2.10", "servers": [f"192.0.2.{k}" for k in (1, 2, 3)], "false_max": 0, "from":
-                       "2001-09-09T01:46:40Z", "to": "2001-09-09T01:47:44Z", "drift_ppb": 100_000, "reading_ns": 0}
+FEW: dict[str, Any] = {"client": "192.0.2.10", "servers": [f"192.0.2.{k}" for k in (1, 2, 3)],
+                       "false_max": 0, "from": "2001-09-09T01:46:40Z",
+                       "to": "2001-09-09T01:47:44Z", "drift_ppb": 100_000, "reading_ns": 0}
 OPEN = {**FEW, "from": "2001-09-09T02:03:20Z", "to": "2001-09-09T02:03:20Z", "bound_ns": 119_000_000}
 AT, MS = 1_000_000_010, 4_294_967
 

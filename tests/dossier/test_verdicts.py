@@ -59,8 +59,9 @@ AGAINST: dict[str, Any] = {
 IN_SHORT = {"drift": "more drift than is granted", "reading": "a greater allowance than is granted",
             "step": "a logged step", "leap-second": "a leap second", "leap-ends": "the list of leap seconds has ended"}
 SUPPORTED: dict[str, Any] = {"drift": ({"drift": SETUP}, {"drift_ppb": 600_000}),
-                             "reading": ({"reading": measured(60_000)}, {"reading_ns": 60_000}), "step":
-                             ({"drift": {**SETUP, "tracking": logged("2001-09-09T02:00:00Z")}}, {"drift_ppb": 600_000})}
+                             "reading": ({"reading": measured(60_000)}, {"reading_ns": 60_000}),
+                             "step": ({"drift": {**SETUP, "tracking": logged("2001-09-09T02:00:00Z")}},
+                                      {"drift_ppb": 600_000})}
 """The same kinds, with evidence that doesn't speak against it."""
 
 

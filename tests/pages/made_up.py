@@ -11,15 +11,20 @@ import re
 from collections.abc import Iterable, Sequence
 
 # What else is written, with the reason.
-EXCEPTIONS = {"json_text/src/text.rt": [("if fault.is_memory() { Err(AllocError) }",
-                                         "serde_json says it in words of its own")], "command_line/src/words.rt":
-              [("error::ErrorKind::OutOfMemory => Err(AllocError),", "clap says it in words of its own"),
-               ("Err(_) => return Err(AllocError),", "nothing else is left of how std's `args` fails"),],
-              "program/src/about.rt": [("Err(SumFault::Memory) => Err(AllocError),",
-                                        "the reading of sums says it in a word of its own")],
-              "report/src/output.rt": [("RunFault::Device(_) | RunFault::Memory => {", "what was told is handed on")],
-              "command_line/src/run.rt": [("conclusion: conclude(&Err(RunFault::Memory), err),",
-                                           "it is called where memory was refused")]}
+EXCEPTIONS = {
+    "json_text/src/text.rt": [("if fault.is_memory() { Err(AllocError) }", "serde_json says it in words of its own")],
+    "command_line/src/words.rt": [
+        ("error::ErrorKind::OutOfMemory => Err(AllocError),",
+         "clap says it in words of its own"),
+        ("Err(_) => return Err(AllocError),", "nothing else is left of how std's `args` fails"),
+    ],
+    "program/src/about.rt": [
+        ("Err(SumFault::Memory) => Err(AllocError),", "the reading of sums says it in a word of its own")],
+    "report/src/output.rt": [("RunFault::Device(_) | RunFault::Memory => {", "what was told is handed on")],
+    "command_line/src/run.rt": [
+        ("conclusion: conclude(&Err(RunFault::Memory), err),", "it is called where memory was refused"),
+    ],
+}
 # These make faults, to hold what is said of them to its words.
 TESTS = ("worked_examples",)
 

@@ -3,8 +3,9 @@ import json
 from pathlib import Path
 from typing import NotRequired, TypedDict, cast
 
-Claim = TypedDict("Claim", {"client": str, "servers": list[str], "false_max": int, "from": str, "to": str, "bound_ns":
-                            int, "drift_ppb": int, "reading_ns": int, "groups": NotRequired[list[list[int]]]})
+Claim = TypedDict("Claim", {
+    "client": str, "servers": list[str], "false_max": int, "from": str, "to": str, "bound_ns": int, "drift_ppb": int,
+    "reading_ns": int, "groups": NotRequired[list[list[int]]]})
 Piece = TypedDict("Piece", {"entries": list[list[int]], "upto": int})
 Certificate = TypedDict("Certificate", {"pieces": list[Piece]})
 Case = TypedDict("Case", {"groups": list[int], "pieces": list[Piece]})

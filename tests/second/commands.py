@@ -79,10 +79,15 @@ def evidence(records: int) -> Evidence:
 def report(records: int) -> Answer:
     """The report of `check`. Its certificate names sample 0."""
     is_whole = records == 2
-    lines = ["client 192.0.2.10 servers 1 false_max 0",
-             "span 1000000000 1000000000 bound_ns 10001001 drift_ppb 0 reading_ns 0", evidence(records).counts,
-             f"advice sources {int(is_whole)}", *(["advice reference 47505300"] if is_whole else []),
-             "pieces 1", "verdict yes" if is_whole else "verdict no piece 0 bad-sample",]
+    lines = [
+        "client 192.0.2.10 servers 1 false_max 0",
+        "span 1000000000 1000000000 bound_ns 10001001 drift_ppb 0 reading_ns 0",
+        evidence(records).counts,
+        f"advice sources {int(is_whole)}",
+        *(["advice reference 47505300"] if is_whole else []),
+        "pieces 1",
+        "verdict yes" if is_whole else "verdict no piece 0 bad-sample",
+    ]
     return (0 if is_whole else 1), lines
 
 

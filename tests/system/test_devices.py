@@ -52,8 +52,9 @@ def test_sums(folder: Path) -> None:
     for command in [command for command in every_command() if command.name in SECOND]:
         name, operands = command.title, [command.name, CLAIM, CAPTURE, *command.words]
         try_command(command._replace(options=(*command.options, f"--sums={sums}")))
-        for what, no_file in {"is missing": folder / "missing", "is a folder": folder, "can't be read":
-                              "/proc/self/mem", "has an empty name": "", "is below a file": sums / "SUMS"}.items():
+        for what, no_file in {"is missing": folder / "missing", "is a folder": folder,
+                              "can't be read": "/proc/self/mem", "has an empty name": "",
+                              "is below a file": sums / "SUMS"}.items():
             check(f"{name} with a file of sums that {what}",
                   run=(fault_alone(shell('"$0" "$@"', *operands, f"--sums={no_file}"), command.options), no_sums))
             full = shell('"$0" "$@" > /dev/full', *operands, f"--sums={no_file}")

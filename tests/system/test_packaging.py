@@ -74,13 +74,15 @@ def test_manual() -> None:
 def completed(folder: str, shell: str, *words: str) -> set[str]:
     """What a shell offers for the last of these words, where the programs are in this folder."""
     given = " ".join(repr(word) for word in words)
-    script = {"bash": f". {ROOT}/completion/ntpaudit.bash; COMP_WORDS=({given}); COMP_CWORD={len(words) - 1}; "
-              f"_ntpaudit {words[0]}; printf '%s\\n' \"${{COMPREPLY[@]}}\"",
-              "fish": f"source {ROOT}/completion/ntpaudit.fish; complete -C {' '.join(words)!r} | "
-              "string replace -r '\t.*' ''", "zsh":
-              "_arguments() { print -rl -- ${@%%\\[*} }; _describe() { print -rl -- ${${(P)2}%%:*} }; _files() { }; "
-              "_call_program() { shift; \"$@\" }; "
-              f"words=({given}); CURRENT={len(words)}; . {ROOT}/completion/_ntpaudit"}[shell]
+    script = {
+        "bash": f". {ROOT}/completion/ntpaudit.bash; COMP_WORDS=({given}); COMP_CWORD={len(words) - 1}; "
+                f"_ntpaudit {words[0]}; printf '%s\\n' \"${{COMPREPLY[@]}}\"",
+        "fish": f"source {ROOT}/completion/ntpaudit.fish; complete -C {' '.join(words)!r} | "
+                "string replace -r '\t.*' ''",
+        "zsh": "_arguments() { print -rl -- ${@%%\\[*} }; _describe() { print -rl -- ${${(P)2}%%:*} }; _files() { }; "
+               "_call_program() { shift; \"$@\" }; "
+               f"words=({given}); CURRENT={len(words)}; . {ROOT}/completion/_ntpaudit",
+    }[shell]
     path = f"{folder}:{os.environ['PATH']}"
     text = run([shell, "-c", script], cwd=DATA, env={**os.environ, "NTPAUDIT": str(PROGRAM), "PATH": path})[1].decode()
     return {word for word in text.split() if re.fullmatch(r"--[a-z-]+|[a-z][a-z.-]*", word)}
@@ -326,7 +328,8 @@ def test_rpm(folder: Path) -> None:
 
 
 def hold_links(pages: Path) -> None:
-    """A link of a packed page to another that is packed too leads to it, and so does one to the schema."""
+    """A link of a packed page to one of the repository's root or of docs/ that is packed too leads to it, and so does
+    one to the schema."""
     packed = {*files_below(pages), "audit.schema.json"}
     for page in sorted(pages.glob("*.md")):
         links = [link.split("/") for link in re.findall(r"\]\(([^)#:]+)", page.read_text("utf-8"))]

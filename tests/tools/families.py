@@ -36,7 +36,8 @@ Row = tuple[int, int, int, int, int]
 
 # ---- exchanges
 class Exchanges:
-    """Exchanges in columns: servers, nanoseconds of request and reply, receive and transmit timestamps in ticks."""
+    """Exchanges in columns: servers, nanoseconds of request and reply, receive and transmit timestamps in Unix
+    ticks."""
 
     def __init__(self, rows: Iterable[Row]) -> None:
         self.servers, columns = array("B"), [array("Q") for _ in range(4)]
@@ -191,8 +192,9 @@ def equal(setting: Setting, count: int) -> Hostile:
     begin = setting.begin * BILLION
     rows = ((number % setting.servers, begin, begin + WAY_NS, -WIDTH, WIDTH) for number in range(count))
     need = setting.need(1)
-    return Hostile(Exchanges(rows), {"zero": setting.claim(0), "need": setting.claim(need), "less":
-                                     setting.claim(need // 2), "nobody": setting.claim(need, false_max=setting.servers),
+    return Hostile(Exchanges(rows), {"zero": setting.claim(0), "need": setting.claim(need),
+                                     "less": setting.claim(need // 2),
+                                     "nobody": setting.claim(need, false_max=setting.servers),
                                      "one-left": setting.claim(need, false_max=setting.servers - 1)})
 
 
@@ -247,8 +249,9 @@ def conflicting(setting: Setting, count: int) -> Hostile:
     drift some ticks have an empty hull, and longer pieces have none."""
     spacing, begin = setting.spacing(count), setting.begin * BILLION
     step = 4 * TICKS + 4 * setting.drifted(spacing * setting.servers * TICKS // BILLION)
-    rows = ((number % setting.servers, begin + number * spacing, begin + number * spacing + WAY_NS, -WIDTH
-             + number % setting.servers * step, WIDTH + number % setting.servers * step) for number in range(count))
+    rows = ((number % setting.servers, begin + number * spacing, begin + number * spacing + WAY_NS,
+             -WIDTH + number % setting.servers * step, WIDTH + number % setting.servers * step)
+            for number in range(count))
     most, need = setting.servers - 1, setting.need(count // setting.servers)
     far = need + most * step * BILLION // TICKS
     return Hostile(Exchanges(rows), {"none": setting.claim(need, false_max=0),
@@ -280,11 +283,13 @@ def staggered(setting: Setting, count: int) -> Hostile:
     """Servers that all meet, each a little ahead of the one before."""
     spacing, begin = setting.spacing(count), setting.begin * BILLION
     shift = WIDTH // (2 * setting.servers)
-    rows = ((number % setting.servers, begin + number * spacing, begin + number * spacing + WAY_NS, -WIDTH
-             + number % setting.servers * shift, WIDTH + number % setting.servers * shift) for number in range(count))
+    rows = ((number % setting.servers, begin + number * spacing, begin + number * spacing + WAY_NS,
+             -WIDTH + number % setting.servers * shift, WIDTH + number % setting.servers * shift)
+            for number in range(count))
     need = setting.need(count // setting.servers, 2 * WIDTH)
-    return Hostile(Exchanges(rows), {"zero": setting.claim(0), "half": setting.claim(need // 2), "need":
-                                     setting.claim(need), "fewer": setting.claim(need, false_max=setting.servers // 2)})
+    return Hostile(Exchanges(rows), {"zero": setting.claim(0), "half": setting.claim(need // 2),
+                                     "need": setting.claim(need),
+                                     "fewer": setting.claim(need, false_max=setting.servers // 2)})
 
 
 def last_conflicts(setting: Setting, count: int) -> Hostile:
@@ -319,30 +324,31 @@ def hair(gap: int, rate: str, seconds: int = DAY) -> Callable[[int], Hostile]:
     return lambda count: hairs(four(RATES[rate], seconds, begin), count, (gap,))
 
 
-FAMILIES: dict[str,
-               Callable[[int],
-                        Hostile]] = {**{f"hair-{gap}-{rate}": hair(gap, rate) for gap in (1, 100, 10_000)
-                                        for rate in RATES}, "hair-4-100ppm": hair(4, "100ppm"),
-                                     "hair-1-100ppm-second": hair(1, "100ppm", SECOND),
-                                     "hair-1-100ppm-century": hair(1, "100ppm", CENTURY), "hair-10000-half-second":
-                                     hair(10_000, "half", SECOND), "gaps-100ppm": lambda count:
-                                     hairs(four(100_000), count, (100, -100, 10_000, -1, 10_000, -10_000)), "gaps-half":
-                                     lambda count: hairs(four(HALF), count, (100, -100, 10_000, -1, 10_000, -10_000)),
-                                     "teeth-10ppm": lambda count: teeth(Setting(1, 0, 10_000, DAY), count, WIDTH // 10),
-                                     "teeth-none": lambda count: teeth(Setting(1, 0, 0, DAY), count),
-                                     "teeth-half": lambda count: teeth(Setting(1, 0, HALF, DAY), count), "teeth-second":
-                                     lambda count: teeth(Setting(1, 0, 10_000, SECOND), count), "teeth-century":
-                                     lambda count: teeth(Setting(1, 0, 10_000, CENTURY, 946_684_800), count),
-                                     "teeth-32-servers": lambda count: teeth(Setting(32, 15, 100_000, DAY), count),
-                                     "equal-one": lambda count: equal(Setting(1, 0, 10_000, DAY), count),
-                                     "equal-three": lambda count: equal(Setting(3, 1, 10_000, DAY), count),
-                                     "one-moment": lambda count: one_moment(Setting(8, 2, 10_000, 0), count),
-                                     "one-moment-a-day": lambda count: one_moment(Setting(8, 2, 10_000, DAY), count),
-                                     "nested": lambda count: nested(Setting(2, 0, 100_000, DAY), count),
-                                     "wide-windows": wide_windows, "hour": hour, "conflict-32": lambda count:
-                                     conflicting(Setting(32, 31, 100_000, DAY), count), "conflict-32-century":
-                                     lambda count: conflicting(Setting(32, 31, 1, CENTURY, 946_684_800), count),
-                                     "pairs-32": lambda count: in_pairs(Setting(32, 16, 100_000, DAY), count),
-                                     "staggered-32": lambda count: staggered(Setting(32, 31, 100_000, DAY), count),
-                                     "last-conflicts": lambda count: last_conflicts(Setting(3, 1, 100_000, DAY), count),
-                                     "many-pieces": many_pieces}
+FAMILIES: dict[str, Callable[[int], Hostile]] = {
+    **{f"hair-{gap}-{rate}": hair(gap, rate) for gap in (1, 100, 10_000) for rate in RATES},
+    "hair-4-100ppm": hair(4, "100ppm"),
+    "hair-1-100ppm-second": hair(1, "100ppm", SECOND),
+    "hair-1-100ppm-century": hair(1, "100ppm", CENTURY),
+    "hair-10000-half-second": hair(10_000, "half", SECOND),
+    "gaps-100ppm": lambda count: hairs(four(100_000), count, (100, -100, 10_000, -1, 10_000, -10_000)),
+    "gaps-half": lambda count: hairs(four(HALF), count, (100, -100, 10_000, -1, 10_000, -10_000)),
+    "teeth-10ppm": lambda count: teeth(Setting(1, 0, 10_000, DAY), count, WIDTH // 10),
+    "teeth-none": lambda count: teeth(Setting(1, 0, 0, DAY), count),
+    "teeth-half": lambda count: teeth(Setting(1, 0, HALF, DAY), count),
+    "teeth-second": lambda count: teeth(Setting(1, 0, 10_000, SECOND), count),
+    "teeth-century": lambda count: teeth(Setting(1, 0, 10_000, CENTURY, 946_684_800), count),
+    "teeth-32-servers": lambda count: teeth(Setting(32, 15, 100_000, DAY), count),
+    "equal-one": lambda count: equal(Setting(1, 0, 10_000, DAY), count),
+    "equal-three": lambda count: equal(Setting(3, 1, 10_000, DAY), count),
+    "one-moment": lambda count: one_moment(Setting(8, 2, 10_000, 0), count),
+    "one-moment-a-day": lambda count: one_moment(Setting(8, 2, 10_000, DAY), count),
+    "nested": lambda count: nested(Setting(2, 0, 100_000, DAY), count),
+    "wide-windows": wide_windows,
+    "hour": hour,
+    "conflict-32": lambda count: conflicting(Setting(32, 31, 100_000, DAY), count),
+    "conflict-32-century": lambda count: conflicting(Setting(32, 31, 1, CENTURY, 946_684_800), count),
+    "pairs-32": lambda count: in_pairs(Setting(32, 16, 100_000, DAY), count),
+    "staggered-32": lambda count: staggered(Setting(32, 31, 100_000, DAY), count),
+    "last-conflicts": lambda count: last_conflicts(Setting(3, 1, 100_000, DAY), count),
+    "many-pieces": many_pieces,
+}

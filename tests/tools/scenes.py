@@ -126,5 +126,6 @@ def pairs_of(lines: Iterable[str], claim: Claim) -> list[tuple[int, int]]:
 def are_few(pairs: list[tuple[int, int]], most: int) -> bool:
     """Whether at most so many groups hold an end of each pair, by looking at all sets of groups."""
     groups = sorted({group for pair in pairs for group in pair})
-    return any(chosen.bit_count() <= most and all(any(chosen >> groups.index(group) & 1 for group in pair)
-                                                  for pair in pairs) for chosen in range(1 << len(groups)))
+    return any(chosen.bit_count() <= most
+               and all(any(chosen >> groups.index(group) & 1 for group in pair) for pair in pairs)
+               for chosen in range(1 << len(groups)))
