@@ -1,20 +1,14 @@
 """What `--human` says on standard error of numbers of a claim that look like a slip of the pen: a second reading, from
 the claim and the records' headers alone."""
-import json
 import struct
-from datetime import datetime, timezone
 from pathlib import Path
-from typing import Any
+
+from tests.second.claims import Claim, read_claim
+from tests.second.columns import TICKS
+from tests.second.rules import span_of
+from tests.tools.families import spelled
 
 HOUR = 3600
-
-
-def second_of(time: str) -> int:
-    return int(datetime.fromisoformat(time.replace("Z", "+00:00")).timestamp())
-
-
-def time_of(second: int) -> str:
-    return datetime.fromtimestamp(second, timezone.utc).strftime("%Y-%m-%dT%H:%M:%SZ")
 
 
 def recorded(capture: bytes) -> tuple[int, int] | None:
@@ -28,7 +22,7 @@ def recorded(capture: bytes) -> tuple[int, int] | None:
     return (min(seconds), max(seconds)) if seconds else None
 
 
-def lines_of(name: str, claim: dict[str, Any], times: tuple[int, int] | None) -> list[str]:
+def lines_of(name: str, claim: Claim, times: tuple[int, int] | None) -> list[str]:
     """The lines about a claim of this name, with a capture that was recorded between these seconds."""
     found = []
     if claim["bound_ns"] < 1000:
@@ -39,9 +33,9 @@ def lines_of(name: str, claim: dict[str, Any], times: tuple[int, int] | None) ->
         found.append('"reading_ns" is below 1000, which are 0.001 ms; 0.1 ms are 100000')
     if claim["false_max"] >= len(claim.get("groups", claim["servers"])):
         found.append('"false_max" is no less than the number of groups, so that nothing can be shown')
-    begin, end = second_of(claim["from"]), second_of(claim["to"])
+    begin, end = (tick // TICKS for tick in span_of(claim))
     if times and (end < times[0] or times[1] < begin):
-        words = f"its span is outside the capture, which goes from {time_of(times[0])} to {time_of(times[1])}"
+        words = f"its span is outside the capture, which goes from {spelled(times[0])} to {spelled(times[1])}"
         if any(times[0] <= begin + away and end + away <= times[1]
                for hours in range(1, 15) for away in (hours * HOUR, -hours * HOUR)):
             words += "; some hours away it would be inside: write UTC, not local time"
@@ -51,5 +45,5 @@ def lines_of(name: str, claim: dict[str, Any], times: tuple[int, int] | None) ->
 
 def of(claim: Path, capture: Path) -> bytes:
     """What is said of a claim and a capture that are files, and not refused."""
-    lines = lines_of(str(claim), json.loads(claim.read_bytes()), recorded(capture.read_bytes()))
+    lines = lines_of(str(claim), read_claim(claim), recorded(capture.read_bytes()))
     return "".join(f"{line}\n" for line in lines).encode()

@@ -17,7 +17,7 @@ from tests.second.by_covers import Search
 from tests.second.claims import ByCovers, Claim
 from tests.second.rules import Sample
 from tests.second.columns import TICKS
-from tests.tools.scenes import time_text
+from tests.tools.families import spelled
 
 CLAIMS, SHARES = int(os.environ.get("NTPAUDIT_CLAIMS", "4000")), 10
 BEGIN = 10**9
@@ -38,7 +38,7 @@ class System:
         self.claim: Claim = {
             "client": "10.0.0.1", "servers": [f"192.0.2.{k + 1}" for k in range(servers)],
             "false_max": rng.randrange(0, groups + 1) if rng.random() < .3 else rng.randrange(0, (groups + 1) // 2 + 1),
-            "from": time_text(BEGIN), "to": time_text(BEGIN + seconds), "bound_ns": 10**15, "drift_ppb": self.ppb,
+            "from": spelled(BEGIN), "to": spelled(BEGIN + seconds), "bound_ns": 10**15, "drift_ppb": self.ppb,
             "reading_ns": 0, "groups": members}
         self.first, self.last = BEGIN * TICKS, (BEGIN + seconds) * TICKS
         self.samples = [self.sample(rng, server, shift) for server in range(servers)

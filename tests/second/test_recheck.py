@@ -19,8 +19,8 @@ from pathlib import Path
 
 from tests.support import DATA, ROOT, Ran, count, files_in, program, run
 from tests.cases import transcript
+from tests.second import rules
 from tests.second.claims import Claim, changed
-from tests.second.columns import TICKS
 from tests.second.rechecked import recheck
 from tests.tools import directed, scenes
 from tests.tools.events import Course
@@ -230,11 +230,11 @@ def edge(found: directed.Edge, trial: Trial) -> None:
             elif words == ("settle",) and status in (0, 1):
                 trial.hold_words(changed(claim, bound_ns=bound), answer)
         entries = [[k, k] for k, _ in enumerate(samples)][:32]
-        upto = scenes.seconds_of(claim["to"]) * TICKS
+        upto = rules.span_of(claim)[1]
         for some in (entries, entries[:1], entries[-1:]):
             trial.compare_both("edge", json.dumps({"pieces": [{"entries": some, "upto": upto}]}).encode())
     trial.claim.write_text(json.dumps(changed(claim, bound_ns=0)))
-    reading = scenes.seconds_of(claim["from"]) * TICKS
+    reading = rules.span_of(claim)[0]
     for error in sorted({int(row[at]) + more for row in samples for at in (-3, -1) for more in (-1, 0, 1)}):
         if -2**63 <= error < 2**63:
             trial.compare_both("edge", json.dumps({"error": error, "false": [], "reading": reading}).encode())

@@ -7,15 +7,15 @@ from typing import Any, NamedTuple
 
 from tests.second.claims import Claim, changed
 from tests.second.columns import TICKS
-from tests.tools.scenes import time_text
+from tests.tools.families import spelled
 from tests.tools.wire import CLIENT, Clock, Frame, PORT, SERVER, address, header, stamp
 
 BASE = 1795331016
 ERA = 2**32 - 2208988800
 """The Unix second at which era 1 of NTP timestamps begins."""
 
-CLAIM: Claim = {"client": address(CLIENT), "servers": [address(SERVER)], "false_max": 0, "from": time_text(BASE),
-                "to": time_text(BASE + 4), "bound_ns": 10**9, "drift_ppb": 100_000, "reading_ns": 0}
+CLAIM: Claim = {"client": address(CLIENT), "servers": [address(SERVER)], "false_max": 0, "from": spelled(BASE),
+                "to": spelled(BASE + 4), "bound_ns": 10**9, "drift_ppb": 100_000, "reading_ns": 0}
 
 
 class Edge(NamedTuple):
@@ -72,7 +72,7 @@ def edges() -> Iterator[Edge]:
     for clock in (Clock("<", 10**6), Clock(">", 10**6), Clock(">", 10**9)):
         yield Edge(f"records {clock}", CLAIM, capture_of(*TWO, clock=clock))
     for second in (0, 1, ERA - 1, ERA, 2**31 - 1, 2**31, 2**32 - 6):
-        claim = changed(CLAIM, **{"from": time_text(second), "to": time_text(second + 4)})
+        claim = changed(CLAIM, **{"from": spelled(second), "to": spelled(second + 4)})
         own = [one._replace(sent=one.sent + (second - BASE) * TICKS, arrived=one.arrived + (second - BASE) * TICKS)
                for one in TWO]
         yield Edge(f"second {second}", claim, capture_of(*own))
@@ -104,8 +104,8 @@ def edges() -> Iterator[Edge]:
     for drift in (0, 1, 100, 499_999_999, 500_000_000):
         yield Edge(f"drift {drift}", changed(CLAIM, drift_ppb=drift), WHOLE)
     for seconds in (0, 1, 3, 4, 86_400):
-        yield Edge(f"a span to {seconds}", changed(CLAIM, to=time_text(BASE + seconds)), WHOLE)
-    yield Edge("a span before", changed(CLAIM, **{"from": time_text(BASE - 9), "to": time_text(BASE - 5)}), WHOLE)
+        yield Edge(f"a span to {seconds}", changed(CLAIM, to=spelled(BASE + seconds)), WHOLE)
+    yield Edge("a span before", changed(CLAIM, **{"from": spelled(BASE - 9), "to": spelled(BASE - 5)}), WHOLE)
     yield from frames()
     yield from groups()
 

@@ -4,19 +4,11 @@ refutations, what nobody would claim, and captures with broken frames, doubled a
 import json
 import random
 from collections.abc import Iterable
-from datetime import datetime, timedelta, timezone
 from typing import Any
 
 from tests.second.claims import Certificate, Claim, Refutation
 from tests.second.columns import TICKS
-
-
-def time_text(seconds: int) -> str:
-    return (datetime(1970, 1, 1) + timedelta(seconds=seconds)).strftime("%Y-%m-%dT%H:%M:%SZ")
-
-
-def seconds_of(time: str) -> int:
-    return int(datetime.strptime(time, "%Y-%m-%dT%H:%M:%SZ").replace(tzinfo=timezone.utc).timestamp())
+from tests.second.rules import span_of
 
 
 def odd(rng: random.Random, capture: bytes) -> bytes:
@@ -39,7 +31,7 @@ def odd(rng: random.Random, capture: bytes) -> bytes:
 
 def made_certificate(rng: random.Random, claim: Claim, of_servers: list[list[int]], samples: int) -> Certificate:
     """A certificate of any samples, where these are those of each server."""
-    first, last = (seconds_of(time) * TICKS for time in (claim["from"], claim["to"]))
+    first, last = span_of(claim)
     cuts = sorted(rng.randrange(first, last + 1) for _ in range(rng.randrange(4)))
     pieces: Certificate = {"pieces": []}
     for upto in [*cuts, last]:
@@ -55,7 +47,7 @@ def made_refutation(rng: random.Random, claim: Claim) -> Refutation:
     error = rng.choice([1, -1]) * (bound + rng.choice([0, 1, 2, 1000, 10**6, 10**9]))
     return {"error": max(-2**63, min(2**63 - 1, error)),
             "false": rng.sample(range(count), rng.randrange(count + 1)) if rng.random() < .6 else [],
-            "reading": seconds_of(claim["from"]) * TICKS + rng.choice([0, 1, TICKS, TICKS // 2])}
+            "reading": span_of(claim)[0] + rng.choice([0, 1, TICKS, TICKS // 2])}
 
 
 def altered(rng: random.Random, text: bytes, samples: int) -> bytes:
