@@ -15,18 +15,7 @@ from tests.support import DATA, check, run
 from tests.dossier.audits import (ENVIRONMENT, PROGRAM, SCRIPT, capture_of, check_page, dossier, folder_of, record_of,
                                   skipped, table)
 from tests.tools import families
-
-HEADER = 24
-
-
-def records_of(whole: bytes) -> list[bytes]:
-    """The records of a little-endian capture, each with its head."""
-    found, at = [], HEADER
-    while at < len(whole):
-        end = at + 16 + int.from_bytes(whole[at + 8 : at + 12], "little")
-        found.append(whole[at:end])
-        at = end
-    return found
+from tests.tools.wire import records_of as records_of
 
 
 def block(order: str, kind: int, body: bytes) -> bytes:

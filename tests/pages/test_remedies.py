@@ -15,6 +15,7 @@ from pathlib import Path
 
 from tests.support import DATA, ROOT, check, is_here, program, run, skip
 from tests.system import sentences
+from tests.tools.wire import records_of
 
 PROGRAM = program()
 TOOLS = ("cat", "date", "editcap", "file", "grep", "gunzip", "head", "iconv", "ls", "mergecap", "ntpaudit", "od", "pwd",
@@ -35,16 +36,6 @@ Maker = Callable[[Path, bytes], object]
 
 
 # ---- files that need a remedy
-def records(whole: bytes) -> list[bytes]:
-    """The records of a little-endian capture."""
-    found, at = list[bytes](), 24
-    while at < len(whole):
-        end = at + 16 + int.from_bytes(whole[at + 8:at + 12], "little")
-        found.append(whole[at:end])
-        at = end
-    return found
-
-
 def head(second: int) -> bytes:
     """A record of one byte."""
     return struct.pack("<IIII", second, 0, 1, 60) + b"x"
@@ -62,7 +53,7 @@ def through(*words: str) -> Maker:
 
 def modified(whole: bytes) -> bytes:
     """The capture with longer heads of records."""
-    longer = b"".join(record[:16] + bytes(8) + record[16:] for record in records(whole))
+    longer = b"".join(record[:16] + bytes(8) + record[16:] for record in records_of(whole))
     return struct.pack("<I", 0xA1B2CD34) + whole[4:24] + longer
 
 
@@ -70,7 +61,7 @@ def framed(link: int, change: Callable[[bytes], bytes]) -> Maker:
     """f.pcap of this link type, each frame changed."""
     def made(whole: bytes) -> bytes:
         out = whole[:20] + struct.pack("<I", link)
-        for record in records(whole):
+        for record in records_of(whole):
             frame = change(record[16:])
             longer = len(frame) - len(record) + 16
             lengths = struct.pack("<II", len(frame), int.from_bytes(record[12:16], "little") + longer)
@@ -81,7 +72,7 @@ def framed(link: int, change: Callable[[bytes], bytes]) -> Maker:
 
 def parts(folder: Path, whole: bytes) -> None:
     """Two parts of the capture by several names, and f.pcap, which is both of them, joined by cat."""
-    found = records(whole)
+    found = records_of(whole)
     halves = [whole[:24] + b"".join(half) for half in (found[:len(found) // 2], found[len(found) // 2:])]
     for names in (("FIRST", "SECOND"), ("f1.pcap", "f2.pcap"), ("f-1.pcap", "f-2.pcap")):
         for name, half in zip(names, halves):
@@ -224,7 +215,7 @@ def judge(name: str, folder: Path, made: str, whole: bytes) -> None:
         check(f"{name}: a claim", status=(settled(folder, claim=new)[0], 0))
     elif name.startswith(PARTS):
         status, text, _ = run([PROGRAM, "list", new], cwd=folder)
-        seen, most = text.split()[-3:-2], 4_000_000 if "many" in name else len(records(whole)) - 1
+        seen, most = text.split()[-3:-2], 4_000_000 if "many" in name else len(records_of(whole)) - 1
         check(f"{name}: a part", status=(status, 0), records=(seen, lambda seen: seen in ([b"%d" % most], [b"600001"])))
     else:
         (folder / "good.pcap").write_bytes(whole)
@@ -289,12 +280,12 @@ SHOWN: dict[str, tuple[Maker, str]] = {
     "editcap -F nsecpcap f.pcap new.pcap": (through("editcap", "-F", "pcapng", "-", "-"), "new.pcap"),
     "editcap -F nsecpcap -A '2026-11-22 07:10:00Z' f.pcap ../after.pcap": (whole_capture, ""),
     "editcap -F nsecpcap -D 50 f.pcap ../once.pcap": (
-        by(lambda whole: whole[:24] + b"".join(2 * record for record in records(whole))), "../once.pcap"),
+        by(lambda whole: whole[:24] + b"".join(2 * record for record in records_of(whole))), "../once.pcap"),
     "mergecap -F nsecpcap -w f.pcap f-*.pcap": (parts, "f.pcap"),
     "mergecap -F nsecpcap -w new.pcap f1.pcap f2.pcap": (parts, "new.pcap"),
     "mergecap -F pcap -w new.pcap f1.pcap f2.pcap": (parts, "new.pcap"),
     "reordercap f.pcap ../g.pcap": (
-        by(lambda whole: whole[:24] + b"".join(reversed(records(whole)))), "../g.pcap"),
+        by(lambda whole: whole[:24] + b"".join(reversed(records_of(whole)))), "../g.pcap"),
     "head -c PLACE": (by(lambda whole: whole[:-20]), ""),
     "grep -F -e claim.json -e f.pcap -e c.json ALL > SUMS": (sums, ""),
     "zstd -d f.pcap.zst -o ../f.pcap": (lambda folder, whole: (folder / "f.pcap.zst").write_bytes(

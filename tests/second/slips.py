@@ -1,24 +1,21 @@
 """What `--human` says on standard error of numbers of a claim that look like a slip of the pen: a second reading, from
 the claim and the records' headers alone."""
-import struct
 from pathlib import Path
+from typing import Literal
 
 from tests.second.claims import Claim, read_claim
 from tests.second.columns import TICKS
 from tests.second.rules import span_of
 from tests.tools.families import spelled
+from tests.tools.wire import records_of
 
 HOUR = 3600
 
 
 def recorded(capture: bytes) -> tuple[int, int] | None:
     """The least second of a capture's records and the greatest, if it has any."""
-    order = ">" if capture[:1] == b"\xa1" else "<"
-    place, seconds = 24, []
-    while place < len(capture):
-        second, _, captured, _ = struct.unpack_from(f"{order}4I", capture, place)
-        seconds.append(second)
-        place += 16 + captured
+    order: Literal["big", "little"] = "big" if capture[:1] == b"\xa1" else "little"
+    seconds = [int.from_bytes(record[:4], order) for record in records_of(capture)]
     return (min(seconds), max(seconds)) if seconds else None
 
 

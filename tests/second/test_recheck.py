@@ -10,7 +10,6 @@ import os
 import random
 import re
 import shutil
-import struct
 import tempfile
 from collections import Counter
 from collections.abc import Callable, Iterator
@@ -24,6 +23,7 @@ from tests.second.claims import Claim, changed
 from tests.second.rechecked import recheck
 from tests.tools import directed, scenes
 from tests.tools.events import Course
+from tests.tools.wire import records_of
 
 SEED, SCENES = "2026", 125
 """tests/second/test_planted.py needs 60 scenes, beside what is directed, to see each bug that it plants."""
@@ -163,15 +163,6 @@ class Trial:
 
 def is_not_right(said: Answer) -> bool:
     return said[0] == 1 and said[1].startswith("not right: ")
-
-
-def records_of(capture: bytes) -> list[bytes]:
-    layout, at, found = struct.Struct(("<" if capture[:1] in b"\xd4\x4d" else ">") + "8xI"), 24, []
-    while at < len(capture):
-        end = at + 16 + int(layout.unpack_from(capture, at)[0])
-        found.append(capture[at:end])
-        at = end
-    return found
 
 
 # ---- what is compared

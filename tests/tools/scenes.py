@@ -9,14 +9,12 @@ from typing import Any
 from tests.second.claims import Certificate, Claim, Refutation
 from tests.second.columns import TICKS
 from tests.second.rules import span_of
+from tests.tools.wire import records_of
 
 
 def odd(rng: random.Random, capture: bytes) -> bytes:
     """A little-endian capture with records doubled, lost or in another order, and bytes of their frames changed."""
-    records, at = list[bytes](), 24
-    while at < len(capture):
-        records.append(capture[at:at + 16 + int.from_bytes(capture[at + 8:at + 12], "little")])
-        at += len(records[-1])
+    records = records_of(capture)
     for _ in range(rng.randrange(1, 9)):
         number = rng.randrange(len(records))
         record = bytearray(records[number])

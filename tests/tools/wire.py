@@ -70,3 +70,13 @@ class Clock(NamedTuple):
         return struct.pack(self.order + "IHHIIII", magic, 2, 4, 0, 0, 65535, 1) + b"".join(
             struct.pack(self.order + "IIII", *divmod(units, self.per_second), len(frame), len(frame)) + frame
             for units, frame in records)
+
+
+def records_of(capture: bytes) -> list[bytes]:
+    """The records of a capture, each with its head."""
+    length, at, found = struct.Struct(("<" if capture[:1] in b"\xd4\x4d" else ">") + "8xI"), 24, list[bytes]()
+    while at < len(capture):
+        end = at + 16 + int(length.unpack_from(capture, at)[0])
+        found.append(capture[at:end])
+        at = end
+    return found
