@@ -34,9 +34,7 @@ ON_DISK = {
     "list/folder-on-standard-input": "a folder isn't opened in memory",
     "samples/one-pipe-for-both": "a pipe is read whole for its first reader",
     "samples/one-pipe-for-both-with-both": "a pipe is read whole for its first reader",
-    "words/output-as-an-input": "nothing hinders a file in memory",
-    "words/output-beside-a-draft": "nothing hinders a file in memory",
-    "words/output-that-cannot-be-written": "nothing hinders a file in memory",
+    "words/outputs": "nothing hinders a file in memory",
 }
 """Cases that need the host's files, which aren't asked of files in memory, and why."""
 
