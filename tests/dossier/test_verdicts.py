@@ -215,10 +215,10 @@ def test_split(place: Path) -> None:
 def test_many_together(place: Path) -> None:
     """A missing folder doesn't hide a wrong clock, and the worst folder comes first."""
     good, wrong = good_folder(place, "good"), good_folder(place, "wrong", bound_ns=1)
-    apart = good_folder(place, "apart", None, [word.replace("4:-1000..1000", "4:900000000..900001000") for word in GOOD])
-    nothing = good_folder(place, "nothing", client="192.0.2.11")
-    contrary, missing, refused = good_folder(place, "contrary",
-                                             {"drift": SETUP}), place / "missing", good_folder(place, "refused")
+    off = [word.replace("4:-1000..1000", "4:900000000..900001000") for word in GOOD]
+    apart, nothing = good_folder(place, "apart", None, off), good_folder(place, "nothing", client="192.0.2.11")
+    contrary, refused = good_folder(place, "contrary", {"drift": SETUP}), good_folder(place, "refused")
+    missing = place / "missing"
     (refused / "f.pcap").write_bytes(b"")
     folders = [good, apart, missing, refused, nothing, contrary, wrong]
     check("the status of many", all=(dossier("audit", *folders)[0], 1),
