@@ -221,6 +221,7 @@ def test_own_records(place: Path) -> None:
     check("a step on another day", status=(status, 1),
           verdicts=([(row["day"], row["verdict"]) for row in rows],
                     [("2001-09-09", "yes"), ("2001-09-10", "nothing fits"), ("2001-09-11", "refuted")]),
+          spans=([row[end] for row in rows for end in ("begin", "end")][1:3], ["2001-09-10T00:00:00Z"] * 2),
           verified=(dossier("verify", stepped),
                     (1, f"{stepped}: verified: 1 yes, 1 nothing fits, 1 refuted\n".encode(), b"")))
     whole = (stepped / "f.pcap").read_bytes()
@@ -247,6 +248,9 @@ def test_own_records(place: Path) -> None:
     dossier("audit", "--days", gap)
     check("days on which nothing was recorded", rows=([row["verdict"] for row in table(gap)[1:]], ["no evidence"] * 2),
           said=("Nothing was recorded" in table(gap)[2]["reason"], True))
+    dossier("audit", gap)
+    check("without days again", left=([path.name for path in gap.iterdir() if path.is_dir()], []),
+          rows=(len(table(gap)), 1))
 
 
 def test_many_exchanges(place: Path) -> None:

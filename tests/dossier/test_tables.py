@@ -675,6 +675,10 @@ def test_sums(place: Path) -> None:
 
 
 # ---- drafts, days, verdicts
+CARRIED = "clients-us", "vlan-ns", "chrony-ns", "port123-ns", "odd-us"
+"""Captures of data/ whose draft is a claim that they show."""
+
+
 def test_draft(place: Path) -> None:
     status, out, err = dossier("draft", DATA / "vlan-ns.pcap")
     claim = json.loads(out)
@@ -693,8 +697,9 @@ def test_draft(place: Path) -> None:
         if status == 0:
             claim = json.loads(out)
             groups, most = len(claim.get("groups", claim["servers"])), claim["false_max"]
-            check(f"a draft of {capture.name} is a claim",
-                  status=(run([PROGRAM, "samples", "/dev/stdin", capture], out)[0], 0),
+            carries = run([PROGRAM, "settle", "/dev/stdin", capture], out)[0]
+            check(f"a draft of {capture.name} is a claim, which carries if one does", status=(carries in (0, 1), True),
+                  carries=(carries == 0 or capture.stem not in CARRIED, True),
                   false_max=(most, lambda most: 2 * most < groups <= 2 * most + 2))
         else:
             check(f"no draft of {capture.name}", status=(status, 1), told=(bool(err), True), output=(out, b""))
@@ -727,18 +732,6 @@ def test_draft(place: Path) -> None:
     status, out, _ = dossier("draft", "--client", "192.0.2.10", both)
     check("a draft for a client", status=(status, 0), client=(json.loads(out)["client"], "192.0.2.10"))
     check("a draft of a torn capture", status=(dossier("draft", ROOT / "README.md")[0], 2))
-
-
-def test_newcomer(place: Path) -> None:
-    """From a capture to a page: the claim as it is drafted carries, and verifies."""
-    for name in ("clients-us", "vlan-ns", "chrony-ns", "port123-ns", "odd-us"):
-        folder = place / "newcomer" / name
-        folder.mkdir(parents=True)
-        shutil.copy(DATA / f"{name}.pcap", folder / "f.pcap")
-        (folder / "claim.json").write_bytes(dossier("draft", folder / "f.pcap")[1])
-        check(f"the draft of {name} carries", status=(dossier("audit", folder)[0], 0),
-              verified=(dossier("verify", folder)[0], 0))
-        check_page(f"the page of {name}", dossier("page", folder)[1].decode())
 
 
 TCPDUMP = """#!/bin/sh
@@ -840,20 +833,3 @@ def test_other_answers(place: Path) -> None:
     check("a program that contradicts itself", status=(status, 70),
           line=(b"refute doesn't accept what settle gave" in out, True),
           to_do=("anew" in table(folder)[0]["to_do"], True))
-
-
-def test_days(place: Path) -> None:
-    second = 1000000000 - 1000000000 % 86400 + 86400
-    capture = capture_of(place / "days.pcap", f"1:-1000..1000@{second - 20}", f"1:-1000..1000@{second + 20}")
-    times: dict[str, Any] = {"from": "2001-09-09T23:59:30Z", "to": "2001-09-10T00:00:30Z"}
-    folder = folder_of(place, "days", capture, **{**CLAIM_OF_TWO, "servers": ["192.0.2.1"], **times})
-    status, out, _ = dossier("audit", "--days", folder)
-    rows = table(folder)
-    check("a verdict a day", status=(status, 0), days=([row["day"] for row in rows], ["2001-09-09", "2001-09-10"]),
-          spans=([(row["begin"], row["end"]) for row in rows],
-                 [("2001-09-09T23:59:30Z", "2001-09-10T00:00:00Z"), ("2001-09-10T00:00:00Z", "2001-09-10T00:00:30Z")]),
-          verified=(dossier("verify", folder)[0], 0))
-    check_page("a page of days", dossier("page", folder)[1].decode())
-    dossier("audit", folder)
-    check("without days again", left=([path.name for path in folder.iterdir() if path.is_dir()], []),
-          rows=(len(table(folder)), 1))
