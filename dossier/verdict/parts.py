@@ -71,7 +71,7 @@ class Parting:
         granted."""
         self.search = Search(program, claim, capture, extent)
         self.breaks, self.first, self.end = self.search.found(), 0, self.search.number
-        self.times = dict[int, tuple[int, int]]()
+        self.times, self.hulls = dict[int, tuple[int, int]](), dict[tuple[str, int, int, int, int], Hull]()
         self.are_whole, self.hidden = bool(self.breaks), 0
         """Whether a yes of one stretch may stand; and by how much a clock that moved faster than is granted may have
         moved in a stretch that a course fits."""
@@ -139,10 +139,13 @@ class Parting:
 
     def hull(self, side: Side, first: int, last: int) -> Hull:
         """The hull by a stretch's exchanges alone, over some Unix seconds."""
-        claim = self.named(replace(self.claim, from_=civil(max(0, first)), to=civil(max(0, last))))
-        step = str(min(LONGEST, max(1, last - first)))
-        hulls = read_envelope(self.program.run("envelope", claim, side.path, "--step", step).text).hulls
-        return "empty" if "empty" in hulls else outermost(hulls)
+        key = side.path, side.first, side.last, first, last
+        if key not in self.hulls:
+            claim = self.named(replace(self.claim, from_=civil(max(0, first)), to=civil(max(0, last))))
+            step = str(min(LONGEST, max(1, last - first)))
+            hulls = read_envelope(self.program.run("envelope", claim, side.path, "--step", step).text).hulls
+            self.hulls[key] = "empty" if "empty" in hulls else outermost(hulls)
+        return self.hulls[key]
 
     def latest(self, behind: Side) -> int | None:
         """The true time, in nanoseconds, at which a step came at the latest, by the first reply behind it."""
