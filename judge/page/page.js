@@ -314,7 +314,7 @@ function shown(result, number, count) {
     const sum = result.sums[k];
     if (!sum) return;
     list.append(element("dt", `${name[0].toUpperCase()}${name.slice(1)}: `, element("bdi", nameOf(result.files[k]))),
-      element("dd.sum", element("span", sum.sum), " "));
+      element("dd.sum", element("span", sum), " "));
   });
   const made = element(`article.${kind}`, heading, element("p.lead", sentence), more || "",
     element("p.soft", "In ntpaudit's words: ", element("code", result.line)), element("h3", "SHA-256"), list);

@@ -226,7 +226,7 @@ def test_no_way_out(folder: Path) -> None:
 
 
 def test_made_again(folder: Path) -> None:
-    """The page is the same bytes each time, and small."""
+    """The page is the same bytes each time, and small; and dist/ has what is made, the program too."""
     if tool := missing():
         skip("the page, made again", f"{tool} isn't installed")
         return
@@ -234,5 +234,6 @@ def test_made_again(folder: Path) -> None:
     page = (folder / "judge.html").read_bytes()
     check("made again", status=(status, 0), same=(page == made("judge.html").read_bytes(), True), said=(err, b""),
           small=(len(page) <= 300_000, True))
-    check("dist/judge.html is another page than what is made: call judge/make --page dist",
-          same=(page == (ROOT / "dist/judge.html").read_bytes(), True))
+    for name in ("judge.html", "ntpaudit-judge"):
+        check(f"dist/{name} is another than what is made: call judge/make dist, with --page too",
+              same=((ROOT / "dist" / name).read_bytes() == made(name).read_bytes(), True))

@@ -11,9 +11,10 @@ SHIPPED = ROOT / "dist/ntpaudit"
 
 def test_manifest() -> None:
     listed = dict(line.split(" ", 1) for line in (ROOT / "dist/MANIFEST").read_text().splitlines())
-    check("dist/MANIFEST has four lines", names=(list(listed), ["program", "page", "sources", "toolchain"]))
-    check("dist/MANIFEST names another page than dist/judge.html: call dist/renew",
-          sum=(listed.get("page"), sum_of((ROOT / "dist/judge.html").read_bytes())))
+    check("dist/MANIFEST has five lines", names=(list(listed), ["program", "page", "judge", "sources", "toolchain"]))
+    for part, name in (("page", "judge.html"), ("judge", "ntpaudit-judge")):
+        check(f"dist/MANIFEST names another {part} than dist/{name}: call dist/renew",
+              sum=(listed.get(part), sum_of((ROOT / "dist" / name).read_bytes())))
     check("dist/MANIFEST names other sources than those that are here: call dist/renew",
           sum=(listed.get("sources"), sum_of_sources(ROOT)))
     check("dist/MANIFEST names another program than dist/ntpaudit: call dist/renew",

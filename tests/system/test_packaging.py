@@ -132,13 +132,14 @@ def test_dossier() -> None:
     if is_here("mandoc", "the dossier's man page by mandoc"):
         check("mandoc finds nothing in the dossier's",
               run=(run(["mandoc", "-T", "lint", ROOT / "docs/ntpaudit-dossier.1"])[:2], (0, b"")))
-    recheck = (ROOT / "docs/ntpaudit-recheck.1").read_text("utf-8").replace("\\-", "-")
-    usage = run([ROOT / "second/recheck", "--help"])[1].decode()
-    check("the second checker's man page", version=(f'"ntpaudit {said("--version").split()[1]}"' in recheck, True),
-          missing=([word for word in re.findall(r"--[a-z]+|\b[A-Z]{5,}\b", usage) if word not in recheck], []))
-    if is_here("mandoc", "the second checker's man page by mandoc"):
-        check("mandoc finds nothing in the second checker's",
-              run=(run(["mandoc", "-T", "lint", ROOT / "docs/ntpaudit-recheck.1"])[:2], (0, b"")))
+    for called in (ROOT / "second/recheck", ROOT / "dist/ntpaudit-judge"):
+        other = called.name if "-" in called.name else f"ntpaudit-{called.name}"
+        page = ROOT / f"docs/{other}.1"
+        shown, usage = page.read_text("utf-8").replace("\\-", "-"), run([called, "--help"])[1].decode()
+        check(f"{other}'s man page", version=(f'"ntpaudit {said("--version").split()[1]}"' in shown, True),
+              missing=([word for word in re.findall(r"--[a-z]+|\b[A-Z]{5,}\b", usage) if word not in shown], []))
+        if is_here("mandoc", f"{other}'s man page by mandoc"):
+            check(f"mandoc finds nothing in {other}'s", run=(run(["mandoc", "-T", "lint", page])[:2], (0, b"")))
     check("the dossier's man page's version", seen=(f'"ntpaudit {said("--version").split()[1]}"' in text, True))
     version = run([ROOT / "ntpaudit-dossier", "--version"], env={**os.environ, "NTPAUDIT": PROGRAM})
     check("the dossier's version", run=((version[0], version[2]), (0, b"")),
@@ -174,8 +175,8 @@ def test_install(folder: Path) -> None:
     check("the installed program runs", run=(run([prefix / "bin/ntpaudit", "list", DATA / "two-packets.pcap"]),
                                              (0, (DATA / "two-packets.list.txt").read_bytes(), b"")))
     files = [DATA / f"vlan-ns.{kind}" for kind in ("claim.json", "pcap", "settle.txt")]
-    check("the installed second checker runs", run=(run([prefix / "bin/ntpaudit-recheck", *files]),
-                                                    (0, b"verdict yes\n", b"")))
+    for name in ("ntpaudit-recheck", "ntpaudit-judge"):
+        check(f"the installed {name} runs", run=(run([prefix / "bin" / name, *files]), (0, b"verdict yes\n", b"")))
     dossier = prefix / "bin/ntpaudit-dossier"
     if dossier.exists():
         audits = [folder / name for name in ("one", "two")]
@@ -188,6 +189,8 @@ def test_install(folder: Path) -> None:
         status, out, _ = run([dossier, "audit", "--jobs", "2", *audits], cwd=folder, env=bare)
         check("the installed dossier audits folders side by side", status=(status, 0),
               said=(out, lambda seen: seen.count(b"yes") >= 2))
+        status, out, _ = run([dossier, "verify", "--second", *audits], env=bare)
+        check("and has three programs judge them", status=(status, 0), said=(out.count(b"(judged by three programs)"), 2))
     other, tools = folder / "other", folder / "tools"
     tools.mkdir()
     for tool in {tool.name: tool for place in ("/usr/bin", "/bin") for tool in Path(place).iterdir()}.values():
