@@ -1,12 +1,13 @@
-"""Plants a bug in the judge's definitions, one after another, and says whether what tests/judge/test_answers.py
-compares sees it. Not part of the gate.
+"""Plants bugs in the judge, one after another. Not part of the gate.
 
-A theorem holds the judge to its definitions, and nothing but the program and whoever reads them holds these to the
-world. So each bug stands in the definitions and in the functions alike, as with somebody who took the pages wrong; the
-proofs are passed over (`coqc -vos`), as they would be proved again.
+A theorem holds the judge's functions to its definitions: of a bug in one of them (BUGS) a proof isn't one any more, and
+it is said which. Nothing but the program and whoever reads them holds the definitions to the world: so each bug there
+(PLANTS) stands in the functions too, as with somebody who took the pages wrong, the proofs are passed over
+(`coqc -vos`), and what tests/judge/test_answers.py compares has to see it.
 """
 import multiprocessing
 import os
+import re
 import shutil
 import tempfile
 from collections.abc import Callable
@@ -89,22 +90,80 @@ PLANTS: dict[str, list[Edit]] = {
         ("Definitions", "flags mod 16384 = 0", "flags / 8192 mod 2 = 0"),
         ("Reading", "(read16 b (ip + n6) mod n16384 =? 0)", "((read16 b (ip + n6) / (n128 * n64)) mod n2 =? 0)")]}
 
+BUGS: dict[str, Edit] = {
+    "a fraction of a whole second": ("Reading", "if units <=? part then", "if units <? part then"),
+    "a record that ends behind the file": (
+        "Reading", "if size b <? body + length then Fault n5 p else", "if size b <? length then Fault n5 p else"),
+    "records of a byte too many": ("Reading", "most_captured := 262144", "most_captured := 262145"),
+    "a version of any minor number": (
+        "Reading", "(get16 o b n4 =? n2) && (get16 o b n6 =? n4)", "(get16 o b n4 =? n2)"),
+    "the other order of bytes": (
+        "Reading", "l =? micro_magic then Some (LowFirst, micro)", "l =? micro_magic then Some (HighFirst, micro)"),
+    "a tag of two bytes": ("Reading", "=? n33024 then n4 else 0", "=? n33024 then n2 else 0"),
+    "a header of four words": ("Reading", "(n5 <=? words)", "(n4 <=? words)"),
+    "fragments": ("Reading", "(read16 b (ip + n6) mod n16384 =? 0) && ", ""),
+    "port 123 at the source alone": (
+        "Reading", "(read16 b udp =? n123) || (read16 b (udp + n2) =? n123)", "read16 b udp =? n123"),
+    "mode for version": ("Reading", "version := (head / n8) mod n8", "version := head mod n8"),
+    "a precision without its sign": ("Reading", "if signed <? n128 then signed else signed - n256", "signed"),
+    "T3 for T2": ("Reading", "receive := read64 b (ntp + n32)", "receive := read64 b (ntp + n40)"),
+    "the first of two requests": ("Pairing", "| Some _ => Several end", "| Some s => s end"),
+    "a request of any version": ("Pairing", "(mode p =? n3) && (version p =? n4)", "(mode p =? n3)"),
+    "a request from any port": ("Pairing", "(n * n65536 + port) * era + stamp", "n * era + stamp"),
+    "a reply of stratum 0": ("Pairing", "(1 <=? stratum p) && ", ""),
+    "T3 unfolded near the reply": (
+        "Pairing", "t3 := unfold_near (its_begin q) (transmit p)", "t3 := unfold_near (window_begin p) (transmit p)"),
+    "the last of two members": (
+        "Texts", "if same name (fst m) then Some (snd m) else found", "if same name (fst m) then match found with "
+        "Some v => Some v | None => Some (snd m) end else found"),
+    "a number with a zero before it": ("Texts", "if d =? n48 then None else digits t 0", "digits t 0"),
+    "a minute of 60 s": ("Texts", "(s <=? 59)", "(s <=? 60)"),
+    "a server in two groups": ("Texts", " && differ l.", "."),
+    "33 entries": ("Texts", "if longer l n32 then inr 4", "if longer l (Z.succ n32) then inr 4"),
+    "a lie more than granted": ("Verdict", "leaving e is 0 <=? f", "leaving e is 0 <=? Z.succ f"),
+    "the greatest low end": ("Verdict", "if fst i <? e then", "if e <? fst i then"),
+    "a sample's end by T2": ("Verdict", "its_high := v - t3 x", "its_high := v - t2 x"),
+    "the last piece may end early": ("Verdict", "(k =? 0) || (p <? last c)", "k =? 0"),
+    "each piece begins with the span": (
+        "Verdict", "verdict_from (Z.succ k) (upto x) rest", "verdict_from (Z.succ k) p rest"),
+    "the least low mark": ("Marks", "Some (Z.max l low)", "Some (Z.min l low)"),
+    "one sweep of two": ("Marks", " && sweep (billion + P) (- P) (rev_append l []) None", ""),
+    "a reading before the span": ("Marks", "(first c <=? at_reading r) && ", ""),
+    "liars of too many groups": (
+        "Marks", "if existsb (fun s => has s named) g then Z.succ n", "if existsb (fun s => has s named) g then n"),
+    "a cover of one too few": ("Covers", "if k * degree v es 0 <? long es 0", "if k * degree v es 0 <=? long es 0"),
+    "no neighbours": ("Covers", "if has v ns then true else", "if true then true else"),
+    "a conflict of other servers": ("Settle", "(server x =? a) && (server y =? b) && ", "(server x =? a) && "),
+    "as many groups as may be wrong": ("Settle", " && (k <=? f)", ""),
+    "drift where none is granted": ("Judge", "drift_ppb := 0;", "drift_ppb := drift_ppb c;")}
+
 SEEN = multiprocessing.Array("b", len(PLANTS))
 """Which plants something has seen."""
 
 
-def built(place: Path, edits: list[Edit]) -> str:
-    """Makes ntpaudit-judge with these edits in a folder of its own; what is wrong, if that can't be."""
-    shutil.copytree(ROOT / "judge", place, ignore=shutil.ignore_patterns("*.vo*", "*.glob", "*.aux", "extracted"))
-    (place / "extracted").mkdir()
+def copied(place: Path, edits: list[Edit], *passed: str) -> str:
+    """A copy of the judge with these edits; what is wrong, if they can't be made."""
+    shutil.copytree(ROOT / "judge", place, ignore=shutil.ignore_patterns(*passed))
+    (place / "extracted").mkdir(exist_ok=True)
     for name, old, new in edits:
         file = place / f"{name}.v"
         text = file.read_text("utf-8")
         if old not in text:
             return f"{old} doesn't stand in {name}.v"
         file.write_text(text.replace(old, new))
+    return ""
+
+
+def names_in(place: Path) -> list[str]:
     listed = next(line for line in (place / "build").read_text().splitlines() if line.startswith("files="))
-    names = listed.split("'")[1].split()
+    return listed.split("'")[1].split()
+
+
+def built(place: Path, edits: list[Edit]) -> str:
+    """Makes ntpaudit-judge with these edits in a folder of its own; what is wrong, if that can't be."""
+    if wrong := copied(place, edits, "*.vo*", "*.glob", "*.aux", "extracted"):
+        return wrong
+    names = names_in(place)
     for name in names[:names.index("Extract") + 1]:
         status, out, err = run(["coqc", "-q", "-vok" if name == "Extract" else "-vos", "-R", ".", "Judge", f"{name}.v"],
                                cwd=place)
@@ -112,6 +171,23 @@ def built(place: Path, edits: list[Edit]) -> str:
             return (out + err).decode()[-300:]
     status, out, err = run([place / "make", place], env={**os.environ, "JUDGE_EXTRACTED": str(place / "extracted")})
     return (out + err).decode()[-300:] if status else ""
+
+
+def stopped(place: Path, edit: Edit) -> tuple[str, str]:
+    """Which lemma or theorem isn't proved with this edit, which Coq takes as long as it passes over proofs."""
+    if wrong := copied(place, [edit], "extracted"):
+        return wrong, ""
+    names = names_in(place)
+    for name in names[names.index(edit[0]):]:
+        coqc = ["coqc", "-q", "-R", ".", "Judge", f"{name}.v"]
+        if name == edit[0] and run([*coqc, "-vos"], cwd=place)[0]:
+            return f"{edit[2]} is nothing that Coq takes", ""
+        status, _, err = run(coqc, cwd=place)
+        if status:
+            line = re.search(rb'line (\d+)', err)
+            before = (place / f"{name}.v").read_text("utf-8").splitlines()[:int(line[1]) if line else 0]
+            return "", f"{name}.v, " + re.findall(r"(?m)^ *(?:Lemma|Theorem) (\w+)", "\n".join(before))[-1]
+    return "every proof stands", ""
 
 
 class Watched(Judged):
@@ -153,3 +229,17 @@ def test_plants() -> None:
             count("without a plant", "; ".join(told[:3]))
     for number, name in enumerate(PLANTS):
         count(name, "" if SEEN[number] else "nothing sees it")
+
+
+def test_bugs() -> None:
+    if tool := missing():
+        skip("bugs in the judge's functions", f"{tool} isn't installed")
+        return
+    status, out, err = run([ROOT / "judge/build"], timeout=3000)
+    assert not status, (out + err).decode()[-300:]
+    cores = int(os.environ.get("NTPAUDIT_JOBS", os.cpu_count() or 1))
+    with tempfile.TemporaryDirectory(prefix="ntpaudit-bugs-") as folder, ProcessPoolExecutor(cores) as pool:
+        places = [Path(folder, str(number)) for number in range(len(BUGS))]
+        for name, (wrong, lemma) in zip(BUGS, pool.map(stopped, places, BUGS.values())):
+            print(f"{name}: {lemma or wrong}", flush=True)
+            count(name, wrong)
