@@ -27,6 +27,7 @@ from dossier.capture import watch
 from dossier.command_line import main
 watch.LOOK = 1
 watch.OVER = watch.HANGS = 3
+exec(sys.argv.pop(1))
 sys.exit(main(sys.argv[1:]))
 """
 """The recorder, which looks each second."""
@@ -35,11 +36,12 @@ sys.exit(main(sys.argv[1:]))
 class Rig:
     """A recorder in this network, begun where nothing can be written, as its unit is; and packets for it."""
 
-    def __init__(self, place: Path, interface: str = "lo", *words: str) -> None:
+    def __init__(self, place: Path, interface: str = "lo", *words: str, setting: str = "", tools: str = "") -> None:
         self.folder = place / "rec"
         self.err = open(place / "err", "w+b")
-        self.call = subprocess.Popen([sys.executable, "-I", "-B", "-c", RECORDER, str(ROOT), "record", "--interface",
-                                      interface, *words, str(self.folder)], stderr=self.err, cwd="/proc")
+        self.call = subprocess.Popen([sys.executable, "-I", "-B", "-c", RECORDER, str(ROOT), setting, "record",
+                                      "--interface", interface, *words, str(self.folder)], stderr=self.err,
+                                     cwd="/proc", env={**os.environ, "PATH": tools + os.environ["PATH"]})
         self.until("listening on")
 
     def until(self, words: str, number: int = 1) -> bool:
@@ -167,11 +169,47 @@ def link(place: Path) -> dict[str, Any]:
     return {**found, "gone": (rig.call.wait(SECONDS), "there is no interface d0" in rig.said())}
 
 
+def many(place: Path) -> dict[str, Any]:
+    """A file whose time is over is followed by another; and more bytes than all files may have: nothing is recorded
+    until some are taken away."""
+    rig = Rig(place, "lo", "--hourly", setting="watch.HOUR, watch.ALL = 2, 2000")
+    for number in (2, 3, 20):
+        rig.packets(number)
+        time.sleep(2)
+    is_said, files = rig.until("nothing is recorded until some are taken away"), rig.files()
+    rig.packets(1)
+    before = rig.files()
+    for path in rig.folder.glob("*.pcap*"):
+        path.unlink()
+    again = rig.until("there is room again")
+    rig.packets(4)
+    return {"files": files, "said": is_said, "held": before == files, "again": again, "end": (rig.end(), rig.files())}
+
+
+SILENT = """#!/bin/sh
+case $* in --version) echo tcpdump; exit;; esac
+trap 'echo "9 packets captured, 9 packets received by filter, 0 packets dropped by kernel" >&2' USR1
+echo "tcpdump: listening on lo" >&2
+while :; do sleep 0.1; done
+"""
+
+
+def counts(place: Path) -> dict[str, Any]:
+    """A tcpdump that counts packets of which nothing comes: it is begun anew."""
+    (place / "tcpdump").write_text(SILENT)
+    (place / "tcpdump").chmod(0o755)
+    rig = Rig(place, tools=f"{place}:")
+    return {"said": rig.until("tcpdump has counted 9 packets, and 0 came of it: it is begun anew"),
+            "again": rig.until("listening on", 2), "status": rig.end()}
+
+
 WANTED: dict[Callable[[Path], dict[str, Any]], dict[str, Any]] = {
     full: {"said": (True, 1), "named": True, "held": True, "again": True, "status": 0, "whole": True, "later": True},
     stopped: {"hangs": (True, True), "killed": (True, True), "status": 0, "files": [2, 2, 3]},
     removed: {"file": (True, [3]), "folder": (4, True)},
     link: {"again": (0, 5), "gone": (4, True)},
+    many: {"files": [2, 3, 20], "said": True, "held": True, "again": True, "end": (0, [4])},
+    counts: {"said": True, "again": True, "status": 0},
 }
 
 
