@@ -49,10 +49,6 @@ class Recording:
         """The records of request and reply of each server's samples."""
         return {server.decode("ascii"): list(zip(own[::2], own[1::2])) for server, own in self.pairs.items()}
 
-    def time(self, record: int) -> int:
-        """When a record was made."""
-        return self.at([self.stamps[record]])[0]
-
     @cached_property
     def times(self) -> list[int]:
         """When each sample's reply was recorded, in rising order."""

@@ -24,11 +24,13 @@ MOST_CALLS, MOST_BYTES = 1000, 1 << 33
 
 class Break(NamedTuple):
     """The records, in the order in which they were made, between which the clock was stepped, if it was just once
-    there; and whether they are as far apart as the two ways say, so that a step lies between them."""
+    there; whether they are as far apart as the two ways say, so that a step lies between them; and whether another
+    step may lie there, too."""
 
     after: int
     by: int
     is_met: bool
+    is_doubted: bool = False
 
 
 class Search:

@@ -23,13 +23,15 @@ from ..records import replace
 from ..units import SECOND, TICKS, bound_ticks, ceil_div, civil
 from .apart import SEVERAL, Time, apart_of, are_in, outermost, pieces_of, search_of
 from .breaks import SOME, Break, Search
-from .gaps import SILENCE, gaps_of, inner_gaps, told_of
+from .gaps import gaps_of, inner_gaps, told_of
 
 ALONE = "alone.claim.json"
 """A private file: a claim of some servers, or of some time."""
 ENOUGH = 8
 """Exchanges of a group that a stretch has to have, of more groups than may be wrong."""
 MOST_PARTS, LONGEST = 100, 86_400
+ROUND = 8
+"""Records for each server, of two for an exchange, in which each that isn't silent is asked and answers."""
 COARSE = 1000
 """Nanoseconds in the coarsest unit of a capture's times."""
 
@@ -120,10 +122,9 @@ class Parting:
         """A break so wide that nothing beside it was recorded while the clock was on its way, if it moved for longer or
         was stepped again: between records by which each group was asked before it, and had answered behind it. A step
         stays as it is if these rounds have one alone, with no server wrong."""
-        one, (begin, _), (first, _) = self.breaks[number], *self.ends()[number : number + 2]
+        one, (begin, _), (first, _), move = self.breaks[number], *self.ends()[number : number + 2], self.move(number)
         wide = Break(begin + self.round(self.sides[number], -1), first + self.round(self.sides[number + 1], 0),
-                     one.is_met)
-        move = self.move(number)
+                     one.is_met, bool(move and move.is_step))
         is_clear = move and move.is_step and self.search.is_one(wide, replace(self.claim, groups=[], false_max=0))
         return one if is_clear else wide
 
@@ -185,7 +186,8 @@ class Parting:
             return None
         are_apart = wide is not None and not wide[0] <= 0 <= wide[1]
         self.are_whole &= are_apart
-        until, since = (0, 0) if isinstance(around[0], str) or isinstance(around[1], str) else (
+        is_doubted = self.breaks[number].is_doubted
+        until, since = (0, 0) if is_doubted or isinstance(around[0], str) or isinstance(around[1], str) else (
             (earliest + down(around[1][0])) // SECOND - 2, ceil_div(latest + up(around[0][1]), SECOND) + 2)
         rate = down(min(abs(size[0]), abs(size[1]))) * SECOND // longest
         if wide is not None and are_apart and (rate > GREATEST_DRIFT or behind.first < before.last):
@@ -197,12 +199,11 @@ class Parting:
     def round(self, side: Side, place: int) -> int:
         """The record of a stretch from which on each group was asked once more (-1), or by which each had answered (0);
         of one that was silent there for long none."""
-        pairs, time = side.recording.by_address, side.recording.time
-        found = [(own[place][0 if place else 1], (time(own[-1][0]) - time(own[0][0])) // len(own))
-                 for group in self.claim.grouped
-                 for own in [sorted(one for k in group for one in pairs.get(self.claim.servers[k], []))] if own]
-        end = max(found)[0] if place else min(found)[0]
-        near = [record for record, usual in found if abs(time(end) - time(record)) <= max(SILENCE, 2 * usual)]
+        pairs = side.recording.by_address
+        found = [sorted(own)[place][0 if place else 1] for group in self.claim.grouped
+                 if (own := [one for k in group for one in pairs.get(self.claim.servers[k], [])])]
+        end = max(found) if place else min(found)
+        near = [record for record in found if abs(end - record) <= ROUND * len(self.claim.servers)]
         return min(near) if place else max(near)
 
     def is_seen(self, number: int) -> bool:

@@ -59,6 +59,8 @@ def wrong_groups(history: History, exchanges: list[Exchange]) -> set[int]:
 def hidden(history: History, said: Iterable[int] = ()) -> set[tuple[int, int]]:
     """Of steps and fast movements, but for those at true times that a log says, as many as can be left away."""
     exchanges, told, breaks = counted(history), set(said), history.clock.breaks
+    if len(wrong_groups(history, exchanges)) > history.false_max:  # (then nothing fits, and right ones show it)
+        exchanges = [one for one in exchanges if not one.server.is_wrong(one.sent_at)]
     for number in range(len(breaks), 0, -1):
         for some in combinations(breaks, number):
             rest = sorted(set(breaks) - set(some))
