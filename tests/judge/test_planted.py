@@ -2,8 +2,8 @@
 
 A theorem holds the judge's functions to its definitions: of a bug in one of them (BUGS) a proof isn't one any more, and
 it is said which. Nothing but the program and whoever reads them holds the definitions to the world: so each bug there
-(PLANTS) stands in the functions too, as with somebody who took the pages wrong, the proofs are passed over
-(`coqc -vos`), and what tests/judge/test_answers.py compares has to see it.
+(PLANTS) stands in the functions too, as with somebody who took the pages wrong, the proofs are passed over, and what
+tests/judge/test_answers.py compares has to see it.
 """
 import multiprocessing
 import os
@@ -159,33 +159,41 @@ def names_in(place: Path) -> list[str]:
     return listed.split("'")[1].split()
 
 
+def without_proofs(file: Path) -> str:
+    return re.sub(r"\bProof\..*?\bQed\.", "Admitted.", file.read_text("utf-8"), flags=re.S)
+
+
+def coqc(place: Path, name: str) -> str:
+    status, out, err = run(["coqc", "-q", "-R", ".", "Judge", f"{name}.v"], cwd=place, timeout=3000)
+    return (out + err).decode()[-1000:] if status else ""
+
+
 def built(place: Path, edits: list[Edit]) -> str:
     """Makes ntpaudit-judge with these edits in a folder of its own; what is wrong, if that can't be."""
     if wrong := copied(place, edits, "*.vo*", "*.glob", "*.aux", "extracted"):
         return wrong
     names = names_in(place)
     for name in names[:names.index("Extract") + 1]:
-        status, out, err = run(["coqc", "-q", "-vok" if name == "Extract" else "-vos", "-R", ".", "Judge", f"{name}.v"],
-                               cwd=place)
-        if status:
-            return (out + err).decode()[-300:]
+        (place / f"{name}.v").write_text(without_proofs(place / f"{name}.v"))
+        if wrong := coqc(place, name):
+            return wrong
     status, out, err = run([place / "make", place], env={**os.environ, "JUDGE_EXTRACTED": str(place / "extracted")})
     return (out + err).decode()[-300:] if status else ""
 
 
 def stopped(place: Path, edit: Edit) -> tuple[str, str]:
-    """Which lemma or theorem isn't proved with this edit, which Coq takes as long as it passes over proofs."""
+    """Which lemma or theorem isn't proved with this edit, which Coq takes as long as proofs are passed over."""
     if wrong := copied(place, [edit], "extracted"):
         return wrong, ""
-    names = names_in(place)
+    names, file = names_in(place), place / f"{edit[0]}.v"
+    text = file.read_text("utf-8")
+    file.write_text(without_proofs(file))
+    if wrong := coqc(place, edit[0]):
+        return f"{edit[2]} is nothing that Coq takes: {wrong}", ""
+    file.write_text(text)
     for name in names[names.index(edit[0]):]:
-        coqc = ["coqc", "-q", "-R", ".", "Judge", f"{name}.v"]
-        if name == edit[0] and run([*coqc, "-vos"], cwd=place)[0]:
-            return f"{edit[2]} is nothing that Coq takes", ""
-        status, _, err = run(coqc, cwd=place)
-        if status:
-            line = re.search(rb'line (\d+)', err)
-            before = (place / f"{name}.v").read_text("utf-8").splitlines()[:int(line[1]) if line else 0]
+        if wrong := coqc(place, name):
+            before = (place / f"{name}.v").read_text("utf-8").splitlines()[:int(re.findall(r"line (\d+)", wrong)[0])]
             return "", f"{name}.v, " + re.findall(r"(?m)^ *(?:Lemma|Theorem) (\w+)", "\n".join(before))[-1]
     return "every proof stands", ""
 
