@@ -9,7 +9,7 @@ from array import array
 from bisect import bisect_left, bisect_right
 from collections.abc import Iterable, Iterator
 from heapq import merge
-from itertools import chain, pairwise
+from itertools import chain, groupby, pairwise
 from operator import itemgetter
 from struct import Struct
 from typing import NamedTuple
@@ -190,10 +190,16 @@ def join(captures: dict[str, Classic], path: str, times: Times | None = None) ->
         if end != capture.size:
             raise fault(f"{name} is damaged from byte {end} on, so it can't be joined with the others")
     found = [records(number, name, captures[name]) for number, name in enumerate(known or captures)]
-    rows: Iterable[Timed] = woven(found, [times[name] for name in known]) if times is not None else \
-        merge(*found, key=itemgetter(0, 1))
+    rows: Iterable[Timed] = woven(found, [times[name] for name in known]) if times is not None else merged(found)
     write(path, chain([new_header(unit, first.kind)], map(itemgetter(2), rows)))
     return None
+
+
+def merged(captures: list[Iterator[Timed]]) -> Iterator[Timed]:
+    """The records of captures in order of time; of those that several have at one time each once."""
+    for _, some in groupby(merge(*captures, key=itemgetter(0, 1)), key=itemgetter(0)):
+        seen = dict[bytes, int]()
+        yield from (record for record in some if seen.setdefault(record[2], record[1]) == record[1])
 
 
 def woven(captures: Iterable[Iterable[Timed]], times: list[tuple[int, int]]) -> list[Timed]:
