@@ -8,6 +8,7 @@ from pathlib import Path
 from tests.support import DATA, ROOT, check, is_here, run
 from tests.dossier.audits import ENVIRONMENT, SCRIPT, dossier, folder_of, match_of, rows, table
 from tests.dossier.leaps import leap_list
+from tests.tools.wire import records_of
 from tests.truth.clock import SECOND
 from tests.truth.files import capture
 from tests.truth.forms import WHEN, when_of
@@ -52,8 +53,9 @@ def test_drafts_of_nights(place: Path) -> None:
     check("a draft that nothing fits", status=(status, 0), bound=("least bound" in said, False),
           said=("Nothing fits this draft, so no claim by it is shown: the clock was stepped" in said, True),
           around=(when.first <= jump.before and jump.after <= when.last, True), ticks=("`" in said, False))
-    twice = folder_of(place, "twice", *VLAN)
-    status, out, err = dossier("draft", twice / "f.pcap", VLAN[0])
+    twice, whole = folder_of(place, "twice", *VLAN), VLAN[0].read_bytes()
+    (twice / "f.pcap").write_bytes(whole[:24] + b"".join(2 * record for record in records_of(whole)))
+    status, out, err = dossier("draft", twice / "f.pcap")
     check("a draft of packets twice", run=((status, out), (1, b"")), said=(b"Each packet is there twice" in err, True))
     words = 'exec "$0" draft --chrony <(cat "$1") "$2"'
     configuration = DATA / "client/chrony.conf"

@@ -190,7 +190,8 @@ def test_install(folder: Path) -> None:
         check("the installed dossier audits folders side by side", status=(status, 0),
               said=(out, lambda seen: seen.count(b"yes") >= 2))
         status, out, _ = run([dossier, "verify", "--second", *audits], env=bare)
-        check("and has three programs judge them", status=(status, 0), said=(out.count(b"(judged by three programs)"), 2))
+        check("and has three programs judge them", status=(status, 0),
+              said=(out.count(b"(judged by three programs)"), 2))
     other, tools = folder / "other", folder / "tools"
     tools.mkdir()
     for tool in {tool.name: tool for place in ("/usr/bin", "/bin") for tool in Path(place).iterdir()}.values():
