@@ -17,6 +17,7 @@
 
 mod advice;
 mod command;
+pub mod laws;
 mod misuse;
 mod run;
 mod words;

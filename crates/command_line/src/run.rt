@@ -1,8 +1,8 @@
 //! The program: from the words of a command line to its response, over any files and outputs.
 
-ghost use Rattle.std.specs.Prelude.{◌≡◌, Err};
+ghost use Rattle.std.specs.Prelude.{◌≡◌, Err, MatchResult, None, option_map};
 ghost use Rattle.command_line.specs.Common.{IsWritable, Concludes, conclusion_of, Memory, MayOpen, IsBare, world};
-ghost use Rattle.command_line.specs.Run.{Runs};
+ghost use Rattle.command_line.specs.Run.{Runs, RunsOnOutputs};
 
 use crate::words::read_words;
 use audit::Outputs;
@@ -58,6 +58,10 @@ pub fn run_process<Fs: Files, H: BuildHasher + Copy + Drop>(
     hasher: H,
 ) -> Response
     requires { MayOpen (Fs.state files.old) }
+    ensures { MatchResult words.now
+        (λ given. RunsOnOutputs (option_map (λ w. w.items) given)
+        (Fs.state files.old) (Fs.state files.new) result)
+        (λ refused. RunsOnOutputs None (Fs.state files.old) (Fs.state files.new) result) }
 {
     let alloc = rt.alloc();
     let mut to = Outputs {

@@ -4,9 +4,12 @@
 //! claim and the capture, `&` for these and the second input, and `%` for the file of sums.
 //! new.pcap, new.json and new.sums are files to be made.
 
-ghost use Rattle.std.specs.Prelude.{◌≡◌, ◌++◌, IfOk, OnOk, string_bytes};
+ghost use Rattle.std.specs.Prelude.{◌≡◌, ◌⊎◌, ◌++◌, IfOk, OnOk, codes, string_bytes};
+ghost use Rattle.std.specs.List.{list_all, list_any};
 ghost use Rattle.fault_words.specs.Quote.{IsQuiet};
+ghost use Rattle.fault_words.specs.Quote.{shown as shown_text};
 ghost use Rattle.fault_words.specs.Sentence as spec;
+ghost use Rattle.fault_words.specs.Shell as shell;
 ghost use Rattle.fault_words.specs.Sentence.{IsQuietKnown, known_data};
 
 use crate::quote::{add_shown, shown};
@@ -56,33 +59,49 @@ pub(crate) struct Known {
     pub(crate) sums: String,
 }
 
-/// Whether a file's name can be read as it stands by a shell.
-fn is_plain(name: &str) -> bool {
-    name.chars().all(|c| {
-        c.is_ascii_alphanumeric() || matches!(c, '/' | '.' | '_' | '-' | '+' | ',' | ':' | '=')
-    })
+/// Whether a shell gives this byte no meaning of its own.
+fn is_plain(c: u8) -> bool
+    ensures { result ≡ shell.is_plain c }
+{
+    // From + to : there are + , - . / the digits and :
+    matches!(c, b'a'..=b'z' | b'A'..=b'Z' | b'+'..=b':' | b'_' | b'=')
 }
 
-/// Whether a name is none by which a command gets the file: that of a stream, or one that would
-/// need more than quotes.
+/// Whether a shell gives none of these bytes a meaning of its own.
+fn are_plain(word: &[u8]) -> bool
+    ensures { result ≡ list_all shell.is_plain word.now }
+{
+    word.iter().all(|c| is_plain(*c))
+}
+
+/// Whether one of these bytes is a single quote.
+fn has_quote(word: &[u8]) -> bool
+    ensures { result ≡ list_any shell.is_quote word.now }
+{
+    word.iter().any(|c| *c == b'\'')
+}
+
+/// Whether a name is none by which a command gets the file: that of a stream, or an option.
 fn is_no_word(name: &str) -> bool {
-    name.is_empty()
-        || name == STANDARD_INPUT
-        || name.starts_with("/dev/")
-        || name.starts_with("-")
-        || name.contains("'")
+    name == STANDARD_INPUT || name.starts_with("/dev/") || name.starts_with("-")
 }
 
-/// A file's name as a word of a shell.
-#[tactic(auto, using(crate::proofs::Quiet::visible_is_quiet))]
+/// A file's name as one word of a shell, and another word for one that would need more than quotes.
 fn shell_word(alloc: Global, name: &str) -> Result<String, AllocError>
-    ensures { IfOk result (λ word. IsQuiet (string_bytes word)) }
+    ensures quiet { IfOk result (λ word. IsQuiet (string_bytes word)) }
+    ensures reads { IfOk result (λ text.
+        shell.ReadsAs (string_bytes text) (shown_text name.now)
+        ⊎ shell.ReadsAs (string_bytes text) (codes "FILE")) }
 {
     if is_no_word(name) {
         return String::from_str(alloc, UNNAMED);
     }
     let word = shown(alloc, name)?;
-    if is_plain(name) {
+    let bytes = word.as_bytes();
+    if bytes.is_empty() || has_quote(bytes) {
+        return String::from_str(alloc, UNNAMED);
+    }
+    if are_plain(bytes) {
         return Ok(word);
     }
     Ok(format!(in alloc; "'{}'", word.as_str())?)

@@ -1,6 +1,6 @@
 //! The host's files: what stands at their paths isn't known before it is read.
 
-ghost use Rattle.std.specs.Prelude.{◌≡◌};
+ghost use Rattle.std.specs.Prelude.{◌≡◌, None, false, option_map, string_bytes};
 ghost use Rattle.program.specs.Files.{unknown};
 
 use crate::draft::{SyncedFile, create, refused};
@@ -10,12 +10,16 @@ use std::fs::File;
 use std::io::{Read, Stdin};
 use std::{fs, io};
 
-/// The host, how many files were opened, how many drafts have taken their place, and how often one
+/// The host, how many files were opened, and what has become of drafts: how many were made, by which
+/// name the last one, whether it's still there, how many have taken their place, and how often one
 /// couldn't be made or take it.
 #[derive(Drop)]
 pub(crate) struct Host<'a> {
     rt: &'a HostRuntime,
     opened: u64,
+    made: u64,
+    part: Option<String>,
+    is_there: bool,
     placed: u64,
     hindered: u64,
 }
@@ -24,14 +28,33 @@ impl<'a> Host<'a> {
     /// The host's files, of which none was opened.
     pub(crate) fn new(rt: &'a HostRuntime) -> Host<'a>
         ensures opened { (⟦<Host<'a> as Files>⟧.state result).opened ≡ 0 }
-        ensures drafts { (⟦<Host<'a> as Files>⟧.state result).drafts
-            ≡ record { placed = 0; hindered = 0; put = λ path. unknown } }
+        ensures drafts { (⟦<Host<'a> as Files>⟧.state result).drafts ≡ record {
+          made = 0;
+          last = None;
+          is_there = false;
+          placed = 0;
+          hindered = 0;
+          put = λ path. unknown;
+        } }
     {
         Host {
             rt,
             opened: 0,
+            made: 0,
+            part: None,
+            is_there: false,
             placed: 0,
             hindered: 0,
+        }
+    }
+}
+
+impl<'a> Host<'a> {
+    /// The name of the last draft that was made.
+    fn part_name(&self) -> &str {
+        match &self.part {
+            Some(part) => part.as_str(),
+            None => "",
         }
     }
 }
@@ -63,6 +86,9 @@ impl<'a> Files for Host<'a> {
       standing = λ path. unknown;
       opened = host.opened;
       drafts = record {
+        made = host.made;
+        last = option_map string_bytes host.part;
+        is_there = host.is_there;
         placed = host.placed;
         hindered = host.hindered;
         put = λ path. unknown;
@@ -83,11 +109,16 @@ impl<'a> Files for Host<'a> {
     fn create(
         &mut self,
         path: &str,
-        part: &str,
+        part: String,
         paths: &Paths,
     ) -> Result<WriteSink<SyncedFile>, Hindrance> {
-        match create(self.rt, path, part, paths) {
-            Ok(file) => Ok(WriteSink::new(file)),
+        match create(self.rt, path, part.as_str(), paths) {
+            Ok(file) => {
+                self.made += 1;
+                self.part = Some(part);
+                self.is_there = true;
+                Ok(WriteSink::new(file))
+            }
             Err(hindrance) => {
                 self.hindered += 1;
                 Err(hindrance)
@@ -95,22 +126,19 @@ impl<'a> Files for Host<'a> {
         }
     }
 
-    fn place(
-        &mut self,
-        _draft: WriteSink<SyncedFile>,
-        part: &str,
-        path: &str,
-    ) -> Result<(), Hindrance> {
-        if let Err(error) = fs::rename(self.rt, part, path) {
-            self.remove(part);
+    fn place(&mut self, draft: WriteSink<SyncedFile>, path: &str) -> Result<(), Hindrance> {
+        if let Err(error) = fs::rename(self.rt, self.part_name(), path) {
+            self.remove(draft);
             self.hindered += 1;
             return Err(refused(error));
         }
+        self.is_there = false;
         self.placed += 1;
         Ok(())
     }
 
-    fn remove(&mut self, part: &str) {
-        let _ = fs::remove_file(self.rt, part);
+    fn remove(&mut self, _draft: WriteSink<SyncedFile>) {
+        let _ = fs::remove_file(self.rt, self.part_name());
+        self.is_there = false;
     }
 }
