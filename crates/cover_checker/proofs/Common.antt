@@ -13,7 +13,7 @@ pub use Rattle.std.specs.Int.{int_max}
 pub use Rattle.std.specs.List.{list_any}
 pub use Rattle.std.specs.Prelude.{All, slice_index, ◌==◌}
 pub use Rattle.certificate.specs.Certificate.{PieceData}
-pub use Rattle.cover_checker.specs.CoverCertificate.{CaseData, CoverCertificateData}
+pub use Rattle.cover_certificate.specs.CoverCertificate.{CaseData, CoverCertificateData}
 pub use Rattle.checker.specs.Course.{ArrivesBeforeStamp, ComesInOrder, Course, Fits, IsClientMoment, KeepsRootDistance}
 pub use Rattle.checker.specs.Course.{LeavesAfterStamp}
 pub use Rattle.checker.specs.Groups.{false_group_count, holds_false}

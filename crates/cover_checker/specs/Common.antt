@@ -1,7 +1,7 @@
 -- What the definitions and contracts of this crate name of others.
 pub use Rattle.certificate.specs.Certificate.{PieceData, max_pieces, piece_data}
-pub use Rattle.cover_checker.specs.CoverCertificate.{CaseData, CoverCertificateData, case_data, max_cases, max_conflicts}
-pub use Rattle.cover_checker.specs.CoverCertificate.{data_of as certificate_data}
+pub use Rattle.cover_certificate.specs.CoverCertificate.{CaseData, CoverCertificateData, case_data, max_cases, max_conflicts}
+pub use Rattle.cover_certificate.specs.CoverCertificate.{data_of as certificate_data}
 pub use Rattle.certificate.specs.Refutation.{RefutationData}
 pub use Rattle.checker.specs.Course.{ArrivesBeforeStamp, ComesInOrder, Course, Fits, KeepsRootDistance, LeavesAfterStamp}
 pub use Rattle.checker.specs.Refutation.{IsRefuted}

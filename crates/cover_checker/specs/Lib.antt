@@ -1,5 +1,4 @@
 pub mod Common
-pub mod CoverCertificate
 pub mod Interval
 pub mod Conflict
 pub mod Case

@@ -19,9 +19,7 @@
 
 #![tactic(auto)]
 
-mod cover_certificate;
 pub mod laws;
 mod verdict;
 
-pub use cover_certificate::{Case, CoverCertificate, MAX_CASES, MAX_CONFLICTS};
 pub use verdict::{CaseWhy, CoverVerdict, PieceWhy};

@@ -6,8 +6,8 @@
 -- groups. Exchanges are numbered from 0 in the order of their replies.
 use Rattle.std.specs.Prelude.{ℕ, ◌≤◌, List, length, map, sum_by}
 use Rattle.certificate.specs.Certificate.{PieceData, piece_data, max_pieces}
-use Rattle.cover_checker.specs.declared.cover_certificate.Case.{Case}
-use Rattle.cover_checker.specs.declared.cover_certificate.CoverCertificate.{CoverCertificate}
+use Rattle.cover_certificate.specs.declared.cover_certificate.Case.{Case}
+use Rattle.cover_certificate.specs.declared.cover_certificate.CoverCertificate.{CoverCertificate}
 
 -- the groups that hold a false server, and pieces that go by the others
 pub record CaseData : Type 0 where
