@@ -22,7 +22,7 @@ pub record Laws : Type 0 where
       → first ≡ second
 
 -- nothing is found exactly if the first has no fault and nothing is found in the rest
-none_first : {W : Type 0} (k : ℕ) (fault : Option W) (rest : Option (ℕ × W)) → first_of k fault rest ≡ None
+pub none_first : {W : Type 0} (k : ℕ) (fault : Option W) (rest : Option (ℕ × W)) → first_of k fault rest ≡ None
     → (fault ≡ None) × (rest ≡ None)
 none_first k None rest e = (refl, e)
 none_first k (Some why) rest e = absurd cc

@@ -7,3 +7,11 @@ mod Pieces
 mod Theorem
 mod Acceptance
 mod Verdicts
+mod CasesHeld
+mod Ends
+mod Answered
+mod RoundedUp
+mod CaseFaults
+mod CaseSets
+mod PartFaults
+mod PieceFaults
