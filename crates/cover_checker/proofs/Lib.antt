@@ -11,6 +11,8 @@ mod CasesHeld
 mod Ends
 mod Answered
 mod RoundedUp
+mod ConflictTest
+mod MovedMark
 mod CaseFaults
 mod CaseSets
 mod PartFaults

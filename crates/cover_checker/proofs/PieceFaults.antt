@@ -10,7 +10,11 @@ use Rattle.span_cover.specs.Piece.{IsPiece}
 use Rattle.checker.specs.declared.verdict.Why.TheVariants.{Cut, Uncovered}
 use Rattle.cover_checker.proofs.Common.{◌≡◌, ◌≢◌, ℕ, ◌+◌, ◌<◌, ◌≤◌, ℤ, pos, ◌≤ℤ◌, ◌<ℤ◌, Bool, true, false, ◌&&◌, int_lt, nat_lt, List, [], ◌∷◌, length, map, drop, get_or, Option, Some, None, Result, sym, ap, ◌∙◌, arith, nat_tests, ints, rules, PieceData, ClaimData, Exchange, Part, parts_after, Of, PieceWhy}
 use Rattle.cover_checker.specs.Case.{first_of}
-use Rattle.cover_checker.specs.Verdict.{parts_why, piece_why, pieces_why}
+use Rattle.cover_checker.specs.Verdict.{case_fault, parts_why, piece_why, pieces_why}
+use Rattle.cover_certificate.specs.CoverCertificate.{case_data}
+use Rattle.cover_certificate.specs.declared.cover_certificate.Case.{Case}
+use Rattle.feasibility.specs.Members.{has}
+use Rattle.cover_checker.specs.Conflict.{names}
 
 module _ (claim : ClaimData) (xs : List Exchange) (out : ℕ → Bool) where
   -- ---- a piece, with its begin, its end and the last reading of the span as a program holds them
@@ -76,3 +80,11 @@ module _ (claim : ClaimData) (xs : List Exchange) (out : ℕ → Bool) where
       pub uncovered : (count : ℕ) → count ≡ n → (nat_lt 0 n && int_eq begin claim.last) ≡ false
           → Some (count, Of Uncovered) ≡ whole
       uncovered count same fails = ap (λ (k : ℕ). Some (k, Of Uncovered)) same ∙ sym (at_end false fails)
+
+-- a set of the groups that a case names says of its pieces what the names do
+pub same_out : (claim : ClaimData) (xs : List Exchange) (case : Case) (set : ℕ)
+    → ((k : ℕ) → has set k ≡ names (case_data case) k)
+    → pieces_why claim xs (has set) 0 claim.first (map piece_data case.pieces.items)
+    ≡ case_fault claim xs (case_data case)
+same_out claim xs case set same =
+    λ i. pieces_why claim xs (λ k. same k i) 0 claim.first (map piece_data case.pieces.items)

@@ -31,7 +31,7 @@ pub use Rattle.pairing.specs.Exchange.{IsLawful}
 pub use Rattle.pairing.specs.declared.exchange.Exchange.{Exchange}
 pub use Rattle.sample_interval.specs.Moment.{DriftsWithin, IsInWindow, Moment, error_of}
 pub use Rattle.sample_interval.specs.Widening.{IsRate, billion, widening}
-pub use Rattle.span_cover.specs.Group.{group_intervals, piece_hull}
+pub use Rattle.span_cover.specs.Group.{group_intervals, numbers_below, piece_hull}
 pub use Rattle.span_cover.specs.Piece.{IsPiece}
 pub use Rattle.span_cover.specs.declared.part.Part.{Part}
 pub use Rattle.span_cover.specs.declared.stretch.Stretch.{Stretch}

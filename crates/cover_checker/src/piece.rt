@@ -9,7 +9,7 @@ ghost use Rattle.cover_checker.specs.declared.verdict.PieceWhy.TheVariants.{Of};
 use crate::case::set_of;
 use cover_certificate::Case;
 use crate::entry::add_parts;
-use crate::members::{both, first, size};
+use crate::members::count;
 use crate::verdict::PieceWhy;
 use arrayvec::ArrayVec;
 use certificate::Piece;
@@ -57,8 +57,8 @@ fn piece_why<X: ToExchange>(
 fn false_besides(claim: &Claim, out: u32) -> u8
     ensures { result ≡ claim.now.false_max - size_of (claim_data claim.now) (has out) }
 {
-    let named = both(out, first(claim.groups.len() as u8));
-    claim.false_max.saturating_sub(size(named))
+    let named = count(out, claim.groups.len() as u8);
+    claim.false_max.saturating_sub(named)
 }
 
 /// Why a hull doesn't show that the error is within a bound.

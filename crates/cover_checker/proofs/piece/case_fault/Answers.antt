@@ -8,12 +8,10 @@ use Rattle.checker.proofs.FirstFault.{none_read, ends_elsewhere}
 use Rattle.checker.proofs.NoOverflow.{first_kept, last_kept}
 use Rattle.claim_file.specs.Claim.{data_of as claim_data}
 use Rattle.feasibility.specs.Members.{has}
-use Rattle.cover_checker.proofs.PieceFaults.{stops_at, passes_to, covered, uncovered}
+use Rattle.cover_checker.proofs.PieceFaults.{covered, passes_to, same_out, stops_at, uncovered}
 use Rattle.cover_checker.specs.Conflict.{names}
 use Rattle.cover_checker.specs.Verdict.{pieces_why}
 use Rattle.cover_checker.proofs.piece.case_fault.Goals as goal
-use Rattle.cover_checker.proofs.piece.case_fault.Goals.{else-count-gt0-via-then-count-gt0+else-begin-claim}
-use Rattle.cover_checker.proofs.piece.case_fault.Goals.{else-count-gt0-via-else-count-gt0}
 
 pub loop-number-init : goal.loop-number-init
 loop-number-init g c =
@@ -43,3 +41,13 @@ loop-number-preserved g c =
       from_1970 = rw upto (omega (arith, ints));
       in_range = rw upto (omega (arith, ints));
     }
+
+pub returns-in-Some : goal.returns-in-Some
+returns-in-Some g c =
+    let xs = map g.X.ToExchange.shown c.args.exchanges.now in
+    let claim = claim_data c.args.claim.now in
+    stops_at claim xs (has c.set_of-out.result) c.args.case.now.pieces.items c.loop-number.number _ _
+    c.loop-number.invariant.rest c.deref-piece-items.result.now c.piece-item.result
+    c.deref-piece-items.ensures.value c.piece-item.is c.loop-number-test.true c.in-Some.why
+    (sym c.piece_why.ensures ∙ c.in-Some.is)
+    ∙ same_out claim xs c.args.case.now c.set_of-out.result c.set_of-out.ensures
