@@ -99,7 +99,7 @@ class Reading:
         if not is_time(time):
             raise fault("the log has a time that is none")
         if self.rates and time < self.rates[-1][0]:
-            self.steps.append((time, "", FALLS))
+            self.steps.append((time, f"{seconds_of(time) - seconds_of(self.rates[-1][0])}.0", FALLS))
         if self.step_s is not None and abs(Fraction(update[5])) > Fraction(self.step_s):
             self.steps.append((time, f"{float(update[5]):.6f}", OFFSET))
         self.offsets.append((time, Fraction(update[5])))
@@ -183,13 +183,14 @@ def shown(time: str) -> str:
 
 
 def is_within(step: Step, first: int, last: int) -> bool:
-    """Whether a step may have left a reading of a span of Unix seconds, or come to one. A log has the time behind the
-    step, cut to seconds."""
+    """Whether by a step a clock may have shown a reading of a span of Unix seconds twice, or left one, or come to one.
+    A log has the time behind the step, cut to seconds; one of an unknown size was back by a day at the most, and one by
+    which times fall back by an hour more than these."""
     if step[0] == UNKNOWN:
         return True
     behind, zones = seconds_of(step[0]), ZONES if step[2].endswith(NO_ZONE) else (0, 0)
-    return any(first - 1 <= at - zones[0] and at - zones[1] <= last + 1
-               for at in (behind, behind - int(float(step[1] or 0))))
+    before = behind - int(float(step[1])) + 3600 * (step[2] == FALLS) if step[1] else behind + DAY
+    return first - 1 <= max(behind, before) - zones[0] and min(behind, before) - zones[1] <= last + 1
 
 
 def greatest(found: Tracking, first: int, last: int) -> tuple[int, int]:
@@ -204,9 +205,9 @@ def greatest(found: Tracking, first: int, last: int) -> tuple[int, int]:
 
 def cautions(found: Tracking, first: int, last: int) -> list[str]:
     """What a person has to look at over a span of Unix seconds: the steps inside it, and whether the log covers it."""
-    said = [f"A step{f' of {seconds} s' if seconds else ''} at {shown(time)} ({how}) "
+    said = [f"A step{f' of {seconds} s' if seconds and how != FALLS else ''} at {shown(time)} ({how}) "
             f"{'may be' if how.endswith(NO_ZONE) else 'is'} inside the span."
-            for time, seconds, how in found.steps if is_within((time, "", how), first, last)]
+            for time, seconds, how in found.steps if is_within((time, "0", how[-len(NO_ZONE):]), first, last)]
     if seconds_of(found.first) > first or seconds_of(found.last) + 1 < last:
         said.append("The log doesn't cover the whole span.")
     return said

@@ -81,7 +81,8 @@ class Parting:
         are_whole, self.breaks = self.are_whole, [self.widened(number) for number in range(len(self.breaks))]
         self.are_whole, self.hidden = are_whole, 0
         self.sides = self.with_exchanges()
-        self.are_whole &= all(map(self.is_enough, self.sides)) and all(one.is_met for one in self.breaks)
+        self.are_whole &= all(map(self.is_enough, self.sides)) and \
+            all(one.is_met and not one.is_doubted for one in self.breaks)
         self.moves = self.moved()
 
     def with_exchanges(self) -> list[Side]:
@@ -282,7 +283,8 @@ class Parting:
     def doubts(self, side: Side, first: int, last: int, step: int) -> list[Gap]:
         """The readings that the clock may have shown once more, if it was stepped to and fro: a server is taken for
         wrong that needn't be, by few samples, one after the other."""
-        claim, times, found = replace(self.claim, from_=civil(first), to=civil(last)), side.recording.times, []
+        begin, end = min(first, side.first // SECOND), max(last, ceil_div(side.last, SECOND))
+        claim, times, found = replace(self.claim, from_=civil(begin), to=civil(end)), side.recording.times, list[Gap]()
         text = self.program.run("envelope", self.named(claim), side.path, "--servers", "--step", str(step)).text
         for time in search_of(self.program, claim, side.path, None, read_envelope(text), []).missed:
             if time.samples < SEVERAL:

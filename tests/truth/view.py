@@ -176,8 +176,14 @@ class View:
         if not self.logs:
             return ""
         beside += (14 * 3600 if self.logs.is_known else 1 << 60) * SECOND * bool(beside and not self.logs.has_zone)
-        inside = [time for time in self.logs.true_steps if self.span[0] - beside <= time <= self.span[1] + beside]
-        fast = [event for event in self.logs.fast if self.fast(self.span)]
+        ends = [(time, time) for time in self.logs.falls]
+        others = [jump for jump in self.logs.steps if beside or not any(
+            begin <= jump.begin and jump.end <= end for begin, end in self.moving)]
+        for jump in others:  # (a step back has all shown twice that lies between)
+            more = (jump.before, jump.after + 86_400 * SECOND) if beside else (max(jump.before, jump.after), jump.after)
+            ends.append((min(jump.after, *more), max(jump.after, *more)) if jump.size < 0 or beside else more[1:] * 2)
+        inside = [one for one in ends if self.span[0] - beside <= one[1] and one[0] <= self.span[1] + beside]
+        fast = [event for event in self.logs.fast if self.fast((self.span[0] - beside, self.span[1] + beside))]
         return "a log says that it was stepped" if inside else "a log has such a frequency" if fast else ""
 
     def is_leap_near(self) -> bool:
