@@ -148,7 +148,7 @@ LIMITS = {
     "docs/DECISIONS.md": 1950, "docs/FORMATS.md": 3900, "docs/GUIDE.md": 2850, "docs/REFUSALS.md": 1030,
     "docs/DOSSIER.md docs/AUDITING.md": 3310, "docs/FLEET.md": 1680, "docs/BOUND.md": 590,
     "docs/RATTLE.md": 1000,
-    "second/README.md": 260, "ARCHITECTURE.md CONTRIBUTING.md": 2260, "CHANGELOG.md": 1000,
+    "second/README.md": 260, "ARCHITECTURE.md CONTRIBUTING.md": 2900, "CHANGELOG.md": 1000,
     "bench/README.md": 680, "data/README.md": 740,
 }
 
@@ -219,7 +219,8 @@ def hold_links(document: Path) -> None:
         if "://" not in link:
             check(f"{document.name}: link {link}", there=((document.parent / link).exists(), True))
     prose = re.sub(r"^```.*?^```$", "", text, flags=re.M | re.S)
-    for path in {code for code in CODE.findall(prose) if re.match(r"(crates|data|docs|tests|bench|\.ci)/", code)}:
+    for path in {code for code in CODE.findall(prose)
+                 if re.match(r"(crates|data|docs|tests|bench|dist|dossier|\.ci)/", code)}:
         name = path.split()[0]
         if not re.search(r"[A-Z]{4}|[<>|$]", name.removesuffix(".md")):
             check(f"{document.name}: path {name}", there=(any(ROOT.glob(name.rstrip("/"))), True))
@@ -245,22 +246,30 @@ def commands() -> set[str]:
 
 
 def hold_places(document: Path) -> None:
-    """Each word in code font in a line that names paths of crates is in one of these crates, or is a command's name."""
+    """Each word in code font in a line that names paths of crates, or modules of the dossier, is in one of these crates
+    or modules, or is a command's name."""
     for line in document.read_text("utf-8").splitlines():
         crates = sorted(set(re.findall(r"crates/(\w+)/", line)))
-        code = "\n".join(code_of(crate, "src", "specs", "proofs") for crate in crates)
-        for word in {word for word in CODE.findall(line) if crates and WORD.fullmatch(word)}:
+        modules = [path for path in re.findall(r"`(dossier/[\w/]+\.py)`", line) if (ROOT / path).exists()]
+        code = "\n".join([*(code_of(crate, "src", "specs", "proofs") for crate in crates),
+                          *((ROOT / path).read_text("utf-8") for path in modules)])
+        for word in {word for word in CODE.findall(line) if (crates or modules) and WORD.fullmatch(word)}:
             if "NOUN" not in word and word not in commands():
-                check(f"{document.name}: {word} in {' '.join(crates)}",
+                check(f"{document.name}: {word} in {' '.join(crates + modules)}",
                       there=(bool(re.search(rf"\b{word}\b", code)), True))
 
 
 def test_crates() -> None:
-    """ARCHITECTURE.md has a line for each crate, and crates.txt too."""
+    """ARCHITECTURE.md has a line for each crate, with its size to a fifth or two hundred lines, and crates.txt too."""
     there = {folder.name for folder in (ROOT / "crates").iterdir() if (folder / "src").is_dir()}
     section = (ROOT / "ARCHITECTURE.md").read_text("utf-8").split("## The crates\n")[1].split("\n## ")[0]
-    listed = set(re.findall(r"^- (\w+): ", section, flags=re.M))
+    listed = dict(re.findall(r"^- (\w+) \(([\d/]+)\): ", section, flags=re.M))
     check("ARCHITECTURE.md has a line for each crate, and for no other", seen=(sorted(listed), sorted(there)))
+    for crate, said in listed.items():
+        sizes = [code_of(crate, folder).count("\n") for folder in ("src", "specs", "proofs")]
+        off = [size for size, hundreds in zip(sizes, map(int, said.split("/")), strict=True)
+               if abs(size - 100 * hundreds) > max(200, size / 5)]
+        check(f"ARCHITECTURE.md: the size of {crate}", off=(off, []))
     stands_on = dict(re.findall(r"^(\w+)[^:\n]*:(.*)$", (ROOT / "crates.txt").read_text("utf-8"), flags=re.M))
     check("crates.txt has a line for each crate", seen=(sorted(stands_on), sorted(there)))
     said = f"Here there are {len(there)}," in (ROOT / "docs/DECISIONS.md").read_text("utf-8")
