@@ -19,6 +19,7 @@ from ..folder.result import Result
 from ..premise.leap import record_by
 from ..records import dataclass
 from ..text import label
+from ..verdict.alerts import warning_words
 from ..verdict.making import Making, sums_of_inputs
 from ..verdict.sentences import line_of, refusal_of
 from .days import is_day
@@ -143,7 +144,14 @@ def result_of(path: str, record: Record, known: Known, more: str, others: Iterab
                       list(of_verdict(path, DISPUTED)))
     lines = [refusal_of(path, record.refusal.line)] if record.refusal else []
     lines += [line_of(path, entry) + more for entry in record.entries]
+    lines += [f"{'':14}{label(path)}: {words}" for words in left_out(record)]
     return Result(record.status, [*lines, *others], record.verdicts, list(of_record(path, record)))
+
+
+def left_out(record: Record) -> list[str]:
+    """Of captures that were left out, since larger ones have their packets too, what is said of each audit."""
+    alerts = (alert for entry in record.entries for alert in entry.warnings if alert.kind == "twice")
+    return sorted({warning_words(alert) for alert in alerts})
 
 
 def known_record(folder: Folder, known: Known) -> Record | None:

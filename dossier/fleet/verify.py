@@ -18,11 +18,10 @@ from ..records import replace
 from ..schema import first_difference, said
 from ..text import label, plain
 from ..units import now
-from ..verdict.alerts import warning_words
 from ..verdict.making import Making
 from ..verdict.second import Second
 from ..verdict.sentences import reason
-from .audit import change_of
+from .audit import change_of, left_out
 from .drawing import drawn_of, likelihoods
 from .judging import ONLY_MADE, Judging, Other
 from .planning import is_of_days, names_of, planned
@@ -80,7 +79,7 @@ class Verifier:
         found = self.compared(folder, record, made, is_other, form < VERSION)
         notes = ["by another build of the program than the audit's"] if is_other else []
         notes += sorted({reason(entry) for entry in made.entries if entry.verdict == UNSUPPORTED})
-        notes += sorted({warning_words(one) for entry in made.entries for one in entry.warnings if one.kind == "twice"})
+        notes += left_out(made)
         if not found:
             if form == VERSION:
                 self.known.add(sum_of(data), made)
