@@ -108,10 +108,15 @@ def skip(name: str, why: str) -> None:
         raise unittest.SkipTest(why)
 
 
+def wanting(tool: str) -> str:
+    """Why a case is skipped, with the mark by which the gate (.ci/run), which installs all tools, knows it."""
+    return f"[tool] {tool} isn't installed"
+
+
 def is_here(tool: str, name: str) -> bool:
     """Whether a tool is installed; where it isn't, a case is skipped."""
     if not shutil.which(tool):
-        skip(name, f"{tool} isn't installed")
+        skip(name, wanting(tool))
     return bool(shutil.which(tool))
 
 

@@ -18,7 +18,7 @@ from html.parser import HTMLParser
 from pathlib import Path
 from typing import Any
 
-from tests.support import DATA, ROOT, SECONDS, Ran, check, files_in, program, run, skip
+from tests.support import DATA, ROOT, SECONDS, Ran, check, files_in, program, run, skip, wanting
 from tests.dossier.leaps import LATER, leap_list
 
 PROGRAM = program()
@@ -223,5 +223,5 @@ def check_page(name: str, text: str, links: Sequence[str] = (), scripts: Sequenc
                              text.encode())
         check(f"{name} by tidy", run=((status in (0, 1), err), (True, b"")))
     else:
-        skipped("pages by tidy", "tidy isn't installed")
+        skipped("pages by tidy", wanting("tidy"))
     return page

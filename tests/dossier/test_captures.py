@@ -11,7 +11,7 @@ import struct
 from pathlib import Path
 from unittest.mock import patch
 
-from tests.support import DATA, check, run
+from tests.support import DATA, check, run, wanting
 from tests.dossier.audits import (ENVIRONMENT, PROGRAM, SCRIPT, capture_of, check_page, dossier, folder_of, record_of,
                                   skipped, table)
 from tests.tools import families
@@ -86,7 +86,7 @@ def test_people_have(place: Path) -> None:
     if shutil.which("zstd"):
         cases["zstd"] = "vlan-ns", {"f.pcap.zst": run(["zstd", "-qc"], nano)[1]}
     else:
-        skipped("captures in zstd", "zstd isn't installed")
+        skipped("captures in zstd", wanting("zstd"))
     plain = {base: folder_of(place, base, DATA / f"{base}.pcap", DATA / f"{base}.claim.json")
              for base in ("vlan-ns", "clients-us")}
     dossier("audit", *plain.values())
@@ -276,7 +276,7 @@ def test_remedies_work(place: Path) -> None:
     from dossier.page.remedies import remedy
     name, whole = "the remedy of a capture: back and forth", (DATA / "clients-us.pcap").read_bytes()
     if not shutil.which("reordercap"):
-        skipped(name, "reordercap isn't installed")
+        skipped(name, wanting("reordercap"))
         return
     folder = folder_of(place, "back and forth", to="2026-11-24T00:00:00Z")
     (folder / "f.pcap").write_bytes(whole + 300_000 * (short_record(1_795_331_030) + short_record(1_795_331_030 + DAY)))

@@ -17,7 +17,7 @@ from pathlib import Path
 from typing import Any
 from unittest.mock import patch
 
-from tests.support import DATA, ROOT, SECONDS, check, is_here, run, runnable
+from tests.support import DATA, ROOT, SECONDS, check, is_here, run, runnable, wanting
 from tests.dossier.audits import (ENVIRONMENT, PROGRAM, SCRIPT, audited, capture_of, check_page, dossier, folder_of,
                                   record_of, rows, skipped, table)
 from tests.dossier.test_captures import records_of
@@ -43,7 +43,7 @@ def by_promtool(name: str, *words: object, given: bytes | None = None) -> None:
         check(f"promtool on {name}", run=((status, b"FAILED" in out + err), (0, False)),
               said=(out + err if status else b"", b""))
     else:
-        skipped(f"promtool on {name}", "promtool isn't installed")
+        skipped(f"promtool on {name}", wanting("promtool"))
 
 
 def seconds(nanoseconds: int) -> str:
@@ -514,7 +514,7 @@ def test_keep(place: Path) -> None:
     dossier("keep", one)
     check("a keeping that was broken off is ended", files=("f.pcap" in listed(one), False))
     if not shutil.which("ssh-keygen"):
-        skipped("what is kept is signed", "ssh-keygen isn't installed")
+        skipped("what is kept is signed", wanting("ssh-keygen"))
     else:
         key, allowed = key_of(place, "key")
         (place / "signers").write_text(allowed)
@@ -705,7 +705,7 @@ def started_by(unit: str) -> Any:
 def test_systemd_units(place: Path) -> None:
     """systemd takes the units, and finds them shut."""
     if not shutil.which("systemd-analyze"):
-        skipped("systemd's units", "systemd isn't installed")
+        skipped("systemd's units", wanting("systemd"))
         return
     names = (RECORDER, "ntpaudit-daily.service", "ntpaudit-now.service", "ntpaudit-daily.timer", "ntpaudit-now.timer")
     for name in names:

@@ -14,7 +14,7 @@ from html import unescape
 from pathlib import Path
 from typing import Any
 
-from tests.support import DATA, ROOT, SECONDS, check, children, is_here, run, runnable, wait_until
+from tests.support import DATA, ROOT, SECONDS, check, children, is_here, run, runnable, wait_until, wanting
 from tests.dossier.audits import (ENVIRONMENT, PROGRAM, SCRIPT, audited, capture_of, check_page, dossier, folder_of,
                                   parts_left, record_of, rows, skipped, table)
 from tests.dossier.leaps import leap_list
@@ -167,7 +167,7 @@ def test_signing_again(place: Path) -> None:
               run=(run(["ssh-agent", "sh", "-c", by_agent], env=ENVIRONMENT)[:2], (0, f"{held}: signed\n".encode())),
               verified=(dossier("verify", "--signers", place / "signers", held)[0], 0))
     else:
-        skipped("a key that an agent holds", "ssh-agent isn't installed")
+        skipped("a key that an agent holds", wanting("ssh-agent"))
     check("signed already", status=(dossier("sign", "--key", key, folder)[0], 4))
     kept = {path.name: path.read_bytes() for path in folder.iterdir()}
     check("a signed folder that is unchanged",
@@ -348,7 +348,7 @@ def test_lists(place: Path) -> None:
 def why_no_recording(*user: object) -> str:
     """Why tcpdump can't record here, as a user that these words call it by; nothing if it can."""
     if not shutil.which("tcpdump"):
-        return "tcpdump isn't installed"
+        return wanting("tcpdump")
     # (a file that it writes it gives to its own user)
     words = [*user, "tcpdump", "-i", "lo", "-c", "1", "-w", "-", "udp and port 123 and port 124"]
     return "" if b"listening on" in listened(words, {**os.environ})[2] else "there is no right to record"
@@ -377,7 +377,7 @@ def until_it_listens(words: list[Any], environment: dict[str, str]) -> tuple[int
 def why_no_link() -> str:
     """Why no link can be made here; nothing if one can."""
     if run(["unshare", "-n", "true"])[0] or not shutil.which("ip"):
-        return "ip isn't installed" if not shutil.which("ip") else "there are no namespaces"
+        return wanting("ip") if not shutil.which("ip") else "there are no namespaces"
     return why_no_recording()
 
 
@@ -642,7 +642,7 @@ def test_no_right(place: Path) -> None:
     """Without the right to make a link one line says so."""
     nobody = [] if os.geteuid() else ["setpriv", "--reuid=65534", "--regid=65534", "--clear-groups"]
     if not shutil.which("tcpdump") or (nobody and not shutil.which("setpriv")):
-        skipped("measure without the right to record", "tcpdump or setpriv isn't installed")
+        skipped("measure without the right to record", wanting("tcpdump or setpriv"))
         return
     if run([*nobody, "cat", SCRIPT])[0] or run([*nobody, PROGRAM, "--version"])[0] or not why_no_recording(*nobody):
         skipped("measure without the right to record",

@@ -8,7 +8,7 @@ from fractions import Fraction
 from pathlib import Path
 from typing import Any
 
-from tests.support import DATA, check, is_here, run
+from tests.support import DATA, check, is_here, run, wanting
 from tests.dossier.audits import (ENVIRONMENT, SCRIPT, called, capture_of, check_page, dossier, folder_of, record_of,
                                   skipped, table)
 from tests.dossier.leaps import leap_list
@@ -111,7 +111,7 @@ def test_copied_days(place: Path) -> None:
     if shutil.which("ssh-keygen"):
         dossier("sign", "--key", key_of(place, "ann")[0], one)
     else:
-        skipped("a signed copy", "ssh-keygen isn't installed")
+        skipped("a signed copy", wanting("ssh-keygen"))
     copies = [one, place / "web-2" / "2026-11-23", place / "web-2" / "2026-11-24"]
     for copy in copies[1:]:
         shutil.copytree(one, copy)

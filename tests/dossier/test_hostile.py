@@ -22,7 +22,7 @@ from pathlib import Path
 from typing import Any
 from unittest.mock import patch
 
-from tests.support import DATA, ROOT, SECONDS, check, children, is_here, run, runnable, wait_until
+from tests.support import DATA, ROOT, SECONDS, check, children, is_here, run, runnable, wait_until, wanting
 from tests.dossier.audits import (ENVIRONMENT, KEEP, PROGRAM, SCRIPT, SEARCH, audited, called, check_page, dossier,
                                   folder_of, parts_left, record_of, rows, skipped, table, within)
 from tests.dossier.test_evidence import key_of
@@ -832,7 +832,7 @@ def test_browser(place: Path) -> None:
     """A page with hostile strings in a browser: no request leaves, nothing runs, and the title is what it should be."""
     browser = shutil.which("chromium") or shutil.which("google-chrome")
     if not browser:
-        skipped("a page in a browser", "chromium isn't installed")
+        skipped("a page in a browser", wanting("chromium"))
         return
     asked = []
 

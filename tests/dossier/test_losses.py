@@ -10,7 +10,7 @@ import time
 from pathlib import Path
 from typing import Any
 
-from tests.support import DATA, ROOT, SECONDS, Ran, check, run
+from tests.support import DATA, ROOT, SECONDS, Ran, check, run, wanting
 from tests.dossier.audits import ENVIRONMENT, KEEP, SCRIPT, audited, dossier, folder_of, rows, skipped
 from tests.dossier.test_captures import records_of
 from tests.dossier.test_daily import DAY, hours_of, recorded
@@ -153,7 +153,7 @@ def test_links_in_paths(place: Path) -> None:
           made=((host / "drift.json").read_text()[:1], "{"))
     text = (ROOT / "docs" / "AUDITING.md").read_text("utf-8")
     if not KEEP:
-        skipped("the commands for an auditor of a folder that is kept", "zstd isn't installed")
+        skipped("the commands for an auditor of a folder that is kept", wanting("zstd"))
         return
     dossier("keep", host)
     page = dossier("page", host)[1].decode()
@@ -184,7 +184,7 @@ def test_root(place: Path) -> None:
         check(f"root's output in another's folder: {words[1]}",
               left=(sorted(path.name for path in folder.rglob("*")), before))
     if not shutil.which("tcpdump"):
-        skipped("root records in another's folder", "tcpdump isn't installed")
+        skipped("root records in another's folder", wanting("tcpdump"))
     for where in (folder, folder / "new", folder / "2026-11-22") if shutil.which("tcpdump") else ():
         status, _, err = run(["timeout", str(SECONDS // 2), SCRIPT, "record", "--interface", "lo", where],
                              env=ENVIRONMENT)

@@ -19,7 +19,7 @@ ROOT = Path(__file__).resolve().parents[2]
 if __name__ == "__main__":
     sys.path[0] = str(ROOT)
 
-from tests.support import SECONDS, check, children, run, skip  # noqa: E402
+from tests.support import SECONDS, check, children, run, skip, wanting  # noqa: E402
 
 RECORDER = """import sys
 sys.path.insert(0, sys.argv.pop(1))
@@ -219,7 +219,7 @@ def test_watched(place: Path) -> None:
         return
     for tool in ("tcpdump", "ip"):
         if not shutil.which(tool):
-            skip("a recorder that is watched", f"{tool} isn't installed")
+            skip("a recorder that is watched", wanting(tool))
             return
     calls = {}
     for case in WANTED:

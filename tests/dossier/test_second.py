@@ -7,7 +7,7 @@ import sys
 from pathlib import Path
 from typing import Any
 
-from tests.support import DATA, ROOT, Ran, check, run, runnable
+from tests.support import DATA, ROOT, Ran, check, run, runnable, wanting
 from tests.dossier.audits import ENVIRONMENT, capture_of, check_page, dossier, folder_of, skipped
 from tests.dossier.test_evidence import key_of
 
@@ -75,7 +75,7 @@ def test_agreeing(place: Path) -> None:
         dossier("sign", *state, "--key", key_of(place, "ann")[0], yes)
         check("signed since", shown=(shown(yes, *state), ("yes", True)))
     else:
-        skipped("what was judged and signed", "ssh-keygen isn't installed")
+        skipped("what was judged and signed", wanting("ssh-keygen"))
     dossier("audit", *state, "--again", "--step", "5", yes)
     check("other answers since", shown=(shown(yes, *state), ("yes", False)))
     capture = capture_of(place / "days.pcap", "1:-1000..1000@1000079990", "1:-1000..1000@1000080020")

@@ -9,7 +9,7 @@ from functools import partial
 from pathlib import Path
 from typing import Any
 
-from tests.support import DATA, ROOT, SECONDS, Ran, check, run, runnable, sum_of, wait_until
+from tests.support import DATA, ROOT, SECONDS, Ran, check, run, runnable, sum_of, wait_until, wanting
 from tests.dossier.audits import (ENVIRONMENT, KEEP, PROGRAM, SCRIPT, capture_of, dossier, folder_of, rows, skipped,
                                   within)
 from tests.dossier.leaps import leap_list
@@ -240,7 +240,7 @@ def test_flood(place: Path) -> None:
         check("what the filter takes", packets=([one[:16] for one in records_of(taken[1])], [
             one[:16] for one in records_of((plain / "f.pcap").read_bytes())]))
     else:
-        skipped("what the filter takes", "tcpdump isn't installed")
+        skipped("what the filter takes", wanting("tcpdump"))
 
 
 def test_dead_mounts(place: Path) -> None:

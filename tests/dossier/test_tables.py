@@ -25,7 +25,8 @@ from pathlib import Path
 from typing import Any
 from unittest.mock import patch
 
-from tests.support import DATA, ROOT, SECONDS, Ran, check, children, files_in, run, runnable, sum_of, wait_until
+from tests.support import (DATA, ROOT, SECONDS, Ran, check, children, files_in, run, runnable, sum_of, wait_until,
+                           wanting)
 from tests.dossier.audits import (CLAIMS, ENVIRONMENT, PROGRAM, SCRIPT, TICKS_PER_MS, audited, capture_of, check_page,
                                   dossier, folder_of, match_of, parts_left, record_of, rows, skipped, table)
 from tests.dossier.test_captures import records_of
@@ -507,7 +508,7 @@ def test_slurm(place: Path) -> None:
 
 def test_parallel(place: Path) -> None:
     if b"GNU parallel" not in run(["parallel", "--version"])[1]:
-        skipped("GNU parallel", "parallel isn't installed")  # (moreutils has another program of this name)
+        skipped("GNU parallel", wanting("parallel"))  # (moreutils has another program of this name)
         return
     folders = [folder_of(place / "parallel", f"host {number}") for number in range(4)]
     log = place / "joblog"

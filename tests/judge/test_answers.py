@@ -9,7 +9,7 @@ from collections import Counter
 from collections.abc import Callable, Iterator
 from functools import partial
 
-from tests.support import Ran, count, run, skip
+from tests.support import Ran, count, run, skip, wanting
 from tests.judge.made import made, missing
 from tests.second import test_recheck
 from tests.second.claims import Claim
@@ -67,7 +67,7 @@ def tried(job: tuple[str, Job]) -> Counter[str]:
 
 def cases() -> Iterator[tuple[str, Callable[[], Counter[str]]]]:
     if tool := missing():
-        yield "judge.answers.none", partial(skip, "the judge's answers", f"{tool} isn't installed")  # type: ignore
+        yield "judge.answers.none", partial(skip, "the judge's answers", wanting(tool))  # type: ignore
         return
     made("ntpaudit-judge")
     for job in [*test_recheck.jobs(), *test_recheck.scenes_of(SEED, SCENES)]:

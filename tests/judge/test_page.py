@@ -9,7 +9,7 @@ from collections.abc import Callable
 from functools import wraps
 from pathlib import Path
 
-from tests.support import DATA, ROOT, check, is_here, program, run, skip, sum_of
+from tests.support import DATA, ROOT, check, is_here, program, run, skip, sum_of, wanting
 from tests.judge.made import made, missing
 from tests.tools import browser
 from tests.tools.browser import Browser
@@ -31,7 +31,7 @@ def needs(tool: str) -> Callable[[Callable[[Path], None]], Callable[[Path], None
         @wraps(test)
         def tried(folder: Path) -> None:
             if lacks := missing():
-                skip(f"the page in {tool}", f"{lacks} isn't installed")
+                skip(f"the page in {tool}", wanting(lacks))
             elif is_here(tool, f"the page in {tool}"):
                 test(folder)
         return tried
@@ -228,7 +228,7 @@ def test_no_way_out(folder: Path) -> None:
 def test_made_again(folder: Path) -> None:
     """The page is the same bytes each time, and small; and dist/ has what is made, the program too."""
     if tool := missing():
-        skip("the page, made again", f"{tool} isn't installed")
+        skip("the page, made again", wanting(tool))
         return
     status, _, err = run([ROOT / "judge/make", "--page", folder])
     page = (folder / "judge.html").read_bytes()

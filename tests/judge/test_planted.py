@@ -15,7 +15,7 @@ from concurrent.futures import ProcessPoolExecutor
 from pathlib import Path
 from typing import Any
 
-from tests.support import ROOT, count, run, skip
+from tests.support import ROOT, count, run, skip, wanting
 from tests.judge.made import missing
 from tests.judge.test_answers import Judged
 from tests.second import test_recheck
@@ -225,7 +225,7 @@ def share(numbers: tuple[int, int, list[Path]]) -> list[str]:
 
 def test_plants() -> None:
     if tool := missing():
-        skip("bugs in the judge's definitions", f"{tool} isn't installed")
+        skip("bugs in the judge's definitions", wanting(tool))
         return
     cores = int(os.environ.get("NTPAUDIT_JOBS", os.cpu_count() or 1))
     with tempfile.TemporaryDirectory(prefix="ntpaudit-planted-") as folder, ProcessPoolExecutor(cores) as pool:
@@ -241,7 +241,7 @@ def test_plants() -> None:
 
 def test_bugs() -> None:
     if tool := missing():
-        skip("bugs in the judge's functions", f"{tool} isn't installed")
+        skip("bugs in the judge's functions", wanting(tool))
         return
     status, out, err = run([ROOT / "judge/build"], timeout=3000)
     assert not status, (out + err).decode()[-300:]

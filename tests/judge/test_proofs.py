@@ -1,7 +1,7 @@
 """Proves the judge, and has coqchk go through all of it again: no axiom, and nothing left open."""
 import re
 
-from tests.support import ROOT, check, files_in, run, skip
+from tests.support import ROOT, check, files_in, run, skip, wanting
 from tests.judge.made import alone, missing
 
 THEOREMS = ("check_is_the_verdict", "yes_is_traceable", "refuted_is_a_course", "shown_without_drift",
@@ -22,7 +22,7 @@ def test_texts() -> None:
 
 def test_checked() -> None:
     if tool := missing():
-        skip("the judge's proofs", f"{tool} isn't installed")
+        skip("the judge's proofs", wanting(tool))
         return
     with alone():
         status, out, err = run([ROOT / "judge/build", "--check"], timeout=3000)

@@ -13,7 +13,7 @@ from collections.abc import Callable
 from concurrent.futures import ThreadPoolExecutor
 from pathlib import Path
 
-from tests.support import DATA, ROOT, check, is_here, program, run, skip
+from tests.support import DATA, ROOT, check, is_here, program, run, skip, wanting
 from tests.system import sentences
 from tests.tools.wire import records_of
 
@@ -390,13 +390,15 @@ def test_dossier(place: Path) -> None:
             "XDG_STATE_HOME": str(place / "state")}
     (folder / "chrony.conf").write_text(f"port 0\npidfile {folder}/pid\ndriftfile {folder}/drift\nlocal\n"
                                         "bindcmdaddress /\nuser root\n")
-    has_network = run(["unshare", "-n", "true"])[0] == 0 and shutil.which("chronyd")
+    lacks = "" if shutil.which("chronyd") else wanting("chronyd")
+    if run(["unshare", "-n", "true"])[0]:
+        lacks = "there is no right to a network of its own"
     for code in sorted(code for code in own_codes() - NAMES if spelled(code) not in seen):
         for name, whole in (("claim.json", (DATA / CLAIMS[MICRO]).read_bytes()), ("f.pcap", MICRO)):
             (folder / name).write_bytes(whole)
         typed = CALLED.get(code, code)
-        if code.startswith("chronyc ") and not has_network:
-            skip(code, "chronyd isn't installed, or there is no right to a network of its own")
+        if code.startswith("chronyc ") and lacks:
+            skip(code, lacks)
             continue
         words = ["unshare", "-n", "sh", "-c", DAEMON.format(typed)] if code.startswith("chronyc ") else \
             ["sh", "-c", re.sub(r"\bntpaudit (?=list)", f"'{PROGRAM}' ", typed)]

@@ -1,7 +1,14 @@
-"""The Python here is as CONTRIBUTING.md says: mypy finds nothing by pyproject.toml, nor does flake8."""
-from tests.support import ROOT, check, is_here, run
+"""The Python here is as CONTRIBUTING.md says: mypy finds nothing by pyproject.toml, nor does flake8; and the gate knows
+what was skipped for want of a tool.
+"""
+import os
+import re
+import shutil
+from pathlib import Path
 
-FOLDERS = "bench", "data", "docs", "dossier", "ntpaudit-dossier", "tests", "tests/program", "tests/run"
+from tests.support import ROOT, check, is_here, run, runnable, skip, wanting
+
+FOLDERS = "bench", "data", "docs", "dossier", "ntpaudit-dossier", "tests", "tests/program", "tests/run", "tests/soak"
 
 
 def test_types(folder: str) -> None:
@@ -14,3 +21,24 @@ def test_form() -> None:
     if is_here("flake8", "the form by flake8"):
         words = ["flake8", "--max-line-length", "120", "--extend-ignore", "E203", *FOLDERS]
         check("flake8 finds nothing", run=(run(words, cwd=ROOT)[:2], (0, b"")))
+
+
+def test_skips(place: Path) -> None:
+    """Where all tools are installed, a skip with the mark fails the gate. No other skip says that a tool is missing."""
+    unmarked = [str(path.relative_to(ROOT)) for path in ROOT.glob("tests/**/*.py")
+                if re.search(r"skip(ped)?\([^)]*\bisn't installed", path.read_text("utf-8"))]
+    check("skips for want of a tool are by wanting", others=(unmarked, []))
+    if os.geteuid():
+        skip("the gate's skips", "this isn't root")
+        return
+    for folder in (".ci", "tests", "bin"):
+        (place / folder).mkdir()
+    shutil.copy(ROOT / ".ci/run", place / ".ci")
+    runnable(place / "bin/apt-get", "#!/bin/sh\n")
+    for why, counts, status in ((wanting("zstd"), "1 passed, 1 failed, 1 skipped", 1),
+                                ("there are no namespaces", "1 passed, 0 failed, 1 skipped", 0)):
+        skipped = f"skipped dossier.daily [it]: {why}"
+        runnable(place / "tests/all", f"#!/bin/sh\ncat <<'E'\n{skipped}\n{skipped} (dossier.daily)\n"
+                                      "1 passed, 0 failed, 1 skipped\nE\n")
+        ran = run([place / ".ci/run"], env={**os.environ, "PATH": f"{place}/bin:{os.environ['PATH']}"})
+        check(f"the gate, where is skipped: {why}", run=((ran[0], ran[1].decode().splitlines()[-1]), (status, counts)))
