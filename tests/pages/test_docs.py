@@ -140,16 +140,15 @@ def test_columns() -> None:
 
 
 # ---- how much they say, and where
-# The most words of a page, or of several together, without the tables that bench/all makes.
+# The most words of all pages together, and of a page, or of several, without the tables that bench/all makes.
+MOST = 31_000
 TABLES = re.compile(r"<!-- (?!end)[\w -]+ -->.*?<!-- end -->", re.S)
 LIMITS = {
-    "README.md": 930, "SECURITY.md": 150, "docs/STABILITY.md": 440, "docs/PROMISES.md": 1840,
-    "docs/THEOREM.md": 3670, "docs/DEFINITIONS.md": 4310,
-    "docs/DECISIONS.md": 1950, "docs/FORMATS.md": 3900, "docs/GUIDE.md": 2850, "docs/REFUSALS.md": 1030,
-    "docs/DOSSIER.md docs/AUDITING.md": 3310, "docs/FLEET.md": 1680, "docs/BOUND.md": 590,
-    "docs/RATTLE.md": 1000,
-    "second/README.md": 260, "ARCHITECTURE.md CONTRIBUTING.md": 2900, "CHANGELOG.md": 1000,
-    "bench/README.md": 680, "data/README.md": 740,
+    "README.md": 900, "SECURITY.md": 150, "docs/STABILITY.md": 440, "docs/PROMISES.md": 1640,
+    "docs/THEOREM.md": 3330, "docs/DEFINITIONS.md": 4330, "docs/DECISIONS.md": 1630, "docs/FORMATS.md": 3710,
+    "docs/GUIDE.md": 2570, "docs/REFUSALS.md": 920, "docs/DOSSIER.md docs/AUDITING.md": 3130, "docs/FLEET.md": 1400,
+    "docs/BOUND.md": 550, "docs/RATTLE.md": 990, "second/README.md": 240, "ARCHITECTURE.md CONTRIBUTING.md": 2920,
+    "CHANGELOG.md": 460, "bench/README.md": 630, "data/README.md": 600,
 }
 
 # A fact, what a paragraph or a table has in it that states the fact (each of these), and the pages that are its home.
@@ -189,6 +188,8 @@ def test_words() -> None:
     for pages, most in LIMITS.items():
         count = sum(len(TABLES.sub("", (ROOT / page).read_text("utf-8")).split()) for page in pages.split())
         check(f"{pages}: the number of its words", words=(count, lambda count: count <= most))
+    every = sum(len(page.read_text("utf-8").split()) for page in DOCUMENTS)
+    check("all pages: the number of their words", words=(every, lambda every: every <= MOST))
 
 
 def test_homes() -> None:
@@ -331,21 +332,22 @@ def has_clause(contract: str, clause: str, defined: dict[str, str]) -> bool:
 
 
 def test_promises() -> None:
-    """Each row of the table of functions: a promise, a crate, its functions, and clauses of these."""
+    """Each line of where they stand: a promise, a crate, its functions, and clauses of these."""
     defined = definitions()
     section = (ROOT / "docs/PROMISES.md").read_text("utf-8").split("## Where they stand\n")[1].split("\n## ")[0]
-    rows = [row.split("|") for row in re.findall(r"^\|(.*)\|$", section, flags=re.M)[2:]]
-    check("PROMISES.md has a table of functions", rows=(len(rows), lambda count: count > 20))
-    for _, crate, functions, clauses in rows:
-        code, functions = code_of(crate.strip(), "src"), CODE.findall(functions)
+    rows = re.findall(r"^- .* \((\w+)\): (.*): (.*)$", section, flags=re.M)
+    check("PROMISES.md says where they stand", rows=(len(rows), lambda count: count > 20),
+          all=(len(rows), section.count("\n- ")))
+    for crate, functions, clauses in rows:
+        code, functions = code_of(crate, "src"), CODE.findall(functions)
         for function in functions:
             *owner, name = function.split("::")
-            check(f"PROMISES.md: {crate.strip()} has {function}", there=(bool(contracts(code, name)), True),
+            check(f"PROMISES.md: {crate} has {function}", there=(bool(contracts(code, name)), True),
                   owner=(all(re.search(rf"\b{part}\b", code) for part in owner), True))
         for clause in CODE.findall(clauses):
             named = [text for function in functions for text in contracts(code, function.split("::")[-1])]
             is_there = any(has_clause(text, clause, defined) for text in named)
-            check(f"PROMISES.md: {crate.strip()}'s {' '.join(functions)} has the clause {clause}",
+            check(f"PROMISES.md: {crate}'s {' '.join(functions)} has the clause {clause}",
                   there=(is_there, True))
 
 
