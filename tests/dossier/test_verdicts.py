@@ -47,6 +47,24 @@ def good_folder(place: Path, name: str, evidence: dict[str, Any] | None = None, 
     return folder
 
 
+def test_touching(place: Path) -> None:
+    """By hand: 1,164 ns are 4,999.3 ticks, so a clock that may have been off by just 4,999 isn't known to have been off
+    by more, and with 5,000 it is; and it is within the bound, where it can't have been off by more."""
+    for low, high, verdict, why in ((4999, 9000, "refuted", "exceeds"), (5000, 9000, "refuted", "off"),
+                                    (-9000, -4999, "refuted", "exceeds"), (-9000, -5000, "refuted", "off"),
+                                    (-4999, 4999, "yes", ""), (-4999, 5000, "refuted", "exceeds"),
+                                    (-5000, 4999, "refuted", "exceeds")):
+        name = f"{low}..{high}"
+        words = [f"{server}:{name}@{FIRST + second}" for second in (10, 40) for server in (1, 2, 3, 4)]
+        folder = good_folder(place, name, None, words, bound_ns=1164, drift_ppb=0)
+        dossier("audit", "--metrics", place / "prom", folder)
+        entry = record_of(folder)["entries"][0]
+        is_off = re.findall(r"^ntpaudit_clock_off\{.*\} (\d)$", (place / "prom").read_text(), flags=re.M)
+        check(f"an error from {low} to {high} ticks beside a bound of 4,999", verdict=(entry["verdict"], verdict),
+              why=(entry.get("reason", {}).get("why", ""), why), is_off=(is_off, [str(int(why == "off"))]),
+              drawn=(" 35 pieces beyond the bound." in dossier("page", folder)[1].decode(), verdict == "refuted"))
+
+
 AGAINST: dict[str, Any] = {
     "drift": ({"drift": SETUP}, {}, "may move the clock by 600,000 parts in 10^9", "Grant as much drift"),
     "reading": ({"reading": measured(70_000)}, {"reading_ns": 60_000}, "as much as 0.07 ms after they left",
