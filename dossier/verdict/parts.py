@@ -20,7 +20,7 @@ from ..folder.entry import FEW, NOTHING_FITS, YES, Beyond, Gap, Hull, Move, Stre
 from ..folder.placing import keep
 from ..folder.program import Program
 from ..records import replace
-from ..units import SECOND, TICKS, bound_ticks, ceil_div, civil
+from ..units import LAST_SECOND, SECOND, TICKS, bound_ticks, ceil_div, civil
 from .apart import SEVERAL, Time, apart_of, are_in, outermost, pieces_of, search_of
 from .breaks import SOME, Break, Search
 from .gaps import gaps_of, inner_gaps, told_of
@@ -143,7 +143,8 @@ class Parting:
         """The hull by a stretch's exchanges alone, over some Unix seconds."""
         key = side.path, side.first, side.last, first, last
         if key not in self.hulls:
-            claim = self.named(replace(self.claim, from_=civil(max(0, first)), to=civil(max(0, last))))
+            first, last = (min(max(0, time), LAST_SECOND) for time in (first, last))
+            claim = self.named(replace(self.claim, from_=civil(first), to=civil(last)))
             step = str(min(LONGEST, max(1, last - first)))
             hulls = read_envelope(self.program.run("envelope", claim, side.path, "--step", step).text).hulls
             self.hulls[key] = "empty" if "empty" in hulls else outermost(hulls)
