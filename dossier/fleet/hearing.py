@@ -6,7 +6,7 @@ from statistics import median
 
 from ..capture.classic import Classic
 from ..capture.recording import closing_of
-from ..folder.answers import Envelope
+from ..folder.answers import Envelope, in_era
 from ..folder.claim import Claim
 from ..folder.entry import Hull
 from ..folder.files import CLAIM
@@ -48,7 +48,7 @@ class Hearing:
             self.requests[fields[1]] = request
             if answered <= self.claim.last * SECOND:
                 own = self.samples.setdefault(fields[1], [])
-                own.append((asked, answered, int(fields[11]), int(fields[13])))
+                own.append((asked, answered, *in_era(asked // SECOND, int(fields[11]), int(fields[13]))))
                 del own[:-TWO]
 
     def is_silent(self, server: str) -> bool:

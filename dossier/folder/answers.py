@@ -3,6 +3,7 @@ import re
 from typing import NamedTuple
 
 from ..schema import read_typed
+from ..units import TICKS
 from .entry import NO_EVIDENCE, NOTHING_FITS, OPEN, REFUTED, YES, Answer, Hull, Refutation
 from .files import REFUTATION
 
@@ -53,6 +54,17 @@ def read_advice(report: bytes) -> dict[str, str]:
     return {words[1]: words[2] for words in lines if words[0] == "advice"}
 
 
+ERA, SINCE = 1 << 32, 1_577_836_800
+"""Seconds after which NTP's timestamps come again; and 2020-01-01, in the first era since which servers' times lie."""
+
+
+def in_era(second: int, low: int, high: int) -> tuple[int, int]:
+    """An error in ticks at a reading: one by which UTC would be past 2155 is one of more than 68 years, which the
+    program can't tell from it, since timestamps come again."""
+    more = TICKS * ERA * ((second - high // TICKS - SINCE) >= ERA)
+    return low + more, high + more
+
+
 class Envelope(NamedTuple):
     """The envelope, in columns: begins and ends in Unix seconds, hulls, and of each server by its address the low ends
     and the high ends of its intervals, in ticks."""
@@ -86,9 +98,18 @@ def read_envelope(text: bytes) -> Envelope:
     pieces = [dict(zip(PIECE, line.split())) for line in lines[width :: width + 1]]
     bound, least = closing["bound_ns"], closing.get("least_ns", {"bound": "none"})
     has_least = "none" not in (bound["bound"], least["bound"])
-    return Envelope([int(piece["begin"]) for piece in pieces], [int(piece["end"]) for piece in pieces],
-                    [read_hull([piece["low"], piece.get("high", "")]) for piece in pieces], servers,
-                    int(least["bound"]) if has_least else None, int((least if has_least else bound)["piece"]))
+    found = Envelope([int(piece["begin"]) for piece in pieces], [int(piece["end"]) for piece in pieces],
+                     [read_hull([piece["low"], piece.get("high", "")]) for piece in pieces], servers,
+                     int(least["bound"]) if has_least else None, int((least if has_least else bound)["piece"]))
+    return found if found.ends[-1] < SINCE + ERA // 2 else in_eras(found)
+
+
+def in_eras(one: Envelope) -> Envelope:
+    """An envelope of readings from which UTC may be more than 68 years away."""
+    hulls = [hull if isinstance(hull, str) else in_era(begin, *hull) for begin, hull in zip(one.begins, one.hulls)]
+    own = {server: [in_era(*ends) for ends in zip(one.begins, *both)] for server, both in one.servers.items()}
+    servers = {server: ([low for low, _ in ends], [high for _, high in ends]) for server, ends in own.items()}
+    return one._replace(hulls=hulls, servers=servers)
 
 
 def read_envelopes(text: bytes) -> list[Envelope]:

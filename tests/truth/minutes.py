@@ -1,7 +1,7 @@
 """Histories played minute by minute: what `now` says of each minute is held to what the clock showed, and an error
 beyond the bound has to be told in time, and no longer than that.
 
-usage: python3 -m tests.truth.minutes [--number N] [--seed K]
+usage: python3 -m tests.truth.minutes [--number N] [--seed K] [--set]
 """
 import argparse
 import json
@@ -72,6 +72,24 @@ class Played(History):
             self.troubles.append(Trouble(kind, time, time + while_))
         elif kind == "lost":
             self.lost = rng.uniform(0.05, 0.3)
+
+
+WRONG = {"2099": 4_070_908_800, "1970": 10, "an hour back": -3600}
+"""To which Unix seconds a clock is set, or by how many it is set back."""
+
+
+class Set(Played):
+    """A clock that is set, and right again after so long that `now` doesn't know of it any more."""
+
+    def __init__(self, to: str):
+        self.to = to
+        super().__init__(3)
+        self.kinds = [f"set to {to}"]
+
+    def draw(self, kind: str) -> None:
+        time, second = self.begin + 4 * 60 * SECOND, WRONG[self.to]
+        size = second * SECOND if second < 0 else second * SECOND - time
+        self.events = [Event(STEP, at, at, way * size) for at, way in ((time, 1), (time + 13 * 60 * SECOND, -1))]
 
 
 class Player:
@@ -218,17 +236,25 @@ class Player:
             yield "nobody is told that it is off"
         if max(errors) <= self.of.bound and told:
             yield "somebody is told that it is off, and it isn't"
+        ago = [time - event.begin for event in self.of.events if event.begin < time]
+        if isinstance(self.of, Set) and ago and ago[-1] >= 60 * SECOND:
+            if len(moment.moves) < (ago[-1] <= 2 * LATE) or moment.verdict == "refused" or \
+                    ago[-1] <= 2 * LATE and moment.is_shown:
+                yield "that the clock was set isn't said"
 
 
 def main() -> int:
     parser = argparse.ArgumentParser()
     parser.add_argument("--number", type=int, default=20)
     parser.add_argument("--seed", type=int, default=0)
+    parser.add_argument("--set", action="store_true", help="clocks that are set, instead of seeds")
     given = parser.parse_args()
     bad, looks, unseen, kinds = 0, 0, 0, Counter[str]()
-    for seed in range(given.seed, given.seed + given.number):
+    seeds = range(given.seed, given.seed + given.number)
+    played: list[Played] = list(map(Set, WRONG)) if given.set else list(map(Played, seeds))
+    for seed, history in enumerate(played, given.seed):
         with tempfile.TemporaryDirectory(prefix="ntpaudit-minutes-") as made:
-            player = Player(Played(seed), Path(made))
+            player = Player(history, Path(made))
             player.play()
             os.chdir("/")
         looks, unseen = looks + player.looks, unseen + player.unseen
@@ -237,7 +263,7 @@ def main() -> int:
             print(f"{seed} {player.of.kinds} poll {player.of.poll // SECOND}: {words}", flush=True)
         bad += bool(player.wrong)
         print(f"{seed} {player.looks}", file=sys.stderr, flush=True)
-    print(f"{given.number} histories, {looks} looks ({unseen} with what can't be seen), {bad} with something untrue; "
+    print(f"{len(played)} histories, {looks} looks ({unseen} with what can't be seen), {bad} with something untrue; "
           f"{dict(kinds)}")
     return int(bad > 0)
 
