@@ -17,7 +17,7 @@ from ..fault import fault
 from ..folder.files import Folder
 from .classic import HEAD, HEADER, MAGICS, MOST_CAPTURED
 
-LONGEST = HEAD + MOST_CAPTURED
+LONGEST, HOUR = HEAD + MOST_CAPTURED, 3600
 FIRST = 1 << 20
 """Bytes that are read of the end at first; and then twice as many each time."""
 MOST_PLACES = 1 << 19
@@ -106,6 +106,16 @@ class Growing:
         """The Unix second of its last whole record; 0 if it has none."""
         data, begin, _ = next(self.endings(most), (b"", 0, True))
         return next(iter(deque((second for second, _, _ in self.heads.walk(data, begin)), 1)), 0)
+
+    def hours(self) -> set[int]:
+        """The hours since 1970 in which the times of its records lie, as far as these can be told apart."""
+        found, data, at = set[int](), b"", HEADER
+        while len(data) < LONGEST and (block := self.folder.part(self.name, at, at + FIRST)):
+            data, at, end = data + block, at + len(block), 0
+            for second, _, end in self.heads.walk(data, 0):
+                found.add(second // HOUR)
+            data = data[end:]
+        return found
 
     def ending(self, seconds: int, longest: int, most: int, bad: list[str]) -> Ending | None:
         """The records of its last seconds, as far as so many bytes have them; None if it has none. What went by is the

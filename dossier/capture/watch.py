@@ -33,6 +33,8 @@ ALL = 10_000_000_000
 """Bytes of all files of an interface in a folder. Then nothing is recorded until some are taken away."""
 FREE = 1 << 16
 """Bytes that have to be free before a file is begun where there was no room."""
+DEAD = 6 * LOOK
+"""Seconds after which a recorder that says nothing of itself doesn't run."""
 OVER = 120
 """Seconds after which a flood is over."""
 HANGS = 9
@@ -62,6 +64,11 @@ class State:
     lost: Count
     """Packets that had no room, or that the kernel or tcpdump dropped."""
     troubles: list[Text] = field(default_factory=list)
+
+    @property
+    def runs(self) -> bool:
+        """Whether it has said something lately."""
+        return 0 <= int(since_boot()) - self.at <= DEAD
 
 
 def read_state(folder: Folder, interface: str) -> State | None:

@@ -6,6 +6,7 @@ packed or not, and a call takes no more than a tenth.
 """
 import hashlib
 from contextlib import suppress
+from itertools import chain
 
 from ..capture.classic import HEADER
 from ..capture.recorder import begun_files
@@ -35,7 +36,8 @@ def clear(source: str, target: str, days: int) -> Result:
                 break
             with suppress(Fault):
                 sum_ = recorder.sum(name)
-                if all(sum_in(kept, day_of(day * DAY), name) == sum_ for day in range(own[0], own[1] + 1)):
+                every = chain(range(own[0], own[1] + 1), {hour // 24 for hour in Growing(recorder, name).hours()})
+                if all(sum_in(kept, day_of(day * DAY), name) == sum_ for day in every):
                     take_away(recorder.place, name)
                     taken += 1
                     continue

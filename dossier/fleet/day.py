@@ -1,17 +1,23 @@
 """The folders of days: of each its claim, and what recorders left of the day and of the hours beside it.
 
 A recorder's file has in its name when it was begun (UTC). It ends with the last packet in it, at the latest where the
-next of the same recorder begins. What a day's folder has already isn't written again.
+next of the same recorder begins. One whose records show times of another day counts there too: the clock was wrong.
+What a day's folder has already isn't written again.
 """
 import os
 import time
 from collections.abc import Iterable
+from contextlib import suppress
+from itertools import chain
 from typing import NamedTuple
 
 from ..capture.captures import MARGIN
 from ..capture.recorder import begun_files
+from ..capture.tail import Growing
+from ..capture.watch import read_state
 from ..fault import USAGE, Fault, fault
 from ..folder.claim import Claim
+from ..folder.entry import FEW
 from ..folder.evidence import evidence_files
 from ..folder.files import CLAIM, Folder
 from ..folder.jobs import answer, run_all
@@ -38,20 +44,23 @@ class Recorded(NamedTuple):
     grows: bool
 
 
-def recordings(folder: Folder) -> tuple[list[Recorded], list[str]]:
-    """What is in a folder of recordings, and the names of the files that are from the future."""
-    recorders: dict[str, list[tuple[int, str]]] = {}
+def recordings(folder: Folder) -> tuple[list[Recorded], list[Recorded]]:
+    """What is in a folder of recordings, and of it what is from the future."""
+    recorders: dict[tuple[str, str, bool], list[tuple[int, str]]] = {}
+    ahead = (int(time.time()) // DAY + 2) * DAY
     for before, behind, begun, name in begun_files(folder):
-        recorders.setdefault(before + behind, []).append((begun, name))
-    found = []
-    for files in (sorted(files) for files in recorders.values()):
+        recorders.setdefault((before, behind, begun >= ahead), []).append((begun, name))
+    found: tuple[list[Recorded], list[Recorded]] = [], []
+    for (before, _, is_ahead), files in recorders.items():
+        state = read_state(folder, before.removesuffix("-"))
+        growing = state.files[-1:] if state and state.runs else []
+        files.sort()
         for (begin, name), (after, _) in zip(files, [*files[1:], (FOREVER, "")]):
             written = folder.written(name)
             end = min(max(begin, written), after)  # (a copy may have been written at any time)
-            found.append(Recorded(name, begin, end, after == FOREVER and time.time() < written + QUIET))
-    found.sort(key=lambda one: one.begin)
-    ahead = (int(time.time()) // DAY + 2) * DAY
-    return [one for one in found if one.begin < ahead], [one.name for one in found if one.begin >= ahead]
+            grows = name in growing or after == FOREVER and time.time() < written + QUIET
+            found[is_ahead].append(Recorded(name, begin, end, grows))
+    return found
 
 
 def make_days(source: str, target: str, date: str | None, seconds: int, clear_all_but: int | None = None) -> int:
@@ -64,7 +73,11 @@ def make_days(source: str, target: str, date: str | None, seconds: int, clear_al
         note(line)
     for path in planned.earlier:
         print(plain(path))
-    for path, result in run_all(planned.days, lambda path, _: make_day(source, target, path), seconds):
+
+    def make(path: str, _: int) -> Result:
+        return make_day(source, target, path, {name for other, name in planned.shown if other == path})
+
+    for path, result in run_all(planned.days, make, seconds):
         for line in [result.refusal.line] if result.refusal else result.lines:
             note(line)
         if not result.refusal:
@@ -83,11 +96,16 @@ def plan(source: str, target: str, date: str | None) -> Result:
     today = int(time.time()) // DAY
     with Folder(source) as recorder, Folder(target) as days:
         read_typed(CLAIM, Claim, days.data(CLAIM))
-        (found, later), made = recordings(recorder), [name for name in days.names() if is_time(f"{name}T00:00:00Z")]
+        (found, ahead), made = recordings(recorder), [name for name in days.names() if is_time(f"{name}T00:00:00Z")]
+        days_of = {one.name: days_shown(recorder, one.name) for one in [*found, *ahead]}
+    shown = [(folder_of(day), name) for name, own in days_of.items() for day in own]
+    later = [one.name for one in ahead if min(days_of[one.name], default=today + 1) > today]
     later += [name for name in made if day_named(name) > today]
-    notes = [f"{name} is from the future: it is left out" for name in later]
+    notes = [f"{name} is from the future: it is left out" for name in later[:FEW]]
+    if len(later) > FEW:
+        notes.append(f"{len(later) - FEW} more are from the future: is the clock right?")
     if date:
-        return Result(lines=notes, days=[folder_of(day_named(date))])
+        return Result(lines=notes, days=[folder_of(day_named(date))], shown=shown)
     oldest = today - MOST_DAYS
     first = max(min((recorded.begin // DAY + 1 for recorded in found), default=today), oldest)
     before = sorted(number for number in map(day_named, made) if number < today)
@@ -96,7 +114,14 @@ def plan(source: str, target: str, date: str | None) -> Result:
         raise fault(f"more than {MOST_DAYS} days went by since the newest day or recording: is the clock right? "
                     "--date makes a day of them", USAGE)
     return Result(lines=notes, days=[folder_of(number) for number in range(first, today)],
-                  earlier=[folder_of(number) for number in before if oldest <= number < first])
+                  earlier=[folder_of(number) for number in before if oldest <= number < first], shown=shown)
+
+
+def days_shown(recorder: Folder, name: str) -> set[int]:
+    """The days since 1970 of which a recording's records show times, or of the hours beside them."""
+    with suppress(Fault):
+        return {hour // 24 for own in Growing(recorder, name).hours() for hour in (max(0, own - 1), own + 1)}
+    return set()
 
 
 def day_named(date: str) -> int:
@@ -106,13 +131,15 @@ def day_named(date: str) -> int:
     return seconds_of(f"{date}T00:00:00Z") // DAY
 
 
-def make_day(source: str, target: str, path: str) -> Result:
-    """Puts into a day's folder what it hasn't. A file that can't be read is named, and the others are put there."""
+def make_day(source: str, target: str, path: str, shown: set[str]) -> Result:
+    """Puts into a day's folder what it hasn't: what was recorded on the day by its name, and what shows times of it. A
+    file that can't be read is named, and the others are put there."""
     begin = day_named(os.path.basename(path)) * DAY
     with Folder(source) as recorder, Folder(target) as days:
         claim = replace(read_typed(CLAIM, Claim, days.data(CLAIM)), from_=civil(begin), to=civil(begin + DAY))
-        found, _ = recordings(recorder)
-        recorded = [one for one in found if one.begin <= begin + DAY + MARGIN and begin - MARGIN <= one.end]
+        every = list(chain(*recordings(recorder)))
+        called = {one.name for one in every if one.begin <= begin + DAY + MARGIN and begin - MARGIN <= one.end}
+        recorded = [one for one in every if one.name in called | shown]
         notes = [f"{one.name} is still being written: call again when it is finished" for one in recorded if one.grows]
         notes, status = notes if recorded else [f"{path}: nothing was recorded"], 0
         make_in(days.place, os.path.basename(path))
@@ -129,6 +156,8 @@ def make_day(source: str, target: str, path: str) -> Result:
                     notes, status = [*notes, wrong.line], max(status, wrong.status)
                     continue
                 made[name] = blocks_of(str(len(made)))
+                if name in shown - called:
+                    notes.append(f"{name} shows times of {day_of(begin)}, though its name and age say otherwise")
             if not day.has(CLAIM):
                 made[CLAIM] = [claim.text]
             if made:

@@ -15,7 +15,7 @@ from typing import NamedTuple
 from ..capture.classic import HEADER, Classic, write
 from ..capture.latest import Latest, latest
 from ..capture.recorder import begun_files
-from ..capture.watch import LOOK, State, read_state, since_boot
+from ..capture.watch import State, read_state, since_boot
 from ..fault import NOT_SHOWN, REFUSED as INPUT_REFUSED, Fault
 from ..folder.answers import Settled, read_envelope, read_settled
 from ..folder.claim import Claim
@@ -44,8 +44,6 @@ MARGIN = 128
 MOST_PIECES = 10_000
 LIMIT = 60
 """Seconds for the minutes of a recorder, and for each hour of them."""
-DEAD = 6 * LOOK
-"""Seconds after which a recorder that says nothing of itself doesn't run."""
 UNTIL, SINCE, CUT = "until.pcap", "since.pcap", "last.pcap"
 """Private files: parts of what was recorded."""
 SECOND_OF_STAMPS = 1 << 32
@@ -147,7 +145,7 @@ def look(wanted: Wanted, recorder: str, _: int) -> Result:
     with Folder(wanted.source) as folder:
         files = [one for one in begun_files(folder) if one.before.removesuffix("-") == recorder]
         state = read_state(folder, recorder)
-        runs = state is not None and 0 <= now - state.at <= DEAD
+        runs = state is not None and state.runs
         span = MINUTE * wanted.minutes
         found = latest(folder, files, state.files if state and runs else [], span + MARGIN, end, bad)
     moment = Moment(recorder, end - span, end, NO_EVIDENCE, claim.bound_ns, len(claim.grouped),

@@ -212,7 +212,8 @@ class Year:
 @dataclass(frozen=True)
 class Result:
     """A status, lines for a terminal, verdicts, metrics, sections of a page, sums of captures; what last minutes say; a
-    year; when the newest recording ends; the days that are to be made, and that were made earlier; a text, such as one
+    year; when the newest recording ends; the days that are to be made, and that were made earlier; of days the
+    recordings that show times of them; a text, such as one
     that is to be signed; whether all is as it was; the claims of audits; and if nothing came of it, why."""
 
     status: Count = 0
@@ -226,6 +227,7 @@ class Result:
     last: int = 0
     days: list[str] = field(default_factory=list)
     earlier: list[str] = field(default_factory=list)
+    shown: list[tuple[str, str]] = field(default_factory=list)
     text: str = ""
     is_same: bool = False
     claims: list[Claim] = field(default_factory=list)

@@ -2,11 +2,15 @@
 commands that mend it. What is said of clocks and servers is held to histories (tests/truth).
 """
 import json
+import os
 import shutil
+import sys
+import time
 from pathlib import Path
 
 from tests.support import DATA, ROOT, check, is_here, run
-from tests.dossier.audits import ENVIRONMENT, SCRIPT, dossier, folder_of, match_of, rows, table
+from tests.dossier.audits import ENVIRONMENT, SCRIPT, capture_of, dossier, folder_of, match_of, rows, table
+from tests.dossier.test_daily import DAY, NIGHT, recorded
 from tests.dossier.leaps import leap_list
 from tests.tools.wire import records_of
 from tests.truth.clock import SECOND
@@ -105,3 +109,57 @@ def test_own_remedies(place: Path) -> None:
         check(f"the command of a folder {name}", ran=(run(["sh", "-c", command], cwd=cwd, env=path)[0], 0))
         row, = json.loads(dossier("page", "--json", bare)[1])
         check(f"a folder that was {name}", verdict=(verdict in (row["verdict"], row["reason"][18:29]), True))
+
+
+def test_day_of_a_wrong_clock(place: Path) -> None:
+    """A clock ten hours ahead on the evening before, in the middle of a file: the day has that file, and is no yes. So
+    has a day what was recorded on it under a name of 2099."""
+    recorder, days, names = recorded(place, range(-6, 26))
+    ahead, ticks = NIGHT + 6 * 3600, 36_000 << 32
+    wrong = capture_of(place / "wrong.pcap", *(f"{server}:{ticks - 1000}..{ticks + 1000}@{ahead + second}"
+                                               for second in range(0, 1800, 60) for server in (1, 2)))
+    stray = recorder / names[2]
+    whole, written = stray.read_bytes(), stray.stat().st_mtime
+    cut = 24 + len(whole[24:]) // 2 // 106 // 4 * 4 * 106
+    stray.write_bytes(whole[:cut] + wrong.read_bytes()[24:] + whole[cut:])
+    os.utime(stray, (written, written))
+    words, folder = ("day", "--from", recorder, "--to", days, "--date", "2001-09-09"), days / "2001-09-09"
+    for name in (names[2], "eth0-2099-01-01T000000Z.pcap"):
+        said = f"{name} shows times of 2001-09-09, though its name and age say otherwise\n"
+        check("a day of a wrong clock", run=(dossier(*words), (0, f"{folder}\n".encode(), said.encode())),
+              files=({path.name for path in folder.iterdir()} - set(names[5:32]), {"claim.json", names[2], name}),
+              again=(dossier(*words)[2], b""))
+        if name == names[2]:
+            check("a day of a wrong clock", verdict=(dossier("audit", folder)[1].split()[0], b"nothing"))
+            (recorder / names[13]).rename(recorder / "eth0-2099-01-01T000000Z.pcap")
+            shutil.rmtree(folder)
+            dossier(*words)
+            (folder / "eth0-2099-01-01T000000Z.pcap").unlink()
+
+
+BY_A_CLOCK = """import sys, time
+sys.path.insert(0, sys.argv.pop(1))
+true, ahead = time.time, float(sys.argv.pop(1))
+time.time = lambda: true() + ahead
+from dossier.command_line import main
+sys.exit(main(sys.argv[1:]))
+"""
+"""The dossier by a clock that is so many seconds ahead."""
+
+
+def test_set_clock(place: Path) -> None:
+    """By a clock that was set to 2099, to 1970 or back by an hour `day --clear` takes nothing away that isn't in a day's
+    folder, and says that the clock is wrong; when it is right again all goes on as before."""
+    today = int(time.time()) // DAY * DAY
+    recorder, days, names = recorded(place, range(-15 * 24, 0, 6), today)
+    words = ("day", "--from", recorder, "--to", days, "--clear", "10")
+    for name, ahead, status, said, left, made in (
+            ("2099", 4_084_000_000 - time.time(), 5, "is the clock right? --date makes a day of them", 60, 0),
+            ("1970", 90_000 - time.time(), 0, "52 more are from the future: is the clock right?", 60, 0),
+            ("an hour back", -min(3600, int(time.time() % DAY)), 0, "6 recordings taken away, which folders of days have too", 54, 14),
+            ("now", 0, 0, "5 recordings taken away, which folders of days have too", 49, 14)):
+        found = run([sys.executable, "-c", BY_A_CLOCK, ROOT, ahead, *words], env=ENVIRONMENT)
+        stay = {path.name for path in recorder.iterdir()}
+        check(f"days by a clock of {name}", status=(found[0], status), said=(said in found[2].decode(), True),
+              left=(len(stay), left), days=(len(list(days.iterdir())), 1 + made),
+              kept=({*names} - stay <= {path.name for path in days.glob("*/*")}, True))
