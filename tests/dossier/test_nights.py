@@ -137,6 +137,20 @@ def test_day_of_a_wrong_clock(place: Path) -> None:
             (folder / "eth0-2099-01-01T000000Z.pcap").unlink()
 
 
+def test_still_written(place: Path) -> None:
+    """What a recorder says that it writes isn't finished, though another file has a later name, or one of 2099."""
+    recorder, days, names = recorded(place, range(4))
+    (recorder / names[3]).rename(recorder / "eth0-2099-01-01T000000Z.pcap")
+    at = int(time.clock_gettime(time.CLOCK_BOOTTIME))
+    for name in names[1:3]:
+        (recorder / "eth0.recording").write_text(json.dumps({
+            "kind": "recording", "at": at, "last": at, "files": [names[0], name], "kept": 9, "left_out": 0, "lost": 0}))
+        said = dossier("day", "--from", recorder, "--to", days, "--date", "2001-09-09")[2].decode()
+        check("a file that is written", said=(f"{name} is still being written" in said, True),
+              there=((days / "2001-09-09" / name).exists(), False))
+        shutil.rmtree(days / "2001-09-09")
+
+
 BY_A_CLOCK = """import sys, time
 sys.path.insert(0, sys.argv.pop(1))
 true, ahead = time.time, float(sys.argv.pop(1))

@@ -186,6 +186,22 @@ def many(place: Path) -> dict[str, Any]:
     return {"files": files, "said": is_said, "held": before == files, "again": again, "end": (rig.end(), rig.files())}
 
 
+def wrong(place: Path) -> dict[str, Any]:
+    """A clock that is set to 2099, to 1970, back by an hour and right again: all that was recorded is in files that are
+    called so."""
+    ahead, moved = place / "ahead", place / "moved"
+    ahead.write_text("0")
+    rig = Rig(place, "lo", "--hourly", setting="watch.HOUR, true = 1, watch.time.time; watch.time.time = lambda: true() + "
+              f"float(open({str(ahead)!r}).read())")
+    for number, seconds in enumerate((0, 4_084_000_000 - time.time(), 90_000 - time.time(), -3600, 0), 1):
+        moved.write_text(str(seconds))
+        moved.replace(ahead)
+        time.sleep(1.5)
+        rig.packets(number)
+    status, years = rig.end(), {path.name[3:7] for path in rig.folder.glob("*.pcap*")}
+    return {"status": status, "files": rig.files(), "years": years == {"1970", "2099", str(time.gmtime().tm_year)}}
+
+
 SILENT = """#!/bin/sh
 case $* in --version) echo tcpdump; exit;; esac
 trap 'echo "9 packets captured, 9 packets received by filter, 0 packets dropped by kernel" >&2' USR1
@@ -210,6 +226,7 @@ WANTED: dict[Callable[[Path], dict[str, Any]], dict[str, Any]] = {
     link: {"again": (0, 5), "gone": (4, True)},
     many: {"files": [2, 3, 20], "said": True, "held": True, "again": True, "end": (0, [4])},
     counts: {"said": True, "again": True, "status": 0},
+    wrong: {"status": 0, "files": [0, 1, 2, 3, 4, 5], "years": True},
 }
 
 
