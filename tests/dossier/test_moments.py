@@ -8,11 +8,13 @@ import re
 import signal
 import struct
 import subprocess
+import sys
 import time
 from collections.abc import Sequence
+from contextlib import chdir
 from pathlib import Path
 
-from tests.support import SECONDS, check
+from tests.support import ROOT, SECONDS, check, run, runnable
 from tests.dossier.audits import CAPTURE, ENVIRONMENT, SCRIPT, capture_of, dossier
 from tests.dossier.test_captures import records_of
 from tests.dossier.test_daily import metrics_of
@@ -334,6 +336,58 @@ def test_bad_files(place: Path) -> None:
     bad.unlink()
     bad.symlink_to(rec)
     check("a link among files", run=(now(rec)[0], 2), named=(bad.name in now(rec)[2], True))
+
+
+LIMITED = """import sys
+sys.path.insert(0, sys.argv.pop(1))
+from dossier.fleet import now
+now.LIMIT = 4
+from dossier.command_line import main
+sys.exit(main(sys.argv[1:]))
+"""
+"""The dossier with four seconds for each recorder."""
+
+
+def test_each_by_itself(place: Path) -> None:
+    """A recorder on whose files the program hangs: it alone is refused, when its time is over."""
+    last = int(time.time()) - 5
+    begin, rec = last - 900, place / "rec"
+    recorded(rec, begin, (begin, last + 1, RIGHT))
+    slow = recorded(rec, last - 300, (last - 300, last + 1, RIGHT), interface="eth1")
+    hangs = runnable(place / "hangs", f'#!/bin/sh\ncmp -s latest.pcap "{slow}" && exec sleep 1000\n'
+                                      f'exec "{ENVIRONMENT["NTPAUDIT"]}" "$@"\n')
+    words = ["now", "--from", rec, "--claim", claim_in(place)]
+    status, out, err = run([sys.executable, "-c", LIMITED, ROOT, *words], env={**ENVIRONMENT, "NTPAUDIT": str(hangs)})
+    lines = {line.split("  ")[0]: line.split("  ")[2] for line in out.decode().splitlines()}
+    check("a recorder that takes long", status=(status, 1), verdicts=(lines, {"eth0": "yes", "eth1": "refused"}),
+          said=(b"4 seconds" in err or b"4 s" in err, True))
+
+
+def test_all_of_a_recorder(place: Path) -> None:
+    """Of all files of a recorder together no more is read than may be."""
+    from dossier.capture import latest
+    from dossier.capture.recorder import begun_files
+    from dossier.folder.files import Folder
+    from dossier.folder.placing import ROOM
+    begin, each = int(time.time()) - 8000, 2 * 4 * 4000 * 106
+    (place / "rec").mkdir()
+    for part in (0, 4000):
+        words = [f"{k}:{RIGHT}@{begin + part}x4000" for k in (1, 2, 3, 4)]
+        records = records_of((whole := capture_of(place / "part.pcap", *words)).read_bytes())
+        path = place / "rec" / name_of(begin + part, "eth0")
+        path.write_bytes(whole.read_bytes()[:24] + b"".join(
+            sorted(records, key=lambda record: struct.unpack_from("<II", record))))
+        written(path)
+    before, left = latest.MOST, ROOM.left
+    try:
+        latest.MOST, ROOM.left = each + 2_000_000, 1 << 30
+        with chdir(place), Folder(str(place / "rec")) as folder:
+            found = latest.latest(folder, list(begun_files(folder)), [], 9000, begin + 8000, [])
+            kept = Path(found.path).stat().st_size
+    finally:
+        latest.MOST, ROOM.left = before, left
+    check("all files of a recorder", last=(found.last, begin + 7999),
+          kept=(each + 500_000 < kept <= each + 2_000_000, True))
 
 
 def test_now_metrics(place: Path) -> None:
