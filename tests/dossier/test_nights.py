@@ -162,16 +162,17 @@ sys.exit(main(sys.argv[1:]))
 
 
 def test_set_clock(place: Path) -> None:
-    """By a clock that was set to 2099, to 1970 or back by an hour `day --clear` takes nothing away that isn't in a day's
-    folder, and says that the clock is wrong; when it is right again all goes on as before."""
+    """By a clock that was set to 2099, to 1970 or back by an hour `day --clear` takes nothing away that isn't in a
+    day's folder, and says that the clock is wrong; when it is right again all goes on as before."""
     today = int(time.time()) // DAY * DAY
     recorder, days, names = recorded(place, range(-15 * 24, 0, 6), today)
     words = ("day", "--from", recorder, "--to", days, "--clear", "10")
+    taken = "recordings taken away, which folders of days have too"
     for name, ahead, status, said, left, made in (
             ("2099", 4_084_000_000 - time.time(), 5, "is the clock right? --date makes a day of them", 60, 0),
             ("1970", 90_000 - time.time(), 0, "52 more are from the future: is the clock right?", 60, 0),
-            ("an hour back", -min(3600, int(time.time() % DAY)), 0, "6 recordings taken away, which folders of days have too", 54, 14),
-            ("now", 0, 0, "5 recordings taken away, which folders of days have too", 49, 14)):
+            ("an hour back", -min(3600, int(time.time() % DAY)), 0, f"6 {taken}", 54, 14),
+            ("now", 0, 0, f"5 {taken}", 49, 14)):
         found = run([sys.executable, "-c", BY_A_CLOCK, ROOT, ahead, *words], env=ENVIRONMENT)
         stay = {path.name for path in recorder.iterdir()}
         check(f"days by a clock of {name}", status=(found[0], status), said=(said in found[2].decode(), True),

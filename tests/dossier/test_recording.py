@@ -191,8 +191,8 @@ def wrong(place: Path) -> dict[str, Any]:
     called so."""
     ahead, moved = place / "ahead", place / "moved"
     ahead.write_text("0")
-    rig = Rig(place, "lo", "--hourly", setting="watch.HOUR, true = 1, watch.time.time; watch.time.time = lambda: true() + "
-              f"float(open({str(ahead)!r}).read())")
+    rig = Rig(place, "lo", "--hourly", setting="watch.HOUR, true = 1, watch.time.time\n"
+              f"watch.time.time = lambda: true() + float(open({str(ahead)!r}).read())")
     for number, seconds in enumerate((0, 4_084_000_000 - time.time(), 90_000 - time.time(), -3600, 0), 1):
         moved.write_text(str(seconds))
         moved.replace(ahead)
