@@ -102,6 +102,11 @@ def test_now(place: Path) -> None:
         size = 20 if name == "step" else -20
         check(f"the step: {name}", between=(after <= civil(moved) and civil(moved) <= by <= civil(moved + 30), True),
               since=(first, by), size=(low <= size <= high <= low + 0.1, True))
+    recorded(place / "twice", begin, (begin, moved - 100, RIGHT), (moved - 100, moved, AHEAD), (moved, last + 1, RIGHT))
+    line, metrics = now(place / "twice", "--metrics", place / "m.prom")[1][0], metrics_of(place / "m.prom")
+    step = {key.removeprefix("now_last_step_"): float(value) for (key, *_), value in metrics.items() if "_step_" in key}
+    check("two steps", said=(line.count("stepped"), 2), at=(moved <= step["timestamp_seconds"] <= moved + 30, True),
+          size=([-0.0201 < step[f"{end}_seconds"] < -0.0199 for end in ("low", "high")], [True] * 2))
     old = place / "old"
     recorded(old, begin - 3600, (begin - 3600, begin - 900, RIGHT))
     status, lines, _ = now(old)
@@ -136,7 +141,12 @@ def test_silence(place: Path) -> None:
                 ["3 of 4 groups", "192.0.2.4 is off by -20.002 .. -19.999 ms", "silent: 192.0.2.3"]),
           silent=([found["now_server_silent", f"192.0.2.{k}"] for k in (1, 2, 3, 4)], ["0", "0", "1", "0"]),
           apart=([found.get(("now_server_apart", f"192.0.2.{k}")) for k in (1, 2, 3, 4)], ["0", "0", "0", "1"]),
-          needed=((found["now_groups_heard", ""], found["now_groups_needed", ""]), ("3", "3")))
+          needed=((found["now_groups_heard", ""], found["now_groups_needed", ""]), ("3", "3")),
+          off=(-0.0201 < float(found["now_server_error_low_seconds", "192.0.2.4"]) < -0.02 < float(
+              found["now_server_error_high_seconds", "192.0.2.4"]) < -0.0199, True))
+    groups = claim_in(place / "servers", groups=[[0, 2], [1], [3]])
+    check("a group of which one is silent", said=("  3 of 3 groups  " in now(place / "servers", claim=groups)[1][0],
+                                                  True))
     recorded(place / "camps", begin, (begin, last + 1, RIGHT), servers=(1, 2))
     path = place / "camps" / name_of(begin, "eth0")
     capture_of(path, *by_time(words_of([(begin, last + 1, RIGHT)], (1, 2)),
@@ -162,12 +172,13 @@ def test_word_of_a_recorder(place: Path) -> None:
             "kind": "recording", "at": at, "last": at, "files": [old.name], "kept": 9, "left_out": 0, "lost": 0}))
         status, lines, _ = now(folder, "--metrics", metrics)
         found = {key: value for (key, *_), value in metrics_of(metrics).items()}
+        dead = [value for (key, *labels), value in metrics_of(metrics).items() if ("trouble", "dead") in labels]
         words = f"since {civil(last - 3600)}, 6[01][.][0-9] min ago" + (
             "" if age else ", by the recorder's word [0-9].0 s")
         check(f"a recorder's word: {name}", status=(status, 1), verdict=(lines[0].split("  ")[2], "no evidence"),
               said=(bool(re.search(f"{words}  ", f"{lines[0]}  ")), True),
               age=(0 <= float(found["now_last_record_age_seconds"]) - wanted <= 60, True),
-              trouble=("the recorder doesn't run" in lines[0], bool(age)))
+              trouble=(("the recorder doesn't run" in lines[0], dead), (bool(age), [str(int(bool(age)))])))
 
 
 def test_fall(place: Path) -> None:
