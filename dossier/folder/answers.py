@@ -55,7 +55,7 @@ def read_advice(report: bytes) -> dict[str, str]:
 
 
 ERA, SINCE = 1 << 32, 1_577_836_800
-"""Seconds after which NTP's timestamps come again; and 2020-01-01, in the first era since which servers' times lie."""
+"""Seconds after which NTP's timestamps come again; and 2020-01-01, since which for so long servers' times are."""
 
 
 def in_era(second: int, low: int, high: int) -> tuple[int, int]:
