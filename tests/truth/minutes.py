@@ -131,7 +131,8 @@ class Player:
 
     def say(self, name: str, age: int) -> None:
         """Leaves the recorder's word, as it does itself."""
-        at = int(self.now.since_boot())
+        from dossier.capture.watch import since_boot
+        at = int(since_boot())
         (self.record / "eth0.recording").write_text(json.dumps({
             "kind": "recording", "at": at, "last": max(1, at - age), "files": [name], "kept": 9, "left_out": 0,
             "lost": 0}))
