@@ -103,10 +103,11 @@ def test_now(place: Path) -> None:
         check(f"the step: {name}", between=(after <= civil(moved) and civil(moved) <= by <= civil(moved + 30), True),
               since=(first, by), size=(low <= size <= high <= low + 0.1, True))
     recorded(place / "twice", begin, (begin, moved - 100, RIGHT), (moved - 100, moved, AHEAD), (moved, last + 1, RIGHT))
-    line, metrics = now(place / "twice", "--metrics", place / "m.prom")[1][0], metrics_of(place / "m.prom")
-    step = {key.removeprefix("now_last_step_"): float(value) for (key, *_), value in metrics.items() if "_step_" in key}
-    check("two steps", said=(line.count("stepped"), 2), at=(moved <= step["timestamp_seconds"] <= moved + 30, True),
-          size=([-0.0201 < step[f"{end}_seconds"] < -0.0199 for end in ("low", "high")], [True] * 2))
+    line = now(place / "twice", "--metrics", place / "m.prom")[1][0]
+    moves = {key.removeprefix("now_last_step_"): float(value)
+             for (key, *_), value in metrics_of(place / "m.prom").items() if "_step_" in key}
+    check("two steps", said=(line.count("stepped"), 2), at=(moved <= moves["timestamp_seconds"] <= moved + 30, True),
+          size=([-0.0201 < moves[f"{end}_seconds"] < -0.0199 for end in ("low", "high")], [True] * 2))
     old = place / "old"
     recorded(old, begin - 3600, (begin - 3600, begin - 900, RIGHT))
     status, lines, _ = now(old)

@@ -181,8 +181,8 @@ def test_set_clock(place: Path) -> None:
 
 
 def test_clear_of_a_wrong_clock(place: Path) -> None:
-    """A recording in the midst of which the clock showed 2099 stays, since no day of then has it; others go, as one does
-    that was begun in 2099 by its name alone."""
+    """A recording in the midst of which the clock showed 2099 stays, since no day of then has it; others go, as one
+    does that was begun in 2099 by its name alone."""
     today = int(time.time()) // DAY * DAY
     recorder, days, names = recorded(place, range(-15 * 24, 0, 6), today)
     wrong = capture_of(place / "wrong.pcap", "1:-1000..1000@4084000000x9").read_bytes()[24:]
@@ -190,4 +190,5 @@ def test_clear_of_a_wrong_clock(place: Path) -> None:
     (recorder / names[4]).write_bytes(whole[: 24 + 106 * 40] + wrong + whole[24 + 106 * 40 :])
     named = (recorder / names[5]).rename(recorder / "eth0-2099-01-01T000000Z.pcap")
     dossier("day", "--from", recorder, "--to", days, "--clear", "10")
-    check("clearing what shows 2099", named=(named.exists(), False), taken=(sorted({*names} - {path.name for path in recorder.iterdir()}), names[5:11]))
+    taken = sorted({*names} - {path.name for path in recorder.iterdir()})
+    check("clearing what shows 2099", named=(named.exists(), False), taken=(taken, names[5:11]))
