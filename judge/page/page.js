@@ -20,24 +20,22 @@ function nameOf(file) {
 }
 
 function warn(text) {
-  $("warning").textContent = text;
-  $("warning").hidden = !text;
+  Object.assign($("warning"), {textContent: text, hidden: !text});
 }
 
 // ---- files
 
-function choose(kind, file) {
+// A dropped file is shown where it might have been chosen.
+function choose(kind, file, isDropped) {
+  if (isDropped) {
+    const list = new DataTransfer();
+    list.items.add(file);
+    $(kind).files = list.files;
+  }
   chosen[kind] = file;
   $(`${kind}-says`).textContent = file ? nameOf(file) : "";
   $("results").replaceChildren();
   $("status").textContent = "";
-}
-
-// Shows a dropped file where it might have been chosen.
-function show(kind, file) {
-  const list = new DataTransfer();
-  list.items.add(file);
-  $(kind).files = list.files;
 }
 
 async function kindOf(file) {
@@ -78,42 +76,35 @@ function questionsOf(files) {
 async function take(files) {
   warn("");
   const questions = questionsOf(files);
-  if (questions.length) {
-    judgeAll(questions);
-    return;
-  }
+  if (questions.length) return void judgeAll(questions);
   const found = {};
   for (const file of files.slice(0, 50)) {
     const kind = await kindOf(file);
     if (kind && (!found[kind] || file.name === `${kind}.json`)) found[kind] = file;
   }
-  for (const [kind, file] of Object.entries(found)) {
-    choose(kind, file);
-    show(kind, file);
-  }
+  for (const [kind, file] of Object.entries(found)) choose(kind, file, true);
   if (!Object.keys(found).length) warn("In what was dropped is no claim, no capture and no answer that this page knows.");
   else if (KINDS.every((kind) => chosen[kind])) judgeAll([{...chosen}]);
   else warn(`Still missing: ${KINDS.filter((kind) => !chosen[kind]).join(", ")}.`);
 }
 
-// All files below a dropped folder. From a disk Chromium opens it by its handle alone, and Firefox has none.
-async function filesBelow(handle, path) {
-  const found = [];
-  for await (const inside of handle.values()) {
-    if (inside.kind === "directory") found.push(...await filesBelow(inside, `${path}${inside.name}/`));
-    else found.push(named(await inside.getFile(), path));
+// What stands in a folder that was dropped. From a disk Chromium opens it by its handle alone, and Firefox has none.
+async function* inside(folder) {
+  if (folder.values) return yield* folder.values();
+  for (const reader = folder.createReader(); ;) {
+    const some = await new Promise((given, failed) => reader.readEntries(given, failed));
+    if (!some.length) return;
+    yield* some;
   }
-  return found;
 }
 
-async function filesOfEntry(entry, path) {
-  if (entry.isFile) return [named(await new Promise((given, failed) => entry.file(given, failed)), path)];
-  const reader = entry.createReader(), found = [];
-  for (;;) {
-    const some = await new Promise((given, failed) => reader.readEntries(given, failed));
-    if (!some.length) return found;
-    for (const inside of some) found.push(...await filesOfEntry(inside, `${path}${entry.name}/`));
+async function filesBelow(folder, path) {
+  const found = [];
+  for await (const one of inside(folder)) {
+    if (one.isDirectory || one.kind === "directory") found.push(...await filesBelow(one, `${path}${one.name}/`));
+    else found.push(named(await (one.getFile?.() || new Promise((given, failed) => one.file(given, failed))), path));
   }
+  return found;
 }
 
 const named = (file, path) => Object.defineProperty(file, "path", {value: path + file.name});
@@ -123,14 +114,13 @@ function filesOf(item) {
   const entry = item.webkitGetAsEntry(), file = item.getAsFile();
   if (!entry || entry.isFile) return [file];
   const handle = item.getAsFileSystemHandle?.();
-  return handle ? handle.then((opened) => filesBelow(opened, `${entry.name}/`)) : filesOfEntry(entry, "");
+  return handle ? handle.then((opened) => filesBelow(opened, `${entry.name}/`)) : filesBelow(entry, `${entry.name}/`);
 }
 
 // ---- the worker
 
 function started() {
-  const source = new Blob([$("worker").textContent], {type: "text/javascript"});
-  const url = URL.createObjectURL(source);
+  const url = URL.createObjectURL(new Blob([$("worker").textContent], {type: "text/javascript"}));
   const made = new Worker(url);
   URL.revokeObjectURL(url);
   return made;
@@ -142,7 +132,7 @@ function ask(question) {
       if (data.line !== undefined) given(data);
       else {
         $("progress").value = data.part;
-        $("doing").textContent = data.doing === "reading" ? "Reading" : "Judging";
+        $("doing").textContent = data.doing;
       }
     };
     worker.onerror = (event) => given({status: 2, line: `page ${event.message || "out of memory"}`, sums: []});
@@ -177,11 +167,11 @@ async function judgeAll(questions) {
   $("results").querySelector("h2").focus();
 }
 
-function stop() {
-  if (worker) worker.terminate();
+function stop(status = "") {
+  worker?.terminate();
   worker = null;
   running(false);
-  $("status").textContent = "";
+  $("status").textContent = status;
 }
 
 // ---- numbers for people
@@ -278,14 +268,19 @@ function refuted({status, claim, answer, isZero}) {
     ${inMs(claim.bound_ns)}. So nothing in this capture can show the claim. The clock needn't have been off by so much.${wrong}`;
 }
 
-function pieceOf(answer, number, claim) {
+function parsed(text) {
   try {
-    const pieces = JSON.parse(answer).pieces;
-    const begin = number ? pieces[number - 1].upto : Date.parse(claim.from) / 1000 * TICKS;
-    return ` (${timeOf(begin)} to ${timeOf(pieces[number].upto)})`;
+    return JSON.parse(text);
   } catch {
-    return "";
+    return null;
   }
+}
+
+function pieceOf(answer, number, claim) {
+  const pieces = parsed(answer)?.pieces;
+  if (!pieces?.[number]) return "";
+  const begin = number ? pieces[number - 1].upto : Date.parse(claim.from) / 1000 * TICKS;
+  return ` (${timeOf(begin)} to ${timeOf(pieces[number].upto)})`;
 }
 
 function refusal(words) {
@@ -300,24 +295,16 @@ function refusal(words) {
 }
 
 function shown(result, number, count) {
-  try {
-    result.claim = JSON.parse(result.claim);
-  } catch {
-    result.claim = null;
-  }
+  result.claim = parsed(result.claim);
   const [kind, verdict, sentence, more] = wordsOf(result);
   const heading = element("h2", element("span.verdict", verdict),
     count > 1 ? element("bdi", nameOf(result.files[2])) : "");
   heading.tabIndex = -1;
-  const list = element("dl");
-  KINDS.forEach((name, k) => {
-    const sum = result.sums[k];
-    if (!sum) return;
-    list.append(element("dt", `${name[0].toUpperCase()}${name.slice(1)}: `, element("bdi", nameOf(result.files[k]))),
-      element("dd.sum", element("span", sum), " "));
-  });
+  const sums = KINDS.flatMap((name, k) => !result.sums[k] ? [] : [
+    element("dt", `${name[0].toUpperCase()}${name.slice(1)}: `, element("bdi", nameOf(result.files[k]))),
+    element("dd.sum", element("span", result.sums[k]), " ")]);
   const made = element(`article.${kind}`, heading, element("p.lead", sentence), more || "",
-    element("p.soft", "In ntpaudit's words: ", element("code", result.line)), element("h3", "SHA-256"), list);
+    element("p.soft", "In ntpaudit's words: ", element("code", result.line)), element("h3", "SHA-256"), element("dl", ...sums));
   made.setAttribute("aria-label", `answer ${number + 1}`);
   return made;
 }
@@ -338,10 +325,7 @@ function compare() {
 for (const kind of KINDS) $(kind).onchange = () => choose(kind, $(kind).files[0]);
 $("choose").onclick = () => $("folder").click();
 $("folder").onchange = () => take([...$("folder").files]);
-$("stop").onclick = () => {
-  stop();
-  $("status").textContent = "Stopped";
-};
+$("stop").onclick = () => stop("Stopped");
 $("sums").oninput = compare;
 $("form").onsubmit = (event) => {
   event.preventDefault();

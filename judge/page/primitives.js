@@ -8,31 +8,22 @@ function whole_of(z) {
 //Provides: whole_add
 //Requires: whole_of
 function whole_add(x, y) {
-  if (typeof x === "number" && typeof y === "number") {
-    var z = x + y;
-    if (z >= -9007199254740991 && z <= 9007199254740991) return z;
-  }
-  return whole_of(BigInt(x) + BigInt(y));
+  var z = typeof x === "number" && typeof y === "number" ? x + y : NaN;
+  return z >= -9007199254740991 && z <= 9007199254740991 ? z : whole_of(BigInt(x) + BigInt(y));
 }
 
 //Provides: whole_sub
 //Requires: whole_of
 function whole_sub(x, y) {
-  if (typeof x === "number" && typeof y === "number") {
-    var z = x - y;
-    if (z >= -9007199254740991 && z <= 9007199254740991) return z;
-  }
-  return whole_of(BigInt(x) - BigInt(y));
+  var z = typeof x === "number" && typeof y === "number" ? x - y : NaN;
+  return z >= -9007199254740991 && z <= 9007199254740991 ? z : whole_of(BigInt(x) - BigInt(y));
 }
 
 //Provides: whole_mul
 //Requires: whole_of
 function whole_mul(x, y) {
-  if (typeof x === "number" && typeof y === "number") {
-    var z = x * y;
-    if (z >= -9007199254740991 && z <= 9007199254740991) return z + 0;
-  }
-  return whole_of(BigInt(x) * BigInt(y));
+  var z = typeof x === "number" && typeof y === "number" ? x * y : NaN;
+  return z >= -9007199254740991 && z <= 9007199254740991 ? z + 0 : whole_of(BigInt(x) * BigInt(y));
 }
 
 // Rounded down; 0 where the divisor is 0.

@@ -24,3 +24,4 @@ let ltb x y = compare x y < 0
 let max x y = if leb x y then y else x
 let min x y = if leb x y then x else y
 let abs x = max x (neg x)
+let rec pow x y = if ltb y zero then zero else if equal y zero then one else mul x (pow x (pred y))

@@ -9,7 +9,7 @@ self.page = {
   byte(file, place) {
     const {bytes} = files[file];
     if (file === CAPTURE && place >= next) {
-      postMessage({part: place / bytes.length, doing: "judging"});
+      postMessage({part: place / bytes.length, doing: "Judging"});
       next = place + bytes.length / STEPS;
     }
     return bytes[place];
@@ -23,7 +23,7 @@ async function sumOf(bytes) {
 }
 
 async function read(file) {
-  postMessage({part: 0, doing: "reading"});
+  postMessage({part: 0, doing: "Reading"});
   const bytes = new Uint8Array(await file.arrayBuffer());
   return {file, bytes, sum: await sumOf(bytes)};
 }

@@ -3,51 +3,37 @@
 
 open Judge
 
-type said = Line of int * string | Unjudged of string
+type said = Line of int * String.t | Unjudged of String.t
 
-exception Unreadable of string
+exception Unreadable of String.t
 
 let most_words, most_refutation = 65_536, 65_536
 let number = Whole.to_string
 
 let why_word = function
-  | Cut -> "cut"
-  | BadSample -> "bad-sample"
-  | MixedServers -> "mixed-servers"
-  | RepeatedServer -> "repeated-server"
-  | Unbounded -> "unbounded"
-  | Contradiction -> "contradiction"
-  | Exceeds -> "exceeds"
-  | Uncovered -> "uncovered"
-
+  | Cut -> "cut" | BadSample -> "bad-sample" | MixedServers -> "mixed-servers" | RepeatedServer -> "repeated-server"
+  | Unbounded -> "unbounded" | Contradiction -> "contradiction" | Exceeds -> "exceeds" | Uncovered -> "uncovered"
 let input_word = function
-  | Claim -> "claim"
-  | Certificate -> "certificate"
-  | Refutation -> "refutation"
-  | Capture -> "capture"
+  | Claim -> "claim" | Certificate -> "certificate" | Refutation -> "refutation" | Capture -> "capture"
 
 (* The word of a fault's number, and what stands before the piece, the place or the code, if one is told. *)
-let claim_words = function
-  | 1 -> "json" | 2 -> "field field " | 3 -> "address" | 4 -> "time" | 5 -> "range" | 6 -> "repeated-server"
-  | _ -> "groups"
-let certificate_words = function
-  | 1 -> "json" | 2 -> "top" | 3 -> "shape piece " | 4 -> "too-many-entries piece " | _ -> "too-many-pieces"
-let refutation_words = function 1 -> "json" | _ -> "shape"
-let capture_words = function
-  | 1 -> "torn-header" | 2 -> "magic" | 3 -> "version" | 4 -> "link" | 5 -> "torn-record at "
-  | 6 -> "too-long at " | 7 -> "bad-fraction at " | _ -> "too-many"
+let words = function
+  | Claim -> ["json"; "field field "; "address"; "time"; "range"; "repeated-server"; "?"; "groups"]
+  | Certificate -> ["json"; "top"; "shape piece "; "too-many-entries piece "; "too-many-pieces"]
+  | Refutation -> ["json"; "shape"]
+  | Capture -> ["torn-header"; "magic"; "version"; "link"; "torn-record at "; "too-long at "; "bad-fraction at "; "too-many"]
 
-let fault input words found place =
-  let told = words (Whole.to_int found) in
-  let place = if told.[String.length told - 1] = ' ' then number place else "" in
-  String.concat " " [input_word input; number found; told ^ place]
+let fault input found place =
+  let word = List.nth (words input) (Whole.to_int found - 1) in
+  let place = if word.[String.length word - 1] = ' ' then number place else "" in
+  String.concat " " [input_word input; number found; word ^ place]
 
 let refusal_line = function
   | Too_big input -> "too-big " ^ input_word input
-  | Claim_fault (found, code) -> fault Claim claim_words found code
-  | Certificate_fault (found, piece) -> fault Certificate certificate_words found piece
-  | Refutation_fault found -> fault Refutation refutation_words found Whole.zero
-  | Capture_fault (found, place) -> fault Capture capture_words found place
+  | Claim_fault (found, code) -> fault Claim found code
+  | Certificate_fault (found, piece) -> fault Certificate found piece
+  | Refutation_fault found -> fault Refutation found Whole.zero
+  | Capture_fault (found, place) -> fault Capture found place
   | Too_many_exchanges -> "exchanges over 1000000"
 
 let told line_of = function Refused refusal -> Unjudged (refusal_line refusal) | Judged answer -> line_of answer

@@ -6,32 +6,10 @@ exception No_text
 
 let levels = 127
 
-(* From 2^1024 - 2^970 on, a number rounds to no finite double. It has so many digits. *)
-let digits_of_limit = 309
-
-let limit =
-  let power n = List.fold_left (fun x () -> Whole.double x) Whole.one (List.init n ignore) in
-  Whole.sub (power 1024) (power 970)
-
 let ten = Whole.of_int 10
 let whole_of digits =
-  if String.length digits < 9 then Whole.of_int (int_of_string digits)
-  else
-    let place x sign = Whole.add (Whole.mul x ten) (Whole.of_int (Char.code sign - 48)) in
-    String.fold_left place Whole.zero digits
-
-(* A number's digits without its point, how many of them stand before it, and its exponent. *)
-let is_too_great digits before exponent =
-  let rec zeros k = if k < String.length digits && digits.[k] = '0' then zeros (k + 1) else k in
-  let first = zeros 0 in
-  let rest = String.length digits - first in
-  let size = before - first + exponent in
-  rest > 0 && size >= digits_of_limit
-  && (size > digits_of_limit
-     ||
-     let shown = String.sub digits first (min rest digits_of_limit) in
-     let filled = shown ^ String.make (digits_of_limit - String.length shown) '0' in
-     Whole.leb limit (whole_of filled))
+  let place x sign = Whole.add (Whole.mul x ten) (Whole.of_int (Char.code sign - 48)) in
+  String.fold_left place Whole.zero digits
 
 (* A text longer than a claim is nothing that any file has to have: its begin stands for it. *)
 let byte_list text =
@@ -40,7 +18,7 @@ let byte_list text =
   before (min 65_536 (String.length text)) []
 
 (* Names come again and again. *)
-let kept : (string, Whole.t list) Hashtbl.t = Hashtbl.create 16
+let kept : (String.t, Whole.t list) Hashtbl.t = Hashtbl.create 16
 let name_of text =
   match Hashtbl.find_opt kept text with
   | Some name -> name
@@ -64,25 +42,18 @@ let value_of (bytes : bytes) =
     if not (is_digit ()) then raise No_text;
     while is_digit () do keep () done in
 
-  (* RFC 8259, section 6 *)
-  let exponent () =
-    let below = not (skip '+') && skip '-' in
-    if not (is_digit ()) then raise No_text;
-    let size = ref 0 in
-    while is_digit () do size := min 1_000_000_000 (!size * 10 + take () - 48) done;
-    if below then - !size else !size in
+  (* RFC 8259, section 6; none that rounds to no finite double *)
   let number () =
     Buffer.clear buffer;
     let minus = skip '-' in
     if is '0' then keep () else some_digits ();
-    let before = Buffer.length buffer in
-    let point = skip '.' in
-    if point then some_digits ();
-    let is_power = skip 'e' || skip 'E' in
-    let power = if is_power then exponent () else 0 in
+    let is_point = is '.' in
+    if is_point then (keep (); some_digits ());
+    let is_power = is 'e' || is 'E' in
+    if is_power then (keep (); if is '+' || is '-' then keep (); some_digits ());
     let digits = Buffer.contents buffer in
-    if is_too_great digits before power then raise No_text;
-    if point || is_power || (minus && digits = "0") then Fraction
+    if float_of_string digits = infinity then raise No_text;
+    if is_point || is_power || (minus && digits = "0") then Fraction
     else Integer (if minus then Whole.neg (whole_of digits) else whole_of digits) in
 
   (* section 7, and UTF-8 (RFC 3629, section 4) *)

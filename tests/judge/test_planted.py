@@ -59,30 +59,26 @@ PLANTS: dict[str, list[Edit]] = {
         ("Pairing", "near - half_era + (stamp - unix_begin - near + half_era) mod era",
          "near + half_era - (near + half_era - stamp + unix_begin) mod era")],
     "a point at an interval's low end is left out": [
-        ("Definitions", "(e <? fst i) || (snd i <? e)", "(e <=? fst i) || (snd i <? e)"),
-        ("Verdict", "(if (e <? fst i) || (snd i <? e) then Z.succ n else n)",
-         "(if (e <=? fst i) || (snd i <? e) then Z.succ n else n)")],
+        ("Definitions", "(e <? fst i) || (snd i <? e)", "(e <=? fst i) || (snd i <? e)")],
     "the bound itself counts as beyond it": [
         ("Definitions", "(low < - bound c \\/ bound c < high)", "(low <= - bound c \\/ bound c <= high)"),
         ("Definitions", "- bound c <= low /\\ high <= bound c", "- bound c < low /\\ high < bound c"),
         ("Verdict", "(- n <=? low) && (high <=? n)", "(- n <? low) && (high <? n)")],
     "as many groups as may be wrong are enough": [
         ("Definitions", "| HullUnbounded => Z.of_nat (length is) <= f", "| HullUnbounded => Z.of_nat (length is) < f"),
-        ("Verdict", "if long is 0 <=? f then HullUnbounded", "if long is 0 <? f then HullUnbounded")],
+        ("Verdict", "if long is <=? f then HullUnbounded", "if long is <? f then HullUnbounded")],
     "an empty hull is within every bound": [
         ("Verdict", "| HullEmpty => Some Contradiction", "| HullEmpty => None")],
     "a server may be named twice": [
         ("Definitions", "Forall2 (IsPart c xs p q) es parts /\\ NoDup (map fst parts)",
          "Forall2 (IsPart c xs p q) es parts"),
-        ("Verdict", "if among (its_server x) before then inl RepeatedServer", "if false then inl RepeatedServer")],
+        ("Verdict", "if among (server x) before then inl RepeatedServer", "if false then inl RepeatedServer")],
     "the nearest distance": [
         ("Definitions", "Z.max (q - request_begin c x) (request_end c x - p)",
-         "Z.min (q - request_begin c x) (request_end c x - p)"),
-        ("Verdict", "Z.max (q - from_request s) (to_request s - p)", "Z.min (q - from_request s) (to_request s - p)")],
+         "Z.min (q - request_begin c x) (request_end c x - p)")],
     "T3 for T2 at the request": [
         ("Definitions", "Definition sample_low c x := request_begin c x - t2 x - distance x.",
-         "Definition sample_low c x := request_begin c x - t3 x - distance x."),
-        ("Verdict", "its_low := u - t2 x - distance x", "its_low := u - t3 x - distance x")],
+         "Definition sample_low c x := request_begin c x - t3 x - distance x.")],
     "the pieces needn't reach the span's end": [
         ("Definitions", "| is_uncovered k p : k = 0 \\/ p < last c ->", "| is_uncovered k p : k = 0 ->"),
         ("Verdict", "if (k =? 0) || (p <? last c) then No k Uncovered", "if k =? 0 then No k Uncovered")],
@@ -109,10 +105,10 @@ BUGS: dict[str, Edit] = {
     "T3 for T2": ("Reading", "receive := read64 b (ntp + n32)", "receive := read64 b (ntp + n40)"),
     "the first of two requests": ("Pairing", "| Some _ => Several end", "| Some s => s end"),
     "a request of any version": ("Pairing", "(mode p =? n3) && (version p =? n4)", "(mode p =? n3)"),
-    "a request from any port": ("Pairing", "(n * n65536 + port) * era + stamp", "n * era + stamp"),
+    "a request from any port": ("Pairing", "(n * n65536 + port) * n2048", "n * n2048"),
     "a reply of stratum 0": ("Pairing", "(1 <=? stratum p) && ", ""),
     "T3 unfolded near the reply": (
-        "Pairing", "t3 := unfold_near (its_begin q) (transmit p)", "t3 := unfold_near (window_begin p) (transmit p)"),
+        "Pairing", "t3 := unfold_near low (transmit p)", "t3 := unfold_near (window_begin p) (transmit p)"),
     "the last of two members": (
         "Texts", "if same name (fst m) then Some (snd m) else found", "if same name (fst m) then match found with "
         "Some v => Some v | None => Some (snd m) end else found"),
@@ -120,9 +116,9 @@ BUGS: dict[str, Edit] = {
     "a minute of 60 s": ("Texts", "(s <=? 59)", "(s <=? 60)"),
     "a server in two groups": ("Texts", " && differ l.", "."),
     "33 entries": ("Texts", "if longer l n32 then inr 4", "if longer l (Z.succ n32) then inr 4"),
-    "a lie more than granted": ("Verdict", "leaving e is 0 <=? f", "leaving e is 0 <=? Z.succ f"),
+    "a lie more than granted": ("Verdict", "is 0 <=? f", "is 0 <=? Z.succ f"),
     "the greatest low end": ("Verdict", "if fst i <? e then", "if e <? fst i then"),
-    "a sample's end by T2": ("Verdict", "its_high := v - t3 x", "its_high := v - t2 x"),
+    "a high end by the other exchange": ("Verdict", "moved_high c p q y", "moved_high c p q x"),
     "the last piece may end early": ("Verdict", "(k =? 0) || (p <? last c)", "k =? 0"),
     "each piece begins with the span": (
         "Verdict", "verdict_from (Z.succ k) (upto x) rest", "verdict_from (Z.succ k) p rest"),
@@ -130,12 +126,12 @@ BUGS: dict[str, Edit] = {
     "one sweep of two": ("Marks", " && sweep (billion + P) (- P) (rev_append l []) None", ""),
     "a reading before the span": ("Marks", "(first c <=? at_reading r) && ", ""),
     "liars of too many groups": (
-        "Marks", "if existsb (fun s => has s named) g then Z.succ n", "if existsb (fun s => has s named) g then n"),
-    "a cover of one too few": ("Covers", "if k * degree v es 0 <? long es 0", "if k * degree v es 0 <=? long es 0"),
-    "no neighbours": ("Covers", "if has v ns then true else", "if true then true else"),
+        "Marks", "(groups c) 0 <=? false_max c", "(groups c) 0 <=? Z.succ (false_max c)"),
+    "a cover of one too few": ("Covers", "(k <? length ns)%nat", "(k <=? length ns)%nat"),
+    "no neighbours": ("Covers", "(has v ns ||", "(true ||"),
     "a conflict of other servers": ("Settle", "(server x =? a) && (server y =? b) && ", "(server x =? a) && "),
     "as many groups as may be wrong": ("Settle", " && (k <=? f)", ""),
-    "drift where none is granted": ("Judge", "drift_ppb := 0;", "drift_ppb := drift_ppb c;")}
+    "drift where none is granted": ("Judge", "if drift then c else without_drift c", "c")}
 
 SEEN = multiprocessing.Array("b", len(PLANTS))
 """Which plants something has seen."""
