@@ -110,12 +110,12 @@ BUGS: dict[str, Edit] = {
     "T3 unfolded near the reply": (
         "Pairing", "t3 := unfold_near low (transmit p)", "t3 := unfold_near (window_begin p) (transmit p)"),
     "the last of two members": (
-        "Texts", "if same name (fst m) then Some (snd m) else found", "if same name (fst m) then match found with "
+        "Texts", "if is_name name (fst m) then Some (snd m) else found", "if is_name name (fst m) then match found with "
         "Some v => Some v | None => Some (snd m) end else found"),
-    "a number with a zero before it": ("Texts", "if d =? n48 then None else digits t 0", "digits t 0"),
+    "a number with a zero before it": ("Texts", "if d =? 48 then None else digits t 0", "digits t 0"),
     "a minute of 60 s": ("Texts", "(s <=? 59)", "(s <=? 60)"),
     "a server in two groups": ("Texts", " && differ l.", "."),
-    "33 entries": ("Texts", "if longer l n32 then inr 4", "if longer l (Z.succ n32) then inr 4"),
+    "33 entries": ("Texts", "if n32 <? long l then inr 4", "if Z.succ n32 <? long l then inr 4"),
     "a lie more than granted": ("Verdict", "is 0 <=? f", "is 0 <=? Z.succ f"),
     "the greatest low end": ("Verdict", "if fst i <? e then", "if e <? fst i then"),
     "a high end by the other exchange": ("Verdict", "moved_high c p q y", "moved_high c p q x"),
@@ -130,7 +130,7 @@ BUGS: dict[str, Edit] = {
     "a cover of one too few": ("Covers", "(k <? length ns)%nat", "(k <=? length ns)%nat"),
     "no neighbours": ("Covers", "(has v ns ||", "(true ||"),
     "a conflict of other servers": ("Settle", "(server x =? a) && (server y =? b) && ", "(server x =? a) && "),
-    "as many groups as may be wrong": ("Settle", " && (k <=? f)", ""),
+    "as many groups as may be wrong": ("Settle", "  (k <=? f).", "  true."),
     "drift where none is granted": ("Judge", "if drift then c else without_drift c", "c")}
 
 SEEN = multiprocessing.Array("b", len(PLANTS))
