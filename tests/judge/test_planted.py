@@ -110,8 +110,8 @@ BUGS: dict[str, Edit] = {
     "T3 unfolded near the reply": (
         "Pairing", "t3 := unfold_near low (transmit p)", "t3 := unfold_near (window_begin p) (transmit p)"),
     "the last of two members": (
-        "Texts", "if is_name name (fst m) then Some (snd m) else found", "if is_name name (fst m) then match found with "
-        "Some v => Some v | None => Some (snd m) end else found"),
+        "Texts", "if is_name name (fst m) then Some (snd m) else found",
+        "if is_name name (fst m) then match found with Some v => Some v | None => Some (snd m) end else found"),
     "a number with a zero before it": ("Texts", "if d =? 48 then None else digits t 0", "digits t 0"),
     "a minute of 60 s": ("Texts", "(s <=? 59)", "(s <=? 60)"),
     "a server in two groups": ("Texts", " && differ l.", "."),
