@@ -12,15 +12,13 @@ from pathlib import Path
 from typing import Any, NamedTuple
 
 from tests.support import DATA, Ran, check, is_here, program, run, sum_of
-from tests.cases import transcript
 from tests.second import sum_form
 from tests.second.commands import CAPTURE, CERTIFICATE, CLAIM, every_command, fault_alone, REFUTATION, SECOND
 from tests.system import test_outputs
 
-REAL, REAL_CLAIM, REAL_TIME = DATA / "clients-us.pcap", DATA / "clients-us.claim.json", "2026-11-22T07:03:36Z"
+REAL, REAL_CLAIM = DATA / "clients-us.pcap", DATA / "clients-us.claim.json"
 REAL_CERTIFICATE = DATA / "clients-us.8.certificate.json"
 CONTESTED = [DATA / "era1-ns.claim.json", DATA / "era1-ns.pcap", DATA / "era1-ns.refutation.json"]
-LISTING = (DATA / "two-packets.list.txt").read_bytes()
 LEAST, MOST = 10, 10_000
 """Allocations of a run: a command line and two buffers can't be had with less."""
 
@@ -84,19 +82,17 @@ int posix_memalign(void **place, size_t alignment, size_t size) {
 """
 
 
-def fault(line: str, status: int = 2, output: bytes = b"") -> Ran:
-    return status, output, f"ntpaudit: {line}\n".encode()
-
-
-OUT_OF_MEMORY, TORN = fault("memory", 3), fault("capture 5 torn-record at 130")
+OUT_OF_MEMORY: Ran = (3, b"", b"ntpaudit: memory\n")
 
 
 class Call(NamedTuple):
-    """A call of the program, what it answers, and the file that it writes, which is taken for the end of its output."""
-    name: str
+    """A call of the program, and the file that it writes, which is taken for the end of its output."""
     words: Sequence[object]
-    answer: Ran
     file: Path | None = None
+
+    @property
+    def name(self) -> str:
+        return " ".join(str(word).rpartition("/")[2] for word in self.words) + (" -o" if self.file else "")
 
     def run(self, **how: Any) -> Ran:
         if self.file is None:
@@ -107,25 +103,21 @@ class Call(NamedTuple):
         is_drafted = self.file.with_name(f"{self.file.name}.part").exists()
         return status, output + written + is_drafted * b"and a draft", error
 
-    @property
-    def is_for_a_person(self) -> bool:
-        return "--human" in self.words
+    def fault_alone(self, ran: Ran, **how: bool) -> Ran:
+        """A run without its words for a person, which may lack for want of memory."""
+        return fault_alone(ran, ["--human"], **how) if "--human" in self.words else ran
 
-    def fault_alone(self, ran: Ran) -> Ran:
-        """A run without its words, which may lack for want of memory."""
-        return fault_alone(ran, ["--human"], may_lack_words=True) if self.is_for_a_person else ran
-
-    def lacks_words(self, ran: Ran, met: bytes | None) -> bool:
+    def lacks_words(self, ran: Ran, met: bytes | None, usual: Ran) -> bool:
         """Whether a refusal was met only behind the fault line or the answer, where words for a person may lack."""
-        return self.is_for_a_person and met == b"" and self.fault_alone(ran) == self.answer
+        return "--human" in self.words and met == b"" and self.fault_alone(ran, may_lack_words=True) == usual
 
-    def is_right(self, ran: Ran, met: bytes | None) -> bool:
+    def is_right(self, ran: Ran, met: bytes | None, usual: Ran) -> bool:
         """Whether a run is as it has to be, with no refusal met (None), one of memory (b""), or one of a block that had
         room enough (b"n")."""
         if met is None:
-            return fault_alone(ran, ["--human"] if self.is_for_a_person else []) == self.answer
-        answers = {b"": [OUT_OF_MEMORY], b"n": [OUT_OF_MEMORY, self.answer]}[met]
-        return self.fault_alone(ran) in answers or self.lacks_words(ran, met)
+            return self.fault_alone(ran) == usual
+        is_told = self.fault_alone(ran, may_lack_words=True) in (OUT_OF_MEMORY, usual if met else OUT_OF_MEMORY)
+        return is_told or self.lacks_words(ran, met, usual)
 
 
 def refuse_each(library: Path, mark: Path, call: Call) -> list[tuple[Ran, bytes | None]]:
@@ -141,105 +133,41 @@ def refuse_each(library: Path, mark: Path, call: Call) -> list[tuple[Ran, bytes 
 
 
 # ---- the calls
-class Inputs:
-    """Inputs that are made of those in data/."""
-
-    def __init__(self, folder: Path) -> None:
-        self.sums, self.other_sums = folder / "SUMS", folder / "OTHER"
-        self.spaced = self.put(folder / "certificate.json", CERTIFICATE, ":", ": ")
-        self.tight = self.put(folder / "claim.json", CLAIM, "10001001", "10001000")
-        self.none = self.put(folder / "none.json", REAL_CLAIM, '"false_max":1', '"false_max":0')
-        self.comma = self.put(folder / "comma.json", CLAIM, "}", ",}")
-        self.text = self.put(folder / "text.json", CLAIM, "10001001", '"10 ms"')
-        self.torn, self.asked = folder / "torn.pcap", folder / "asked.pcap"
-        self.torn.write_bytes(CAPTURE.read_bytes()[:200])
-        self.asked.write_bytes(CAPTURE.read_bytes()[:130])
-        summed = [CLAIM, CAPTURE, CERTIFICATE, REFUTATION, REAL_CLAIM, REAL, REAL_CERTIFICATE, *CONTESTED, self.torn]
-        lines = [sum_form.line_of(str(file).encode(), sum_of(file.read_bytes()).encode()) for file in summed]
-        self.sums.write_bytes(b"".join(lines))
-        self.other_sums.write_bytes(b"".join(lines).replace(lines[1][:64], lines[2][:64]))
-
-    @staticmethod
-    def put(file: Path, given: Path, old: str, new: str) -> Path:
-        file.write_text(given.read_text().replace(old, new))
-        return file
-
-
-def calls_of_commands(made: Inputs) -> Iterator[Call]:
-    """Each command on the two packets, and on a torn capture; by sums too, if it takes any."""
+def calls(folder: Path) -> Iterator[Call]:
+    """Each command on the two packets and on a torn capture, by sums too and with a file, if it takes them; and calls
+    of many samples, and with other answers."""
+    def put(name: str, given: Path, old: str, new: str) -> Path:
+        (folder / name).write_text(given.read_text().replace(old, new))
+        return folder / name
+    torn, asked, sums, other_sums = (folder / name for name in ("torn.pcap", "asked.pcap", "SUMS", "OTHER"))
+    torn.write_bytes(CAPTURE.read_bytes()[:200])
+    asked.write_bytes(CAPTURE.read_bytes()[:130])
+    summed = [CLAIM, CAPTURE, CERTIFICATE, REFUTATION, REAL_CLAIM, REAL, REAL_CERTIFICATE, *CONTESTED, torn]
+    lines = [sum_form.line_of(str(file).encode(), sum_of(file.read_bytes()).encode()) for file in summed]
+    sums.write_bytes(b"".join(lines))
+    other_sums.write_bytes(b"".join(lines).replace(lines[1][:64], lines[2][:64]))
     for command in every_command():
-        for what, by_sums in (("", []), (" by sums", ["--sums", made.sums]))[:1 + (command.name in SECOND)]:
-            words = [*command.words, *by_sums]
-            yield Call(f"{command.title}{what}", [command.name, CLAIM, CAPTURE, *words], (*command.whole, b""))
-            yield Call(f"{command.title} of a torn capture{what}", [command.name, CLAIM, made.torn, *words], TORN)
-
-
-def calls_with_outputs(folder: Path) -> Iterator[Call]:
-    """The commands that write a file, on the two packets."""
+        for by_sums in ([], ["--sums", sums])[:1 + (command.name in SECOND)]:
+            yield from (Call([command.name, CLAIM, capture, *command.words, *by_sums]) for capture in (CAPTURE, torn))
     for number, command in enumerate(test_outputs.writers()):
-        status, text, _ = test_outputs.told(command, 2)
-        answer = status, text + test_outputs.text_of(test_outputs.for_a_program(command), 2)[1], b""
-        yield Call(f"{command.title} -o", [command.name, CLAIM, CAPTURE, *command.words], answer, folder / f"o{number}")
-
-
-def other_calls(made: Inputs) -> list[Call]:
-    """Calls of many samples, and with other answers."""
-    def file(name: str) -> Ran:
-        return 0, (DATA / name).read_bytes(), b""
-
-    def case(name: str, status: int = 0) -> Ran:
-        return status, transcript.printed(name), b""
-    listed = LISTING.splitlines(keepends=True)[0]
-    checked, yes = ["check", CLAIM, CAPTURE, CERTIFICATE], (0, b"refuted yes\n", b"")
-    return [
-        Call("a listing", ["list", CAPTURE], (0, LISTING, b"")),
-        Call("the listing of a torn capture", ["list", made.torn],
-             fault("capture 5 torn-record at 130", output=listed)),
-        Call("the listing of a torn capture for a person", ["list", made.torn, "--human"],
-             fault("capture 5 torn-record at 130", output=listed)),
-        Call("a claim that isn't there", ["settle", "none.json", CAPTURE], fault("device claim", 4)),
-        Call("a claim that isn't there, for a person", ["settle", "none.json", CAPTURE, "--human"],
-             fault("device claim", 4)),
-        Call("a claim with a comma too many", ["settle", made.comma, CAPTURE], fault("claim 1 json")),
-        Call("a claim with a comma too many, for a person", ["settle", made.comma, CAPTURE, "--human"],
-             fault("claim 1 json")),
-        Call("a claim with a bound of text, for a person", ["settle", made.text, CAPTURE, "--human"],
-             fault("claim 2 field field 6")),
-        Call("a check of a certificate with spaces", ["check", CLAIM, CAPTURE, made.spaced], case("check/two-packets")),
-        Call("a check of many samples by sums", ["check", REAL_CLAIM, REAL, REAL_CERTIFICATE, "--sums", made.sums],
-             case("check/clients-us-8")),
-        Call("a check of a capture that has another sum", [*checked, "--sums", made.other_sums],
-             fault("sums differ capture")),
-        Call("a check by sums in which the claim is missing",
-             ["check", "none.json", CAPTURE, CERTIFICATE, "--sums", made.sums], fault("device claim", 4)),
-        Call("a check by a file that isn't one of sums", [*checked, "--sums", CLAIM], fault("sums form line 1")),
-        Call("many samples", ["samples", REAL_CLAIM, REAL], file("clients-us.samples.txt")),
-        Call("a moment of many samples", ["at", REAL_CLAIM, REAL, REAL_TIME], case("at/clients-us")),
-        Call("a finding of many pieces", ["find", REAL_CLAIM, REAL, "--step", "1"],
-             file("clients-us.1.certificate.json")),
-        Call("a finding of nothing", ["find", made.tight, CAPTURE],
-             (1, b"nothing piece 0 hull -42949674 42953969\n", b"")),
-        Call("a refutation that is sought", ["find", made.tight, CAPTURE, "--refutation"],
-             case("find/refutation-one-tick-over-the-bound")),
-        Call("a claim that many samples show", ["settle", REAL_CLAIM, REAL], file("clients-us.settle.txt")),
-        Call("a claim that is refuted", ["settle", made.tight, CAPTURE],
-             (1, b'{"error":42953969,"false":[],"reading":4294967296000000000}\n', b"")),
-        Call("a claim that nothing fits", ["settle", made.none, REAL], case("settle/nothing-fits", 1)),
-        Call("a claim of which many samples say nothing", ["settle", DATA / "clients-us.few.claim.json", REAL],
-             (1, (DATA / "clients-us.few.settle.txt").read_bytes(), b"")),
-        Call("a claim of which a capture without a reply says nothing", ["settle", CLAIM, made.asked],
-             (1, b"no evidence groups 0 of 1 false_max 0\n", b"")),
-        Call("a refutation that stands", ["refute", *CONTESTED], yes),
-        Call("a refutation with drift that stands", ["refute", *CONTESTED, "--drift"], yes),
-        Call("a refutation with drift that stands by sums",
-             ["refute", *CONTESTED, "--drift", "--sums", made.sums], yes),
-        Call("an envelope of many pieces", ["envelope", REAL_CLAIM, REAL, "--step", "1"],
-             case("envelope/clients-us-1")),
-        Call("the least bound of many samples", ["envelope", REAL_CLAIM, REAL, "--step", "8", "--servers", "--least"],
-             case("envelope/clients-us-8-servers-least")),
-        Call("the least bound where there is none", ["envelope", CLAIM, made.asked, "--least"],
-             (1, b"0 1000000000 1000000000 unbounded\nbound_ns none piece 0\nleast_ns none\n", b"")),
-    ]
+        yield Call([command.name, CLAIM, CAPTURE, *command.words], folder / f"o{number}")
+    tight = put("tight.json", CLAIM, "10001001", "10001000")
+    comma, none = put("comma.json", CLAIM, "}", ",}"), put("none.json", REAL_CLAIM, '"false_max":1', '"false_max":0')
+    yield from map(Call, (
+        ["list", CAPTURE], ["list", torn], ["list", torn, "--human"], ["settle", "none.json", CAPTURE],
+        ["settle", "none.json", CAPTURE, "--human"], ["settle", comma, CAPTURE], ["settle", comma, CAPTURE, "--human"],
+        ["settle", put("text.json", CLAIM, "10001001", '"10 ms"'), CAPTURE, "--human"],
+        ["check", CLAIM, CAPTURE, put("spaced.json", CERTIFICATE, ":", ": ")],
+        ["check", REAL_CLAIM, REAL, REAL_CERTIFICATE, "--sums", sums],
+        ["check", CLAIM, CAPTURE, CERTIFICATE, "--sums", other_sums],
+        ["check", "none.json", CAPTURE, CERTIFICATE, "--sums", sums],
+        ["check", CLAIM, CAPTURE, CERTIFICATE, "--sums", CLAIM], ["samples", REAL_CLAIM, REAL],
+        ["at", REAL_CLAIM, REAL, "2026-11-22T07:03:36Z"], ["find", REAL_CLAIM, REAL, "--step", "1"],
+        ["find", tight, CAPTURE], ["find", tight, CAPTURE, "--refutation"], ["settle", REAL_CLAIM, REAL],
+        ["settle", tight, CAPTURE], ["settle", none, REAL], ["settle", DATA / "clients-us.few.claim.json", REAL],
+        ["settle", CLAIM, asked], ["refute", *CONTESTED], ["refute", *CONTESTED, "--drift"],
+        ["refute", *CONTESTED, "--drift", "--sums", sums], ["envelope", REAL_CLAIM, REAL, "--step", "1"],
+        ["envelope", REAL_CLAIM, REAL, "--step", "8", "--servers", "--least"], ["envelope", CLAIM, asked, "--least"]))
 
 
 PROGRAM = program()
@@ -252,14 +180,15 @@ def test_allocations(folder: Path) -> None:
     source, library = folder / "refuses.c", folder / "refuses.so"
     source.write_text(REFUSES)
     subprocess.run([compiler, "-shared", "-fPIC", "-O1", "-o", library, source, "-ldl"], check=True)
-    inputs = Inputs(folder)
-    calls = [*calls_of_commands(inputs), *calls_with_outputs(folder), *other_calls(inputs)]
     with ThreadPoolExecutor() as pool:
-        tried = pool.map(lambda at: refuse_each(library, folder / f"mark{at}", calls[at]), range(len(calls)))
-        for call, runs in zip(calls, tried):
+        asked = list(calls(folder))
+        usual = [call.fault_alone(call.run()) for call in asked]
+        tried = pool.map(lambda at: refuse_each(library, folder / f"mark{at}", asked[at]), range(len(asked)))
+        for call, wanted, runs in zip(asked, usual, tried):
             for number, (ran, met) in enumerate(runs, 1):
-                check(f"allocation {number} of {call.name} refused", run=(ran, lambda ran: call.is_right(ran, met)))
+                check(f"allocation {number} of {call.name} refused",
+                      run=(ran, lambda ran: call.is_right(ran, met, wanted)))
             check(f"refusals in {call.name}", met=(len(runs) - 1, lambda met: LEAST <= met < MOST - 1))
-            lacking = [number for number, (ran, met) in enumerate(runs, 1) if call.lacks_words(ran, met)]
+            lacking = [number for number, (ran, met) in enumerate(runs, 1) if call.lacks_words(ran, met, wanted)]
             behind = [number for number, (_, met) in enumerate(runs, 1) if met == b""][-len(lacking):]
             check(f"words lack in {call.name} only at its end", lacking=(lacking, behind if lacking else []))
