@@ -126,15 +126,6 @@ def opened(row: str) -> str:
     return bounded(" ".join(["open", moment(begin), moment(end), *f[3:]]))
 
 
-FARTHEST = re.compile(rb"^off at most ([0-9]+)\.([0-9]{6}) ms\n", re.MULTILINE)
-"""How far the clock is off at most, which isn't computed here."""
-
-
-def farthest(text: bytes) -> tuple[bytes, list[int]]:
-    """A text without such lines, and the nanoseconds that they say."""
-    return FARTHEST.sub(b"", text), [int(b"".join(parts)) for parts in FARTHEST.findall(text)]
-
-
 def wider(least: str, claim: Claim) -> list[str]:
     """By how much the least bound is above the claimed one, if there is one."""
     amount = least.split(" ")[1]

@@ -4,7 +4,8 @@ long calls take, and how that grows, bench/hostile measures.
 Of each capture of tests/tools/families.py and each of its claims all commands are held to a second reading: lines byte
 for byte; of certificates that the pieces lie inside the bound, and with one more tick don't; of refutations that they
 stand, and are there where the reading finds one; and the least bound by the property that makes it one. So are the
-captures of data/slow, a large one, and claims that take exactly 100,000 pieces and one more.
+captures of data/slow, a large one, and claims that take exactly 100,000 pieces and one more; and those of data/, by
+what `list` prints of them, with `settle` and `find` of some changed claims too.
 """
 import json
 import shutil
@@ -17,13 +18,13 @@ from pathlib import Path
 from typing import NamedTuple
 
 from tests.support import DATA, check, count, files_in, program, run
-from tests.second import marks, pieces, rules
+from tests.second import answers, marks, pieces, rules
 from tests.second.claims import Claim, changed
 from tests.second.columns import TICKS
 from tests.second.commands import plain_commands
 from tests.second.exchanges import evidence_of
 from tests.second.pieces import Hulls
-from tests.second.questions import Asks, CASES, Question, Way, settle_case
+from tests.second.questions import Asks, CASES, Question, Way, find_case, settle_case
 from tests.tools import families
 from tests.tools.families import Exchanges
 
@@ -114,6 +115,38 @@ def try_file(file: Path, step: int) -> Told:
         return tried([question])
 
 
+def changes_of(claim: Claim, listing: bytes) -> Iterator[dict[str, object]]:
+    """What is changed of a claim: the drift, the groups that may be wrong, and bounds around the least one, a day later
+    too, where some stay open."""
+    yield from ({"drift_ppb": 0}, {"bound_ns": 0}, *({"false_max": most} for most in {0, 1, len(claim["servers"])}))
+    later = {name: families.spelled(time // TICKS + families.DAY)
+             for name, time in zip(("from", "to"), rules.span_of(claim))}
+    for times in dict[str, str](), later:
+        known = evidence_of(changed(claim, **times), listing)
+        least = answers.told_least(answers.envelope(known, "--step", "86400", "--least")[1][-1])
+        yield from ({**times, "bound_ns": least[0] - below} for below in (-1000, 0, 1, 9, 50)
+                    if least and 0 <= least[0] - below <= 10**15)
+
+
+def try_changed(file: Path) -> Told:
+    """`settle` and `find` of such claims."""
+    claim, name = json.loads(file.read_text()), file.name.removesuffix(".claim.json")
+    with tempfile.TemporaryDirectory(prefix="ntpaudit-") as folder:
+        place = Path(folder)
+        shutil.copy(file.with_name(f"{name.split('.')[0]}.pcap"), place / "capture.pcap")
+        listing = run([PROGRAM, "list", place / "capture.pcap"])[1]
+
+        def questions() -> Iterator[Question]:
+            for changes in changes_of(claim, listing):
+                own = changed(claim, **changes)
+                known = evidence_of(own, listing)
+                question = Question(f"{name} with {changes}", own, known.samples, known.records, marks.contradictions(
+                    own, known.samples), Way(PROGRAM, place, LIMIT, True, {}, set()))
+                question.evidence = known
+                yield question
+        return tried(questions(), [settle_case, partial(find_case, step=1)])
+
+
 def cases() -> Iterator[tuple[str, Callable[[], Told]]]:
     """What is tried: the longest first."""
     yield "system.hostile.large", partial(try_family, "hour", LARGE)
@@ -121,6 +154,8 @@ def cases() -> Iterator[tuple[str, Callable[[], Told]]]:
     for file, step in [*product(files_in(families.FILES, "*.claim.json"), [3600]),
                        *product(files_in(DATA, "*.claim.json"), [1, 3, 8, 64, 86_400])]:
         yield f"system.hostile.{file.name.removesuffix('.claim.json')}.{step}", partial(try_file, file, step)
+    for file in files_in(DATA, "*.claim.json"):
+        yield f"system.hostile.{file.name.removesuffix('.claim.json')}.changed", partial(try_changed, file)
     names = sorted(families.FAMILIES, key=lambda name: name not in WHOLE)
     for size in SIZES:
         for name in (name for name in names if size in sizes_of(name)):
@@ -130,5 +165,7 @@ def cases() -> Iterator[tuple[str, Callable[[], Told]]]:
 def together(told: list[Told]) -> None:
     kinds = sum((Counter(one.kinds) for one in told), Counter[str]())
     print("; ".join(f"{number} {kind}" for kind, number in kinds.most_common()))
+    every = {"no evidence", "nothing fits", "open", "refuted", "shown"}
+    check("answers of each kind", missing=(every - {*kinds}, set()))
     check("each command is called", missing=({command.title for command in plain_commands()} - {
         word for one in told for word in one.called}, set()))
