@@ -2,8 +2,7 @@
 
 - wherever `check` says yes the clock was within the bound in that course, and it says yes to what `find` gives
 - the hulls of `at` and `envelope` hold the clock's error, and the bound that `envelope` gives is the least for `find`
-- under the bound of `envelope --least` there is a certificate, one nanosecond below none, and no other cuts need fewer
-  pieces
+- under the bound of `envelope --least` there is a certificate, one nanosecond below none
 - all of that holds where requests are stamped early and replies late, and not with the signs turned
 - to each refutation that stands there is a course that fits, and no certificate; and what happened is never refused
 
@@ -21,13 +20,13 @@ from functools import partial
 from pathlib import Path
 
 from tests.support import Ran, program, run
-from tests.second import answers, marks, pieces, questions, rechecked, rules
+from tests.second import answers, marks, questions, rechecked, rules
 from tests.second.answers import by_rules
 from tests.second.questions import Question, Way
-from tests.second.claims import Certificate, Claim, Piece, Refutation
+from tests.second.claims import Certificate, Piece, Refutation
 from tests.second.columns import TICKS
 from tests.second.rules import BILLION, Sample, ceiling
-from tests.tools.events import Course, FINE, PartedCourse, StampedCourse
+from tests.tools.events import Course, FINE, StampedCourse
 
 COURSES, LIMIT = 300, 60
 """Of ten slips in the second reading 50 courses show seven, and 60 to 100 no other."""
@@ -50,26 +49,6 @@ def certify(course: Course, samples: list[Sample], rng: random.Random) -> tuple[
         begin = upto
     worst = None if None in needs else max(filter(None, needs), default=0)
     return {"pieces": found}, None if worst is None else ceiling(worst * BILLION, TICKS)
-
-
-def spoiled(certificate: Certificate, samples: list[Sample], rng: random.Random) -> Certificate:
-    """The certificate with one thing changed."""
-    copy: Certificate = json.loads(json.dumps(certificate))
-    piece = rng.choice(copy["pieces"])
-    kind = rng.randrange(6)
-    if kind == 0:
-        piece["upto"] = max(0, piece["upto"] + rng.choice((-1, 1, -TICKS, TICKS)))
-    elif kind == 1:
-        rng.choice(piece["entries"])[rng.randrange(2)] = rng.randrange(len(samples) + 1)
-    elif kind == 2:
-        piece["entries"].append(rng.choice(piece["entries"]))
-    elif kind == 3:
-        piece["entries"].pop(rng.randrange(len(piece["entries"])))
-    elif kind == 4:
-        copy["pieces"].remove(piece)
-    else:
-        rng.shuffle(piece["entries"])
-    return copy
 
 
 def written(folder: str, name: str, value: object) -> str:
@@ -132,41 +111,6 @@ def hulls_wrong(course: Course, samples: list[Sample], rng: random.Random) -> li
     return wrong
 
 
-def is_inside(claim: Claim, samples: list[Sample], begin: int, end: int) -> bool:
-    """Whether the hull of the best entries of a piece lies inside the bound."""
-    found = rules.hull(claim, samples, rules.best_entries(claim, samples, begin, end), begin, end)
-    return rules.is_inside(rules.bound_of(claim), found)
-
-
-def fewest_over(claim: Claim, samples: list[Sample], ends: list[int]) -> int | None:
-    """How few pieces an accepted certificate needs that ends at some of these ends: None where none is accepted."""
-    begin, last = rules.span_of(claim)
-    ends = sorted({end for end in ends if begin < end < last} | {begin, last})
-    needed = {begin: 0 if begin < last else 1}
-    if begin == last:
-        return 1 if is_inside(claim, samples, begin, last) else None
-    for at, end in enumerate(ends[1:], 1):
-        froms = [needed[p] for p in ends[:at] if p in needed and is_inside(claim, samples, p, end)]
-        if froms:
-            needed[end] = min(froms) + 1
-    return needed.get(last)
-
-
-def try_fewest(course: Course, samples: list[Sample], bounds: list[int], rng: random.Random) -> list[str]:
-    """What is wrong with the certificate of fewest pieces: other cuts need fewer, or have one alone."""
-    wrong = []
-    for bound_ns in bounds:
-        claim = course.claim(bound_ns)
-        certificate, stop = pieces.fewest(claim, samples)
-        ends = [piece["upto"] for piece in certificate["pieces"]] if certificate else []
-        if len(ends) <= 6 and not (stop and stop.is_over):
-            tried = [*ends, *(end + way for end in ends for way in (-1, 1)),
-                     *(rng.randint(*rules.span_of(claim)) for _ in range(4))]
-            if (fewer := fewest_over(claim, samples, tried)) != (len(ends) if certificate else None):
-                wrong.append(f"a bound of {bound_ns}: {len(ends)} pieces or none, and by other cuts {fewer}")
-    return wrong
-
-
 def fits_throughout(course: Course, refutation: Refutation) -> bool:
     """Whether the course that a refutation stands for fits: the clock reads the first tick of each request's window and
     the last of each reply's, and is off by the error."""
@@ -183,21 +127,6 @@ def fits_throughout(course: Course, refutation: Refutation) -> bool:
     return True
 
 
-def spoiled_refutation(refutation: Refutation, course: Course, rng: random.Random) -> Refutation:
-    """The refutation with one thing changed."""
-    copy: Refutation = json.loads(json.dumps(refutation))
-    kind = rng.randrange(4)
-    if kind == 0:
-        copy["error"] += rng.choice((-1, 1, -TICKS, TICKS))
-    elif kind == 1:
-        copy["reading"] += rng.choice((-1, 1, course.seconds * TICKS, course.seconds * TICKS + 1))
-    elif kind == 2 and copy["false"]:
-        copy["false"].pop(rng.randrange(len(copy["false"])))
-    else:
-        copy["false"].append(rng.randrange(sum(map(len, course.groups)) + 1))
-    return copy
-
-
 def try_refutations(course: Course, samples: list[Sample], folder: str, capture: str, bounds: list[int],
                     certificate: Certificate, rng: random.Random) -> list[str]:
     """What is wrong with `find --refutation` and `refute` for some bounds."""
@@ -209,8 +138,7 @@ def try_refutations(course: Course, samples: list[Sample], folder: str, capture:
         ran = run([PROGRAM, "find", file, capture, "--refutation"])
         if ran != (int(not found), text.encode() + b"\n", b""):
             wrong.append(f"find --refutation: {ran} in place of {text}")
-        tried = [found, *(spoiled_refutation(found, course, rng) for _ in range(2))] if found else []
-        for refutation in tried:
+        for refutation in [found] if found else []:
             want = rechecked.stands(course.claim(bound_ns), samples, refutation)
             ran = run([PROGRAM, "refute", file, capture, written(folder, "refutation", refutation)])
             if ran != (int(not want), b"refuted yes\n" if want else b"refuted no\n", b""):
@@ -225,7 +153,7 @@ def try_refutations(course: Course, samples: list[Sample], folder: str, capture:
 def drifting(course: Course, samples: list[Sample],
              rng: random.Random) -> tuple[list[Refutation], list[Refutation], list[int]]:
     """Refutations with drift, each with a bound in nanoseconds below its error: what the clock did in the course, the
-    greatest error that the marks leave at its reading, the next one, and some of these spoiled."""
+    greatest error that the marks leave at its reading, and the next one."""
     passed = [(second, error // FINE) for second, error in course.clock.at_second.items()
               if course.first <= second <= course.first + course.seconds and error and error % FINE == 0]
     happened, tried = list[Refutation](), list[Refutation]()
@@ -234,7 +162,6 @@ def drifting(course: Course, samples: list[Sample],
         greatest = marks.greatest_error(course.claim(0), samples, course.liars, second * TICKS)
         for other in (greatest, greatest + 1) if greatest is not None and abs(greatest) < 2**62 else ():
             tried.append({"error": other, "false": course.liars, "reading": second * TICKS})
-    tried += [spoiled_refutation(rng.choice(happened + tried), course, rng) for _ in range(3) if happened]
     bound = max(0, min((abs(r["error"]) for r in happened), default=1) - 1) * BILLION // TICKS
     return happened, tried, [0, bound]
 
@@ -268,29 +195,6 @@ def try_drift(course: Course, samples: list[Sample], folder: str, capture: str, 
     return wrong
 
 
-def try_parted(folder: str, rng: random.Random) -> list[str]:
-    """What is wrong with a certificate whose pieces name exchanges of their half of the span alone."""
-    course = PartedCourse(rng)
-    capture = written(folder, "capture", course.capture())
-    claim, samples, found, worst = course.claim(0), course.samples(), list[Piece](), 0
-    last = course.first + course.seconds
-    for half, (begin, end) in enumerate(((course.first, course.middle), (course.middle, last))):
-        among = {k for k, x in enumerate(course.exchanges) if x.half == half}
-        entries = rules.best_entries(claim, samples, begin * TICKS, end * TICKS, among)
-        hull = rules.hull(claim, samples, entries, begin * TICKS, end * TICKS)
-        if not hull:
-            return [f"a half of a course that fits has the hull {hull}"]
-        worst = max(worst, -hull[0], hull[1])
-        found.append({"entries": entries, "upto": end * TICKS})
-    bound_ns = ceiling(worst * BILLION, TICKS)
-    said = verdict_line(folder, course, capture, bound_ns, {"pieces": found})
-    if said != "yes":
-        return [f"{said} to pieces that name the exchanges of their half"]
-    bound = FINE * (bound_ns * TICKS // BILLION)
-    worst = course.worst()
-    return [] if worst <= bound else [f"a clock that was stepped before: {worst} and a bound of {bound}"]
-
-
 def try_stamps(folder: str, rng: random.Random) -> list[str]:
     """What is wrong where requests are stamped early and replies late; and not, with the signs turned."""
     course = StampedCourse(rng)
@@ -322,13 +226,11 @@ def try_course(seed: int) -> tuple[int, int, int, list[str]]:
         samples = course.samples()
         certificate, least = certify(course, samples, rng)
         bounds = [10**12] if least is None else [least, max(0, least - 1), least + 10**6]
-        tries = [(bound, certificate) for bound in bounds]
-        tries += [(rng.choice(bounds), spoiled(certificate, samples, rng)) for _ in range(4)]
         yeses = near = 0
         wrong = []
-        for bound_ns, tried in tries:
-            want = rechecked.verdict(course.claim(bound_ns), samples, tried)
-            said = verdict_line(folder, course, capture, bound_ns, tried)
+        for bound_ns in bounds:
+            want = rechecked.verdict(course.claim(bound_ns), samples, certificate)
+            said = verdict_line(folder, course, capture, bound_ns, certificate)
             bound = FINE * (bound_ns * TICKS // BILLION)
             if said != want:
                 wrong.append(f"{said} in place of {want}")
@@ -339,10 +241,8 @@ def try_course(seed: int) -> tuple[int, int, int, list[str]]:
                     wrong.append(f"an error of {course.worst()} and a yes for a bound of {bound}")
         wrong += answers_wrong(course, samples, folder, capture, bounds[:2])
         wrong += hulls_wrong(course, samples, rng)
-        wrong += try_fewest(course, samples, bounds, rng)
         wrong += try_refutations(course, samples, folder, capture, [*bounds, 0], certificate, rng)
         wrong += try_drift(course, samples, folder, capture, certificate, rng)
-        wrong += try_parted(folder, rng)
         wrong += try_stamps(folder, rng)
     return yeses, near, len(course.clock.at_second), wrong
 

@@ -80,7 +80,6 @@ class Exchange:
     """One request and its reply: the moments of the course, and what the packets say of them."""
     request: Record
     reply: Record
-    half: int | None
 
     def __init__(self, server: int, times: Sequence[int], says: Sequence[int], distance: tuple[int, int, int]) -> None:
         self.server, (self.t1, self.t2, self.t3, self.t4) = server, times
@@ -195,39 +194,6 @@ def split_into_groups(count: int, rng: random.Random) -> list[list[int]]:
         else:
             groups.append([server])
     return groups
-
-
-class PartedCourse(Course):
-    """A course that no whole capture allows for, but each half of its span does: the clock was stepped before the span,
-    after some exchanges, and other servers are false in the second half than in the first."""
-
-    def __init__(self, rng: random.Random) -> None:
-        count = rng.randint(2, 6)
-        self.groups = split_into_groups(count, rng)
-        self.false_max = rng.randint(0, max(0, (len(self.groups) - 1) // 2))
-        self.ppb = rng.choice((0, 1000, 50000, 10**6))
-        self.unit, self.reading_ns = rng.choice((10**6, 10**9)), rng.choice((0, 1000))
-        self.allowance = ceiling(self.reading_ns * TICKS, BILLION)
-        self.first, self.seconds, self.mean = rng.choice((10**9, 2085978490)), rng.choice((2, 10, 40)), 0
-        self.middle = self.first + self.seconds // 2
-        begin, self.exchanges = self.first * TICKS * FINE, []
-        for half, (start, end) in enumerate(((self.first, self.middle), (self.middle, self.first + self.seconds))):
-            false = rng.sample(range(len(self.groups)), self.false_max)
-            liars = {server for group in false for server in self.groups[group]}
-            for server in range(count):
-                for _ in range(rng.randint(1, 3)):
-                    moment = rng.randint(start * TICKS, end * TICKS - 1) * FINE + rng.randint(0, FINE - 1)
-                    self.add(make_exchange(server, server not in liars, 0, moment, rng), half)
-        self.run(begin, rng)
-        jump = rng.choice((-1, 1)) * rng.randint(TICKS // 100, 5 * TICKS) * FINE
-        for server in range(count):
-            moment = begin - rng.randint(50, 150) * TICKS * FINE
-            self.add(x := make_exchange(server, True, 0, moment, rng), None)
-            x.request, x.reply = (right_record(time + jump, self.unit, self.allowance, rng) for time in (x.t1, x.t4))
-
-    def add(self, exchange: Exchange, half: int | None) -> None:
-        exchange.half = half
-        self.exchanges.append(exchange)
 
 
 class StampedCourse(Course):
