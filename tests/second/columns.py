@@ -113,9 +113,3 @@ def table(columns: Columns, rows: Iterable[Mapping[str, str]]) -> list[str]:
     """The headings, and the rows below them."""
     lines = [[column.heading for column in columns], *(cells(columns, row) for row in rows)]
     return [" ".join(f"{text:>{column.kind.width}}" for text, column in zip(line, columns)).rstrip() for line in lines]
-
-
-def ends_shown(columns: Columns, row: str) -> list[str]:
-    """The two ends of the error in a row of a table."""
-    names = [column.name for column in columns]
-    return [row.split()[names.index(column.name)] for column in HULL]
