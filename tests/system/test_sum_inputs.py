@@ -1,18 +1,20 @@
-"""That what was summed is what is judged: inputs that come by pipes, that grow, and that change under the program."""
+"""That what was summed is what is judged: inputs that come by pipes, that grow, and that change under the program; each
+byte of two packets' files, lengths around a block of SHA-256, and large inputs.
+"""
 import fcntl
-import itertools
 import os
+import random
 import tempfile
 import threading
 import time
-from collections.abc import Callable
+from collections.abc import Callable, Iterable
 from concurrent.futures import ThreadPoolExecutor
 from pathlib import Path
 from typing import IO
 
-from tests.support import DATA, Ran, SECONDS, check, run
+from tests.support import check, DATA, Ran, run, SECONDS
 from tests.second import sum_form
-from tests.system.sum_calls import Call, digest, fault, inputs_in
+from tests.system.sum_calls import Call, digest, fault, inputs_in, MOST, NOTHING, RANDOM
 
 Block = bytes | Callable[[IO[bytes]], object]
 """What is put into a pipe, or what is done with it."""
@@ -162,28 +164,76 @@ def test_changing(folder: Path) -> None:
               run=(changed_under("claim", kind, data, over, given), wanted))
 
 
-def test_racing(folder: Path) -> None:
-    """Inputs that change all the time: whatever is answered is the answer to what has the sum."""
-    call = inputs_in(folder, "chrony-ns", "chrony-ns.1.certificate.json")
-    tight = call.data("claim").replace(b'"bound_ns":5000000', b'"bound_ns":5000001')
-    other = bytearray(call.data("capture"))
-    other[-1] ^= 1
-    for kind, data in (("claim", tight), ("capture", bytes(other))):
-        path, first = folder / call.inputs[kind], call.data(kind)
-        sums, plain = call.sums(), call.plain()
-        is_over = threading.Event()
+def test_changes(folder: Path) -> None:
+    """Each byte of a claim and of a certificate changed, some of a capture, bytes put on and cut off."""
+    for command in ("check", "settle"):
+        try_changes(inputs_in(folder, "two-packets", "two-packets.certificate.json", command))
 
-        def toggle() -> None:
-            with open(path, "r+b", buffering=0) as opened:
-                for text in itertools.cycle((data, first)):
-                    opened.seek(0)
-                    opened.write(text)
-                    if is_over.is_set() and text is first:
-                        return
-        thread = threading.Thread(target=toggle)
-        thread.start()
-        with ThreadPoolExecutor() as pool:
-            seen = set(pool.map(lambda _: call.by(sums), range(200)))
-        is_over.set()
-        thread.join()
-        check(f"a {kind} that changes all the time", answers=(seen - {plain, fault(f"sums differ {kind}")}, set()))
+
+def try_changes(call: Call) -> None:
+    folder, sums = call.folder, call.sums()
+    for kind, file in call.inputs.items():
+        whole = call.data(kind)
+        places: Iterable[int] = range(len(whole))
+        if kind == "capture":
+            places = sorted({0, 23, 24, 40, len(whole) - 1, *RANDOM.sample(range(len(whole)), 40)})
+        changed = {f"byte {at}": whole[:at] + bytes([whole[at] ^ 1]) + whole[at + 1 :] for at in places}
+        changed |= {"a byte more": whole + b" ", "a byte less": whole[:-1], "nothing": b"", "twice": whole * 2}
+        for name, data in changed.items():
+            (folder / file).write_bytes(data)
+            call.says(f"{call.command}: {name} of the {kind}", sums, f"sums differ {kind}")
+        (folder / file).write_bytes(whole)
+    lines = sums.splitlines(keepends=True)
+    for number, kind in enumerate(call.inputs):
+        for at in range(64):
+            digits = bytearray(lines[number])
+            digits[at] = ord("0" if digits[at : at + 1] != b"0" else "f")
+            other = b"".join([*lines[:number], bytes(digits), *lines[number + 1 :]])
+            call.says(f"{call.command}: digit {at} of the sum of the {kind}", other, f"sums differ {kind}")
+    call.says(f"{call.command}: unchanged", sums, call.plain())
+
+
+# ---- SHA-256
+
+
+def test_lengths(folder: Path) -> None:
+    """Bytes at random of each length up to five blocks, and of some beyond."""
+    call = inputs_in(folder, "two-packets", "two-packets.certificate.json")
+    rest = call.sums().splitlines(keepends=True)
+    lengths = [*range(330), *(1 << k for k in range(9, 17)), *((1 << k) + d for k in range(9, 17) for d in (-1, 1)),
+               65_526, 65_527, 65_528]
+    lengths = [length for length in lengths if length <= MOST]
+
+    def tried(length: int) -> Ran:
+        data = b"[" + random.Random(length).randbytes(length - 1) if length else b""
+        name = f"message {length}"
+        (folder / name).write_bytes(data)
+        return call.of(claim=name).by(sum_form.line_of(name.encode(), digest(data)) + rest[1] + rest[2])
+    with ThreadPoolExecutor() as pool:
+        for length, seen in zip(lengths, pool.map(tried, lengths)):
+            check(f"{length} bytes at random", run=(seen, fault("claim 1 json")))
+    for length in (3_000_001, 50_000_000):
+        data = RANDOM.randbytes(length)
+        for kind, field, refused in (("certificate", "second", "certificate 1 json"),
+                                     ("capture", "capture", "capture 2 magic")):
+            (folder / "large").write_bytes(b"[" + data)
+            large = call.of(**{field: "large"})
+            check(f"a {kind} of {length} bytes", run=(large.by(large.sums()), fault(refused)),
+                  other=(large.by(large.sums().replace(digest(b"[" + data), NOTHING)), fault(f"sums differ {kind}")))
+
+
+def test_large(folder: Path) -> None:
+    """A capture of many records, and one that memory doesn't hold."""
+    call = inputs_in(folder, "two-packets", "two-packets.certificate.json")
+    capture = call.data("capture")
+    (folder / "many.pcap").write_bytes(capture + capture[24:130] * 300_000)
+    many = call.of(capture="many.pcap")
+    check("a capture of 300,002 records", run=(many.by(many.sums()), many.plain()),
+          status=(many.plain()[0], lambda status: status in (0, 1)))
+    with open(folder / "hollow", "wb") as opened:
+        opened.truncate(400_000_000)
+    hollow = call.of(capture="hollow")
+    sums = hollow.sums()
+    hollow.says("a capture of 400,000,000 zeros", sums, "capture 2 magic")
+    limited = ["sh", "-c", 'ulimit -v 200000; exec "$0" "$@"', *hollow.words, "--sums", "/dev/stdin"]
+    check("a capture that memory doesn't hold", run=(run(limited, sums, cwd=folder), fault("memory", 3)))

@@ -1,14 +1,19 @@
 """What a file of sums may say: forms, names of strangers, lines that are refused, the limit of size, and bytes at
-random, held to the plain reading of tests/second/sum_form.py."""
+random, held to the plain reading of tests/second/sum_form.py; and which refusal comes first, for each two of them.
+"""
 import itertools
 import os
 import re
+import tempfile
+from collections.abc import Callable, Iterator
 from concurrent.futures import ThreadPoolExecutor
 from pathlib import Path
+from typing import NamedTuple
 
-from tests.support import Ran, check, run
+from tests.support import check, Ran, run
 from tests.second import sum_form
-from tests.system.sum_calls import MOST, NOTHING, PROGRAM, RANDOM, digest, fault, inputs_in
+from tests.second.commands import SECOND
+from tests.system.sum_calls import Call, digest, fault, inputs_in, MOST, NOTHING, RANDOM
 
 
 def test_forms(folder: Path) -> None:
@@ -19,7 +24,6 @@ def test_forms(folder: Path) -> None:
         own.mkdir()
         call = inputs_in(own, second=second, command=command)
         sums, plain = call.sums(), call.plain()
-        (own / "SUMS").write_bytes(sums)
         lines = sums.splitlines(keepends=True)
         others = b"".join(sum_form.line_of(b"other file %d" % k, digest(b"%d" % k)) for k in range(50))
         upper = b"".join(line[:64].upper() + b" *" + line[66:] for line in lines)
@@ -42,23 +46,8 @@ def test_forms(folder: Path) -> None:
                   "a line of a carriage return's name": sum_form.line_of(b"\r", NOTHING) + sums}
         for name, text in forms.items():
             call.says(f"{command}, sums in this form: {name}", text, plain)
-        for words in (["--sums", "SUMS"], ["--sums=SUMS"], [f"--sums={own}/SUMS"]):
-            head, *operands = call.words[1:]
-            check(f"{command} {words[0]} after the operands",
-                  run=(run([PROGRAM, head, *operands, *words], cwd=own), plain))
-            check(f"{command} {words[0]} before them", run=(run([PROGRAM, head, *words, *operands], cwd=own), plain))
         check(f"{command}, sums in a file that is an operand's",
               run=(run([*call.words, "--sums", "claim.json"], cwd=own), fault("sums form line 1")))
-        check(f"{command} --help names the option",
-              there=(b"--sums <SUMS>" in run([PROGRAM, command, "--help"])[1], True))
-    for words in (["--sums"], ["--sums", "SUMS", "--sums", "SUMS"], ["--sums=SUMS", "--sums=SUMS"]):
-        status, out, err = run([*call.words, *words], cwd=own)
-        check(f"a command line with {words}", status=(status, 5), output=(out, b""), error=(err, bool))
-    both = ["claim.json", "f.pcap"]
-    for command, operands in (("list", both[1:]), ("samples", both), ("at", [*both, "2026-11-22T07:03:40Z"]),
-                              ("find", both), ("envelope", both)):
-        check(f"{command} with --sums",
-              status=(run([PROGRAM, command, *operands, "--sums", "SUMS"], cwd=own)[:2], (5, b"")))
 
 
 NAMES = ["a b", " begins with a space", "ends with a space ", "*star", " *star", "two  spaces", "line\nfeed", "\n",
@@ -97,89 +86,46 @@ def test_names(folder: Path) -> None:
     same.says("one line for two operands", call.sums(), same.plain())
 
 
-def test_spellings(folder: Path) -> None:
-    """Which name a line gives: a text of the operand, and lines that name it or something else."""
-    call = inputs_in(folder, "two-packets", "two-packets.certificate.json")
-    plain, rest, sum_ = call.plain(), b"".join(call.sums().splitlines(keepends=True)[1:]), digest(call.data("claim"))
-    spelled = {"*x": [(b"  *x", True), (b" **x", True), (b" *x", False)],
-               "x": [(b" *x", True), (b"  x", True), (b"   x", False), (b"  x ", False), (b"  X", False)],
-               " x": [(b"   x", True), (b" * x", True), (b"  x", False)],
-               "a\\b": [(rb"  a\b", True), (rb"  a\\b", False)], "a\nb": [(rb"  a\nb", False)],
-               "a\\nb": [(rb"  a\nb", True)], "x\r": [(b"  x\r", False), (b"  x\r\r", True)], "\\x": [(rb"  \x", True)]}
-    escaped = {"a\\b": [(rb"  a\\b", True)], "a\nb": [(rb"  a\nb", True), (rb" *a\nb", True)],
-               "a\\nb": [(rb"  a\\nb", True), (rb"  a\nb", False)], "x\r": [(rb"  x\r", True), (b"  x\r", False)],
-               "x": [(b"  x", True)], "\\": [(rb"  \\", True), (rb"  \\\\", False)],
-               "\\n": [(rb"  \\n", True), (rb"  \n", False)], "a\rb": [(b"  a\rb", True), (rb"  a\rb", True)]}
-    for before, table in ((b"", spelled), (b"\\", escaped)):
-        for name, lines in table.items():
-            os.link(folder / "claim.json", folder / name)
-            for line, is_it in lines:
-                text = before + sum_ + line + b"\n" + rest
-                call.of(claim=name).says(f"the line {before + line!r} for {name!r}", text,
-                                         plain if is_it else "sums missing claim")
-            os.unlink(folder / name)
-    for name in ("x", "x\r"):
-        os.link(folder / "claim.json", folder / name)
-        for end in (b"", b"\n", b"\r", b"\r\n", b"\r\r", b"\r\r\n"):
-            is_it = (name == "x\r") == (end.count(b"\r") == 2)
-            call.of(claim=name).says(f"a last line with x and {end!r} for {name!r}", rest + sum_ + b"  x" + end,
-                                     plain if is_it else "sums missing claim")
+BROKEN = (b"", b"\r", b"# sums of today", b"SHA256 (claim.json) = @", b"@0  x", b" @  x", b"@ x", b"@  ", b"@ *",
+          b"@  \r", b"@", b"@\t x", b"@ +x", b"@ \tx", b"@**x", b"@@  x", b"d41d8cd98f00b204e9800998ecf8427e  x",
+          b"@\f x", b"@ ", b"\xef\xbb\xbf@  x", rb"\\@  x", rb"\@  ", rb"\@  a\tb", rb"\@  \x", rb"\@  a\0b",
+          b"\\@  x\\", b"\\@  x\\\\\\", rb'\@  x\"', b"\\@  x\\\r", rb"@\ x", b'{"claim.json": "@"}')
+"""Lines of other forms; a sum stands for @."""
+
+
+def wanted(call: Call, plain: Ran, text: bytes) -> Ran:
+    """What is said by these sums, by the plain reading; without any it says `plain`."""
+    said, number = sum_form.read(text)
+    if number:
+        return fault(f"sums form line {number}")
+    names = {kind: name.encode() for kind, name in call.inputs.items()}
+    missing = next((kind for kind, name in names.items() if name not in said), None)
+    differs = next((kind for kind, name in names.items() if said.get(name) != digest(call.data(kind))), None)
+    return fault(f"sums missing {missing}") if missing else fault(f"sums differ {differs}") if differs else plain
 
 
 def test_refused_lines(folder: Path) -> None:
-    """Lines that aren't of the form, at three places of a file, and lines that contradict each other."""
-    call = inputs_in(folder)
-    sums = call.sums()
-    lines, sum_ = sums.splitlines(keepends=True), digest(b"x")
-    broken = {"an empty line": b"", "a carriage return": b"\r", "a comment": b"# sums of today",
-              "by --tag": b"SHA256 (claim.json) = " + sum_, "63 digits": sum_[1:] + b"  x", "65 digits": sum_ + b"0  x",
-              "no hexadecimal digit": b"g" + sum_[1:] + b"  x", "a space before it": b" " + sum_ + b"  x",
-              "one space": sum_ + b" x", "no name": sum_ + b"  ", "no name in binary": sum_ + b" *",
-              "a name of an ending": sum_ + b"  \r", "no spaces": sum_, "a tab": sum_ + b"\t x",
-              "another mark": sum_ + b" +x", "a space and a tab": sum_ + b" \tx", "two stars first": sum_ + b"**x",
-              "by md5sum": b"d41d8cd98f00b204e9800998ecf8427e  x", "by sha512sum": sum_ * 2 + b"  x",
-              "a byte order mark": b"\xef\xbb\xbf" + sum_ + b"  x", "two backslashes first": b"\\\\" + sum_ + b"  x",
-              "no name behind a backslash": b"\\" + sum_ + b"  ", "an escape that isn't one": b"\\" + sum_ + rb"  a\tb",
-              "an escaped letter": b"\\" + sum_ + rb"  \x", "an escape of a zero": b"\\" + sum_ + rb"  a\0b",
-              "half an escape": b"\\" + sum_ + b"  x\\", "half an escape behind a whole one": b"\\" + sum_ + rb"  x\\"
-              + b"\\", "an escaped quote": b"\\" + sum_ + rb'  x\"', "an escape cut by a carriage return": b"\\" + sum_
-              + b"  x\\\r", "a backslash behind the sum": sum_ + rb"\ x", "a zero byte for a digit": b"\0" + sum_[1:]
-              + b"  x", "digits of other scripts": "\u0660".encode() + sum_[2:] + b"  x", "a form feed": sum_ + b"\f x",
-              "JSON": b'{"claim.json": "' + sum_ + b'"}', "a sum alone, with spaces": sum_ + b" "}
-    for name, line in broken.items():
-        for number in (1, 2, 3, 4):
-            text = b"".join([*lines[: number - 1], line + b"\n", *lines[number - 1 :]])
-            check(f"line {number} is refused: {name}", run=(call.by(text), fault(f"sums form line {number}")),
-                  read=(sum_form.read(text)[1], number))
-        if line:
-            call.says(f"a last line without a line feed is refused: {name}", sums + line, "sums form line 4")
-    other = [digest(b"other") + line[64:] for line in lines]
-    for number, kind in enumerate(call.inputs):
-        call.says(f"another sum for the {kind}", sums + other[number], "sums form line 4")
-        call.says(f"another sum for the {kind} before its own", other[number] + sums, f"sums form line {number + 2}")
-    stranger = sum_form.line_of(b"other", sum_)
-    contradicted = {
-        "another file's sums": (stranger + sums + stranger.replace(sum_, digest(b"y")), 5),
-        "after ones that agree": (sums + sums + other[1], 7), "in binary": (sums + other[2].replace(b"  ", b" *"), 4),
-        "by its last digit": (sums + lines[0][:63] + (b"1" if lines[0][63:64] == b"0" else b"0") + lines[0][64:], 4),
-        "escaped and not": (sum_ + rb"  a\b" + b"\n\\" + digest(b"y") + rb"  a\\b" + b"\n" + sums, 2),
-        "a last line without a line feed": (sums + other[0][:-1], 4),
-        "with a carriage return": (sums + other[0][:-1] + b"\r\n", 4),
-        "far below": (sums + b"".join(sum_form.line_of(b"%d" % k, sum_) for k in range(700)) + other[0], 704)}
-    for name, (text, number) in contradicted.items():
-        check(f"sums that contradict each other: {name}", run=(call.by(text), fault(f"sums form line {number}")),
-              read=(sum_form.read(text)[1], number))
-    twins = {"escaped and not": sum_ + rb"  a\b" + b"\n\\" + sum_ + rb"  a\\b" + b"\n" + sums,
-             "another name": sums + digest(b"y") + b"  ./claim.json\n",
-             "names in another case": sums + sum_form.line_of(b"CLAIM.JSON", sum_)}
-    for name, text in twins.items():
-        call.says(f"sums that don't contradict each other: {name}", text, call.plain())
-    for text, kind in ((b"", "claim"), (lines[0], "certificate"), (lines[0] + lines[1], "capture"),
-                       (lines[1] + lines[2], "claim"), (lines[2], "claim"), (lines[2] + lines[0], "certificate"),
-                       (stranger, "claim")):
-        call.says(f"sums without the {kind}, {len(text.splitlines())} lines", text, f"sums missing {kind}")
-    check("an empty file of sums",
-          run=(run([*call.words, "--sums", "/dev/null"], cwd=folder), fault("sums missing claim")))
+    """Lines that aren't of the form, at each place of a file, lines that contradict each other, and lines that lack."""
+    call, sum_ = inputs_in(folder), digest(b"x")
+    sums, plain = call.sums(), call.plain()
+    lines = sums.splitlines(keepends=True)
+    broken = [line.replace(b"@", sum_) for line in BROKEN] + [
+        start + sum_[len(start):] + b"  x" for start in (b"g", b"\0", "\u0660".encode())] + [sum_[1:] + b"  x"]
+    refused = [b"".join([*lines[:number], line + b"\n", *lines[number:]]) for line in broken for number in range(4)]
+    other, stranger = [digest(b"other") + line[64:] for line in lines], sum_form.line_of(b"other", sum_)
+    refused += [text for line in other for text in (sums + line, line + sums, sums + line.replace(b"  ", b" *"),
+                                                    sums + line[:-1], sums + line[:-1] + b"\r\n", sums + sums + line)]
+    refused += [stranger + sums + stranger.replace(sum_, digest(b"y")), sums + b"".join(
+        sum_form.line_of(b"%d" % k, sum_) for k in range(700)) + other[0], *(sums + line for line in broken if line),
+        sum_ + rb"  a\b" + b"\n\\" + digest(b"y") + rb"  a\\b" + b"\n" + sums]
+    for text in refused:
+        check(f"sums that are refused: {text[-300:]!r}", run=(call.by(text), wanted(call, plain, text)),
+              read=(sum_form.read(text)[1] > 0, True))
+    pairs = map(b"".join, itertools.combinations(lines, 2))
+    for text in (sum_ + rb"  a\b" + b"\n\\" + sum_ + rb"  a\\b" + b"\n" + sums, b"", *lines, *pairs,
+                 sums + digest(b"y") + b"  ./claim.json\n", sums + sum_form.line_of(b"CLAIM.JSON", sum_)):
+        check(f"sums that are read: {text!r}", run=(call.by(text), wanted(call, plain, text)),
+              read=(sum_form.read(text)[1], 0))
 
 
 def test_size(folder: Path) -> None:
@@ -218,16 +164,6 @@ def test_random(folder: Path) -> None:
     os.rename(folder / "second.json", folder / "se\\co\nnd")
     call = call.of(second="se\\co\nnd")
     sums, plain = call.sums(), call.plain()
-    own = {kind: digest(call.data(kind)) for kind in call.inputs}
-
-    def wanted(text: bytes) -> Ran:
-        said, number = sum_form.read(text)
-        if number:
-            return fault(f"sums form line {number}")
-        names = {kind: name.encode() for kind, name in call.inputs.items()}
-        missing = next((kind for kind, name in names.items() if name not in said), None)
-        differs = next((kind for kind, name in names.items() if said.get(name) != own[kind]), None)
-        return fault(f"sums missing {missing}") if missing else fault(f"sums differ {differs}") if differs else plain
 
     def spoiled() -> bytes:
         text = bytearray(sums if RANDOM.random() < 0.8 else sums + sums.replace(b"\n", b"\r\n"))
@@ -243,6 +179,108 @@ def test_random(folder: Path) -> None:
     texts = [spoiled() for _ in range(2000)]
     with ThreadPoolExecutor() as pool:
         for text, seen in zip(texts, pool.map(call.by, texts)):
-            check(f"the sums {text!r}", run=(seen, wanted(text)))
-    kinds = {re.sub(rb" \d+\n", b"\n", wanted(text)[2]) for text in texts}
+            check(f"the sums {text!r}", run=(seen, wanted(call, plain, text)))
+    kinds = {re.sub(rb" \d+\n", b"\n", wanted(call, plain, text)[2]) for text in texts}
     check("answers of each kind", kinds=(len(kinds), 8))
+
+
+FOLDER = "a folder"
+Content = bytes | int | str | None
+"""What a file becomes: FOLDER is one."""
+
+
+class Refusal(NamedTuple):
+    """A refusal: what is spoiled for it, which no two of a scene can share; the answer; and what becomes of files (None
+    is no file, a number a file of so many bytes) or of the lines of sums."""
+
+    spoils: str
+    line: str
+    status: int = 2
+    files: dict[str, Content] = {}
+    lines: Callable[[list[bytes]], list[bytes]] = list
+
+
+def with_other(at: int, other: Callable[[bytes], bytes]) -> Callable[[list[bytes]], list[bytes]]:
+    """What puts another line in the place of one."""
+    return lambda lines: [*lines[:at], other(lines[at]), *lines[at + 1 :]]
+
+
+def refusals(command: str) -> Iterator[Refusal]:
+    """All refusals but those of a command line, in the order in which they come."""
+    second = SECOND.get(command)
+    kinds = [kind for kind in ("claim", second, "capture") if kind]
+    for kind in (*kinds, "sums"):
+        yield Refusal(kind, f"device {kind}", 4, {kind: None})
+    yield Refusal("sums", "too-big sums", 2, {"sums": b"\n" * (MOST + 1)})
+    yield Refusal("sums", "device sums", 4, {"sums": FOLDER})
+    yield Refusal("form", "sums form line 3", lines=lambda lines: [*lines[:2], b"# a comment", *lines[2:]])
+    yield Refusal("form", f"sums form line {len(kinds) + 1}",
+                  lines=lambda lines: [*lines, digest(b"yet another") + lines[-1][64:]])
+    for at, kind in enumerate(kinds):
+        yield Refusal(f"line {at}", f"sums missing {kind}", lines=with_other(at, lambda _: NOTHING + b"  other"))
+    for at, kind in enumerate(kinds):
+        if kind != "capture":
+            yield Refusal(kind, f"too-big {kind}", files={kind: 134_217_729 if kind == "certificate" else MOST + 1})
+        yield Refusal(kind, f"device {kind}", 4, {kind: FOLDER})
+        yield Refusal(f"line {at}", f"sums differ {kind}",
+                      lines=with_other(at, lambda line: digest(b"another") + line[64:]))
+    for which, data, line in (("claim", b"[", "claim 1 json"), ("claim", b"{}", "claim 2 field field 1"),
+                              (second, b"[", f"{second} 1 json"), ("capture", b"", "capture 1 torn-header"),
+                              ("capture", bytes(24), "capture 2 magic")):
+        if which:
+            yield Refusal(which, line, files={which: data})
+
+
+def staged(call: Call, *spoils: Refusal) -> Ran:
+    """What is said if all of this is spoiled. Each input has its line with the sum of what it then holds, but for the
+    lines that are spoiled, the last refusal's first. Where it's refused nothing is written."""
+    files: dict[str, Content] = {kind: call.data(kind) for kind in call.inputs}
+    for spoil in spoils:
+        files |= spoil.files
+    digests = {kind: digest(data) if isinstance(data := files[kind], bytes) else NOTHING for kind in call.inputs}
+    lines = [digests[kind] + b"  " + file.encode() for kind, file in call.inputs.items()]
+    for spoil in reversed(spoils):
+        lines = spoil.lines(lines)
+    files.setdefault("sums", b"".join(line + b"\n" for line in lines))
+    with tempfile.TemporaryDirectory(prefix="ntpaudit-") as place:
+        for kind, file in {**call.inputs, "sums": "SUMS"}.items():
+            path, data = Path(place) / file, files[kind]
+            if data == FOLDER:
+                path.mkdir()
+            elif isinstance(data, int):
+                with open(path, "wb") as opened:
+                    opened.truncate(data)
+            elif isinstance(data, bytes):
+                path.write_bytes(data)
+        status, output, error = run([*call._replace(folder=Path(place)).words, "--sums", "SUMS"], cwd=place)
+        left = sorted(path.name for path in Path(place).glob("written*"))
+        return f"{status}, and {left}" if status != 0 and left else status, output, error
+
+
+def test_order(folder: Path) -> None:
+    """Each refusal alone, and each two that don't spoil the same thing: the first of the order is answered."""
+    for second, command, *options in (("two-packets.certificate.json", "check"),
+                                      ("two-packets.refutation.json", "refute"), ("", "settle"),
+                                      ("", "settle", "-o", "written")):
+        own = folder / " ".join([command, *options])
+        own.mkdir()
+        call = inputs_in(own, "two-packets", second, command)._replace(options=tuple(options))
+        listed = list(refusals(command))
+        pairs = [pair for pair in itertools.combinations(listed, 2) if pair[0].spoils != pair[1].spoils]
+        check(f"{own.name}: nothing is spoiled", run=(staged(call), call.plain()),
+              pairs=(len(pairs), lambda count: count > 100))
+        scenes = [(one,) for one in listed] + pairs
+        with ThreadPoolExecutor() as pool:
+            for scene, seen in zip(scenes, pool.map(lambda scene: staged(call, *scene), scenes)):
+                check(f"{own.name}: {' before '.join(one.line for one in scene)}",
+                      run=(seen, fault(scene[0].line, scene[0].status)))
+
+
+def test_after(folder: Path) -> None:
+    """What a record of a capture is refused for is said after all sums are seen."""
+    call = inputs_in(folder, "two-packets", "two-packets.certificate.json")
+    lines = call.sums().splitlines(keepends=True)
+    (folder / "torn").write_bytes(call.data("capture")[:200])
+    torn = call.of(capture="torn")
+    check("a torn capture", run=(torn.by(torn.sums()), fault("capture 5 torn-record at 130")),
+          other=(torn.by(b"".join(lines[:2]) + NOTHING + b"  torn\n"), fault("sums differ capture")))
