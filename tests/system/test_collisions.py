@@ -1,16 +1,14 @@
 """Gives the program captures whose requests would all fall on one place of its index, if the index hashed them without
 a key or with one that is always the same. The hash takes a request's timestamp last, by xor: so if the state at the
-start is known, whoever writes a capture chooses timestamps with which all come to one state. And the test can see that:
-where strace puts zeros in the place of the program's random key, such a capture has to cost more than the limit.
+start is known, whoever writes a capture chooses timestamps with which all come to one state.
 """
 import json
 import resource
-import signal
 import struct
 from collections.abc import Iterator
 from pathlib import Path
 
-from tests.support import check, is_here, program, run, skip
+from tests.support import check, program, run
 from tests.second.columns import counted
 from tests.tools.families import CLIENT, Setting, address, frame
 
@@ -40,27 +38,6 @@ def written(state: int, value: int, width: int) -> int:
 
 def turned(word: int, bits: int) -> int:
     return (word << bits | word >> 64 - bits) & MASK
-
-
-def made_of_zero() -> int:
-    """SipHash-1-3 of the number 0 in 8 bytes under a key of zeros: what the program then hashes first."""
-    v0, v1, v2, v3 = (int.from_bytes(b"somepseudorandomlygeneratedbytes"[at:at + 8], "big") for at in (0, 8, 16, 24))
-
-    def mixed() -> None:
-        nonlocal v0, v1, v2, v3
-        v0, v2 = (v0 + v1) & MASK, (v2 + v3) & MASK
-        v1, v3 = turned(v1, 13) ^ v0, turned(v3, 16) ^ v2
-        v0, v2 = (turned(v0, 32) + v3) & MASK, (v2 + v1) & MASK
-        v1, v3 = turned(v1, 17) ^ v2, turned(v3, 21) ^ v0
-        v2 = turned(v2, 32)
-    for word in (0, 8 << 56):
-        v3 ^= word
-        mixed()
-        v0 ^= word
-    v2 ^= 0xFF
-    for _ in range(3):
-        mixed()
-    return v0 ^ v1 ^ v2 ^ v3
 
 
 def keys(start: int) -> Iterator[tuple[int, int, int]]:
@@ -103,29 +80,6 @@ def test_program(folder: Path) -> None:
         path.write_bytes(capture(start))
         check(f"requests that would collide under {name}",
               run=(run([PROGRAM, "samples", claim, path], preexec_fn=limited), WANTED))
-
-
-def test_control(folder: Path) -> None:
-    """A program whose key is known is slow on the capture for it, and quick on another: so the tests above can fail."""
-    if not is_here("strace", "a program whose key is known"):
-        return
-    traced = ["strace", "-qq", "-o", folder / "calls", "-e", "trace=getrandom"]
-    if run([*traced, PROGRAM, "--version"])[0]:
-        skip("a program whose key is known", "strace may not look at a call here")
-        return
-    calls = (folder / "calls").read_text().splitlines()  # (the key has 16 bytes, and what the allocator asks for 8)
-    key, = [number for number, call in enumerate(calls, 1) if ", 16, " in call]
-    zeros = [*traced, "-e", f"inject=getrandom:poke_exit=@arg1={bytes(16).hex()}:when={key}"]
-    if run([*zeros, PROGRAM, "--version"])[0]:
-        skip("a program whose key is known", "strace may not change a call here")
-        return
-    for name, start, is_slow in (("that key", written(INITIAL, made_of_zero(), 8), True), ("another", INITIAL, False)):
-        path = folder / "f.pcap"
-        path.write_bytes(capture(start))
-        status = run([*zeros, PROGRAM, "samples", claim_of(folder), path], preexec_fn=limited)[0]
-        check(f"a program whose key is known, and requests that collide under {name}",
-              ended=(status in (-signal.SIGXCPU, -signal.SIGKILL), is_slow), status=(status == 0, not is_slow),
-              calls=((folder / "calls").read_text().count("(INJECTED"), lambda count: count >= 1))
 
 
 def limited() -> None:

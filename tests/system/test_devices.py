@@ -7,15 +7,13 @@ import select
 import shlex
 import shutil
 import subprocess
-import time
 from pathlib import Path
 from subprocess import PIPE
 from typing import IO, Any
 
-from tests.support import DATA, Ran, SECONDS, check, nobody, program, run, sum_of
-from tests.second import sum_form
+from tests.support import DATA, Ran, SECONDS, check, nobody, program, run
 from tests.second.columns import SAMPLE, written
-from tests.second.commands import CAPTURE, CERTIFICATE, CLAIM, Command, every_command, fault_alone, REFUTATION, SECOND
+from tests.second.commands import CAPTURE, CLAIM, Command, every_command, fault_alone
 
 PROGRAM = program()
 BYTES = CAPTURE.read_bytes()
@@ -39,33 +37,6 @@ def test_closed_streams() -> None:
     check("standard error closed", run=(shell('"$0" list "$1.missing" 2>&-'), (4, b"", b"")))
     check("standard error closed at a refused command line", run=(shell('"$0" lists 2>&-'), (5, b"", b"")))
     check("all streams closed", run=(shell('"$0" list "$1" <&- >&- 2>&-'), (4, b"", b"")))
-
-
-def test_sums(folder: Path) -> None:
-    """A file of sums that isn't there, or can't be read, or comes slowly; and the commands that take one, on all
-    devices on which the others are tried. The devices that stand for an input have their lines too."""
-    sums, devices = folder / "SUMS", {"/dev/null": b"", "/proc/self/mem": b"", "/dev/stdin": BYTES}
-    files = [CLAIM, CAPTURE, CERTIFICATE, REFUTATION]
-    data = {**{str(file): file.read_bytes() for file in files}, **devices}
-    sums.write_bytes(b"".join(sum_form.line_of(name.encode(), sum_of(given).encode()) for name, given in data.items()))
-    no_sums = 4, b"", b"ntpaudit: device sums\n"
-    for command in [command for command in every_command() if command.name in SECOND]:
-        name, operands = command.title, [command.name, CLAIM, CAPTURE, *command.words]
-        try_command(command._replace(options=(*command.options, f"--sums={sums}")))
-        for what, no_file in {"is missing": folder / "missing", "is a folder": folder,
-                              "can't be read": "/proc/self/mem", "has an empty name": "",
-                              "is below a file": sums / "SUMS"}.items():
-            check(f"{name} with a file of sums that {what}",
-                  run=(fault_alone(shell('"$0" "$@"', *operands, f"--sums={no_file}"), command.options), no_sums))
-            full = shell('"$0" "$@" > /dev/full', *operands, f"--sums={no_file}")
-            check(f"{name} to a full device with a file of sums that {what}",
-                  run=(fault_alone(full, command.options), no_sums))
-        file = shlex.quote(str(sums))
-        slow = (
-            f'{{ head -c 60 {file}; sleep 0.02; tail -c +61 {file} | head -c 100; sleep 0.02; tail -c +161 {file}; }} '
-            '| "$0" "$@" --sums /dev/stdin')
-        check(f"{name} with sums that come slowly",
-              run=(fault_alone(shell(slow, *operands), command.options), (*command.whole, b"")))
 
 
 def try_command(command: Command) -> None:
@@ -186,29 +157,6 @@ def test_live() -> None:
     check("lines of a capture that goes on", seen=(seen, lines[:2]))
     out, err = ran.communicate(timeout=SECONDS)
     check("the end of a capture that went on", run=((out, err, ran.returncode), (lines[2], b"", 0)))
-
-
-def test_slow_pipes() -> None:
-    """Captures that come, and listings that go, a few bytes at a time."""
-    ran = subprocess.Popen([PROGRAM, "list"], stdin=PIPE, stdout=PIPE, stderr=PIPE)
-    assert ran.stdin
-    try:
-        for at in range(0, len(BYTES), 3):
-            os.write(ran.stdin.fileno(), BYTES[at : at + 3])
-            time.sleep(0.001)
-    except BrokenPipeError:
-        pass  # (a program that ends early shows below)
-    check("a capture of three bytes at a time",
-          run=((*ran.communicate(timeout=SECONDS), ran.returncode), (LISTING, b"", 0)))
-    ran = subprocess.Popen([PROGRAM, "list", DATA / "odd-us.pcap"], stdout=PIPE, stderr=PIPE, bufsize=0)
-    assert ran.stdout and ran.stderr
-    listing = b""
-    while piece := ran.stdout.read(97):
-        listing += piece
-    said = ran.stderr.read()
-    ran.stdout.close(), ran.stderr.close()
-    check("a listing read in small pieces", status=(ran.wait(SECONDS), 0), error=(said, b""),
-          output=(listing, (DATA / "odd-us.list.txt").read_bytes()))
 
 
 def test_commands() -> None:

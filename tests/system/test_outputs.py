@@ -10,6 +10,7 @@ import tempfile
 import time
 from collections.abc import Iterator
 from concurrent.futures import ThreadPoolExecutor
+from itertools import product
 from pathlib import Path
 from typing import Any
 
@@ -55,9 +56,9 @@ def call(command: Command, file: object, claim: object = CLAIM, capture: object 
     return fault_alone(ran, command.options)
 
 
-def sha256(*inputs: Path, of: Path | None = None) -> bytes:
-    """What sha256sum writes of these inputs, or of another file under their names."""
-    return b"".join(f"{hashlib.sha256((of or path).read_bytes()).hexdigest()}  {path}\n".encode() for path in inputs)
+def sha256(*inputs: Path) -> bytes:
+    """What sha256sum writes of these inputs."""
+    return b"".join(f"{hashlib.sha256(path.read_bytes()).hexdigest()}  {path}\n".encode() for path in inputs)
 
 
 def files_of(folder: Path) -> dict[str, bytes]:
@@ -101,26 +102,6 @@ def test_answers(folder: Path) -> None:
         ran = call(command, "f", capture="-", before=slow, cwd=inside)
         check(f"{command.title} of a pipe", run=(ran, told(command, 2)),
               files=(files_of(inside), {"f": text_of(for_a_program(command), 2)[1]}))
-
-
-def test_refusals(folder: Path) -> None:
-    """What is refused leaves the file as it was, and is told as without `-o`."""
-    inside, none = folder / "in", folder / "none"
-    refused = {
-        "a capture without a header": (CLAIM, "/dev/null", TORN),
-        "a claim that isn't one": ("/dev/null", CAPTURE, (2, b"", b"ntpaudit: claim 1 json\n")),
-        "a claim that isn't there": (none, CAPTURE, (4, b"", b"ntpaudit: device claim\n")),
-        "a capture that isn't there": (CLAIM, none, (4, b"", b"ntpaudit: device capture\n")),
-        "a claim whose reads fail": ("/proc/self/mem", CAPTURE, (4, b"", b"ntpaudit: device claim\n")),
-        "a capture whose reads fail": (CLAIM, "/proc/self/mem", (4, b"", b"ntpaudit: device capture\n")),
-        "an endless claim": ("/dev/zero", CAPTURE, (2, b"", b"ntpaudit: too-big claim\n"))}
-    for command in writers():
-        for what, (claim, capture, wanted) in refused.items():
-            for old, files in beginnings():
-                fill(inside, files)
-                check(f"{command.title} of {what} to {old}",
-                      run=(call(command, inside / "f", claim=claim, capture=capture), wanted),
-                      files=(files_of(inside), files))
 
 
 def obstacles(folder: Path) -> Iterator[tuple[str, object]]:
@@ -190,27 +171,14 @@ def test_inputs(folder: Path) -> None:
 
 
 def test_sums(folder: Path) -> None:
-    """With `--sums` a draft is made once each input has its sum, and SUMS is an input: no path of it is written."""
-    inside = folder / "in"
-    for command in writers():
-        if command.name != "settle":
-            continue
-        for what, files in beginnings():
-            for made, wanted in ((sha256(CLAIM, CAPTURE), told(command, 2)),
-                                 (sha256(CLAIM), (2, b"", b"ntpaudit: sums missing capture\n")),
-                                 (b"x\n" + sha256(CLAIM, CAPTURE), (2, b"", b"ntpaudit: sums form line 1\n")),
-                                 (sha256(CLAIM, CAPTURE, of=CLAIM), (2, b"", b"ntpaudit: sums differ capture\n"))):
-                fill(inside, files)
-                ran = call(command, inside / "f", streams="--sums /dev/stdin", given=made)
-                is_written = wanted[0] == 0
-                check(f"{command.title} by sums to {what}: {wanted[2]!r}", run=(ran, wanted), files=(
-                    files_of(inside), {"f": text_of(for_a_program(command), 2)[1]} if is_written else files))
-        fill(inside, {"SUMS": sha256(CLAIM, CAPTURE)})
-        (inside / "other").hardlink_to(inside / "SUMS")
-        for file in ("SUMS", "./SUMS", inside / "SUMS", "other"):
+    """SUMS is an input: no path of it is written. (What `-o` leaves of inputs with sums test_sum_lines.py tries.)"""
+    (folder / "SUMS").write_bytes(sha256(CLAIM, CAPTURE))
+    (folder / "other").hardlink_to(folder / "SUMS")
+    for command, file in product(writers(), ("SUMS", "./SUMS", folder / "SUMS", "other")):
+        if command.name == "settle":
             check(f"{command.title} to its sums as {file}",
-                  run=(call(command, file, streams="--sums SUMS", cwd=inside), NO_OUTPUT),
-                  files=(set(files_of(inside).values()), {sha256(CLAIM, CAPTURE)}))
+                  run=(call(command, file, streams="--sums SUMS", cwd=folder), NO_OUTPUT),
+                  files=(set(files_of(folder).values()), {sha256(CLAIM, CAPTURE)}))
 
 
 def test_output_fails(folder: Path) -> None:

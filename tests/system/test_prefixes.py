@@ -1,6 +1,5 @@
 """Gives each command each prefix of data/two-packets.pcap, of its claim, its certificate and its refutation: files that
-were cut. The commands are those of tests/second/commands.py, and there is no other. Each takes an option that has no
-value once.
+were cut. The commands are those of tests/second/commands.py, and there is no other.
 """
 import re
 from collections.abc import Callable
@@ -9,7 +8,7 @@ from pathlib import Path
 
 from tests.support import DATA, Ran, check, program, run
 from tests.second.answers import Answer
-from tests.second.commands import CAPTURE, CLAIM, Command, every_command, fault_alone, flags_of, SECOND
+from tests.second.commands import CAPTURE, CLAIM, Command, every_command, fault_alone, SECOND
 
 BYTES = CAPTURE.read_bytes()
 LINES = (DATA / "two-packets.list.txt").read_bytes().splitlines(keepends=True)
@@ -72,20 +71,6 @@ def try_command(command: Command) -> None:
 def test_names() -> None:
     named = set(re.findall(r"^  (\w+)  ", run([PROGRAM, "--help"])[1].decode(), flags=re.M))
     check("the commands of the program", seen=({command.name for command in every_command()}, named - {"list", "help"}))
-
-
-def test_flags() -> None:
-    """An option without a value is refused twice, with a value, and beside a command that hasn't it."""
-    operands = {command.name: [CLAIM, CAPTURE, *command.others] for command in every_command()} | {"list": [CAPTURE]}
-    flags = {name: flags_of(name) for name in operands}
-    for name, files in operands.items():
-        for letter, word in flags[name]:
-            check(f"{name} {word}", once=(run([PROGRAM, name, *files, word])[0], lambda status: status in (0, 1)))
-            for words in ([word, word], [f"{word}=1"], *([[word, letter]] if letter else [])):
-                status, output, error = run([PROGRAM, name, *files, *words])
-                check(f"{name} {' '.join(words)}", refused=((status, output, error != b""), (5, b"", True)))
-        for _, word in {flag for others in flags.values() for flag in others} - {*flags[name]}:
-            check(f"{name} has no {word}", status=(run([PROGRAM, name, *files, word])[0], 5))
 
 
 def test_commands() -> None:
