@@ -31,7 +31,7 @@ from ..schema import read_typed
 from ..text import note, plain
 from ..units import SECOND, ceil_div, civil, span_of_seconds
 from ..verdict.judgement import piece_of
-from ..verdict.parts import parted
+from ..verdict.parts import spoken
 from ..verdict.seen import camps_at
 from .band import Band, line_of, metrics_of
 from .hearing import Hearing
@@ -181,10 +181,10 @@ def told_of(wanted: Wanted, claim: Claim, found: Latest, moment: Moment) -> Mome
     end = whole.extent.stamps[hearing.enough] >> 32
     own = replace(own, from_=civil(min(end, max(end - span, min(whole.extent.stamps[fell:]) >> 32))), to=civil(end))
     step, program = 1 + span // MOST_PIECES, wanted.program
-    parts = parted(program, own, path, whole.extent, step)
-    settled, capture, before = read_settled(parts.settled), parts.capture, ""
-    if parts.moves:
-        begin, capture = ceil_div(parts.moves[-1].by, SECOND), f"stretch-{len(parts.moves)}.pcap"
+    said = spoken(program, own, path, whole.extent)
+    settled, capture, before = read_settled(said.settled), said.capture, ""
+    if said.moves:
+        begin, capture = ceil_div(said.moves[-1].by, SECOND), f"stretch-{len(said.moves)}.pcap"
         end = end if begin <= end else max(begin, found.last)
         own = replace(own, from_=civil(max(own.first, begin)), to=civil(end))
         settled = settle(program, own, capture)
@@ -210,7 +210,7 @@ def told_of(wanted: Wanted, claim: Claim, found: Latest, moment: Moment) -> Mome
         verdict=UNSUPPORTED if settled.answer == YES and against else settled.answer,
         heard=sum(any(own.servers[k] not in silent for k in group) for group in own.grouped),
         camps=[list(camp) for camp in camps] if len(camps) > 1 else [],
-        moves=[move for move in parts.moves if move.by > (own.last - span) * SECOND], before=before if fits else "",
+        moves=[move for move in said.moves if move.by > (own.last - span) * SECOND], before=before if fits else "",
         least_ns=envelope.least_ns if fits else None,
         pieces=[piece_of(envelope, k) for k in range(len(envelope.hulls))])
 

@@ -137,15 +137,13 @@ class Beyond:
 
 @dataclass(frozen=True)
 class Stretch:
-    """A part of the span between steps and gaps: its ends in Unix seconds, the outermost ends of the hull in it, what
-    lies before it, when the clock was beyond the bound for longest, and the servers that stand apart in all of it."""
+    """A part of the span between steps and gaps: its ends in Unix seconds, the outermost ends of the hull in it, and
+    when the clock was beyond the bound for longest."""
 
     from_: Seconds
     to: Seconds
     hull: Hull
-    begins: Literal["", "gap", "step"] = ""
     beyond: Annotated[list[Beyond], length(0, FEW)] = field(default_factory=list)
-    apart: list[Address] = field(default_factory=list)
     moves: Count = 0
     """How many moves of the clock lie before it."""
 

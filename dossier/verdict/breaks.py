@@ -42,11 +42,12 @@ class Search:
         self.begins = array("Q", (begin for _, begin, _ in self.whole.rows()))
         self.number = len(self.begins)
         self.begins.append(self.whole.extent.end)
+        self.left = list[int]()
         keep(ANY, replace(claim, bound_ns=GREATEST_BOUND).text)
 
     def found(self) -> list[Break]:
         """None if there are many, or they can't be told: then it isn't steps."""
-        left = self.from_left(0, self.number)
+        left = self.left = self.from_left(0, self.number)
         right = self.from_right(left) if 0 < len(left) <= FEW else []
         if self.calls <= 0 or self.bytes <= 0 or len(left) != len(right) or not left:
             return []

@@ -21,7 +21,7 @@ from ..folder.placing import keep
 from ..folder.program import Program
 from ..records import replace
 from ..units import LAST_SECOND, SECOND, TICKS, bound_ticks, ceil_div, civil
-from .apart import SEVERAL, Time, apart_of, are_in, outermost, pieces_of, search_of
+from .apart import SEVERAL, Time, are_in, outermost, pieces_of, search_of
 from .breaks import SOME, Break, Search
 from .gaps import gaps_of, inner_gaps, told_of
 
@@ -37,20 +37,24 @@ COARSE = 1000
 
 
 class Parted(NamedTuple):
-    """What a recording says of a span, part by part."""
+    """What a recording says of a span between the clock's moves, part by part."""
 
-    settled: bytes
-    """What `settle` says: of the whole capture, or of the one stretch that can have shown the span."""
-    capture: str
-    moves: list[Move]
     parts: list[Stretch]
-    envelopes: list[Envelope]
     texts: list[bytes]
-    """Of the envelopes, as the program printed them."""
+    """The envelopes, as the program printed them."""
     gaps: list[tuple[Gap, str]]
     """In which no server was heard, each with the private file that has what was recorded then."""
-    apart: list[Time] = []
+    apart: list[Time]
     """In which servers stand apart."""
+
+
+class Spoken(NamedTuple):
+    """What `settle` says of a claim by a whole capture, or by the one stretch of it that can have shown the span, which
+    of these it is; and how the clock moved, if that is known."""
+
+    settled: bytes
+    capture: str
+    moves: list[Move] = []
 
 
 class Side(NamedTuple):
@@ -237,18 +241,18 @@ class Parting:
         return True
 
     def shown_by(self) -> Side | None:
-        """The one stretch that can have shown readings of the span, if that is known."""
+        """The one stretch that can have shown readings of the span, if that is known, and if its yes, if it is one,
+        stands with all that a movement beside it may hide."""
         if not self.moves or not self.are_whole:
             self.moves = [replace(move, until=0, since=0) for move in self.moves]
             return None
         found = [side for number, side in enumerate(self.sides) if self.may_show(number)]
-        return found[0] if len(found) == 1 else None
-
-    def is_shown_beside(self, side: Side) -> bool:
-        """Whether a stretch's yes, if it is one, stands with all that a movement beside it may hide."""
-        own, wider = (read_settled(self.program.run("settle", self.named(claim), side.path).text).answer
-                      for claim in (self.claim, self.wider(self.claim)))
-        return own != YES or wider == YES
+        if len(found) != 1:
+            return None
+        wider = replace(self.claim, reading_ns=min(SECOND, self.claim.reading_ns + self.hidden))
+        own, wide = (read_settled(self.program.run("settle", self.named(claim), found[0].path).text).answer
+                     for claim in (self.claim, wider))
+        return found[0] if own != YES or wide == YES else None
 
     def spans(self, step: int) -> Iterator[tuple[int, Side, Claim]]:
         """Of each stretch its number and the claims of the readings of the span that it has records beside, if there
@@ -304,10 +308,6 @@ class Parting:
                 found.append((min(left_out), max(left_out)))
         return found
 
-    def wider(self, claim: Claim) -> Claim:
-        """A claim that grants as much more of `reading_ns` as may be hidden beside a movement that was no step."""
-        return replace(claim, reading_ns=min(SECOND, claim.reading_ns + self.hidden))
-
 
 def without(claim: Claim, left_out: Sequence[int]) -> Claim:
     """A claim without some of its servers."""
@@ -316,46 +316,33 @@ def without(claim: Claim, left_out: Sequence[int]) -> Claim:
     return replace(claim, servers=[claim.servers[number] for number in kept] or claim.servers, groups=groups)
 
 
-def parted(program: Program, claim: Claim, capture: str, extent: Extent | None, step: int) -> Parted:
-    """What a capture says of a claim, in parts, with envelopes in pieces of so many seconds."""
+def spoken(program: Program, claim: Claim, capture: str, extent: Extent | None) -> Spoken:
+    """What a capture says of a claim."""
     keep(ALONE, claim.text)
     settled = program.run("settle", ALONE, capture).text
-    parting = Parting(program, claim, capture, extent) if read_settled(settled).answer == NOTHING_FITS else None
-    if parting and (own := parting.shown_by()) and parting.is_shown_beside(own):
+    if read_settled(settled).answer != NOTHING_FITS:
+        return Spoken(settled, capture)
+    parting = Parting(program, claim, capture, extent)
+    if side := parting.shown_by():
         keep(ALONE, claim.text)
-        settled, capture = program.run("settle", ALONE, own.path).text, own.path
-    elif parting:
-        if parting.end < parting.search.number:
-            parting.moves = []  # (what came last would be left out)
-        return in_parts(program, parting, settled, capture, step)
-    keep(ALONE, claim.text)
-    recording = read_recording(program, ALONE, capture)
-    text = program.run("envelope", ALONE, capture, "--servers", "--least", "--step", str(step)).text
-    envelope = read_envelope(text)
-    gaps = gaps_of(claim, recording)
-    parts = split(envelope, gaps, claim)
-    return Parted(settled, capture, parting.moves if parting else [], parts, [envelope], [text],
-                  [(gap, capture) for gap in gaps])
+        return Spoken(program.run("settle", ALONE, side.path).text, side.path, parting.moves)
+    is_whole = parting.end == parting.search.number  # (else what came last would be left out)
+    return Spoken(settled, capture, parting.moves if is_whole else [])
 
 
-def in_parts(program: Program, parting: Parting, settled: bytes, capture: str, step: int) -> Parted:
+def in_parts(program: Program, parting: Parting, step: int) -> Parted:
     """Where no stretch speaks for the span alone: what holds in each, if the clock's moves are known."""
-    found = Parted(settled, capture, parting.moves, [], [], [], [], [])
+    found = Parted([], [], [], [])
     for number, side, claim in parting.spans(step) if parting.moves else ():
         words = ("envelope", parting.named(claim), side.path, "--servers", "--step", str(step))
         text = program.run(*words).text
         envelope = read_envelope(text)
         gaps = gaps_of(claim, side.recording)
-        own = [replace(part, moves=number) for part in split(envelope, gaps, claim)]
+        found.parts.extend(replace(part, moves=number) for part in split(envelope, gaps, claim))
         elsewhere = parting.beside(side)
         found.gaps.extend((gap, side.path) for gap in told_of(inner_gaps(side.recording, gaps), elsewhere))
         found.apart.extend(time for time in search_of(program, claim, side.path, None, envelope, gaps).missed
                            if time.samples >= SEVERAL)
-        if own and number:
-            is_first = all(part.moves < number for part in found.parts)
-            own[0] = replace(own[0], begins="step" if is_first else "gap")
-        found.parts.extend(own)
-        found.envelopes.append(envelope)
         found.texts.append(text)
     return found._replace(parts=found.parts[-MOST_PARTS:])
 
@@ -367,8 +354,7 @@ def split(envelope: Envelope, gaps: list[Gap], claim: Claim) -> list[Stretch]:
         begin, at = at, at + len(list(run))
         if not is_in:
             own = pieces_of(envelope, begin, at)
-            found.append(Stretch(own.begins[0], own.ends[-1], outermost(own.hulls), "gap" if found or begin else "",
-                                 beyond_in(own, bound), apart_of(own, [])))
+            found.append(Stretch(own.begins[0], own.ends[-1], outermost(own.hulls), beyond_in(own, bound)))
     return found[-MOST_PARTS:]
 
 

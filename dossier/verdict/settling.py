@@ -85,7 +85,7 @@ class Settling:
 
     def by_parts(self, parting: Parting, texts: Texts, own: str) -> Texts:
         """What comes of a capture that breaks: the answer of the stretch that has shown the span, or none."""
-        if (side := parting.shown_by()) and parting.is_shown_beside(side):
+        if side := parting.shown_by():
             cut_to, = cut(side.path, [self.part], None)
             self.take(own if cut_to(own) else side.path, own)
             return self.decide()._replace(moves=parting.moves, elsewhere=parting.beside(side))
@@ -94,28 +94,24 @@ class Settling:
             texts = self.decide()
         if read_settled(texts.settled).answer != NOTHING_FITS:
             return texts
-        spared = 0 if parting.moves else self.spared()
-        if spared:
-            more = replace(self.part.claim, false_max=spared)
-            parting = Parting(self.program, more, self.capture, self.extent, parting.leaps, True)
-        found = in_parts(self.program, parting, texts.settled, self.capture, self.step)
+        spared, parting = (0, parting) if parting.moves else self.spared(parting)
+        found = in_parts(self.program, parting, self.step)
         if found.texts:
             self.keep(files.PARTS, b"".join(found.texts))
         shown = read_shown(self.program, self.claim, self.capture, self.extent, texts.settled)
-        return texts._replace(moves=found.moves, parts=found.parts, conflicts=shown, spared=spared, gaps=found.gaps,
+        return texts._replace(moves=parting.moves, parts=found.parts, conflicts=shown, spared=spared, gaps=found.gaps,
                               apart=Seen([], found.apart))
 
-    def spared(self) -> int:
-        """With how many wrong groups, fewer than half, a course of events fits, or it is known how the clock moved; 0
-        if with none."""
+    def spared(self, parting: Parting) -> tuple[int, Parting]:
+        """With how many wrong groups, fewer than half, a course of events fits, or it is known how the clock moved, and
+        where it breaks then; 0 if with none."""
         claim = self.part.claim
         for most in range(claim.false_max + 1, min(claim.false_max + MOST_MORE, (len(claim.grouped) - 1) // 2) + 1):
-            more = replace(claim, false_max=most, bound_ns=GREATEST_BOUND)
-            keep(ALONE, more.text)
-            if read_settled(self.call("settle", ALONE, self.capture)).answer != NOTHING_FITS or \
-                    Parting(self.program, more, self.capture, self.extent).moves:
-                return most
-        return 0
+            more = replace(claim, false_max=most)
+            found = Parting(self.program, more, self.capture, self.extent, parting.leaps, True)
+            if found.moves or not found.search.left:
+                return most, found
+        return 0, parting
 
     def seen_apart(self, texts: Texts, gaps: list[Gap]) -> Seen:
         """Which servers stand apart, of as many as may be wrong, or have to be."""
