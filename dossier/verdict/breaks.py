@@ -5,13 +5,14 @@ every course with just so many steps each step lies in its break: behind the rec
 and before the one that ends one from the left (design: what a capture settles, cut at a step).
 """
 from array import array
+from itertools import pairwise
 from typing import NamedTuple
 
 from ..capture.classic import HEADER, Classic, Extent, write
 from ..capture.recording import read_recording
 from ..folder.answers import read_settled
 from ..folder.claim import GREATEST_BOUND, Claim
-from ..folder.entry import FEW, NOTHING_FITS
+from ..folder.entry import FEW
 from ..folder.placing import ROOM, keep
 from ..folder.program import Program
 from ..records import replace
@@ -20,6 +21,10 @@ ANY, SOME = "any.claim.json", "some.pcap"
 """Private files: the claim with the greatest bound, and a part of the capture."""
 MOST_CALLS, MOST_BYTES = 1000, 1 << 33
 """Of the program, to find all breaks; and bytes that it is given for that."""
+
+
+Pair = tuple[str, int, str, int]
+"""Two exchanges in conflict: the server and the record of a request, and those of a reply."""
 
 
 class Break(NamedTuple):
@@ -42,8 +47,8 @@ class Search:
         self.begins = array("Q", (begin for _, begin, _ in self.whole.rows()))
         self.number = len(self.begins)
         self.begins.append(self.whole.extent.end)
-        self.left = list[int]()
-        keep(ANY, replace(claim, bound_ns=GREATEST_BOUND).text)
+        self.left, self.any = list[int](), replace(claim, bound_ns=GREATEST_BOUND).text
+        keep(ANY, self.any)
 
     def found(self) -> list[Break]:
         """None if there are many, or they can't be told: then it isn't steps."""
@@ -75,17 +80,17 @@ class Search:
         self.cut(wide.after, wide.by + 1, SOME)
         requests = [wide.after + request for own in read_recording(self.program, ANY, SOME).by_address.values()
                     for request, reply in own if wide.after + reply >= left[0]] if len(left) == 1 else []
-        return bool(requests) and not self.conflict(min(requests), wide.by + 1)
+        return bool(requests) and not self.conflicts(min(requests), wide.by + 1)
 
     def from_left(self, first: int, end: int) -> list[int]:
         """The record with which each stretch is fitted no more, if it is as long as may be."""
         found = list[int]()
-        while len(found) <= FEW and (seen := self.conflict(first, end)):
-            low, high, back = first, seen[1] + 1, 1
+        while len(found) <= FEW and (seen := self.conflicts(first, end)):
+            low, high, back = first, ends_of(seen)[1] + 1, 1
             while high - low > 1:
                 middle, back = max((low + high) // 2, high - back), 2 * back
-                if closer := self.conflict(first, middle):
-                    high = closer[1] + 1
+                if closer := self.conflicts(first, middle):
+                    high = ends_of(closer)[1] + 1
                 else:
                     low = middle
             first = high - 1
@@ -95,32 +100,40 @@ class Search:
     def from_right(self, near: list[int]) -> list[int]:
         """The record from which on each stretch isn't fitted, seen from the end; near others, most likely."""
         found, end, hints = list[int](), self.number, list(near)
-        while len(found) <= FEW and (seen := self.conflict(0, end)):
-            low, high, back, hint = seen[0], end, 1, hints.pop() if hints else 0
-            while high - low > 1:
-                middle, back = max((low + high) // 2, high - back), 2 * back
-                if low < hint < high:
-                    middle, back, hint = hint, 1, 0
-                if closer := self.conflict(middle, end):
-                    low = closer[0]
-                else:
-                    high = middle
+        while len(found) <= FEW and (low := self.narrowest(0, end, hints.pop() if hints else 0)[0]) is not None:
             end = low + 1
             found.insert(0, low)
         return found
 
-    def conflict(self, first: int, end: int) -> tuple[int, int] | None:
-        """Between which records the conflicts lie for which no course fits those from the first to before the end, if
-        none does."""
+    def narrowest(self, first: int, end: int, hint: int = 0) -> tuple[int | None, list[Pair]]:
+        """The last record from which on to before the end no course fits, most likely near another one, and the
+        conflicts of these; None if one fits from the first on."""
+        found = self.conflicts(first, end)
+        low, high, back = ends_of(found)[0] if found else None, end, 1
+        while low is not None and high - low > 1:
+            middle, back = max((low + high) // 2, high - back), 2 * back
+            if low < hint < high:
+                middle, back, hint = hint, 1, 0
+            if closer := self.conflicts(middle, end):
+                low, found = ends_of(closer)[0], closer
+            else:
+                high = middle
+        return low, found
+
+    def told(self) -> list[Pair]:
+        """Of each stretch from the left the conflict by which it ends that spans the fewest records."""
+        keep(ANY, self.any)
+        found = (self.narrowest(first, end + 1)[1] for first, end in pairwise([0, *self.left]))
+        return [min(own, key=lambda pair: abs(pair[1] - pair[3])) for own in found if own]
+
+    def conflicts(self, first: int, end: int) -> list[Pair]:
+        """The conflicts for which no course fits the records from the first to before the end, if none does."""
         if first >= end or self.calls <= 0 or self.bytes <= 0:
-            return None
+            return []
         self.calls -= 1
         self.bytes -= self.cut(first, end, SOME)
-        settled = read_settled(self.program.run("settle", ANY, SOME).text)
-        if settled.answer != NOTHING_FITS:
-            return None
-        records = [first + record for _, request, _, reply in settled.conflicts for record in (request, reply)]
-        return min(records), max(records)
+        return [(low, first + request, high, first + reply) for low, request, high, reply in
+                read_settled(self.program.run("settle", ANY, SOME).text).conflicts]
 
     def cut(self, first: int, end: int, path: str) -> int:
         """Writes records to a private file. How many bytes that are."""
@@ -129,3 +142,9 @@ class Search:
         if path == SOME:
             ROOM.take(-size)  # (the next part takes the same room)
         return size
+
+
+def ends_of(conflicts: list[Pair]) -> tuple[int, int]:
+    """Between which records conflicts lie."""
+    records = [record for _, request, _, reply in conflicts for record in (request, reply)]
+    return min(records), max(records)

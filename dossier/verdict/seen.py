@@ -4,14 +4,15 @@ from operator import itemgetter
 
 from ..capture.classic import Classic, Extent
 from ..capture.recording import closing_of
-from ..folder.answers import Envelope, read_settled
+from ..folder.answers import Envelope
 from ..folder.entry import Camp, Conflict
 from ..folder.program import Program
+from .breaks import Pair
 
 
-def read_shown(program: Program, claim: str, capture: str, extent: Extent | None, settled: bytes) -> list[Conflict]:
-    """The conflicts that `settle` names, with what `samples` says of their exchanges."""
-    conflicts = read_settled(settled).conflicts
+def read_shown(program: Program, claim: str, capture: str, extent: Extent | None,
+               conflicts: list[Pair]) -> list[Conflict]:
+    """Conflicts that `settle` names, each once, with what `samples` says of their exchanges."""
     asked = {(server, request) for server, request, _, _ in conflicts}
     answered = {(server, reply) for _, _, server, reply in conflicts}
     least, most = dict[tuple[str, int], int](), dict[tuple[str, int], int]()
@@ -30,7 +31,7 @@ def read_shown(program: Program, claim: str, capture: str, extent: Extent | None
     def at(record: int) -> int:
         return whole.nanoseconds([whole.extent.stamps[record]])[0]
     return [Conflict(low, request, at(request), least[low, request], high, reply, at(reply), most[high, reply])
-            for low, request, high, reply in conflicts]
+            for low, request, high, reply in dict.fromkeys(conflicts)]
 
 
 LONG = 60

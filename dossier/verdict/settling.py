@@ -98,7 +98,9 @@ class Settling:
         found = in_parts(self.program, parting, self.step)
         if found.texts:
             self.keep(files.PARTS, b"".join(found.texts))
-        shown = read_shown(self.program, self.claim, self.capture, self.extent, texts.settled)
+        more = parting.search.told() if not parting.moves and parting.search.whole.path == self.capture else []
+        shown = read_shown(self.program, self.claim, self.capture, self.extent,
+                           read_settled(texts.settled).conflicts + more)
         return texts._replace(moves=parting.moves, parts=found.parts, conflicts=shown, spared=spared, gaps=found.gaps,
                               apart=Seen([], found.apart))
 
