@@ -227,7 +227,7 @@ class Alert:
     kind: Literal["outside", "no-drift", "falls", "silence", "far", "leap", "leap-second", "leap-ends", "sources",
                   "reference", "apart", "apart-for-a-time", "drift", "reading", "step", "oscillator", "torn",
                   "interleaved", "no-list", "flood", "slip", "twice", "address", "unread", "rate",
-                  "offset", "unlogged", "logged", "zone"]
+                  "offset", "unlogged", "logged", "zone", "wrong", "contrary"]
     count: Count = 0
     record: Count = 0
     before: Nanoseconds = 0

@@ -126,6 +126,10 @@ WORDS: dict[str, Callable[[Alert], str]] = {
                              "the claim's client's: another machine's stamps say nothing of this clock.",
     "apart": lambda found: f"{listed(found.servers)} {number(found, 'stands', 'stand')} apart: "
                            f"{number(found, 'its range never meets', 'their ranges never meet')} the hull.",
+    "wrong": lambda found: f"{listed(found.servers)} {number(found, 'was', 'were')} wrong for some time: no course of "
+                           f"events fits in which {number(found, 'it was', 'they were')} right.",
+    "contrary": lambda found: f"Of {listed(found.servers)} at least one was wrong for some time: no course of events "
+                              "fits in which all were right.",
     "interleaved": lambda found: f"{listed(found.servers)} mostly {number(found, 'answers', 'answer')} in interleaved "
                                  f"mode, which can't be used: {without_xleave(found)}.",
     "sources": lambda found: f"Only {count(found.count, 'server has', 'servers have')} a sample. With fewer than four "

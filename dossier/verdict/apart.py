@@ -5,13 +5,14 @@ off and where it ends, its interval says little, and only its samples say when: 
 the clock's error, can't be that of a right server.
 """
 from bisect import bisect_right
+from collections.abc import Iterable
 from operator import gt
 from typing import NamedTuple
 
 from ..capture.classic import Classic, Extent
 from ..capture.recording import closing_of
-from ..folder.answers import Envelope
-from ..folder.claim import Claim, Part
+from ..folder.answers import Envelope, read_settled
+from ..folder.claim import GREATEST_BOUND, Claim, Part
 from ..folder.entry import Gap, Hull
 from ..folder.placing import keep
 from ..folder.program import Program
@@ -74,10 +75,13 @@ class Time(NamedTuple):
 
 
 class Seen(NamedTuple):
-    """The servers that stand apart all the time, and when others do."""
+    """The servers that stand apart all the time, and when others do; those that were wrong in each course of events
+    that fits; and those of which it isn't known which were."""
 
     always: list[str]
     times: list[Time]
+    wrong: list[str] = []
+    some: list[str] = []
 
 
 def hulls_of(envelope: Envelope, gaps: list[Gap]) -> list[Hull]:
@@ -154,4 +158,31 @@ def seen_apart(program: Program, part: Part, capture: str, extent: Extent | None
     own = {time.server for time in missed} - search.met
     if not least:
         own |= {*always} - search.met
-    return Seen([server for server in part.claim.servers if server in own], times)
+    return Seen([server for server in part.claim.servers if server in own], times,
+                *wrong_in(program, part.claim, [] if least else [capture]))
+
+
+def needed(conflicts: list[set[int]], most: int) -> set[int] | None:
+    """What is in each set of at most so many that has an end of each conflict; None if there is no such set."""
+    if not conflicts:
+        return set()
+    found = [{one, *rest} for one in conflicts[0] if most
+             and (rest := needed([own for own in conflicts if one not in own], most - 1)) is not None]
+    return set.intersection(*found) if found else None
+
+
+def wrong_in(program: Program, claim: Claim, captures: Iterable[str]) -> tuple[list[str], list[str]]:
+    """The servers that were wrong in each course of events that fits one of these captures; and others of which some
+    were."""
+    group = {claim.servers[k]: number for number, own in enumerate(claim.grouped) for k in own}
+    found = list[set[str]]()
+    for capture in captures:
+        keep(SUSPECTS, replace(claim, groups=[], false_max=0, bound_ns=GREATEST_BOUND).text)
+        conflicts = read_settled(program.run("settle", SUSPECTS, capture).text).conflicts
+        pairs = [{low, high} for low, _, high, _ in conflicts]
+        must = needed([{group[server] for server in pair} for pair in pairs], claim.false_max) or set()
+        found += ({server for pair in pairs for server in pair if group[server] == number} for number in must)
+        found += (pair for pair in pairs if not {group[server] for server in pair} & must)
+    wrong = {server for own in found if len(own) == 1 for server in own}
+    some = {server for own in found if not own & wrong for server in own}
+    return [server for server in claim.servers if server in wrong], [one for one in claim.servers if one in some]

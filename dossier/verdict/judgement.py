@@ -216,6 +216,11 @@ def warnings(claim: Claim, recording: Recording, texts: Texts, advice: dict[str,
     if texts.apart.always:
         yield Alert("apart", servers=texts.apart.always)
     yield from for_a_time(texts.apart.times)
+    named = {*texts.apart.always, *(time.server for time in texts.apart.times)}
+    if wrong := [server for server in texts.apart.wrong if server not in named]:
+        yield Alert("wrong", servers=wrong)
+    if texts.apart.some:
+        yield Alert("contrary", servers=texts.apart.some)
 
 
 def for_a_time(times: list[Time]) -> Iterator[Alert]:

@@ -16,7 +16,7 @@ from ..folder.placing import keep, make_private, move
 from ..folder.program import Program
 from ..records import replace
 from ..units import inward
-from .apart import SEVERAL, Seen, outermost, seen_apart
+from .apart import SEVERAL, Seen, outermost, seen_apart, wrong_in
 from .breaks import ANY, SOME
 from .gaps import gaps_of, inner_gaps, longest_of, told_of
 from .judgement import Beside, Texts, judge, more_drift
@@ -102,7 +102,8 @@ class Settling:
         shown = read_shown(self.program, self.claim, self.capture, self.extent,
                            read_settled(texts.settled).conflicts + more)
         return texts._replace(moves=parting.moves, parts=found.parts, conflicts=shown, spared=spared, gaps=found.gaps,
-                              apart=Seen([], found.apart))
+                              apart=Seen([], found.apart, *wrong_in(self.program, parting.claim, [
+                                  side.path for side in parting.sides if parting.moves and not spared])))
 
     def spared(self, parting: Parting) -> tuple[int, Parting]:
         """With how many wrong groups, fewer than half, a course of events fits, or it is known how the clock moved, and

@@ -6,10 +6,11 @@ from typing import Any
 
 from tests.truth.clock import SECOND
 from tests.truth.forms import Form, When, form_of
-from tests.truth.history import LEAP
+from tests.truth.history import LEAP, civil
 from tests.truth.sight import MARGIN, counted
 from tests.truth.view import Range, View, clock_time
 
+LEAP_DAY = civil(LEAP - SECOND)[:10]
 MACROS = {
     "<granted>": r"(if at most \d+ of these \d+ (groups of )?servers (was|were) wrong|if its server was right|"
                  r"if none of these \d+ (groups of )?servers was wrong)",
@@ -122,7 +123,7 @@ def claim_a_part(view: View, spans: list[When]) -> str:
 
 
 def is_leap(view: View, day: str) -> str:
-    return unless(view.of.leap <= view.of.end, "there was none")
+    return unless(view.of.leap <= view.of.end and day == LEAP_DAY, "there was none")
 
 
 def moved_somehow(view: View, *_: Any) -> str:
@@ -147,6 +148,8 @@ def camps(view: View, when: When, found: list[tuple[list[str], Range]]) -> str:
     for side in (1, -1):
         if all(min(side * end for end in errors) > view.of.bound for _, errors in found):
             view.sides.add(side)
+    if not view.clock.breaks and (wrong := [own for own in found if not view.do_say(when, *own)]):
+        return f"they don't say that: {wrong}"
     right = [errors for servers, errors in found if not any(map(view.is_ever_wrong, servers))]
     if view.clock.breaks:
         return ""
@@ -178,6 +181,18 @@ def ever_apart(view: View, servers: list[str]) -> str:
     return f"{', '.join(right)} was right" if right and not view.too_many_wrong else ""
 
 
+def was_wrong(view: View, servers: list[str]) -> str:
+    view.named.update(servers)
+    right = [server for server in servers if not view.is_wrong_in(server, (0, 1 << 62))]
+    return view.unless_unseen(f"{', '.join(right)} was right" if right else "")
+
+
+def some_wrong(view: View, servers: list[str]) -> str:
+    view.named.update(servers)
+    return view.unless_unseen("" if any(view.is_wrong_in(server, (0, 1 << 62)) for server in servers)
+                              else "all of them were right")
+
+
 def by_a_server(view: View, server: str, errors: Range) -> str:
     """The clock's error by a server: of one that was always right all errors lie in it, where a course fits."""
     if errors[0] > errors[1]:
@@ -198,10 +213,12 @@ def no_sample(view: View, server: str) -> str:
 
 
 def silent(view: View, when: When, length: int, *counts: int) -> str:
+    view.silences.append(when)
     return view.silent_in(when, counts)
 
 
 def unheard(view: View, when: When, *_: int) -> str:
+    view.silences.append(when)
     return unless(not view.recorded(when, replies=True), "replies were recorded then")
 
 
@@ -309,8 +326,8 @@ def recorded_by(view: View, address: str, since: str) -> str:
     return unless(view.of.recorder == address, "another one")
 
 
-def leap_second(view: View, *_: str) -> str:
-    return unless(view.is_leap_near(), "there was none")
+def leap_second(view: View, day: str = LEAP_DAY) -> str:
+    return unless(view.is_leap_near() and day == LEAP_DAY, "there was none")
 
 
 def never_announced(view: View, number: int) -> str:
@@ -322,7 +339,7 @@ def no_leap(view: View, when: When, *_: Any) -> str:
 
 
 def has_leap(view: View, day: str, when: When, *_: Any) -> str:
-    return unless(when.first <= LEAP <= when.last, "there was none")
+    return unless(when.first <= LEAP <= when.last and day == LEAP_DAY, "there was none")
 
 
 def read_forms() -> list[tuple[str, Form]]:

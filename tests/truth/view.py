@@ -7,7 +7,7 @@ from tests.truth.clock import BILLION, SECOND, Jump, Stretch
 from tests.truth.files import Logs
 from tests.truth.forms import When
 from tests.truth.history import CLIENT, LEAP, History, civil
-from tests.truth.network import TICKS, Packet
+from tests.truth.network import OFF, RIGHT, TICKS, Packet
 from tests.truth.sight import counted, unseen, wrong_groups
 
 Range = tuple[int, int]
@@ -19,8 +19,9 @@ class View:
     def __init__(self, history: History, logs: Logs | None, entry: dict[str, Any]):
         self.of, self.logs, self.entry = history, logs, entry
         self.clock, self.span, self.text = history.clock, (history.first, history.last), ""
-        self.named, self.sides, self.conflicts = set[str](), set[int](), list[Range]()
-        """What was said so far: servers, sides on which the clock was beyond the bound, and conflicts' true times."""
+        self.named, self.sides, self.conflicts, self.silences = set[str](), set[int](), list[Range](), list[When]()
+        """What was said so far: servers, sides on which the clock was beyond the bound, conflicts' true times, and when
+        no server was heard."""
 
     @property
     def verdict(self) -> str:
@@ -214,6 +215,13 @@ class View:
         return any(one.server.is_wrong(one.sent_at) for one in self.of.exchanges
                    if one.server.address == address and when[0] <= one.answered <= when[1])
 
+    def do_say(self, when: Sequence[Any], servers: list[str], said: Range) -> bool:
+        """Whether by each of these servers, if it is always right or off by the same, the error lay within a range."""
+        errors = [(self.clock.error(one.sent_at) or 0) - one.server.error(one.sent_at) for one in self.of.exchanges
+                  if one.server.address in servers and one.server.kind in (RIGHT, OFF)
+                  and when[0] <= one.asked and one.answered <= when[1]]
+        return len(set(servers)) == len(servers) and all(said[0] <= error <= said[1] for error in errors)
+
     def parts_of(self, jump: Jump) -> int:
         """On how many sides of a jump a reading of the span was shown."""
         return sum(self.clock.errors(*self.span, *ends) is not None
@@ -281,6 +289,8 @@ class View:
                 for time in (asked, answered)]
         self.conflicts.append((min(ends), max(ends)))
         by_low, by_high = self.errors((asked, asked + SECOND)), self.errors((answered, answered + SECOND))
+        self.sides |= {side for server, side, error in ((low, 1, least), (high, -1, most))
+                       if side * error > self.of.bound and not self.is_ever_wrong(server)}
         wrong = by_low and by_low[1] < least and not self.is_ever_wrong(low) or \
             by_high and by_high[0] > most and not self.is_ever_wrong(high)
         return f"the errors were {by_low} and {by_high}" if wrong else ""
