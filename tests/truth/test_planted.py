@@ -3,6 +3,7 @@ so, or that isn't said. Not part of the gate."""
 import os
 import shutil
 from concurrent.futures import ProcessPoolExecutor
+from itertools import repeat
 from pathlib import Path
 
 from tests.support import ROOT, count
@@ -43,8 +44,12 @@ PLANTS = [
 """What the bug is, in which file of dossier/ it is, what stands there, and what stands there then."""
 
 
-def seen(number: int, place: Path) -> str:
-    """The first history in which something is said that isn't so; else the first case in which something isn't said."""
+SEEDS = *ONCE_UNTRUE, 54, *range(140, 150), 312
+
+
+def seen(number: int, place: Path, missed: dict[int, list[str]]) -> str:
+    """The first history in which something is said that isn't so, or of which more isn't said; else the first case in
+    which some words aren't said."""
     _, file, old, new = PLANTS[number]
     copy = place / str(number)
     shutil.copytree(ROOT / "dossier", copy / "dossier", ignore=shutil.ignore_patterns("__pycache__"))
@@ -56,10 +61,10 @@ def seen(number: int, place: Path) -> str:
     for case, wrong in found.items():
         if wrong and not wrong.startswith("not said"):
             return f"{case}: {wrong}"
-    for seed in (*ONCE_UNTRUE, *range(140, 150)):
+    for seed in SEEDS:
         for one in trial.tried(range(seed, seed + 1), copy):
-            if one.wrong:
-                return f"history {seed}: {one.wrong[0]}"
+            if more := [*one.wrong, *(f"not said: {own}" for own in one.use.missed if own not in missed[seed])]:
+                return f"history {seed}: {more[0]}"
     return next((f"by its words alone: {case}: {wrong}" for case, wrong in found.items() if wrong), "")
 
 
@@ -69,7 +74,8 @@ def test_plants(place: Path) -> None:
         count(f"what the plant replaces: {name}", "" if number == 1 else f"it stands {number} times")
     for case, wrong in wrong_in(list(CASES), place).items():
         count(f"without a plant: {case}", wrong)
+    missed = {seed: one.use.missed for seed in SEEDS for one in trial.tried(range(seed, seed + 1), place)}
     with ProcessPoolExecutor(os.cpu_count()) as pool:
-        for (name, *_), found in zip(PLANTS, pool.map(seen, range(len(PLANTS)), [place] * len(PLANTS))):
+        for (name, *_), found in zip(PLANTS, pool.map(seen, range(len(PLANTS)), repeat(place), repeat(missed))):
             print(f"{name}: {found[:300]}")
             count(name, "" if found else "nothing sees it")

@@ -1,6 +1,9 @@
 """Of what use an answer is: a yes where nothing was wrong in the span; else whether what was wrong is named."""
+from itertools import pairwise
+from statistics import median_low
 from typing import NamedTuple
 
+from tests.truth.clock import SECOND
 from tests.truth.network import Exchange
 from tests.truth.sight import counted, go_together, hidden, stretches
 from tests.truth.view import View, clock_time
@@ -26,7 +29,7 @@ def use_of(view: View) -> Use:
     if not inside and is_recorded and history.lost <= 0.05 and view.worst + history.width <= history.bound \
             and len(view.heard) > 2 * history.false_max:
         return Use(CLEAN, [] if view.verdict == "yes" else ["it isn't a yes"])
-    missed = [*moments(view, begin, end), *servers(view, begin, end), *sides(view)]
+    missed = [*moments(view, begin, end), *servers(view, begin, end), *sides(view), *silences(view)]
     return Use(TROUBLED if inside else OTHER, missed)
 
 
@@ -79,3 +82,17 @@ def sides(view: View) -> list[str]:
                 view.verdict not in ("no evidence", "unsupported"):
             missed.append(f"it was {'ahead' if side > 0 else 'behind'}")
     return missed
+
+
+def silences(view: View) -> list[str]:
+    """The longest time of the span in which no server was heard, if it was far longer than usual, and isn't told; where
+    the clock moved it is told of each part."""
+    times, (first, last) = sorted(one.answered for one in counted(view.of)), view.span
+    if view.clock.breaks or view.verdict in ("no evidence", "nothing fits", "unsupported"):
+        return []
+    gaps = [(by - after, after, by) for after, by in pairwise(times) if after < last and first < by]
+    length, after, by = max(gaps, default=(0, 0, 0))
+    usual = median_low([by - after for after, by in pairwise(times)] or [0])
+    is_told = length <= max(61 * SECOND, 12 * usual) or any(
+        one.first < by and after < one.last for one in view.silences)
+    return [] if is_told else [f"no server was heard from {clock_time(after)} to {clock_time(by)}"]
