@@ -15,7 +15,7 @@ from collections.abc import Callable, Iterable, Iterator
 from functools import partial
 from itertools import product
 from pathlib import Path
-from typing import NamedTuple
+from typing import Any, NamedTuple
 
 from tests.support import DATA, check, count, files_in, program, run
 from tests.second import answers, marks, pieces, rules
@@ -115,13 +115,12 @@ def try_file(file: Path, step: int) -> Told:
         return tried([question])
 
 
-def changes_of(claim: Claim, listing: bytes) -> Iterator[dict[str, object]]:
+def changes_of(claim: Claim, listing: bytes) -> Iterator[dict[str, Any]]:
     """What is changed of a claim: the drift, the groups that may be wrong, and bounds around the least one, a day later
     too, where some stay open."""
     yield from ({"drift_ppb": 0}, {"bound_ns": 0}, *({"false_max": most} for most in {0, 1, len(claim["servers"])}))
-    later = {name: families.spelled(time // TICKS + families.DAY)
-             for name, time in zip(("from", "to"), rules.span_of(claim))}
-    for times in dict[str, str](), later:
+    later = (families.spelled(time // TICKS + families.DAY) for time in rules.span_of(claim))
+    for times in dict[str, Any](), dict[str, Any](zip(("from", "to"), later)):
         known = evidence_of(changed(claim, **times), listing)
         least = answers.told_least(answers.envelope(known, "--step", "86400", "--least")[1][-1])
         yield from ({**times, "bound_ns": least[0] - below} for below in (-1000, 0, 1, 9, 50)

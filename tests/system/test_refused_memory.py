@@ -147,7 +147,7 @@ def calls(folder: Path) -> Iterator[Call]:
     sums.write_bytes(b"".join(lines))
     other_sums.write_bytes(b"".join(lines).replace(lines[1][:64], lines[2][:64]))
     for command in every_command():
-        for by_sums in ([], ["--sums", sums])[:1 + (command.name in SECOND)]:
+        for by_sums in (list[object](), ["--sums", sums])[:1 + (command.name in SECOND)]:
             yield from (Call([command.name, CLAIM, capture, *command.words, *by_sums]) for capture in (CAPTURE, torn))
     for number, command in enumerate(test_outputs.writers()):
         yield Call([command.name, CLAIM, CAPTURE, *command.words], folder / f"o{number}")
