@@ -1,0 +1,34 @@
+"""The judge on lists of conflicts that are made to be slow: a search over all sets of groups would take years."""
+import json
+import resource
+from pathlib import Path
+
+from tests.judge.made import made, missing
+from tests.support import check, run, skip, wanting
+from tests.tools import families
+
+GROUPS = 32
+LISTS = {"in a row": ([(k, k + 1) for k in range(GROUPS - 1)], GROUPS // 2),
+         "in a ring": ([(k, (k + 1) % GROUPS) for k in range(GROUPS)], GROUPS // 2),
+         "by threes": ([(k + i, k + j) for k in range(0, 30, 3) for i, j in ((0, 1), (1, 2), (0, 2))], 20),
+         "each with each": ([(j, k) for k in range(GROUPS) for j in range(k)], GROUPS - 1)}
+"""Pairs of groups that contradict each other, and how many groups have an end of each pair."""
+
+
+def test_conflicts(folder: Path) -> None:
+    if tool := missing():
+        skip("the judge on long lists of conflicts", wanting(tool))
+        return
+    hostile = families.conflicting(families.Setting(GROUPS, 0, 50_000, 3600), GROUPS)
+    claim, capture, answer = folder / "claim", folder / "capture", folder / "answer"
+    families.write(hostile.exchanges, capture)
+    for name, (pairs, fewest) in LISTS.items():
+        lines = [f"conflict 192.0.2.{101 + max(pair)} {2 * max(pair)} 192.0.2.{101 + min(pair)} {2 * min(pair) + 1}\n"
+                 for pair in pairs]
+        answer.write_text("".join(lines) + "nothing fits\n")
+        for most, said in ((fewest - 1, b"nothing fits\n"), (fewest, b"not right: nothing fits\n")):
+            claim.write_text(json.dumps({**hostile.claims["none"], "false_max": most}))
+            before = resource.getrusage(resource.RUSAGE_CHILDREN).ru_utime
+            ran = run([made("ntpaudit-judge"), claim, capture, answer])
+            seconds = resource.getrusage(resource.RUSAGE_CHILDREN).ru_utime - before
+            check(f"{name}, {most} wrong", run=(ran, (1, said, b"")), within_a_second=(seconds < 1, True))
