@@ -428,8 +428,11 @@ class Record:
 
     @property
     def recordings(self) -> frozenset[str]:
-        """The sums by which a recording is known again: of the captures, and of what was unpacked or joined of them."""
-        return self.captures | {sum_ for name, sum_ in self.outputs.items() if name.rpartition("/")[2] == JOINED}
+        """The sums by which a recording is known again: of the captures, of what was unpacked or joined of them, and of
+        what they show at worst, to a tick, which stays if a record is added elsewhere."""
+        worst = (entry.worst for entry in self.entries if not isinstance(entry.worst.hull, str))
+        return self.captures | {sum_of(f"{one.from_} {one.to} {one.hull}".encode()) for one in worst} | \
+            {sum_ for name, sum_ in self.outputs.items() if name.rpartition("/")[2] == JOINED}
 
     @property
     def verdicts(self) -> list[str]:

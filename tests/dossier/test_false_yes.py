@@ -130,6 +130,14 @@ def test_copied_days(place: Path) -> None:
     dossier("audit", packed)
     out_packed = dossier("verify", one, packed)[1].decode()
     check("copies by verify", lines=([text.count("so one of them is a copy") for text in (out, out_packed)], [2, 1]))
+    more, whole = folder_of(place, "web-5"), (one / "f.pcap").read_bytes()
+    *_, last = records_of(whole)
+    other_kind = next(record for record in records_of(whole) if record[28:30] != b"\x08\x00")
+    (more / "f.pcap").write_bytes(whole + last[:8] + other_kind[8:])
+    dossier("audit", more)
+    check("a copy with a record more", lines=(dossier("verify", one, more)[1].count(b"so one of them is a copy"), 1),
+          rows=([any("so one of them is a copy" in words for words in row["warnings"]) for row in table(one, more)],
+                [True, True]))
     dossier("page", "--split", place / "pages", *copies, other)
     split = [(place / "pages" / f"{called(path)}.html").read_text() for path in (*copies, other)]
     check("copies on pages of their own", warned=(["so one of them is a copy" in text for text in split],
