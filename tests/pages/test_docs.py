@@ -291,7 +291,7 @@ def test_kit() -> None:
 
 def test_decisions() -> None:
     text = (ROOT / "docs/DECISIONS.md").read_text("utf-8")
-    for paragraph in [part for part in text.split("\n\n")[2:] if part and not part.startswith(("## ", "| "))]:
+    for paragraph in [part for part in text.split("\n\n")[2:] if part and not part.startswith(("## ", "- "))]:
         check(f"DECISIONS.md: {paragraph[:40]}", lead=(paragraph.startswith("**"), True),
               length=(len(paragraph), lambda n: n <= 700))
 
