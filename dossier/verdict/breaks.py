@@ -1,15 +1,15 @@
 """Where a capture breaks into stretches, each of which some course of events fits, by the program's word about parts.
 
 From the left each stretch is as long as a course fits it, and from the right too. If both ways find as many, then in
-every course with just so many steps each step lies in its break: behind the record that ends a stretch from the right,
-and before the one that ends one from the left (design: what a capture settles, cut at a step).
+every course with just so many steps each step lies in its break: behind the request that ends a stretch from the right,
+and before the reply that ends one from the left (design: what a capture settles, cut at a step).
 """
 from array import array
 from itertools import pairwise
 from typing import NamedTuple
 
 from ..capture.classic import HEADER, Classic, Extent, write
-from ..capture.recording import read_recording
+from ..capture.recording import Samples, read_recording
 from ..folder.answers import read_settled
 from ..folder.claim import GREATEST_BOUND, Claim
 from ..folder.entry import FEW
@@ -49,6 +49,12 @@ class Search:
         self.begins.append(self.whole.extent.end)
         self.left, self.any = list[int](), replace(claim, bound_ns=GREATEST_BOUND).text
         keep(ANY, self.any)
+        samples, self.other = Samples(), array("I", range(self.number))
+        """The record of the reply to a request, and of the request that a reply is to."""
+        program.blocks(samples.take, "samples", ANY, capture)
+        for own in samples.pairs.values():
+            for request, reply in zip(own[-2::-2], own[::-2]):
+                self.other[request], self.other[reply] = reply, request
 
     def found(self) -> list[Break]:
         """None if there are many, or they can't be told: then it isn't steps."""
@@ -57,7 +63,7 @@ class Search:
         if self.calls <= 0 or self.bytes <= 0 or len(left) != len(right) or not left:
             return []
         found = list[Break]()
-        for one in (self.narrowed(Break(min(m, n) - 1, max(m, n) + 1, m < n)) for m, n in zip(right, left)):
+        for one in (self.narrowed(Break(min(m, n), max(m, n), m < n)) for m, n in zip(right, left)):
             if found and one.after < found[-1].by:
                 found[-1] = Break(found[-1].after, one.by, False)
             else:
@@ -83,14 +89,14 @@ class Search:
         return bool(requests) and not self.conflicts(min(requests), wide.by + 1)
 
     def from_left(self, first: int, end: int) -> list[int]:
-        """The record with which each stretch is fitted no more, if it is as long as may be."""
+        """The reply with which each stretch is fitted no more, if it is as long as may be."""
         found = list[int]()
         while len(found) <= FEW and (seen := self.conflicts(first, end)):
-            low, high, back = first, ends_of(seen)[1] + 1, 1
+            low, high, back = first, min(end, self.ends(seen)[1] + 1), 1
             while high - low > 1:
                 middle, back = max((low + high) // 2, high - back), 2 * back
                 if closer := self.conflicts(first, middle):
-                    high = ends_of(closer)[1] + 1
+                    high = min(middle, self.ends(closer)[1] + 1)
                 else:
                     low = middle
             first = high - 1
@@ -98,7 +104,7 @@ class Search:
         return found
 
     def from_right(self, near: list[int]) -> list[int]:
-        """The record from which on each stretch isn't fitted, seen from the end; near others, most likely."""
+        """The request from which on each stretch isn't fitted, seen from the end; near others, most likely."""
         found, end, hints = list[int](), self.number, list(near)
         while len(found) <= FEW and (low := self.narrowest(0, end, hints.pop() if hints else 0)[0]) is not None:
             end = low + 1
@@ -109,13 +115,13 @@ class Search:
         """The last record from which on to before the end no course fits, most likely near another one, and the
         conflicts of these; None if one fits from the first on."""
         found = self.conflicts(first, end)
-        low, high, back = ends_of(found)[0] if found else None, end, 1
+        low, high, back = max(first, self.ends(found)[0]) if found else None, end, 1
         while low is not None and high - low > 1:
             middle, back = max((low + high) // 2, high - back), 2 * back
             if low < hint < high:
                 middle, back, hint = hint, 1, 0
             if closer := self.conflicts(middle, end):
-                low, found = ends_of(closer)[0], closer
+                low, found = max(middle, self.ends(closer)[0]), closer
             else:
                 high = middle
         return low, found
@@ -135,6 +141,12 @@ class Search:
         return [(low, first + request, high, first + reply) for low, request, high, reply in
                 read_settled(self.program.run("settle", ANY, SOME).text).conflicts]
 
+    def ends(self, conflicts: list[Pair]) -> tuple[int, int]:
+        """Between which records the exchanges of conflicts lie: no less than these is fitted no more."""
+        named = [record for _, request, _, reply in conflicts for record in (request, reply)]
+        records = [*named, *map(self.other.__getitem__, named)]
+        return min(records), max(records)
+
     def cut(self, first: int, end: int, path: str) -> int:
         """Writes records to a private file. How many bytes that are."""
         begin, size = self.begins[first], self.begins[end] - self.begins[first]
@@ -142,9 +154,3 @@ class Search:
         if path == SOME:
             ROOM.take(-size)  # (the next part takes the same room)
         return size
-
-
-def ends_of(conflicts: list[Pair]) -> tuple[int, int]:
-    """Between which records conflicts lie."""
-    records = [record for _, request, _, reply in conflicts for record in (request, reply)]
-    return min(records), max(records)
