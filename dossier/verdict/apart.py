@@ -5,14 +5,16 @@ off and where it ends, its interval says little, and only its samples say when: 
 the clock's error, can't be that of a right server.
 """
 from bisect import bisect_right
+from collections import Counter
 from collections.abc import Iterable
+from itertools import chain
 from operator import gt
 from typing import NamedTuple
 
 from ..capture.classic import Classic, Extent
 from ..capture.recording import closing_of
 from ..folder.answers import Envelope, read_settled
-from ..folder.claim import GREATEST_BOUND, Claim, Part
+from ..folder.claim import GREATEST_BOUND, Claim
 from ..folder.entry import Gap, Hull
 from ..folder.placing import keep
 from ..folder.program import Program
@@ -148,41 +150,56 @@ def search_of(program: Program, claim: Claim, capture: str, extent: Extent | Non
     return search
 
 
-def seen_apart(program: Program, part: Part, capture: str, extent: Extent | None, envelope: Envelope,
+def seen_apart(program: Program, claim: Claim, capture: str, extent: Extent | None, envelope: Envelope,
                gaps: list[Gap], least: int = 0) -> Seen:
     """Which servers stand apart, and when, by their samples where their intervals don't tell; or only by so many, one
     after the other."""
-    search, always = search_of(program, part.claim, capture, extent, envelope, gaps), apart_of(envelope, gaps)
+    search, always = search_of(program, claim, capture, extent, envelope, gaps), apart_of(envelope, gaps)
     missed = [time for time in search.missed if time.samples >= least]
     times = [time for time in missed if time.server in search.met]
     own = {time.server for time in missed} - search.met
     if not least:
         own |= {*always} - search.met
-    return Seen([server for server in part.claim.servers if server in own], times,
-                *wrong_in(program, part.claim, [] if least else [capture]))
+    return Seen([server for server in claim.servers if server in own], times,
+                *wrong_in(program, claim, [] if least else [capture]))
+
+
+class Conflicts(NamedTuple):
+    """Of a capture which servers contradict which, or themselves; and which groups then do."""
+
+    servers: list[set[str]]
+    groups: list[set[int]]
+
+
+def conflicts_in(program: Program, claim: Claim, capture: str) -> Conflicts:
+    keep(SUSPECTS, replace(claim, groups=[], false_max=0, bound_ns=GREATEST_BOUND).text)
+    group = {claim.servers[k]: number for number, own in enumerate(claim.grouped) for k in own}
+    pairs = [{low, high} for low, _, high, _ in read_settled(program.run("settle", SUSPECTS, capture).text).conflicts]
+    return Conflicts(pairs, [{group[server] for server in pair} for pair in pairs])
 
 
 def needed(conflicts: list[set[int]], most: int) -> set[int] | None:
-    """What is in each set of at most so many that has an end of each conflict; None if there is no such set."""
+    """What is in each set of at most so many that has an end of each conflict; None if there is no such set. It has the
+    group that is in most conflicts, or else what that is in conflict with."""
     if not conflicts:
         return set()
-    found = [{one, *rest} for one in conflicts[0] if most
-             and (rest := needed([own for own in conflicts if one not in own], most - 1)) is not None]
+    (one, number), = Counter(chain(*conflicts)).most_common(1)
+    others = set().union(*(own for own in conflicts if one in own)) - {one}
+    ways = [{one}, others] if {one} not in conflicts else [{one}]
+    found = [way | rest for way in ways if len(way) <= most and len(conflicts) <= most * number and
+             (rest := needed([own for own in conflicts if not own & way], most - len(way))) is not None]
     return set.intersection(*found) if found else None
 
 
 def wrong_in(program: Program, claim: Claim, captures: Iterable[str]) -> tuple[list[str], list[str]]:
     """The servers that were wrong in each course of events that fits one of these captures; and others of which some
     were."""
-    group = {claim.servers[k]: number for number, own in enumerate(claim.grouped) for k in own}
     found = list[set[str]]()
-    for capture in captures:
-        keep(SUSPECTS, replace(claim, groups=[], false_max=0, bound_ns=GREATEST_BOUND).text)
-        conflicts = read_settled(program.run("settle", SUSPECTS, capture).text).conflicts
-        pairs = [{low, high} for low, _, high, _ in conflicts]
-        must = needed([{group[server] for server in pair} for pair in pairs], claim.false_max) or set()
-        found += ({server for pair in pairs for server in pair if group[server] == number} for number in must)
-        found += (pair for pair in pairs if not {group[server] for server in pair} & must)
+    for conflicts in (conflicts_in(program, claim, capture) for capture in captures):
+        must = needed(conflicts.groups, claim.false_max) or set()
+        named = set().union(*conflicts.servers)
+        found += ({claim.servers[k] for k in claim.grouped[number]} & named for number in must)
+        found += (pair for pair, groups in zip(*conflicts) if not groups & must)
     wrong = {server for own in found if len(own) == 1 for server in own}
     some = {server for own in found if not own & wrong for server in own}
     return [server for server in claim.servers if server in wrong], [one for one in claim.servers if one in some]

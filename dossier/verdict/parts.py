@@ -7,21 +7,21 @@ less the least error by the stretch behind; and no earlier than a request before
 a reading only later than that, by the most error that its own exchanges let be, never showed it.
 """
 from bisect import bisect_left, bisect_right
-from collections.abc import Callable, Iterable, Iterator, Sequence
+from collections.abc import Callable, Iterable, Iterator
 from itertools import groupby, pairwise
 from operator import sub
 from typing import NamedTuple
 
 from ..capture.classic import Extent
 from ..capture.recording import Recording, read_recording
-from ..folder.answers import Envelope, Settled, read_envelope, read_settled
-from ..folder.claim import GREATEST_BOUND, GREATEST_DRIFT, Claim
+from ..folder.answers import Envelope, read_envelope, read_settled
+from ..folder.claim import GREATEST_DRIFT, Claim
 from ..folder.entry import FEW, NOTHING_FITS, YES, Beyond, Gap, Hull, Move, Stretch, side_of
 from ..folder.placing import keep
 from ..folder.program import Program
 from ..records import replace
 from ..units import LAST_SECOND, SECOND, TICKS, bound_ticks, ceil_div, civil
-from .apart import SEVERAL, Time, are_in, outermost, pieces_of, search_of
+from .apart import SEVERAL, Time, are_in, conflicts_in, needed, outermost, pieces_of, search_of
 from .breaks import SOME, Break, Search
 from .gaps import gaps_of, inner_gaps, told_of
 
@@ -217,15 +217,11 @@ class Parting:
         whichever group is left out, no course of events fits the others."""
         (begin, _), (_, end) = self.ends()[number : number + 2]
         self.search.cut(begin, end, SOME)
-        alone = self.settled(replace(self.claim, groups=[], false_max=0))
-        seen = {low for low, _, high, _ in alone.conflicts if low == high}
+        servers, groups = conflicts_in(self.program, self.claim, SOME)
         heard = {server for side in self.sides[number : number + 2] for server in side.recording.by_server}
-        return 2 * len(seen) > len(heard) or all(
-            self.settled(without(self.claim, group)).answer == NOTHING_FITS for group in self.claim.grouped)
-
-    def settled(self, claim: Claim) -> Settled:
-        text = self.program.run("settle", self.named(replace(claim, bound_ns=GREATEST_BOUND)), SOME).text
-        return read_settled(text)
+        return 2 * sum(len(pair) == 1 for pair in servers) > len(heard) or all(
+            needed([pair for pair in groups if group not in pair], self.claim.false_max) is None
+            for group in range(len(self.claim.grouped)))
 
     def may_show(self, number: int) -> bool:
         """Whether a stretch may have shown a reading of the span."""
@@ -307,13 +303,6 @@ class Parting:
             if left_out := whole.nanoseconds(whole.extent.stamps[one.after + 1 : one.by]):
                 found.append((min(left_out), max(left_out)))
         return found
-
-
-def without(claim: Claim, left_out: Sequence[int]) -> Claim:
-    """A claim without some of its servers."""
-    kept = [number for number in range(len(claim.servers)) if number not in left_out]
-    groups = [[kept.index(number) for number in group] for group in claim.groups if group[0] in kept]
-    return replace(claim, servers=[claim.servers[number] for number in kept] or claim.servers, groups=groups)
 
 
 def spoken(program: Program, claim: Claim, capture: str, extent: Extent | None) -> Spoken:

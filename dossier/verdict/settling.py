@@ -118,13 +118,13 @@ class Settling:
 
     def seen_apart(self, texts: Texts, gaps: list[Gap]) -> Seen:
         """Which servers stand apart, of as many as may be wrong, or have to be."""
-        part, envelope = self.part, texts.envelope
+        claim, envelope = self.part.claim, texts.envelope
         if texts.spared:
-            part = Part(part.name, replace(part.claim, false_max=texts.spared))
-            keep(ALONE, part.claim.text)
+            claim = replace(claim, false_max=texts.spared)
+            keep(ALONE, claim.text)
             envelope = read_envelope(self.call("envelope", ALONE, self.capture, "--servers", "--step", str(self.step)))
         least = SEVERAL if texts.spared else 0
-        return seen_apart(self.program, part, self.capture, self.extent, envelope, gaps, least)
+        return seen_apart(self.program, claim, self.capture, self.extent, envelope, gaps, least)
 
     def broken(self, texts: Texts, around_to: Callable[[str], bool], leaps: list[int]) -> Parting | None:
         """Where the capture breaks, with what was recorded next to it, if no course of events fits that."""
