@@ -199,10 +199,13 @@ def in_camps(found: Reason) -> str:
 
 
 def first_conflict(entry: Entry, found: Reason) -> str:
-    """The first conflict in time, with its figures, and how fast the clock would have had to move."""
+    """The first conflict in time, or of those about that time the steepest, with its figures, and how fast the clock
+    would have had to move."""
     if not found.conflicts:
         return ""
-    one = min(found.conflicts, key=lambda each: max(each.asked, each.answered))
+    end = min(max(one.asked, one.answered) for one in found.conflicts)
+    one = max((one for one in found.conflicts if min(one.asked, one.answered) <= end),
+              key=lambda one: (one.least - one.most) / (abs(one.asked - one.answered) or 1))
     low = f"by {one.low} the error was at least {low_ms(one.least)} ms at {shown_time(one.asked // SECOND)}"
     high = f"by {one.high} at most {high_ms(one.most)} ms at {shown_time(one.answered // SECOND)}"
     within, moved = abs(one.asked - one.answered), (one.least - one.most) * SECOND // TICKS
