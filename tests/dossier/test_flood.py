@@ -7,7 +7,6 @@ import argparse
 import json
 import os
 import select
-import shutil
 import socket
 import struct
 import subprocess
@@ -20,7 +19,7 @@ ROOT = Path(__file__).resolve().parents[2]
 if __name__ == "__main__":
     sys.path[0] = str(ROOT)
 
-from tests.support import SECONDS, check, children, run, skip  # noqa: E402
+from tests.support import SECONDS, check, children, is_here, run, skip  # noqa: E402
 from tests.dossier.audits import ENVIRONMENT, SCRIPT  # noqa: E402
 from tests.dossier.test_recording import Rig  # noqa: E402
 
@@ -126,10 +125,8 @@ def test_flood(place: Path) -> None:
     if os.geteuid() or run(["unshare", "-n", "true"])[0]:
         skip("a flood", "there are no namespaces")
         return
-    for tool in ("tcpdump", "ip", "cc"):
-        if not shutil.which(tool):
-            skip("a flood", f"{tool} isn't installed")
-            return
+    if not all([is_here(tool, "a flood") for tool in ("tcpdump", "ip", "cc")]):
+        return
     status, out, err = run(["unshare", "-n", sys.executable, "-B", __file__, "--seconds", 2, place])
     found = json.loads(out or b"{}")
     if not found:
