@@ -7,7 +7,7 @@ from pathlib import Path
 from unittest.mock import patch
 from typing import Any
 
-from tests.support import DATA, ROOT, check, is_here, manifest_of, nobody, run, runnable, sum_of
+from tests.support import DATA, ROOT, check, manifest_of, nobody, run, runnable, sum_of
 from tests.dossier.audits import ENVIRONMENT, PROGRAM, SCRIPT, audited, dossier, folder_of, skipped
 
 
@@ -95,61 +95,48 @@ def test_older_python(place: Path) -> None:
 
 def test_statuses(place: Path) -> None:
     """No fault has the status of a no."""
-    folder = audited(place, "host")
-    copied = place / "copied"
-    shutil.copytree(ROOT / "dossier", copied / "dossier", ignore=shutil.ignore_patterns("__pycache__"))
-    shutil.copy(SCRIPT, copied)
-    for script in ('ulimit -f 1; exec "$0" help', 'exec "$0" help'):
-        status = run(["sh", "-c", script, copied / "ntpaudit-dossier"], env=ENVIRONMENT)[0]
-    check("a call after one with a full disk", status=(status, 0),
-          kept=(list((copied / "dossier").rglob("__pycache__")), []))
-    gone = place / "gone"
+    folder, gone = audited(place, "host"), place / "gone"
     gone.mkdir()
-    calls = {"a current folder that is gone": f'cd "{gone}"; rmdir "{gone}"; "$0" verify "{folder}"',
-             "6 descriptors": f'ulimit -n 6; "$0" verify "{folder}"', "closed output": f'"$0" page "{folder}" >&-',
-             "closed input": f'"$0" verify "{folder}" <&-', "closed errors": f'"$0" verify "{folder}" 2>&-',
-             "closed errors, and what is said there": '"$0" page -o /dev/full x 2>&-',
-             "errors to a full disk": '"$0" audit --bad 2>/dev/full',
-             "an empty operand": '"$0" verify ""',
-             "a full output": f'"$0" verify "{folder}" > /dev/full', "help to a full output": '"$0" help > /dev/full',
-             "no memory": f'ulimit -v 20000; "$0" verify "{folder}"'}
-    wanted = {"an empty operand": (5,), "closed output": (4,), "closed input": (0,), "closed errors": (0,),
-              "closed errors, and what is said there": (4,), "errors to a full disk": (5,),
-              "a full output": (4,), "help to a full output": (4,)}
-    for name, script in calls.items():
+    calls: dict[str, tuple[str, tuple[int, ...]]] = {
+        "a current folder that is gone": (f'cd "{gone}"; rmdir "{gone}"; "$0" verify "{folder}"', ()),
+        "6 descriptors": (f'ulimit -n 6; "$0" verify "{folder}"', ()),
+        "no memory": (f'ulimit -v 20000; "$0" verify "{folder}"', ()),
+        "closed output": (f'"$0" page "{folder}" >&-', (4,)), "closed input": (f'"$0" verify "{folder}" <&-', (0,)),
+        "closed errors": (f'"$0" verify "{folder}" 2>&-', (0,)),
+        "closed errors, and what is said there": ('"$0" page -o /dev/full x 2>&-', (4,)),
+        "errors to a full disk": ('"$0" audit --bad 2>/dev/full', (5,)),
+        "an empty operand": ('"$0" verify ""', (5,)), "a full output": (f'"$0" verify "{folder}" > /dev/full', (4,)),
+        "help to a full output": ('"$0" help > /dev/full', (4,))}
+    for name, (script, wanted) in calls.items():
         status, out, _ = run(["sh", "-c", script, SCRIPT], env=ENVIRONMENT)
-        check(f"the status of {name}", is_one=(status in wanted.get(name, (0, 2, 3, 4, 70)), True),
+        check(f"the status of {name}", is_one=(status in (wanted or (0, 2, 3, 4, 70)), True),
               yes=(b"verified" in out, status == 0))
     how = nobody("a user who may begin no process")
     if how:  # (who can't reach a repository in root's home)
-        words = ["prlimit", "--nproc=1", copied / "ntpaudit-dossier", "--version"]
-        status, out, err = run(words, env={**ENVIRONMENT, "NTPAUDIT": shutil.copy(PROGRAM, copied)}, **how)
+        shutil.copytree(ROOT / "dossier", place / "copied/dossier", ignore=shutil.ignore_patterns("__pycache__"))
+        words = ["prlimit", "--nproc=1", shutil.copy(SCRIPT, place / "copied"), "--version"]
+        status, out, err = run(words, env={**ENVIRONMENT, "NTPAUDIT": shutil.copy(PROGRAM, place / "copied")}, **how)
         check("no process", run=((status, out), (4, b"")), said=(b"can't be called (Resource" in err, True))
-    (text := place / "text").write_text("ntpaudit")
-    text.chmod(0o755)
-    status, out, err = dossier("verify", folder, env={**ENVIRONMENT, "NTPAUDIT": str(text)})
-    check("a program that is none", run=((status, out, err), (4, b"", b"ntpaudit-dossier: text can't be called (Exec "
-                                                              b"format error)\n")))
-    locale = place / "xx.ISO-8859-1"
-    if is_here("localedef", "names in another locale"):
-        run(["localedef", "-i", "en_US", "-f", "ISO-8859-1", locale])
-        (folder / "f.pcap").rename(folder / "f\u00fc.pcap")
-        status, _, _ = dossier("audit", folder, env={**ENVIRONMENT, "LOCPATH": str(place), "LC_ALL": locale.name})
-        check("names in another locale", audit=(status, 0), verified=(dossier("verify", folder)[0], 0))
+    text = runnable(place / "text", "ntpaudit")
+    check("a program that is none", run=(dossier("verify", folder, env={**ENVIRONMENT, "NTPAUDIT": str(text)}), (
+        4, b"", b"ntpaudit-dossier: text can't be called (Exec format error)\n")))
     if os.geteuid():
         skipped("an unreadable current folder", "this isn't root")
-    else:
-        shut = place / "shut"
-        shut.mkdir(0o755)
-        place.chmod(0o755)
-        place.parent.chmod(0o755)
-        call = 'cd "$1"; chmod 0 .; exec setpriv --reuid=65534 --regid=65534 --clear-groups "$0" page --json "$2"'
-        status = run(["sh", "-c", call, SCRIPT, shut, folder], env=ENVIRONMENT)[0]
-        check("the status of an unreadable current folder", status=(status, lambda status: status not in (0, 1)))
+        return
+    for path, mode in ((shut := place / "shut", 0o755), (place, 0o755), (place.parent, 0o755)):
+        path.mkdir(exist_ok=True)
+        path.chmod(mode)
+    call = 'cd "$1"; chmod 0 .; exec setpriv --reuid=65534 --regid=65534 --clear-groups "$0" page --json "$2"'
+    check("the status of an unreadable current folder", status=(
+        run(["sh", "-c", call, SCRIPT, shut, folder], env=ENVIRONMENT)[0], lambda status: status not in (0, 1)))
+
+
+def test_short_record(place: Path) -> None:
+    """The record of audits on a full disk: no line is cut short."""
     from dossier.folder.entry import read_record
     from dossier.fault import Fault
     from dossier.folder.registry import Known
-    record, write, seen = read_record((folder / "audit.json").read_bytes()), os.write, []
+    record, write, seen = read_record((audited(place, "host") / "audit.json").read_bytes()), os.write, []
     known = Known(str(place / "state"), True)
     known.add("1" * 64, record)
 
@@ -173,8 +160,8 @@ def test_words(place: Path) -> None:
     """CSV that a spreadsheet would take for a formula; a rate below zero; a claim that names a field twice."""
     from dossier.page.table import as_cell
     for text, wanted in (("=1+1", "'=1+1"), ("a;=1+1", "a;'=1+1"), ("\uff1dSUM(A1)", "'\uff1dSUM(A1)"),
-                         ("a\t@x", "a\t'@x"), (' "+1', "' \"+1"), ("a;\uff0d1", "a;'\uff0d1"),
-                         ("a-b=c", "a-b=c"), ("-1 ms", "'-1 ms"), ("yes", "yes"), ("a|+1", "a|'+1")):
+                         ("a\t@x", "a\t'@x"), (' "+1', "' \"+1"), ("a-b=c", "a-b=c"), ("-1 ms", "'-1 ms"),
+                         ("yes", "yes"), ("a|+1", "a|'+1")):
         check(f"a cell {text!a}", cell=(as_cell(text), wanted))
     (place / "chrony.conf").write_text("server 192.0.2.1\nmaxslewrate -5\n")
     status, out, err = dossier("draft", "--chrony", place / "chrony.conf", DATA / "clients-us.pcap")
@@ -184,9 +171,6 @@ def test_words(place: Path) -> None:
     (folder / "claim.json").write_text(text[:-1] + ', "bound_ns": 50000000}')
     status, out, _ = dossier("audit", folder)
     check("a claim that names a field twice", status=(status, 2), said=(b"a name stands there twice" in out, True))
-    refuted = audited(place, "refuted", DATA / "chrony-ns.pcap", DATA / "chrony-ns.tight.claim.json")
-    check("a refuted clock is verified as such",
-          run=(dossier("verify", refuted)[:2], (1, f"{refuted}: verified: refuted\n".encode())))
 
 
 def test_without_jinja(place: Path) -> None:

@@ -4,17 +4,15 @@ A victim is a file or a folder that has to stay as it is.
 """
 import json
 import os
-import re
 import shutil
 import time
 from pathlib import Path
 from typing import Any
 
-from tests.support import DATA, ROOT, SECONDS, Ran, check, run, wanting
+from tests.support import DATA, ROOT, SECONDS, Ran, check, is_here, run, wanting
 from tests.dossier.audits import ENVIRONMENT, KEEP, SCRIPT, audited, dossier, folder_of, rows, skipped
 from tests.dossier.test_captures import records_of
 from tests.dossier.test_daily import DAY, hours_of, recorded
-from tests.dossier.test_evidence import key_of
 
 CLIENT = DATA / "client/chrony.conf"
 
@@ -123,9 +121,8 @@ def test_links_in_paths(place: Path) -> None:
     (fleet / "evil").symlink_to(private)
     before = {path.name: path.read_bytes() for path in victim.iterdir()}
     (private / "claim.json").write_bytes(before["claim.json"])
-    key = key_of(place, "ann")[0] if shutil.which("ssh-keygen") else "key"
-    for words in (("audit", "--again"), ("verify",), ("page",), ("sign", "--key", key),
-                  ("keep", "--force", "--years", "1")):
+    for words in rows(("audit", "--again"), ("verify",), ("page",), ("sign", "--key", "key"),
+                      ("keep", "--force", "--years", "1")):
         for path, cwd in ((fleet / "evil" / "x", place), ("fleet/evil/x", place), ("../fleet/evil/x", fleet)):
             out = b"".join(dossier(*words, path, cwd=cwd)[1:])
             check(f"a link in a path: {words[0]} {str(path)[-15:]}", said=(b"is a link" in out, True),
@@ -151,14 +148,11 @@ def test_links_in_paths(place: Path) -> None:
     dossier("draft", "--chrony", CLIENT, "--evidence", host / "drift.json", host / "f.pcap")
     check("an output that is a hard link", victim=(target.read_text(), "victim"),
           made=((host / "drift.json").read_text()[:1], "{"))
-    text = (ROOT / "docs" / "AUDITING.md").read_text("utf-8")
-    if not KEEP:
-        skipped("the commands for an auditor of a folder that is kept", wanting("zstd"))
-        return
-    dossier("keep", host)
-    page = dossier("page", host)[1].decode()
-    check("the commands for an auditor write beside the folder", said=(re.findall(r"\(cd vlan.*>|zstd -dk", text), []),
-          page=(("zstd -dk" in page, "zstd -d f.pcap.zst -o ../f.pcap" in page), (False, True)))
+    if is_here("zstd", "the commands for an auditor of a folder that is kept"):
+        dossier("keep", host)
+        page = dossier("page", host)[1].decode()
+        check("the commands for an auditor write beside the folder",
+              page=(("zstd -dk" in page, "zstd -d f.pcap.zst -o ../f.pcap" in page), (False, True)))
 
 
 def test_root(place: Path) -> None:
@@ -176,8 +170,7 @@ def test_root(place: Path) -> None:
         status, out, _ = dossier(*words, folder)
         check(f"root in another's folder: {words[0]}", status=(status, 4), said=(b"runuser" in out, True),
               left=(sorted(path.name for path in folder.rglob("*")), before))
-    for words in rows(("page", "-o", folder / "p.html"), ("page", "--metrics", folder / "m.prom"),
-                      ("page", "--split", folder / "pages"), ("page", "--split", folder)):
+    for words in rows(("page", "-o", folder / "p.html"), ("page", "--split", folder / "pages")):
         own = folder_of(place, f"own {words[1]} {len(str(words[2]))}")
         dossier("audit", own)
         dossier(*words, own)
