@@ -250,8 +250,8 @@ def test_side_by_side(folder: Path) -> None:
 
 
 def test_rights(folder: Path) -> None:
-    """A folder that may not be written to; and a file of somebody else that may not be replaced, at the end."""
-    public, shut, sticky = folder / "program", folder / "shut", folder / "sticky"
+    """A folder that may not be written to."""
+    public, shut = folder / "program", folder / "shut"
     shutil.copy(PROGRAM, public)
     for path, mode in ((folder, 0o755), (public, 0o755)):
         path.chmod(mode)
@@ -274,10 +274,3 @@ def test_rights(folder: Path) -> None:
             check(f"{command.title} to a folder that may not be written to", run=(ran, NO_OUTPUT),
                   files=(files_of(shut), {"f": OLD}))
             shut.chmod(0o755)
-            if os.geteuid():
-                continue
-            fill(sticky, {"f": OLD})
-            sticky.chmod(0o1777)
-            status, _, error = call(command, sticky / "f", claim, capture, **dict(how))
-            check(f"{command.title} to a file that may not be replaced", run=((status, b"", error), NO_OUTPUT),
-                  files=(files_of(sticky), {"f": OLD}))
