@@ -12,6 +12,7 @@ import shutil
 import tempfile
 from collections import Counter
 from collections.abc import Callable, Iterable, Iterator
+from contextlib import contextmanager
 from functools import partial
 from itertools import product
 from pathlib import Path
@@ -102,16 +103,29 @@ def try_exact() -> Told:
     return told
 
 
+@contextmanager
+def captured(file: Path) -> Iterator[tuple[str, Claim, bytes, Way]]:
+    """A claim of data/ by its name, with what `list` prints of its capture, and how questions on that are asked."""
+    name = file.name.removesuffix(".claim.json")
+    with tempfile.TemporaryDirectory(prefix="ntpaudit-") as folder:
+        capture = Path(folder) / "capture.pcap"
+        shutil.copy(file.with_name(f"{name.split('.')[0]}.pcap"), capture)
+        listing = run([PROGRAM, "list", capture])[1]
+        yield name, json.loads(file.read_text()), listing, Way(PROGRAM, Path(folder), LIMIT, True, {}, set())
+
+
+def question_on(name: str, claim: Claim, listing: bytes, way: Way) -> Question:
+    known = evidence_of(claim, listing)
+    question = Question(name, claim, known.samples, known.records, marks.contradictions(claim, known.samples), way)
+    question.evidence = known
+    return question
+
+
 def try_file(file: Path, step: int) -> Told:
     """A claim of data/ with a step, whose samples are read off `list`."""
-    claim, name = json.loads(file.read_text()), file.name.removesuffix(".claim.json")
-    with tempfile.TemporaryDirectory(prefix="ntpaudit-") as folder:
-        place = Path(folder)
-        shutil.copy(file.with_name(f"{name.split('.')[0]}.pcap"), place / "capture.pcap")
-        known = evidence_of(claim, run([PROGRAM, "list", place / "capture.pcap"])[1])
-        question = Question(f"{name} by {step} s", claim, known.samples, known.records,
-                            marks.contradictions(claim, known.samples), Way(PROGRAM, place, LIMIT, True, {}, set()))
-        question.evidence, question.step = known, step
+    with captured(file) as (name, claim, listing, way):
+        question = question_on(f"{name} by {step} s", claim, listing, way)
+        question.step = step
         return tried([question])
 
 
@@ -129,21 +143,9 @@ def changes_of(claim: Claim, listing: bytes) -> Iterator[dict[str, Any]]:
 
 def try_changed(file: Path) -> Told:
     """`settle` and `find` of such claims."""
-    claim, name = json.loads(file.read_text()), file.name.removesuffix(".claim.json")
-    with tempfile.TemporaryDirectory(prefix="ntpaudit-") as folder:
-        place = Path(folder)
-        shutil.copy(file.with_name(f"{name.split('.')[0]}.pcap"), place / "capture.pcap")
-        listing = run([PROGRAM, "list", place / "capture.pcap"])[1]
-
-        def questions() -> Iterator[Question]:
-            for changes in changes_of(claim, listing):
-                own = changed(claim, **changes)
-                known = evidence_of(own, listing)
-                question = Question(f"{name} with {changes}", own, known.samples, known.records, marks.contradictions(
-                    own, known.samples), Way(PROGRAM, place, LIMIT, True, {}, set()))
-                question.evidence = known
-                yield question
-        return tried(questions(), [settle_case, partial(find_case, step=1)])
+    with captured(file) as (name, claim, listing, way):
+        return tried((question_on(f"{name} with {changes}", changed(claim, **changes), listing, way)
+                      for changes in changes_of(claim, listing)), [settle_case, partial(find_case, step=1)])
 
 
 def cases() -> Iterator[tuple[str, Callable[[], Told]]]:
