@@ -11,7 +11,7 @@ import struct
 from pathlib import Path
 from unittest.mock import patch
 
-from tests.support import DATA, check, run, wanting
+from tests.support import DATA, check, is_here, run, wanting
 from tests.dossier.audits import (ENVIRONMENT, PROGRAM, SCRIPT, capture_of, check_page, dossier, folder_of, record_of,
                                   skipped, table)
 from tests.tools import families
@@ -62,8 +62,6 @@ def packed_folder(place: Path, name: str, files: dict[str, bytes], base: str = "
 def test_people_have(place: Path) -> None:
     """Whatever form a capture has, the answers are those of the classic one, and its own sum is the evidence."""
     nano, micro = ((DATA / f"{name}.pcap").read_bytes() for name in ("vlan-ns", "clients-us"))
-    swapped = nano[:4][::-1] + struct.pack(">HHIIII", *struct.unpack("<HHIIII", nano[4:24])) + b"".join(
-        struct.pack(">IIII", *struct.unpack("<IIII", record[:16])) + record[16:] for record in records_of(nano))
     half = records_of(nano)[: len(records_of(nano)) // 2]
     rest = nano[:24] + b"".join(records_of(nano)[len(half) :])
     middle = 24 + sum(map(len, half))
@@ -72,21 +70,15 @@ def test_people_have(place: Path) -> None:
                                   {"f.pcap.gz": gzip.compress(nano[:5000]) + gzip.compress(nano[5000:]) + bytes(100)}),
              "pcapng": ("vlan-ns", {"f.pcapng": pcapng(nano)}),
              "pcapng, big-endian": ("vlan-ns", {"f.pcapng": pcapng(nano, ">")}),
-             "pcapng under another name": ("vlan-ns", {"f.pcap": pcapng(nano)}),
              "pcapng with old packets and an offset": ("vlan-ns",
                                                        {"f.pcapng": pcapng(nano, ">", old=True, offset=1000)}),
-             "pcapng in gzip": ("vlan-ns", {"f.pcapng.gz": gzip.compress(pcapng(nano))}),
              "pcapng with microseconds": ("clients-us", {"f.pcapng": pcapng(micro, resolution=6, unit=10**6)}),
              "pcapng, two sections": ("vlan-ns", {"f.pcapng": pcapng(nano[:middle]) + pcapng(rest, ">")}),
-             "rotated files": ("vlan-ns", {"b.pcap": nano[:middle], "a.pcap1": rest}),
              "rotated files of several kinds": ("vlan-ns",
                                                 {"b.pcapng": pcapng(nano[:middle]), "a.pcap1.gz": gzip.compress(rest)}),
-             "an empty file beside it": ("vlan-ns", {"f.pcap": nano, "g.pcap": b""}),
-             "the other order": ("vlan-ns", {"f.pcap": swapped[:24], "g.pcap": nano})}
-    if shutil.which("zstd"):
+             "an empty file beside it": ("vlan-ns", {"f.pcap": nano, "g.pcap": b""})}
+    if is_here("zstd", "captures in zstd"):
         cases["zstd"] = "vlan-ns", {"f.pcap.zst": run(["zstd", "-qc"], nano)[1]}
-    else:
-        skipped("captures in zstd", wanting("zstd"))
     plain = {base: folder_of(place, base, DATA / f"{base}.pcap", DATA / f"{base}.claim.json")
              for base in ("vlan-ns", "clients-us")}
     dossier("audit", *plain.values())
@@ -107,9 +99,6 @@ def test_people_have(place: Path) -> None:
         check(f"a draft of captures: {name}", status=(status, 0),
               client=(json.loads(out or "{}").get("servers"),
                       json.loads(dossier("draft", DATA / f"{base}.pcap")[1])["servers"]))
-    drawn = dossier("picture", DATA / "vlan-ns.claim.json", place / "pcapng" / "f.pcapng")
-    check("a picture of pcapng",
-          same=(drawn == dossier("picture", DATA / "vlan-ns.claim.json", DATA / "vlan-ns.pcap"), True))
 
 
 def test_many_files(place: Path) -> None:
@@ -162,8 +151,7 @@ def test_units(place: Path) -> None:
                    for s, part, c, n in [struct.unpack("<IIII", record[:16])])
     micro = bytes.fromhex("d4c3b2a1") + nano[4:24] + cut
     for name, files in {"joined": {"f.pcap": nano, "g.pcap": micro[:24]},
-                        "of two interfaces": {"f.pcapng": pcapng(nano) + section("<") + interface("<", 6)},
-                        "in 100 ns": {"f.pcapng": pcapng(nano, resolution=7)}}.items():
+                        "of two interfaces": {"f.pcapng": pcapng(nano) + section("<") + interface("<", 6)}}.items():
         folder = packed_folder(place, name, files)
         status = dossier("audit", folder)[0]
         made = (folder / "joined.pcap").read_bytes()
@@ -244,13 +232,9 @@ def test_own_records(place: Path) -> None:
     check("a capture of one day isn't copied", left=([path.name for path in single.rglob("joined.pcap")], []),
           row=(table(single)[0]["verdict"], "yes"),
           calls=("claim.json ../f.pcap" in dossier("page", single)[1].decode(), True))
-    gap = days_of(place, "gap", [f"{server}:0..9@{NOON + 60 * k}" for k in range(5) for server in (1, 2)])
-    dossier("audit", "--days", gap)
-    check("days on which nothing was recorded", rows=([row["verdict"] for row in table(gap)[1:]], ["no evidence"] * 2),
-          said=("Nothing was recorded" in table(gap)[2]["reason"], True))
-    dossier("audit", gap)
-    check("without days again", left=([path.name for path in gap.iterdir() if path.is_dir()], []),
-          rows=(len(table(gap)), 1))
+    dossier("audit", single)
+    check("without days again", left=([path.name for path in single.iterdir() if path.is_dir()], []),
+          rows=(len(table(single)), 1))
 
 
 def test_many_exchanges(place: Path) -> None:
@@ -294,7 +278,6 @@ def test_hostile_captures(place: Path) -> None:
     packed, ng = gzip.compress(nano), pcapng(nano[: 24 + sum(map(len, records_of(nano)[:8]))])
     cases = {"a gzip with another byte": ({"f.pcap.gz": packed[:3000] + bytes([packed[3000] ^ 255]) + packed[3001:]},
                                           "f.pcap.gz can't be unpacked"),
-             "a gzip of nothing": ({"f.pcap.gz": gzip.compress(b"")}, "capture 1 torn-header"),
              "a gzip in gzip": ({"f.pcap.gz": gzip.compress(packed)}, "capture 2 magic"),
              "no zstd": ({"f.pcap.zst": bytes.fromhex("28b52ffd") + b"x" * 50}, "f.pcap.zst "),
              "packets without times": ({"f.pcapng": section("<") + interface("<", 9) + block("<", 3, bytes(8))},
@@ -303,8 +286,6 @@ def test_hostile_captures(place: Path) -> None:
              "no Ethernet": ({"f.pcapng": pcapng(nano, link=113)}, "capture 4 link"),
              "two kinds of frames": ({"f.pcapng": pcapng(nano) + pcapng(nano, link=113)},
                                      "f.pcapng has frames of several kinds"),
-             "other frames in the second": ({"f.pcap": nano, "g.pcapng": pcapng(nano, link=113)},
-                                            "g.pcapng has other frames than f.pcap"),
              "no capture in the second": ({"f.pcap": nano, "g.pcap": b"x" * 100}, "g.pcap is no classic capture"),
              "damage in the second": ({"f.pcap": nano[:24], "g.pcap": nano[:24] + b"\xff" * 16 + nano[24:]},
                                       "g.pcap is damaged from byte 24 on"),
@@ -313,7 +294,6 @@ def test_hostile_captures(place: Path) -> None:
              "a block that is too long": ({"f.pcapng": ng + struct.pack("<II", 5, 1 << 30)},
                                           "f.pcapng is damaged at byte"),
              "empty files": ({"f.pcap": b"", "g.pcap": b""}, "ntpaudit: capture "),
-             "a length of 0": ({"f.pcapng": ng + bytes(40)}, "f.pcapng is damaged at byte"),
              "a time beyond 2106": ({"f.pcapng": pcapng(nano).replace(interface("<", 9),
                                                                       interface("<", 9, offset=2**33))},
                                     "f.pcapng has a block that is damaged")}
@@ -323,7 +303,12 @@ def test_hostile_captures(place: Path) -> None:
         check(f"a hostile capture: {name}", status=(status, lambda status: status in (2, 70)), error=(err, b""),
               line=(line in out.decode(), True), lines=(out.count(b"\n"), 1),
               left=((folder / "joined.pcap").exists(), False))
-    rnd, folders = random.Random(7), []
+
+
+def test_altered_captures(place: Path) -> None:
+    """A capture with bytes altered or cut off at random: no call breaks off."""
+    nano, rnd, folders = (DATA / "vlan-ns.pcap").read_bytes(), random.Random(7), []
+    ng = pcapng(nano[: 24 + sum(map(len, records_of(nano)[:8]))])
     for number in range(60):
         data = bytearray(ng)
         for _ in range(rnd.choice((1, 1, 2, 5))):
@@ -334,6 +319,10 @@ def test_hostile_captures(place: Path) -> None:
     check("altered captures", error=(err, b""), lines=(len(out.splitlines()), 61),
           crashed=([line for line in out.decode().splitlines()
                     if "the process of" in line or "can't be worked on" in line], []))
+
+
+def test_limits_of_captures(place: Path) -> None:
+    """A gzip that grows beyond its limit, and times that go back and forth."""
     from dossier.capture import captures
     from dossier.fault import Fault
     bomb, seen = place / "bomb.gz", list[str]()
