@@ -5,6 +5,7 @@ import shutil
 import struct
 import time
 from fractions import Fraction
+from itertools import product
 from pathlib import Path
 from typing import Any
 
@@ -165,8 +166,7 @@ def test_free_words(place: Path) -> None:
               theirs=([word in text for word in ("PTB", "2001-01-01", "77777", "0000000000000000")], [False] * 4))
     made = float((place / "m.prom").read_text().split("ntpaudit_last_audit_timestamp_seconds{")[1].split()[1])
     check("the time of the last audit is that of verifying", near=(abs(made - time.time()) < 600, True))
-    whole = record_of(folder)
-    signed = Path(shutil.copytree(folder, place / "signed"))
+    whole, signed = record_of(folder), Path(shutil.copytree(folder, place / "signed"))
     dossier("sign", "--key", key_of(place, "key")[0], signed, env=mine)
     theirs = record_of(signed)
     check("what is signed of free words", signed=(theirs["signed"] > "2001", True), program=(
@@ -181,8 +181,7 @@ def test_free_words(place: Path) -> None:
     check("what is signed without a list", status=(status, 5), said=(b"--leap-seconds" in out, True),
           named=(dossier("sign", "--key", place / "key", "--leap-seconds", mine["NTPAUDIT_LEAP_SECONDS"], unlisted,
                          env=without)[0], 0))
-    for field in ("made", "signed"):
+    for field, command in product(("made", "signed"), ("verify", "page")):
         (folder / "audit.json").write_text(json.dumps({**whole, field: "9999-01-01T00:00:00Z"}))
-        for command in ("verify", "page"):
-            check(f"{field} in the future, by {command}", run=(dossier(command, folder, env=mine)[0], 2),
-                  said=(b"dated in the future" in b"".join(dossier(command, folder, env=mine)[1:]), True))
+        status, out, err = dossier(command, folder, env=mine)
+        check(f"{field} in the future, by {command}", status=(status, 2), said=(b"in the future" in out + err, True))
