@@ -10,7 +10,6 @@ import os
 import re
 import shlex
 import shutil
-import sys
 import time
 from calendar import timegm
 from pathlib import Path
@@ -21,8 +20,8 @@ from tests.support import DATA, ROOT, SECONDS, check, is_here, run, runnable, wa
 from tests.dossier.audits import (ENVIRONMENT, PROGRAM, SCRIPT, audited, capture_of, check_page, dossier, folder_of,
                                   record_of, rows, skipped, table)
 from tests.dossier.test_captures import records_of
-from tests.dossier.test_evidence import key_of, until_it_listens, why_no_recording
-from tests.dossier.test_verdicts import GOOD, SETUP, good_folder, logged
+from tests.dossier.test_evidence import bare_path, key_of, until_it_listens, why_no_recording
+from tests.dossier.test_verdicts import GOOD, good_folder
 
 MONITORING = ROOT / "monitoring"
 LINE = re.compile(r'(ntpaudit_[a-z_]+)\{((?:[a-z]+="(?:[^"\\\n]|\\[\\"n])*",?)*)\} (\S+)')
@@ -114,9 +113,7 @@ def test_metrics_of_days(place: Path) -> None:
 def test_metrics_written(place: Path) -> None:
     """Whole or not at all, and never in the way of a verdict."""
     good, wrong = good_folder(place, "good"), good_folder(place, "wrong", bound_ns=1)
-    kept = place / "kept.prom"
-    dossier("audit", "--metrics", kept, good, wrong)
-    text = kept.read_bytes()
+    dossier("audit", good, wrong)
     for name, path, folders, wanted in (("in no folder", place / "none" / "m.prom", [good], 4),
                                         ("in no folder beside a no", place / "none" / "m.prom", [good, wrong], 1),
                                         ("on a full device", "/dev/full", [good], 4)):
@@ -124,13 +121,6 @@ def test_metrics_written(place: Path) -> None:
             status, out, err = dossier(command, "--metrics", path, *folders)
             check(f"{command}: metrics {name}", status=(status, 4 if command == "page" else wanted),
                   line=((b"can't be written" in err, err.count(b"\n")), (True, 1)), told=(bool(out), True))
-    status, _, err = run(["bash", "-c", 'ulimit -f 0; exec "$0" audit --metrics "$1" "$2" | cat', SCRIPT, kept, good],
-                         env=ENVIRONMENT)
-    check("metrics on a full disk", told=(b"can't be written" in err, True), kept=(kept.read_bytes(), text),
-          left=([path.name for path in place.iterdir() if path.name.startswith(".")], []))
-    (place / "link.prom").symlink_to(kept)
-    status = dossier("audit", "--metrics", place / "link.prom", good)[0]
-    check("metrics through a link that is named", status=(status, 4), kept=(kept.read_bytes(), text))
 
 
 ALERTS: dict[str, list[str]] = {
@@ -387,44 +377,10 @@ def test_day_of_others(place: Path) -> None:
           run=(dossier(*words), (2, f"{days}/2001-09-09\n".encode(),
                                  f"ntpaudit-dossier: {names[1]} is a link\n".encode())),
           files=(names[1] in kept_in(days / "2001-09-09"), False))
-    shutil.rmtree(days / "2001-09-09")
-    (place / "victim").mkdir()
-    (days / "2001-09-09").symlink_to(place / "victim")
-    check("a day's folder that is a link",
-          run=(dossier(*words), (2, b"", b"ntpaudit-dossier: the folder is a link: name the folder itself\n")),
-          victim=(list(kept_in(place / "victim")), []))
     check("no such date", status=(dossier(*words[:-1], "2001-02-30")[0], 5))
     (days / "claim.json").unlink()
     check("no claim of any day", run=(dossier(*words)[::2], (
         4, b"ntpaudit-dossier: claim.json can't be read (No such file or directory)\n")))
-
-
-def test_odd_day(place: Path) -> None:
-    """A missing hour, a machine that was off, a recorder that was killed, a logged step: none hides another."""
-    recorder, days, names = recorded(place, [hour for hour in range(-1, 21) if hour != 13])
-    whole = (recorder / names[5]).read_bytes()
-    (recorder / names[5]).write_bytes(whole[:-20])
-    log: dict[str, Any] = {**SETUP, "tracking": logged("2001-09-09T05:00:00Z")}
-    (days / "evidence.json").write_text(json.dumps({"drift": "drift.json"}))
-    (days / "drift.json").write_text(json.dumps(log))
-    dossier("day", "--from", recorder, "--to", days, "--date", "2001-09-09")
-    folder = days / "2001-09-09"
-    status, _, _ = dossier("audit", folder)
-    row = table(folder)[0]
-    said = ["No server was heard from 2001-09-09 12:59:01 to 2001-09-09 13:59:59", f"{names[5]} ends inside a record",
-            "No server was heard from 2001-09-09 20:59:01 to 2001-09-09 23:59:59",
-            "The client logged a step of the clock at 2001-09-09 05:00:00"]
-    text = "".join(check_page("a page of an odd day", dossier("page", folder)[1].decode()).words)
-    check("an odd day", status=((status, row["verdict"]), (1, "refuted")),
-          told=([any(words in told for told in [row["reason"], *row["warnings"]]) for words in said], [True] * 4),
-          page=([words in text for words in said], [True] * 4), verified=(dossier("verify", folder)[0], 1))
-    even = capture_of(place / "even.pcap", *(f"1:0..9@{NIGHT + 600 * k}" for k in range(20)))
-    quiet = {"from": "2001-09-09T00:00:00Z", "to": "2001-09-09T03:10:00Z", "servers": ["192.0.2.1"]}
-    for name, capture, is_told in (("polls as usual", even, False), ("a poll that is missing", capture_of(
-            place / "gap.pcap", *(f"1:0..9@{NIGHT + 60 * k}" for k in range(190) if not 90 < k < 101)), True)):
-        other = audited(place, name, capture, days / "claim.json", **quiet)
-        check(f"silences: {name}",
-              told=("No server was heard" in str(table(other)[0]), is_told))
 
 
 # ---- years
@@ -443,7 +399,7 @@ def seen_of(*folders: Path) -> Any:
 
 
 def test_keep(place: Path) -> None:
-    """What is kept is verified, shown and signed as before: captures packed, and nothing that is made of them."""
+    """What is kept is verified and shown as before: captures packed, and nothing that is made of them."""
     if not is_here("zstd", "folders that are kept"):
         return
     whole = (DATA / "clients-us.pcap").read_bytes()
@@ -469,18 +425,21 @@ def test_keep(place: Path) -> None:
     check("what is kept is shown as before", same=(seen_of(*folders) == before, True))
     words = ("yes", "yes", "yes", "1 refuted, 1 no evidence")
     verified = [f"{folder}: verified: {word}\n" for folder, word in zip(folders, words)]
-    for where in ("x", "y"):
-        own = {**ENVIRONMENT, "XDG_STATE_HOME": str(place / where)}
-        check("what is kept is verified", run=([dossier("verify", folder, env=own) for folder in folders],
-                                               [(int("refuted" in line), line.encode(), b"") for line in verified]))
+    own = {**ENVIRONMENT, "XDG_STATE_HOME": str(place / "x")}
+    check("what is kept is verified", run=([dossier("verify", folder, env=own) for folder in folders],
+                                           [(int("refuted" in line), line.encode(), b"") for line in verified]))
     check("what is kept isn't audited again", lines=(dossier("audit", one, two, packed)[1].count(b"(unchanged)"), 3),
           days=(dossier("audit", "--days", of_days)[1].count(b"(unchanged)"), 2))
-    dossier("audit", two)
-    check("keep again", run=(dossier("keep", one, two, packed)[0], 0))
     run(["zstd", "-dqk", one / "f.pcap.zst"])
     check("a capture that is kept is the one that was recorded", same=((one / "f.pcap").read_bytes() == whole, True),
           verified=(dossier("verify", one)[0], 0), check=(run([PROGRAM, "check", one / "claim.json", one / "f.pcap",
                                                                one / "certificate.json"])[0], 0))
+
+
+def test_kept_on_the_disk(place: Path) -> None:
+    """What is packed is on the disk before the capture goes."""
+    if not is_here("zstd", "what is packed is on the disk"):
+        return
     from dossier.fleet.keeping import keep
     from dossier.folder.jobs import run_one
     from dossier.folder.registry import Known
@@ -505,31 +464,26 @@ def test_keep(place: Path) -> None:
     check("what is packed is on the disk before the capture goes", order=(
         [line for line in lines if line.startswith("disk ") or line == "away f.pcap"],
         ["disk f.pcap.zst", "disk last", "away f.pcap"]))
-    packed_file = one / "f.pcap.zst"
-    right = packed_file.read_bytes()
-    packed_file.write_bytes(right[:-1])
-    check("a capture whose packed file was spoilt stays", run=(dossier("keep", one)[0] not in (0, "no end"), True),
-          files=("f.pcap" in listed(one), True))
-    packed_file.write_bytes(right)
+
+
+def test_kept_and_signed(place: Path) -> None:
+    """What is kept is signed, and what is signed is kept; and its name stays."""
+    if not (is_here("zstd", "what is kept is signed") and is_here("ssh-keygen", "what is kept is signed")):
+        return
+    (key, allowed), signed, one = key_of(place, "key"), audited(place, "signed"), audited(place, "one")
+    (place / "signers").write_text(allowed)
     dossier("keep", one)
-    check("a keeping that was broken off is ended", files=("f.pcap" in listed(one), False))
-    if not shutil.which("ssh-keygen"):
-        skipped("what is kept is signed", wanting("ssh-keygen"))
-    else:
-        key, allowed = key_of(place, "key")
-        (place / "signers").write_text(allowed)
-        check("what is kept is signed", run=(dossier("sign", "--key", key, one)[0], 0),
-              verified=(dossier("verify", one)[0], 0))
-        signed = audited(place, "signed")
-        dossier("sign", "--key", key, signed)
-        left = [(signed / name).read_bytes() for name in ("audit.json", "audit.json.sig")]
-        check("what is signed is kept", run=(dossier("keep", signed)[:2], (0, f"{signed}: kept\n".encode())),
-              same=([(signed / name).read_bytes() for name in ("audit.json", "audit.json.sig")], left),
-              files=({"f.pcap", "f.pcap.zst"} & set(listed(signed)), {"f.pcap.zst"}),
-              verified=(dossier("verify", "--signers", place / "signers", signed)[0], 0))
-        names = {name_of(folder) for folder in (one, signed)}
-        dossier("audit", "--again", one)
-        check("a name for good", names=(names, {name_by_hand(signed)}), again=(name_of(one), name_by_hand(signed)))
+    check("what is kept is signed", run=(dossier("sign", "--key", key, one)[0], 0),
+          verified=(dossier("verify", one)[0], 0))
+    dossier("sign", "--key", key, signed)
+    left = [(signed / name).read_bytes() for name in ("audit.json", "audit.json.sig")]
+    check("what is signed is kept", run=(dossier("keep", signed)[:2], (0, f"{signed}: kept\n".encode())),
+          same=([(signed / name).read_bytes() for name in ("audit.json", "audit.json.sig")], left),
+          files=({"f.pcap", "f.pcap.zst"} & set(listed(signed)), {"f.pcap.zst"}),
+          verified=(dossier("verify", "--signers", place / "signers", signed)[0], 0))
+    names = {name_of(folder) for folder in (one, signed)}
+    dossier("audit", "--again", one)
+    check("a name for good", names=(names, {name_by_hand(signed)}), again=(name_of(one), name_by_hand(signed)))
 
 
 def name_of(folder: Path) -> str:
@@ -562,19 +516,12 @@ def test_kept_by_strangers(place: Path) -> None:
     packed = run(["zstd", "-qc"], other)[1]
     swapped = {"f.pcap.zst": packed, **forged(kept={"sums": {"f.pcap": hashlib.sha256(packed).hexdigest()}})}
     for name, files, said, status in rows(
-            ("another beside it", {"f.pcap": other}, "f.pcap isn't the file that was audited",
-             1),
-            ("another in it", {"f.pcap.zst": packed},
-             "f.pcap isn't the file that was audited", 1),
+            ("another beside it", {"f.pcap": other}, "f.pcap isn't the file that was audited", 1),
+            ("another in it", {"f.pcap.zst": packed}, "f.pcap isn't the file that was audited", 1),
             ("another with its sum", swapped, "f.pcap isn't the file that was audited", 1),
             ("a joined one", {"joined.pcap": other}, "joined.pcap isn't of this", 1),
-            ("one that isn't packed", {"f.pcap.zst": other},
-             "f.pcap isn't the file that was audited", 1),
             ("one that isn't there", {"f.pcap.zst": None}, "no capture in the folder", 4),
-            ("a name that is no capture's", forged(kept={"sums": {"claim.json": "0" * 64}}),
-             "isn't one that is taken", 2),
-            ("a name that is no input's", forged(kept={"sums": {"g.pcap": "0" * 64}}),
-             "isn't one that is taken", 2)):
+            ("a name that is no input's", forged(kept={"sums": {"g.pcap": "0" * 64}}), "isn't one that is taken", 2)):
         for file, data in files.items():
             (folder / file).write_bytes(data) if data is not None else (folder / file).unlink()
         found = dossier("verify", folder)
@@ -594,49 +541,46 @@ def test_kept_by_strangers(place: Path) -> None:
     check("the sum of a packed file that isn't there",
           run=(dossier("verify", whole)[:2], (1, f"{whole}: f.pcap.zst isn't there\n".encode())),
           page=("0" * 64 in dossier("page", "--verify", whole)[1].decode(), False))
-    (whole / "f.pcap.gz").write_bytes(gzip.compress((whole / "f.pcap").read_bytes()[:24]))
-    (whole / "f.pcap.gz.zst").write_bytes(other)
-    dossier("audit", "--again", whole)
-    record = record_of(whole)
-    of_other = {"f.pcap.gz": hashlib.sha256(other).hexdigest()}
-    (whole / "audit.json").write_bytes(forged(kept={"sums": of_other})["audit.json"])
-    check("a packed file that isn't one of a capture", said=(b"isn't one that is taken (kept sums" in
-                                                             dossier("verify", whole)[1], True))
-    joined = folder_of(place, "joined")
+
+
+def test_kept_and_joined(place: Path) -> None:
+    """A kept folder of a joined capture, which isn't kept and is made anew."""
+    if not is_here("zstd", "a joined capture"):
+        return
+    joined, copy = folder_of(place, "joined"), place / "copy"
     (joined / "g.pcap").write_bytes((joined / "f.pcap").read_bytes()[:24])
     dossier("audit", joined)
     dossier("keep", joined)
-    check("the page of a kept folder with a joined capture",
-          said=("joined.pcap isn\u2019t kept: <code>ntpaudit-dossier" in dossier("page", joined)[1].decode(), True))
-    copy = place / "copy"
     shutil.copytree(joined, copy)
     check("a joined capture is made anew", run=(dossier("audit", "--again", copy)[0], 0),
-          there=("joined.pcap" in listed(copy), True), verified=(dossier("verify", copy)[0], 0))
-    gone = "joined.pcap" in listed(joined)
-    (joined / "joined.pcap").write_bytes(other)
-    check("kept with another joined capture", gone=(gone, False), run=(dossier("verify", joined)[0], 1),
+          there=(["joined.pcap" in listed(folder) for folder in (joined, copy)], [False, True]),
+          said=("joined.pcap isn\u2019t kept: <code>ntpaudit-dossier" in dossier("page", joined)[1].decode(), True))
+    (joined / "joined.pcap").write_bytes((DATA / "vlan-ns.pcap").read_bytes())
+    check("kept with another joined capture", run=(dossier("verify", joined)[0], 1),
           page=(table(joined)[0]["verdict"], "not verified"))
-    victim, odd = place / "victim", folder_of(place, "odd")
-    dossier("audit", odd)
-    (odd / "f.pcap.zst").symlink_to(victim)
+
+
+def test_keep_refused(place: Path) -> None:
+    """What can't be packed, isn't known here, or has a link in the packed file's place: nothing is changed."""
+    if not is_here("zstd", "folders that can't be kept"):
+        return
+    odd, path = audited(place, "odd"), {**ENVIRONMENT, "PATH": f"{place}:{os.environ['PATH']}"}
+    (odd / "f.pcap.zst").symlink_to(place / "victim")
     check("keep beside a link", run=(dossier("keep", odd)[0], 2), files=("f.pcap" in listed(odd), True),
-          victim=(victim.exists(), False))
+          victim=((place / "victim").exists(), False))
     (odd / "f.pcap.zst").unlink()
+    before = kept_in(odd)
     for name, script in (("lies", "echo nothing"), ("fails", "exit 1"),
                          ("is cut off", 'head -c 99 "$3" 2>/dev/null || cat')):
         runnable(place / "zstd", f"#!/bin/sh\n{script}\n")
-        before = kept_in(odd)
-        status, out, _ = dossier("keep", odd, env={**ENVIRONMENT, "PATH": f"{place}:{os.environ['PATH']}"})
+        status, out, _ = dossier("keep", odd, env=path)
         check(f"a zstd that {name}", run=((status, b"f.pcap can't be packed" in out), (4, True)),
               same=(kept_in(odd) == before, True))
-    bare = {**ENVIRONMENT, "PATH": str(place / "bin")}
-    (place / "bin").mkdir()
-    (place / "bin" / "python3").symlink_to(sys.executable)
-    (place / "bin" / "env").symlink_to(str(shutil.which("env")))
-    check("keep without zstd", run=(dossier("keep", odd, env=bare)[0], 70), same=(kept_in(odd) == before, True))
+    check("keep without zstd", run=(dossier("keep", odd, env=bare_path(place))[0], 70),
+          same=(kept_in(odd) == before, True))
     # Of a bound of its own, as in tests/dossier/test_hostile.py.
     stranger = folder_of(place, "stranger", bound_ns=5_000_002)
-    dossier("audit", stranger, env=state)
+    dossier("audit", stranger, env={**ENVIRONMENT, "XDG_STATE_HOME": str(place / "none")})
     check("what isn't known isn't kept", run=(dossier("keep", stranger)[0], 5),
           files=("f.pcap" in listed(stranger), True))
 
