@@ -10,7 +10,6 @@ import math
 import os
 import random
 import re
-import shutil
 import signal
 import struct
 import subprocess
@@ -18,17 +17,16 @@ import tempfile
 import textwrap
 import time
 from collections import Counter
-from contextlib import suppress
+from collections.abc import Callable, Iterator
 from fractions import Fraction
 from itertools import product
 from pathlib import Path
 from typing import Any
 from unittest.mock import patch
 
-from tests.support import (DATA, ROOT, SECONDS, Ran, check, children, files_in, run, runnable, sum_of, wait_until,
-                           wanting)
+from tests.support import DATA, ROOT, SECONDS, Ran, check, files_in, run, runnable, wait_until
 from tests.dossier.audits import (CLAIMS, ENVIRONMENT, PROGRAM, SCRIPT, TICKS_PER_MS, audited, capture_of, check_page,
-                                  dossier, folder_of, match_of, parts_left, record_of, rows, skipped, table)
+                                  dossier, folder_of, match_of, parts_left, record_of, rows, table)
 from tests.dossier.test_captures import records_of
 from tests.system.fault_lines import fault_lines
 
@@ -201,8 +199,8 @@ def test_coordinates() -> None:
                     str(step)])[1]
         lines = [line.split() for line in text.decode().splitlines()[:-1]]
         hulls = [tuple(map(int, words[1:])) for words in lines if "." not in words[1]]
-        svg = picture(read_envelope(text), bound_ns, "p", name)
-        low, high = extent(cells_of(read_envelope(text), bound_ticks(bound_ns)), bound_ticks(bound_ns))
+        svg, bound = picture(read_envelope(text), bound_ns, "p", name), bound_ticks(bound_ns)
+        low, high = extent(cells_of(read_envelope(text), bound), bound)
         pixel, first, last = (high - low) / HEIGHT, hulls[0][0], hulls[-1][1]
 
         def seconds(x: str) -> float:
@@ -227,8 +225,14 @@ def test_coordinates() -> None:
                     for a, b in [(run_.split(" ")[0], run_.split("H")[-1])])
         check(f"the marks of {name}",
               width=(abs(width - WIDTH * fails / len(hulls)), lambda off: off <= len(hulls) or step > 1))
-    strokes = re.findall(r"M(\d+) ([\d.]+)V([\d.]+)", path_of(svg, "server c0 d0"))
     own = [words for words in lines if words[1] == "192.0.2.1"]
+    check_strokes(re.findall(r"M(\d+) ([\d.]+)V([\d.]+)", path_of(svg, "server c0 d0")), own, ticks, pixel)
+
+
+def check_strokes(strokes: list[tuple[str, str, str]], own: list[list[str]], ticks: Callable[[str], float],
+                  pixel: float) -> None:
+    """A server's strokes end where its lines of the envelope do, but for those that leave the picture."""
+    from dossier.page.figure import HEIGHT
     tall = [(a, b, words) for (_, a, b), words in zip(strokes, own) if float(a) < HEIGHT and float(b) > 0]
     check("a server's strokes", count=(len(strokes), len(own)), tall=(bool(tall), True),
           ends=(max(max(abs(ticks(a) - int(words[2])), abs(ticks(b) - int(words[3]))) for a, b, words in tall),
@@ -325,46 +329,38 @@ def test_names(place: Path) -> None:
 
 
 def test_refusals(place: Path) -> None:
+    """What is refused has a status, a line, the program's words and a remedy; what lies beside it is audited."""
     cases: dict[str, Any] = {
-             "no-claim": (lambda f: (f / "claim.json").unlink(), 4, "no claim.json", "The folder has no claim."),
-             "no-capture": (lambda f: (f / "f.pcap").unlink(), 4, "no capture",
-                            "The folder has no file *.pcap, *.pcapng or *.cap."),
-             "fraction": (lambda f: (f / "f.pcap").write_bytes((f / "f.pcap").read_bytes()[:24] + b"\xff" * 500), 2,
-                          "ntpaudit: capture 6 too-long at",
-                          "f.pcap: has over 262144 bytes in the record at that byte; 0 whole records stand before it."),
-             "magic": (lambda f: (f / "f.pcap").write_bytes(b"\x0a\x0d\x0a\x0d" + bytes(60)), 2,
-                       "ntpaudit: capture 2 magic", "f.pcap: isn't a classic pcap file."),
-             "claim": (lambda f: (f / "claim.json").write_text("{}"), 2, "ntpaudit: claim 2 field field 1",
-                       'claim.json: "client" is missing.'),
-             "no-json": (lambda f: (f / "claim.json").write_text("["), 2, "ntpaudit: claim 1 json",
-                         "claim.json: isn't JSON"),
-             "nested": (lambda f: (f / "claim.json").write_text("[" * 60_000), 2, "ntpaudit: claim 1 json",
-                        "claim.json: isn't JSON")}
+        "no-claim": (lambda f: (f / "claim.json").unlink(), 4, "no claim.json", "The folder has no claim."),
+        "no-capture": (lambda f: (f / "f.pcap").unlink(), 4, "no capture",
+                       "The folder has no file *.pcap, *.pcapng or *.cap."),
+        "fraction": (lambda f: (f / "f.pcap").write_bytes((f / "f.pcap").read_bytes()[:24] + b"\xff" * 500), 2,
+                     "ntpaudit: capture 6 too-long at",
+                     "f.pcap: has over 262144 bytes in the record at that byte; 0 whole records stand before it."),
+        "claim": (lambda f: (f / "claim.json").write_text("{}"), 2, "ntpaudit: claim 2 field field 1",
+                  'claim.json: "client" is missing.'),
+        "nested": (lambda f: (f / "claim.json").write_text("[" * 60_000), 2, "ntpaudit: claim 1 json",
+                   "claim.json: isn't JSON")}
     folders = []
     for name, (spoil, *_) in cases.items():
         folders.append(folder_of(place / "refused", name))
         spoil(folders[-1])
-    good = folder_of(place / "refused", "zz-good")
-    missing = place / "refused" / "missing"
-    status, out, _ = dossier("audit", *folders, missing, good)
-    rows = table(*folders, missing, good)
+    every = [*folders, place / "refused" / "missing", folder_of(place / "refused", "zz-good")]
+    status, out, _ = dossier("audit", *every)
+    rows, text = table(*every), dossier("page", *every)[1].decode()
     for (name, (_, wanted, line, why)), row, said in zip(cases.items(), rows, out.decode().splitlines()):
         code = dossier("audit", place / "refused" / name)[0]
         check(f"refused: {name}", status=(code, wanted), verdict=(row["verdict"], "refused"),
               line=(line in row["reason"] and line in said, True), why=(f". {why}" in row["reason"], True),
               remedy=(len(row["to_do"]) > 10, True))
-    check("refused folders beside a good one", status=(status, 4),
-          verdicts=([row["verdict"] for row in rows[-2:]], ["refused", "yes"]))
-    text = dossier("page", *folders, missing, good)[1].decode()
     check_page("a page of refusals", text)
-    check("a fault line on the page", shown=("<pre>ntpaudit: capture 6 too-long at" in text, True),
+    check("refused folders beside a good one", status=(status, 4),
+          verdicts=([row["verdict"] for row in rows[-2:]], ["refused", "yes"]),
+          shown=("<pre>ntpaudit: capture 6 too-long at" in text, True),
           remedy=("<p>Record without -s, fetch the file again, or join by mergecap in place of cat: " in text, True))
     verified = json.loads(dossier("page", "--json", "--verify", *folders[2:])[1])
     check("the same while it is verified", words=(sorted((row["reason"], row["to_do"]) for row in verified),
-                                                  sorted((row["reason"], row["to_do"]) for row in rows[2:7])))
-    folder = folders[2]
-    shutil.copy(DATA / "clients-us.pcap", folder / "f.pcap")
-    check("a folder that was put right", run=(dossier("audit", folder)[0], 0))
+                                                  sorted((row["reason"], row["to_do"]) for row in rows[2:5])))
     lines: list[list[str]] = [[], ["audit"], ["audit", "--step", "0", "x"], ["audit", "--jobs", "x", "y"], ["nothing"],
                               ["page", "--json", "--csv", "x"]]
     for typed in lines:
@@ -413,39 +409,6 @@ def test_side_by_side(place: Path) -> None:
         said = call.communicate(timeout=SECONDS)[1]
         check(f"Ctrl-C with {jobs} jobs", status=(call.returncode, 130), line=(said.count(b"\n"), 1),
               left=(parts_left(place / "broken"), []))
-
-
-def stopped_amid(process: int, number: int) -> Any:
-    """So many processes that a process has made, each stopped while one that it has made itself is there."""
-    found, end = list[int](), time.monotonic() + SECONDS
-    while len(found) < number and time.monotonic() < end:
-        for worker in set(children(process)) - set(found):
-            with suppress(ProcessLookupError):  # (it may have ended meanwhile)
-                os.kill(worker, signal.SIGSTOP)
-                if len(found) < number and children(worker):
-                    found.append(worker)
-                else:
-                    os.kill(worker, signal.SIGCONT)
-    return found
-
-
-def test_ended_workers(place: Path) -> None:
-    """Workers that are ended from outside: their folders say so, the others are audited."""
-    for number in (1, 2):
-        folders = [folder_of(place / str(number), f"host-{k:03}") for k in range(150)]
-        call = subprocess.Popen([SCRIPT, "audit", "--jobs", "2", *folders], env=ENVIRONMENT, stdout=subprocess.PIPE,
-                                stderr=subprocess.DEVNULL)
-        assert call.stdout
-        first = call.stdout.readline()
-        for worker in stopped_amid(call.pid, number):
-            os.kill(worker, signal.SIGKILL)
-        lines = [first, *call.stdout.read().splitlines()]
-        call.wait(SECONDS)
-        ended = [line for line in lines if b"the process of this folder was ended" in line]
-        last = f"{150 - number} yes, {number} refused".encode()
-        check(f"workers that are ended: {number}", status=(call.returncode, 3), lines=(len(lines), 151),
-              ended=(len(ended), number), last=(lines[-1], last))
-        check("and their folders again", status=(dossier("audit", *folders)[0], 0), left=(parts_left(place), []))
 
 
 def test_stopped_amid_a_name(place: Path) -> None:
@@ -498,24 +461,8 @@ def test_slurm(place: Path) -> None:
     check("the tasks of the Slurm script",
           folders=(sorted(told), [f"yes           {folder.relative_to(place)}: least bound 0.619 ms, claimed 5 ms"
                                   for folder in folders]))
-    dossier("page", "--json", "--state", "state", "--metrics", "all.prom",
-            *(folder.relative_to(place) for folder in folders), cwd=place)
-    lines = {line for path in metrics.iterdir() for line in path.read_text().splitlines()}
     check("the metrics of the tasks", files=(sorted(path.name for path in metrics.iterdir()),
-                                             [f"{number}.prom" for number in range(4)]),
-          same=(lines, set((place / "all.prom").read_text().splitlines())))
-
-
-def test_parallel(place: Path) -> None:
-    if b"GNU parallel" not in run(["parallel", "--version"])[1]:
-        skipped("GNU parallel", wanting("parallel"))  # (moreutils has another program of this name)
-        return
-    folders = [folder_of(place / "parallel", f"host {number}") for number in range(4)]
-    log = place / "joblog"
-    status, out, _ = run(["parallel", "--will-cite", "--joblog", log, SCRIPT, "audit", ":::", *folders],
-                         env=ENVIRONMENT)
-    check("GNU parallel", status=(status, 0), lines=(len(out.splitlines()), 4),
-          log=(len(log.read_text().splitlines()), 5))
+                                             [f"{number}.prom" for number in range(4)]))
 
 
 def test_full_disk(place: Path) -> None:
@@ -538,14 +485,48 @@ def test_full_disk(place: Path) -> None:
 
 
 # ---- verify
+def differences(kept: dict[str, bytes]) -> Iterator[tuple[str, dict[str, bytes]]]:
+    """Files that differ from what the inputs of an audited folder come to, each with what is said of them."""
+    record = json.loads(kept["audit.json"])
+    entry, whole, leaps = record["entries"][0], kept["report.txt"], record["leap_seconds"]
+
+    def forged(**changes: object) -> dict[str, bytes]:
+        return {"audit.json": json.dumps({**record, "entries": [{**entry, **changes}]}).encode()}
+
+    def report(data: bytes) -> dict[str, bytes]:
+        outputs = {**entry["outputs"], "report.txt": hashlib.sha256(data).hexdigest()}
+        return {"report.txt": data, **forged(outputs=outputs)}
+    yield "f.pcap isn't the file that was audited", {"f.pcap": kept["f.pcap"][:-1] + b"x"}
+    yield "envelope.txt was changed since the audit", {"envelope.txt": kept["envelope.txt"].replace(b"1", b"2", 1)}
+    yield "more.pcap is new", {"more.pcap": kept["f.pcap"]}
+    yield "more-drift.claim.json isn't of this audit", {"more-drift.claim.json": b""}
+    yield "0 verdict is `open`, and by the inputs `yes`", forged(verdict="open", reason={"why": "tick"})
+    yield f"entries 0 least_ns is `1`, and by the inputs `{entry['least_ns']}`", forged(least_ns=1)
+    yield "samples is `58`, and by the inputs `57`", forged(counts={**entry["counts"], "samples": 58})
+    yield "entries 0 warnings is", forged(warnings=[])
+    yield "isn't of this audit", forged(outputs={})
+    yield "entries 0 servers 0 address is", forged(servers=entry["servers"][::-1])
+    yield "bound_ns is `1`, and by the inputs `5000000`", forged(claim={**entry["claim"], "bound_ns": 1})
+    yield "entries 0 envelope_step is `2`, and by the inputs `1`", forged(envelope_step=2)
+    yield "entries 0 leap says is `within`", forged(leap={**entry["leap"], "says": "within"})
+    yield "entries 0 worst piece is `0`", forged(worst={**entry["worst"], "piece": 0})
+    yield "entries 0 refutation error is `1`", forged(refutation={**entry["refutation"], "error": 1})
+    yield "entries 0 part is `2026-11-22`", forged(part="2026-11-22")
+    yield "report.txt: from byte ", report(whole.replace(b"samples 57", b"samples 58"))
+    yield "is `more`, and by the inputs ``", report(whole + b"more")
+    yield "is ``, and by the inputs ` yes\\x0a`", report(whole[:-5])
+    for line, name, value in (("program version is `ntpaudit 9`", "program",
+                               {**record["program"], "version": "ntpaudit 9"}),
+                              ("envelope.txt: from byte ", "options", {"step": 64}), (
+            "leap_seconds seconds is `None`", "leap_seconds", {**leaps, "seconds": leaps["seconds"][:-1]})):
+        yield line, {"audit.json": json.dumps({**record, name: value}).encode()}
+
+
 def test_verify(place: Path) -> None:
     """What differs from what the inputs come to, with both values."""
     folder = audited(place, "verified")
     kept = {path.name: path.read_bytes() for path in folder.iterdir()}
-    record = json.loads(kept["audit.json"])
-    entry = record["entries"][0]
-
-    def differs(files: dict[str, bytes], line: str) -> None:
+    for line, files in differences(kept):
         for name, data in files.items():
             (folder / name).write_bytes(data)
         status, out, _ = dossier("verify", folder)
@@ -553,52 +534,13 @@ def test_verify(place: Path) -> None:
               lines=(out.count(b"\n"), 1))
         for name in files:
             (folder / name).write_bytes(kept[name]) if name in kept else (folder / name).unlink()
-
-    def forged(**changes: object) -> bytes:
-        return json.dumps({**record, "entries": [{**entry, **changes}]}).encode()
-
-    def with_output(name: str, data: bytes) -> dict[str, bytes]:
-        return {name: data, "audit.json": forged(outputs={**entry["outputs"], name: hashlib.sha256(data).hexdigest()})}
-    differs({"f.pcap": kept["f.pcap"][:-1] + b"x"}, "f.pcap isn't the file that was audited")
-    differs({"claim.json": kept["claim.json"].replace(b"5000000", b"5000001")},
-            "claim.json isn't the file that was audited")
-    differs({"envelope.txt": kept["envelope.txt"].replace(b"1", b"2", 1)}, "envelope.txt was changed since the audit")
-    differs({"certificate.json": kept["certificate.json"] + b" "}, "certificate.json was changed since the audit")
-    differs({"more.pcap": kept["f.pcap"]}, "more.pcap is new")
-    differs({"more-drift.claim.json": b""}, "more-drift.claim.json isn't of this audit")
-    for change, line in rows(({"verdict": "open", "reason": {"why": "tick"}},
-                              "entries 0 verdict is `open`, and by the inputs `yes`"),
-                             ({"least_ns": 1}, f"entries 0 least_ns is `1`, and by the inputs `{entry['least_ns']}`"),
-                             ({"counts": {**entry["counts"], "samples": 58}},
-                              "entries 0 counts samples is `58`, and by the inputs `57`"),
-                             ({"warnings": []}, "entries 0 warnings is"),
-                             ({"servers": entry["servers"][::-1]}, "entries 0 servers 0 address is"),
-                             ({"claim": {**entry["claim"], "bound_ns": 1}},
-                              "entries 0 claim bound_ns is `1`, and by the inputs `5000000`"),
-                             ({"envelope_step": 2}, "entries 0 envelope_step is `2`, and by the inputs `1`"),
-                             ({"leap": {**entry["leap"], "says": "within"}}, "entries 0 leap says is `within`"),
-                             ({"worst": {**entry["worst"], "piece": 0}}, "entries 0 worst piece is `0`"),
-                             ({"refutation": {**entry["refutation"], "error": 1}}, "entries 0 refutation error is `1`"),
-                             ({"part": "2026-11-22"}, "entries 0 part is `2026-11-22`"),
-                             ({"outputs": {}}, "isn't of this audit")):
-        differs({"audit.json": forged(**change)}, line)
-    differs(with_output("report.txt", kept["report.txt"].replace(b"samples 57", b"samples 58")),
-            "report.txt: from byte ")
-    differs(with_output("report.txt", kept["report.txt"] + b"more"), "is `more`, and by the inputs ``")
-    differs(with_output("report.txt", kept["report.txt"][:-5]), "is ``, and by the inputs ` yes\\x0a`")
-    differs({"audit.json": json.dumps({**record, "program": {**record["program"], "version": "ntpaudit 9"}}).encode()},
-            "program version is `ntpaudit 9`")
-    differs({"audit.json": json.dumps({**record, "options": {"step": 64}}).encode()}, "envelope.txt: from byte ")
-    leaps = {**record["leap_seconds"], "seconds": record["leap_seconds"]["seconds"][:-1]}
-    differs({"audit.json": json.dumps({**record, "leap_seconds": leaps}).encode()}, "leap_seconds seconds is `None`")
     check("verify at the end", run=(dossier("verify", folder), (0, f"{folder}: verified: yes\n".encode(), b"")))
     (folder / "envelope.txt").write_bytes(b"")
     text = dossier("page", folder)[1].decode()
     check("no picture of a changed envelope", told=("envelope.txt was changed since the audit" in text, True),
           drawn=('class="picture"' in text, False), badge=('class="verdict not-verified"' in text, True))
-    check("verify without an audit", status=(dossier("verify", place / "missing")[0], 4))
     (folder / "audit.json").unlink()
-    check("verify of a folder without audit.json",
+    check("verify without an audit", status=(dossier("verify", place / "missing")[0], 4),
           run=(dossier("verify", folder)[:2], (4, f"{folder}: ntpaudit-dossier: not audited\n".encode())))
 
 
@@ -654,8 +596,8 @@ def test_sums(place: Path) -> None:
     keeps = stand_in(place / "program",
                      f'case "$*" in *" --sums sums") cat sums > "{place}/$1.sums"; sha256sum "$2" "$3" "$4" > '
                      f'"{place}/$1.wanted";; esac')
-    names = ("f.pcap", "-f.pcap", "back\\slash.pcap", "line\nfeed.pcap", "carriage\rreturn.pcap", "*.pcap",
-             " a b .pcap", os.fsdecode(b"no\xff\\utf.pcap"))
+    names = ("-f.pcap", "back\\slash.pcap", "line\nfeed.pcap", "carriage\rreturn.pcap",
+             os.fsdecode(b"no\xff\\utf.pcap"))
     kinds = [("check", "certificate.json", DATA / "clients-us.pcap", DATA / "clients-us.claim.json"),
              ("refute", "refutation.json", DATA / "chrony-ns.pcap", DATA / "chrony-ns.tight.claim.json")]
     for name, (command, second, capture, claim) in product(names, kinds):
@@ -681,7 +623,9 @@ CARRIED = "clients-us", "vlan-ns", "chrony-ns", "port123-ns", "odd-us"
 
 
 def test_draft(place: Path) -> None:
-    status, out, err = dossier("draft", DATA / "vlan-ns.pcap")
+    """A draft of each capture of data/: client, servers, groups, span and bound, and whether it carries."""
+    vlan = DATA / "vlan-ns.pcap"
+    status, out, err = dossier("draft", vlan)
     claim = json.loads(out)
     check("a draft of vlan-ns", status=(status, 0), client=(claim["client"], "198.51.100.10"),
           servers=(claim["servers"], [f"198.51.100.{k}" for k in (1, 2, 3, 4)]),
@@ -689,10 +633,12 @@ def test_draft(place: Path) -> None:
           span=((claim["from"], claim["to"]), ("2026-11-22T06:58:54Z", "2026-11-22T06:59:32Z")),
           told=([name for name in ("drift_ppb", "reading_ns", "false_max", "groups") if f"\n{name}" not
                  in f"\n{err.decode()}"], []))
-    least = int(run([PROGRAM, "envelope", "/dev/stdin", DATA / "vlan-ns.pcap", "--least"], out)[1].split()[-3])
+    least = int(run([PROGRAM, "envelope", "/dev/stdin", vlan, "--least"], out)[1].split()[-3])
     check("the bound of a draft", digits=(str(claim["bound_ns"]).rstrip("0"), lambda text: len(text) <= 2),
           above=(least <= claim["bound_ns"] < least * 1.1, True))
-    claim_of_vlan = claim
+    status, out, err = dossier("draft", "--bound-ns", "123456789", vlan)
+    check("a draft of a bound", claim=(json.loads(out), {**claim, "bound_ns": 123_456_789}),
+          told=(f" {-(-least // 1000) / 1000:.3f} ms; 123.456789 ms stands there, as asked for." in err.decode(), True))
     for capture in files_in(DATA, "*.pcap"):
         status, out, err = dossier("draft", capture)
         if status == 0:
@@ -704,35 +650,30 @@ def test_draft(place: Path) -> None:
                   false_max=(most, lambda most: 2 * most < groups <= 2 * most + 2))
         else:
             check(f"no draft of {capture.name}", status=(status, 1), told=(bool(err), True), output=(out, b""))
-    bare = "drift_ppb is 100000, an oscillator alone: the client's own corrections are NOT in it."
-    check("a draft that knows nothing of the client", first=(err.decode().splitlines()[0][: len(bare)], bare),
-          once=(err.count(b"drift_ppb is"), 1))
-    own = dossier("draft", "--oscillator-ppb", "20000", DATA / "vlan-ns.pcap")
-    check("a draft with another oscillator", drift=(json.loads(own[1])["drift_ppb"], 20_000),
-          first=(own[2].startswith(b"drift_ppb is 20000, an oscillator alone:"), True))
-    status, out, err = dossier("draft", "--bound-ns", "123456789", DATA / "vlan-ns.pcap")
-    check("a draft of a bound", claim=(json.loads(out), {**claim_of_vlan, "bound_ns": 123_456_789}),
-          told=(f" {-(-least // 1000) / 1000:.3f} ms; 123.456789 ms stands there, as asked for." in err.decode(), True))
-    for option, word in (("--bound-ns", "1000000000000001"), ("--drift-ppb", "-1"), ("--reading-ns", "1000000001")):
-        check(f"a draft with {option} {word}", status=(dossier("draft", option, word, DATA / "vlan-ns.pcap")[0], 5))
-    for words in rows(["--drift-ppb", "600000"], ["--chrony", DATA / "client/chrony.conf"]):
-        status, out, err = dossier("draft", *words, DATA / "vlan-ns.pcap")
-        check(f"a draft by {words[0]}", drift=(json.loads(out)["drift_ppb"], 600_000),
-              alone=(b"NOT in it" in err, False), told=(b"\ndrift_ppb is 600000: how fast" in b"\n" + err, True))
-    day = json.loads(dossier("draft", "--day", DATA / "vlan-ns.pcap")[1])
+    day = json.loads(dossier("draft", "--day", vlan)[1])
     check("a draft of a day", span=((day["from"], day["to"]), ("2026-11-22T00:00:00Z", "2026-11-23T00:00:00Z")))
-    header = place / "header.pcap"
+    for option, word in (("--bound-ns", "1000000000000001"), ("--drift-ppb", "-1"), ("--reading-ns", "1000000001")):
+        check(f"a draft with {option} {word}", status=(dossier("draft", option, word, vlan)[0], 5))
+
+
+def test_other_drafts(place: Path) -> None:
+    """What a draft says of the drift, and of captures with two clients or none."""
+    for words, drift, told in rows(([], 100_000, "100000, an oscillator alone: the client's own corrections are NOT"),
+                                   (["--oscillator-ppb", "20000"], 20_000, "20000, an oscillator alone:"),
+                                   (["--drift-ppb", "600000"], 600_000, "600000: how fast"),
+                                   (["--chrony", DATA / "client/chrony.conf"], 600_000, "600000: how fast")):
+        status, out, err = dossier("draft", *words, DATA / "vlan-ns.pcap")
+        check(f"a draft by {words[:1]}", drift=(json.loads(out)["drift_ppb"], drift),
+              told=(f"\ndrift_ppb is {told}" in f"\n{err.decode()}", True), once=(err.count(b"drift_ppb is"), 1))
+    header, both = place / "header.pcap", place / "both.pcap"
     header.write_bytes((DATA / "clients-us.pcap").read_bytes()[:24])
-    check("a draft of nothing",
-          run=(dossier("draft", header), (1, b"", b"No NTP client asks anybody in it: 0 NTP packets.\n")))
-    both = place / "both.pcap"
     both.write_bytes((DATA / "clients-us.pcap").read_bytes() + (DATA / "odd-us.pcap").read_bytes()[24:])
-    status, out, err = dossier("draft", both)
-    check("a draft with two clients", status=(status, 0),
-          told=(b"2 clients" in err and b"198.51.100.10 asks" in err and b"192.0.2.10 asks" in err, True))
-    status, out, _ = dossier("draft", "--client", "192.0.2.10", both)
-    check("a draft for a client", status=(status, 0), client=(json.loads(out)["client"], "192.0.2.10"))
-    check("a draft of a torn capture", status=(dossier("draft", ROOT / "README.md")[0], 2))
+    status, _, err = dossier("draft", both)
+    check("drafts of nothing and of two clients", torn=(dossier("draft", ROOT / "README.md")[0], 2),
+          run=(dossier("draft", header), (1, b"", b"No NTP client asks anybody in it: 0 NTP packets.\n")),
+          both=(status, 0), told=([words in err for words in (b"2 clients", b"198.51.100.10 asks", b"192.0.2.10 asks")],
+                                  [True] * 3),
+          client=(json.loads(dossier("draft", "--client", "192.0.2.10", both)[1])["client"], "192.0.2.10"))
 
 
 TCPDUMP = """#!/bin/sh
@@ -818,14 +759,6 @@ def test_other_answers(place: Path) -> None:
     other = b": (by another build of the program than the audit's)\n"
     check("another refutation by another build", run=(dossier("verify", folder, env=environment)[:2],
                                                       (1, f"{folder}: verified: refuted\n{folder}".encode() + other)))
-    kept, record = (folder / "refutation.json").read_bytes(), (folder / "audit.json").read_text()
-    (folder / "refutation.json").write_bytes(b"\n" + kept)
-    (folder / "audit.json").write_text(record.replace(sum_of(kept), sum_of(b"\n" + kept)))
-    status, out, _ = dossier("verify", folder, env=environment)
-    check("one that begins with a line feed", status=(status, 1),
-          line=(b"refutation.json: from byte 0 on" in out, True))
-    (folder / "refutation.json").write_bytes(kept)
-    (folder / "audit.json").write_text(record)
     answers(json.dumps(refutation), "no")
     check("a refutation that isn't accepted any more",
           run=(dossier("verify", folder, env=environment)[:2],
