@@ -129,6 +129,8 @@ def reader_of(kind: Any) -> Reader:
     if origin is Annotated:
         return ruled(inner[0], getattr(inner[1], "is_right", inner[1]))
     if origin in (Union, UnionType):
+        if len(records := [each for each in inner if hasattr(each, "own_fields")]) > 1:
+            return by_word(records, NoneType in inner)
         return one_of([(each is NoneType, reader_of(each)) for each in inner])
     if origin is Literal:
         return ruled(str, frozenset(inner).__contains__)
@@ -165,6 +167,22 @@ def one_of(kinds: list[tuple[bool, Reader]]) -> Reader:
                 except Mangled as error:
                     found = error
         raise found if len(kinds) == 2 and any(is_none for is_none, _ in kinds) else Mangled()
+    return read
+
+
+def by_word(records: list[Any], may_lack: bool) -> Reader:
+    """The reader of records of several kinds, of which the word in the first field says the kind."""
+    name = next(iter(kinds_of(records[0])))
+    known = {word: each for each in records for word in get_args(kinds_of(each)[name][1])}
+
+    def read(value: Any) -> Any:
+        if value is None and may_lack:
+            return None
+        if type(value) is not dict:
+            raise Mangled
+        if type(word := value.get(name)) is not str or word not in known:
+            raise Mangled(name)
+        return reader_of(known[word])(value)
     return read
 
 

@@ -176,32 +176,76 @@ class Camp:
 
 
 @dataclass(frozen=True)
-class Reason:
-    """Why it isn't a yes, and what shows it."""
+class Cause:
+    """Why it isn't a yes, where the word says all; what shows it stands in the entry."""
 
-    why: Literal["exceeds", "unbounded", "off", "gap", "apart", "drift", "step", "many", "tick", "silent", "twice",
-                 "beside", "evidence"]
+    why: Literal["exceeds", "unbounded", "off", "evidence"]
+
+
+@dataclass(frozen=True)
+class AtTick:
+    """The claim stays open at a Unix tick, with its hull."""
+
+    why: Literal["tick"]
     tick: Ticks = 0
     hull: Hull | None = None
-    """`tick`: that the claim stays open at a Unix tick, and its hull."""
+
+
+@dataclass(frozen=True)
+class Gaps:
+    """The longest times in which no server was heard, in order of time, and how many there are."""
+
+    why: Literal["gap"]
     gaps: Annotated[list[Silence], length(0, FEW)] = field(default_factory=list)
     count: Count = 0
-    """`gap`: the longest gaps, in order of time, and how many there are."""
+
+
+@dataclass(frozen=True)
+class Misfit:
+    """Nothing fits: the drift that was tried, if a course fits with it; with how many wrong groups one fits; the
+    conflicts; the servers that are apart; and the camps into which the servers fall."""
+
+    why: Literal["apart", "drift", "step", "many"]
+    count: Count = 0
     drift_ppb: Count = 0
     conflicts: list[Conflict] = field(default_factory=list)
     apart: list[Address] = field(default_factory=list)
     camps: Annotated[list[Camp], length(0, 32)] = field(default_factory=list)
-    """Where nothing fits: the drift that was tried, if a course fits with it; the conflicts; the servers that are
-    apart; or the camps into which the servers fall."""
+
+
+@dataclass(frozen=True)
+class Silent:
+    """How many groups have a sample; and if the client asked none of its servers, who asks in the capture, and whom the
+    client asks."""
+
+    why: Literal["silent"]
     heard: Count = 0
     asking: Few = field(default_factory=list)
     asked: Few = field(default_factory=list)
-    """`silent`: how many groups have a sample; and if the client asked none of its servers, who asks in the capture,
-    and whom the client asks."""
-    recorded: Gap | None = None
-    """`beside`: when the last NTP packet before the span was recorded and the first after it; 0 if there is none."""
+
+
+@dataclass(frozen=True)
+class Doubled:
+    """The capture in which each packet is there twice."""
+
+    why: Literal["twice"]
     file: Annotated[str, or_nothing(is_name)] = ""
-    """`twice`: the capture in which each packet is there twice."""
+
+
+@dataclass(frozen=True)
+class Elsewhere:
+    """When the last NTP packet before the span was recorded and the first after it; 0 if there is none."""
+
+    why: Literal["beside"]
+    recorded: Gap = (0, 0)
+
+
+Reason = Cause | AtTick | Gaps | Misfit | Silent | Doubled | Elsewhere
+"""Why it isn't a yes, and what shows it."""
+REASONS: dict[str, tuple[type, ...]] = {
+    REFUTED: (Cause, Gaps), UNSUPPORTED: (Cause,), NOTHING_FITS: (Misfit,), NO_EVIDENCE: (Silent, Doubled, Elsewhere),
+    OPEN: (AtTick,), YES: (type(None),)}
+"""Of what kinds the reason of each verdict is."""
 
 
 @dataclass(frozen=True)
@@ -306,7 +350,7 @@ class Entry:
     """The SHA-256 of each file that the audit left, by its name seen from the record's folder."""
 
     def __post_init__(self) -> None:
-        if (self.reason is None) != (self.verdict == YES) or "samples" not in self.counts:
+        if not isinstance(self.reason, REASONS[self.verdict]) or "samples" not in self.counts:
             raise Mangled(f"entry {self.part}")
 
     def within(self, name: str) -> str:
@@ -334,7 +378,7 @@ class Entry:
         """What the program says, of which the verdict was made."""
         if self.verdict == UNSUPPORTED:
             return YES
-        return REFUTED if self.reason and self.reason.why == "beside" else self.verdict
+        return REFUTED if isinstance(self.reason, Elsewhere) else self.verdict
 
 
 @dataclass(frozen=True)

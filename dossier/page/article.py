@@ -6,7 +6,7 @@ from typing import Any
 from ..fleet.signature import Signature, in_words
 from ..folder import files
 from ..folder.answers import joined, read_envelope, read_envelopes
-from ..folder.entry import NOTHING_FITS, OPEN, REFUTED, YES, Entry, Record, is_made_anew
+from ..folder.entry import NOTHING_FITS, OPEN, REFUTED, YES, Elsewhere, Entry, Misfit, Record, is_made_anew
 from ..folder.evidence import evidence
 from ..folder.files import Folder
 from ..folder.registry import Judgement
@@ -64,7 +64,7 @@ def seen(name: str, folder: Folder, record: Record, entry: Entry) -> dict[str, o
     label = (f"The clock's error in ms, {span(claim)}, in pieces of {entry.envelope_step} s. Above 0 the clock "
              "is ahead of UTC. The band is the hull: what is left if no more were wrong than granted.")
     packed = packed_in(folder.names(), record)
-    is_beside = reason is not None and reason.why == "beside"  # (what nothing recorded says isn't drawn)
+    is_beside = isinstance(reason, Elsewhere)  # (what nothing recorded says isn't drawn)
     drawn, backed = {} if is_beside else ranges_of(joined(drawn_of)), backing(folder, record.inputs)
     kept = evidence(folder) if files.EVIDENCE in record.inputs else {}
     strokes = {address: stroke(place) for place, address in enumerate(drawn)}
@@ -73,7 +73,7 @@ def seen(name: str, folder: Folder, record: Record, entry: Entry) -> dict[str, o
         "remarks": [to_do(entry), fit(entry)], "warnings": warned(entry),
         "conflicts": [(one.low, one.request, shown_time(one.asked // SECOND), minus(low_ms(one.least)),
                        one.high, one.reply, shown_time(one.answered // SECOND), minus(high_ms(one.most)))
-                      for one in reason.conflicts] if entry.verdict == NOTHING_FITS and reason else [],
+                      for one in reason.conflicts] if isinstance(reason, Misfit) else [],
         "label": label, "picture": "" if is_beside else
         picture(joined(drawn_of), claim.bound_ns, name, label, steps_of(entry), entry.verdict == NOTHING_FITS),
         "legend": legend(joined(drawn_of), claim.bound_ns),

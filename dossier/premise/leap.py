@@ -12,7 +12,7 @@ from typing import Final
 from ..capture.recording import Recording
 from ..fault import Fault, fault
 from ..folder.claim import Claim
-from ..folder.entry import AGAINST, OF_LEAPS, UNSUPPORTED, YES, Alert, Entry, Leap, LeapList, Reason, Record
+from ..folder.entry import AGAINST, OF_LEAPS, UNSUPPORTED, YES, Alert, Cause, Entry, Leap, LeapList, Record
 from ..folder.files import data_named
 from ..records import replace
 from ..schema import said, typed
@@ -109,7 +109,7 @@ def entry_by(leaps: LeapList, entry: Entry) -> Entry:
         return replace(entry, leap=leap, warnings=warned)
     is_yes = not any(warning.kind in AGAINST for warning in warned)
     return replace(entry, leap=leap, warnings=warned, verdict=YES if is_yes else UNSUPPORTED,
-                   reason=None if is_yes else Reason("evidence"))
+                   reason=None if is_yes else Cause("evidence"))
 
 
 def record_by(leaps: LeapList, record: Record) -> Record:

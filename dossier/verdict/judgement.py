@@ -11,8 +11,9 @@ from ..capture.traffic import Traffic, number_of
 from ..capture.twice import are_twice
 from ..folder.answers import Envelope, Settled, read_advice, read_settled
 from ..folder.claim import GREATEST_DRIFT, OSCILLATOR, Claim, Part
-from ..folder.entry import (FEW, NO_EVIDENCE, NOTHING_FITS, OPEN, REFUTED, YES, Alert, Conflict, Entry, Gap, Hull,
-                            LeapList, Move, Piece, Reason, Server, Silence, Stretch)
+from ..folder.entry import (FEW, NO_EVIDENCE, NOTHING_FITS, OPEN, REFUTED, YES, Alert, AtTick, Cause, Conflict,
+                            Doubled, Elsewhere, Entry, Gap, Gaps, Hull, LeapList, Misfit, Move, Piece, Reason, Server,
+                            Silence, Silent, Stretch)
 from ..premise.allowance import slip
 from ..premise.backing import Backing, against
 from ..premise.leap import entry_by, look_up, stretch
@@ -87,11 +88,11 @@ def judge(part: Part, recording: Recording, beside: Beside, texts: Texts, step: 
     if 0 < claim.drift_ppb <= OSCILLATOR and not beside.backing.read:
         warned.append(Alert("oscillator", claim.drift_ppb))
     reason = reason_of(claim, settled, Seen(servers, recording, gaps, texts, beside.capture))
-    if reason and reason.why in ("gap", "beside"):
+    if isinstance(reason, (Gaps, Elsewhere)):
         warned = [alert for alert in warned if alert.kind not in TOLD]
     return entry_by(beside.leaps, Entry(
         part=part.name,
-        verdict=NO_EVIDENCE if reason and reason.why == "beside" else settled.answer,
+        verdict=NO_EVIDENCE if isinstance(reason, Elsewhere) else settled.answer,
         claim=claim,
         envelope_step=step,
         least_ns=None if settled.answer == NOTHING_FITS else envelope.least_ns,
@@ -131,22 +132,22 @@ def reason_of(claim: Claim, settled: Settled, seen: Seen) -> Reason | None:
     if settled.answer == REFUTED:
         return why_refuted(claim, seen)
     if settled.answer == OPEN:
-        return Reason("tick", tick=settled.tick, hull=settled.hull)
+        return AtTick("tick", tick=settled.tick, hull=settled.hull)
     if settled.answer == NO_EVIDENCE:
         if are_twice(seen.recording.counts):
-            return Reason("twice", file=seen.capture)
+            return Doubled("twice", file=seen.capture)
         return silent(claim, settled.heard, seen.texts.traffic or Traffic())
     if settled.answer == NOTHING_FITS:
         return why_nothing_fits(claim, seen.texts)
     return None
 
 
-def silent(claim: Claim, heard: int, seen: Traffic) -> Reason:
+def silent(claim: Claim, heard: int, seen: Traffic) -> Silent:
     """The reason if too few servers have a sample. If the client asks none of them, who asks is named, and whom."""
     asked = list(seen.asked.get(claim.client, ()))
     if any(server in asked for server in claim.servers):
-        return Reason("silent", heard=heard)
-    return Reason("silent", heard=heard, asking=seen.by_number()[:FEW], asked=sorted(asked, key=number_of)[:FEW])
+        return Silent("silent", heard)
+    return Silent("silent", heard, seen.by_number()[:FEW], sorted(asked, key=number_of)[:FEW])
 
 
 def why_refuted(claim: Claim, seen: Seen) -> Reason:
@@ -154,28 +155,28 @@ def why_refuted(claim: Claim, seen: Seen) -> Reason:
     if hulls go beyond the bound where nothing was heard for long; else `exceeds`."""
     envelope, bound = seen.texts.envelope, bound_ticks(claim.bound_ns)
     if "unbounded" in envelope.hulls:
-        return Reason("unbounded")
+        return Cause("unbounded")
     if any(part.beyond for part in seen.texts.parts):
-        return Reason("off")
+        return Cause("off")
     if around := seen.recording.around(claim.first * SECOND, claim.last * SECOND):
-        return Reason("beside", recorded=around)
+        return Elsewhere("beside", around)
     are_gaps = are_in(envelope, seen.gaps)
     if any(is_in and is_beyond(hull, bound) for hull, is_in in zip(envelope.hulls, are_gaps)):
         longest = sorted(longest_of(seen.gaps))
-        return Reason("gap", gaps=[seen.texts.silent[gap] for gap in longest], count=len(seen.gaps))
-    return Reason("exceeds")
+        return Gaps("gap", [seen.texts.silent[gap] for gap in longest], len(seen.gaps))
+    return Cause("exceeds")
 
 
-def why_nothing_fits(claim: Claim, texts: Texts) -> Reason:
+def why_nothing_fits(claim: Claim, texts: Texts) -> Misfit:
     """`step` if the clock's moves are known and are steps, or `drift` if they may be none, or if a course fits with
     more drift; `apart` if one fits with more wrong servers, with those that are apart; else `many`."""
     tried = more_drift(claim) if read_settled(texts.other).answer != NOTHING_FITS else 0
     if texts.moves:
-        return Reason("step" if all(move.is_step for move in texts.moves) else "drift", conflicts=texts.conflicts,
-                      drift_ppb=tried, count=texts.spared)
+        return Misfit("step" if all(move.is_step for move in texts.moves) else "drift", texts.spared, tried,
+                      texts.conflicts)
     apart = sorted({*texts.apart.always, *(time.server for time in texts.apart.times)}, key=number_of)
-    return Reason("drift" if tried else "apart" if apart else "many", drift_ppb=tried, count=texts.spared,
-                  conflicts=texts.conflicts, apart=apart, camps=camps_of(texts.envelope))
+    return Misfit("drift" if tried else "apart" if apart else "many", texts.spared, tried, texts.conflicts, apart,
+                  camps_of(texts.envelope))
 
 
 def servers_of(claim: Claim, recording: Recording) -> list[Server]:

@@ -4,8 +4,8 @@ No sentence says more than the program did. A yes is: in every course of events 
 within the bound. Refuted is: in one of them it isn't, so nothing in the capture shows it.
 """
 from ..folder.claim import Claim
-from ..folder.entry import (AGAINST, NO_EVIDENCE, NOTHING_FITS, OPEN, REFUSED, REFUTED, UNSUPPORTED, YES, Entry,
-                            Move, Reason, Silence, Stretch)
+from ..folder.entry import (AGAINST, NO_EVIDENCE, NOTHING_FITS, OPEN, REFUSED, REFUTED, UNSUPPORTED, YES, AtTick, Cause,
+                            Doubled, Elsewhere, Entry, Gaps, Misfit, Move, Silence, Silent, Stretch)
 from ..folder.files import CLAIM, REFUTATION
 from ..text import capital, count, is_or_are, label, listed, operand, plain
 from ..units import (SECOND, TICKS, between, civil, from_to, high_ms, inward, low_ms, ns_ms, ns_up_ms, outward,
@@ -45,8 +45,8 @@ SAID = {
 def sentence(entry: Entry) -> str:
     """What a manager reads."""
     claim = entry.claim
-    if entry.reason and entry.reason.why == "off" and entry.verdict != UNSUPPORTED:
-        return capital(why_off(entry, entry.reason))
+    if entry.reason == OFF:
+        return capital(why_off(entry))
     within = f"the clock of {claim.client} was within {ns_ms(claim.bound_ns)} ms of UTC"
     if entry.verdict != YES:
         return f"{SAID[entry.verdict].format(it=f'{span(claim)} {within}', granted=granted(claim))} {reason(entry)}"
@@ -64,24 +64,33 @@ def reason(entry: Entry) -> str:
         return ""
     if entry.verdict == UNSUPPORTED:
         return " ".join(warning_words(warning) for warning in entry.warnings if warning.kind in AGAINST)
-    if entry.verdict == NO_EVIDENCE:
+    if isinstance(found, (Silent, Doubled, Elsewhere)):
         return why_no_evidence(entry, found)
-    if found.why == "tick" and found.hull is not None:
+    if isinstance(found, Misfit):
+        return why_nothing_fits(entry, found)
+    if isinstance(found, Gaps):
+        return why_gap(entry, found)
+    if isinstance(found, AtTick) and found.hull is not None:
         is_word = isinstance(found.hull, str)
         left = f"the hull is {found.hull}" if is_word else f"errors from {range_ms(*found.hull)} are left open"
         return f"At {shown_time(found.tick // TICKS)} {left}."
-    return why_nothing_fits(entry, found) if entry.verdict == NOTHING_FITS else why_refuted(entry, found)
+    if found == Cause("unbounded"):
+        return "No more groups have a sample than the claim takes for wrong, so nothing follows."
+    return capital(why_off(entry)) if found == OFF else f"A course of events fits the exchanges {course_of(entry)}."
 
 
-def why_no_evidence(entry: Entry, found: Reason) -> str:
+OFF = Cause("off")
+
+
+def why_no_evidence(entry: Entry, found: Silent | Doubled | Elsewhere) -> str:
     """What is missing: the recording at the time of the span, the client, its servers' replies, or enough of them."""
     counts, client = entry.counts, entry.claim.client
-    if found.recorded:
+    if isinstance(found, Elsewhere):
         before, after = (time // SECOND for time in found.recorded)
         ends = [f"the last before it is from {shown_time(before)}"] if before else []
         ends += [f"the first after it from {shown_time(after)}"] if after else []
         return f"No packet was recorded within the span: {', '.join(ends)} UTC."
-    if found.why == "twice":
+    if isinstance(found, Doubled):
         return (f"Each packet is there twice in {plain(found.file)}, so no reply is of use: it may be the answer to "
                 "either of two requests.")
     if not counts.get("records"):
@@ -98,17 +107,7 @@ def why_no_evidence(entry: Entry, found: Reason) -> str:
             "wrong: whatever the error, a course of events fits.")
 
 
-def why_refuted(entry: Entry, found: Reason) -> str:
-    if found.why == "unbounded":
-        return "No more groups have a sample than the claim takes for wrong, so nothing follows."
-    if found.why == "off":
-        return capital(why_off(entry, found))
-    if found.why == "gap":
-        return why_gap(entry, found)
-    return f"A course of events fits the exchanges {course_of(entry)}."
-
-
-def why_off(entry: Entry, found: Reason) -> str:
+def why_off(entry: Entry) -> str:
     """How far the clock was off, and when."""
     return (f"the clock of {entry.claim.client} was {off_times(entry)}, and so beyond the bound of "
             f"{ns_ms(entry.claim.bound_ns)} ms, {granted(entry.claim)} and what else the claim grants is true.")
@@ -129,7 +128,7 @@ def ahead(hull: tuple[int, int]) -> str:
     return f"{range_ms(low, high)} {'ahead of' if hull[0] > 0 else 'behind'}"
 
 
-def why_gap(entry: Entry, found: Reason) -> str:
+def why_gap(entry: Entry, found: Gaps) -> str:
     """When nothing was heard, and what holds at all other times."""
     told = found.gaps if len(found.gaps) <= MOST_TIMES else sorted(
         sorted(found.gaps, key=lambda gap: gap.after - gap.by)[:MOST_TIMES], key=lambda gap: gap.after)
@@ -166,7 +165,7 @@ MOST_TIMES = 4
 IF_TRUE = "if what the claim grants is true"
 
 
-def why_nothing_fits(entry: Entry, found: Reason) -> str:
+def why_nothing_fits(entry: Entry, found: Misfit) -> str:
     groups = count(len(entry.claim.grouped), "group")
     if entry.moves:
         more = f" That takes {found.count} wrong of {groups}, more than the claim grants." if found.count else ""
@@ -189,7 +188,7 @@ def moved(move: Move) -> str:
     return f"{how} {between(before, after)} by {range_ms(move.low, move.high)}"
 
 
-def in_camps(found: Reason) -> str:
+def in_camps(found: Misfit) -> str:
     """Which servers agree with which, for the longest time, and what they say then."""
     if not found.camps:
         return ""
@@ -198,7 +197,7 @@ def in_camps(found: Reason) -> str:
     return f" {capital(from_to(found.camps[0].from_, found.camps[0].to))} {listed(said)}."
 
 
-def first_conflict(entry: Entry, found: Reason) -> str:
+def first_conflict(entry: Entry, found: Misfit) -> str:
     """The first conflict in time, or of those about that time the steepest, with its figures, and how fast the clock
     would have had to move."""
     if not found.conflicts:
@@ -225,16 +224,16 @@ def in_short(entry: Entry) -> str:
         return ""
     if entry.verdict == NOTHING_FITS and entry.moves:
         return moves_of(entry)
-    if found.why == "off":
-        return f"{off_times(entry)}"
-    if found.why == "gap":
+    if found == OFF:
+        return off_times(entry)
+    if isinstance(found, Gaps):
         more, gap = f", and {found.count - 1:,} more times" if found.count > 1 else "", longest(found.gaps)
         return f"no server heard {from_to(*inward(gap.after, gap.by))} UTC{more}"
-    if found.apart:
+    if isinstance(found, Misfit) and found.apart:
         return f"{listed(found.apart)} apart"
-    if found.why == "twice":
+    if isinstance(found, Doubled):
         return f"each packet is there twice in {plain(found.file)}"
-    if found.why == "silent":
+    if isinstance(found, Silent):
         mode = next((warning.servers for warning in entry.warnings if warning.kind == "interleaved"), None)
         return f"{listed(mode)} in interleaved mode" if mode else why_no_evidence(entry, found).rstrip(".")
     return SHORT.get(found.why, "")
@@ -262,8 +261,9 @@ def to_do(entry: Entry) -> str:
         return after_moves(entry)
     if found.why == "silent" and not entry.counts.get("requests"):
         return NOT_ASKED
-    logged = journal(longest(found.gaps).after, longest(found.gaps).by) if found.gaps else ""
-    return least + TO_DO[found.why].format(file=operand(found.file), journal=logged)
+    gap = longest(found.gaps) if isinstance(found, Gaps) and found.gaps else None
+    return least + TO_DO[found.why].format(file=operand(found.file) if isinstance(found, Doubled) else "",
+                                           journal=journal(gap.after, gap.by) if gap else "")
 
 
 TIGHTER = "For a tighter one ask nearer servers, more of them, or more often; or grant less drift, if that is true."
@@ -345,7 +345,7 @@ def journal(before: int, after: int) -> str:
 def warned(entry: Entry) -> list[str]:
     """The warnings, but those that the reason tells."""
     against = AGAINST if entry.verdict == UNSUPPORTED else ()
-    apart = set(entry.reason.apart) if entry.reason else set()
+    apart = set(entry.reason.apart) if isinstance(entry.reason, Misfit) else set[str]()
     return presumed(entry) + [warning_words(warning) for warning in entry.warnings if warning.kind not in against
                               and not (warning.kind == "apart" and set(warning.servers) <= apart)]
 
