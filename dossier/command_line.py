@@ -14,7 +14,7 @@ from .folder.claim import GREATEST_BOUND, GREATEST_DRIFT, OSCILLATOR, UNKNOWN_RE
 from .folder.jobs import SECONDS, answer
 from .folder.program import Program, find_program
 from .folder.registry import Known, state_of
-from .folder.result import Result
+from .folder.result import Written
 from .text import plain
 from .units import now
 
@@ -322,7 +322,7 @@ def run(given: argparse.Namespace) -> int:
     if given.command == "draft":
         return run_draft(given, program)
     from .page.figure import picture_of
-    sys.stdout.write(answer(lambda *_: Result(text=picture_of(program, given.claim, given.capture, given.step))).text)
+    sys.stdout.write(answer(lambda *_: picture_of(program, given.claim, given.capture, given.step), str))
     return 0
 
 
@@ -425,7 +425,7 @@ def run_draft(given: argparse.Namespace, program: Program) -> int:
     proposed, leaps = found.drift_ppb if found else given.oscillator_ppb, read_list(None)
     drift_ppb = proposed if given.drift_ppb is None else given.drift_ppb
 
-    def work(*_: object) -> Result:
+    def work(*_: object) -> Written:
         wanted = Wanted(given.client, given.day, drift_ppb, found is None and given.drift_ppb is None,
                         reading_of(given), given.bound_ns)
         claim, remarks = draft(program, given.captures, wanted)
@@ -433,8 +433,8 @@ def run_draft(given: argparse.Namespace, program: Program) -> int:
             remarks += found.sentences() + found.cautions(claim.first, claim.last)
         if claim:
             remarks += of_leaps(claim, leaps)
-        return Result(lines=remarks, text=claim_text(claim) if claim else "")
-    drafted = answer(work)
+        return Written(claim_text(claim) if claim else "", remarks)
+    drafted = answer(work, Written)
     for remark in drafted.lines:
         say(remark)
     if not drafted.text:

@@ -7,7 +7,7 @@ from functools import partial
 
 from ..fault import DEVICE, NOT_SHOWN, USAGE, Fault, fault, summed
 from ..folder import files
-from ..folder.entry import DISPUTED, REFUSED, LeapList, Options, Record, is_made_anew, read_record, record_text
+from ..folder.entry import DISPUTED, REFUSED, LeapList, Options, Record, Refusal, is_made_anew, read_record, record_text
 from ..folder.files import CLAIM, LEFT, Folder, sum_of
 from ..folder.jobs import run_all
 from ..folder.older import read_any
@@ -15,7 +15,7 @@ from ..folder.placing import blocks_of, is_ones_own, place
 from ..folder.program import Program
 from ..folder.progress import Progress
 from ..folder.registry import Known
-from ..folder.result import Result
+from ..folder.result import Audited
 from ..premise.leap import record_by
 from ..records import dataclass
 from ..text import label
@@ -47,11 +47,11 @@ def audit_all(folders: list[str], wanted: Wanted, jobs: int, seconds: int, metri
     shown, worst, samples = Progress(len(folders)), 0, list[Sample]()
     jobs = max(1, min(jobs, len(folders)))
     try:
-        for path, found in run_all(folders, partial(audit, wanted), seconds, jobs, shown):
+        for path, found in run_all(folders, partial(audit, wanted), Audited, seconds, jobs, shown):
             worst = summed(worst, found.status)
-            samples += found.metrics or of_verdict(path, REFUSED)
+            samples += of_verdict(path, REFUSED) if isinstance(found, Refusal) else found.metrics
             shown.clear()
-            print("\n".join([refusal_of(path, found.refusal.line)] if found.refusal else found.lines), flush=True)
+            print("\n".join([refusal_of(path, found.line)] if isinstance(found, Refusal) else found.lines), flush=True)
     finally:
         shown.clear()
     if len(folders) > 1:
@@ -59,7 +59,7 @@ def audit_all(folders: list[str], wanted: Wanted, jobs: int, seconds: int, metri
     return summed(worst, write_metrics(metrics, samples)) if metrics else worst
 
 
-def audit(wanted: Wanted, path: str, _: int) -> Result:
+def audit(wanted: Wanted, path: str, _: int) -> Audited:
     """Audits a folder and leaves its files, audit.json last. No other call writes there meanwhile.
 
     A refusal is an audit too, and is written down. A fault is raised only if that isn't possible, or if it would take
@@ -73,7 +73,7 @@ def audit(wanted: Wanted, path: str, _: int) -> Result:
         return audited_anew(wanted, path, old)
 
 
-def audited_anew(wanted: Wanted, path: str, old: Record | None) -> Result:
+def audited_anew(wanted: Wanted, path: str, old: Record | None) -> Audited:
     """Makes an audit, and puts it in place."""
     is_signed, _ = before = standing(path)
     with Folder(path) as folder:
@@ -137,15 +137,15 @@ KEPT = {files.JOINED: "if it is a recording, give it another name, such as f.pca
 """What to do about files that an audit would replace, and that may be a person's."""
 
 
-def result_of(path: str, record: Record, known: Known, more: str, others: Iterable[str] = ()) -> Result:
+def result_of(path: str, record: Record, known: Known, more: str, others: Iterable[str] = ()) -> Audited:
     """A folder's lines, verdicts and metrics. What the second program disputes has no verdict."""
     if words := known.dispute(record):
-        return Result(NOT_SHOWN, [refusal_of(path, words, DISPUTED), *others], [DISPUTED],
-                      list(of_verdict(path, DISPUTED)))
+        return Audited(NOT_SHOWN, [refusal_of(path, words, DISPUTED), *others], [DISPUTED],
+                       list(of_verdict(path, DISPUTED)))
     lines = [refusal_of(path, record.refusal.line)] if record.refusal else []
     lines += [line_of(path, entry) + more for entry in record.entries]
     lines += [f"{'':14}{label(path)}: {words}" for words in left_out(record)]
-    return Result(record.status, [*lines, *others], record.verdicts, list(of_record(path, record)))
+    return Audited(record.status, [*lines, *others], record.verdicts, list(of_record(path, record)))
 
 
 def left_out(record: Record) -> list[str]:

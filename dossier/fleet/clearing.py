@@ -15,7 +15,6 @@ from ..fault import Fault, fault
 from ..folder.files import Folder
 from ..folder.jobs import find_tool, stream
 from ..folder.placing import copy_of, take_away
-from ..folder.result import Result
 from ..text import count
 from ..units import DAY, day_of
 
@@ -24,7 +23,7 @@ PACKED = "packed.zst"
 """A private copy."""
 
 
-def clear(source: str, target: str, days: int) -> Result:
+def clear(source: str, target: str, days: int) -> list[str]:
     """Takes away recordings that are older than the newest days, and says how many."""
     with Folder(source) as recorder, Folder(target) as kept:
         touched = {name: days_of(recorder, name, begun) for *_, begun, name in begun_files(recorder)}
@@ -44,7 +43,7 @@ def clear(source: str, target: str, days: int) -> Result:
             missing = missing or name
     lines = [f"{count(taken, 'recording')} taken away, which folders of days have too"] if taken else []
     lines += [f"{missing} is old and stays: no folder of its day has the same"] if missing else []
-    return Result(lines=lines)
+    return lines
 
 
 def days_of(folder: Folder, name: str, begun: int) -> tuple[int, int]:

@@ -17,12 +17,12 @@ from ..capture.tail import Growing
 from ..capture.watch import read_state
 from ..fault import USAGE, Fault, fault
 from ..folder.claim import Claim
-from ..folder.entry import FEW
+from ..folder.entry import FEW, Refusal
 from ..folder.evidence import evidence_files
 from ..folder.files import CLAIM, Folder
 from ..folder.jobs import answer, run_all
 from ..folder.placing import blocks_of, copy_of, make_in, place
-from ..folder.result import Result
+from ..folder.result import Days, Said
 from ..records import replace
 from ..schema import is_time, read_typed
 from ..text import note, plain
@@ -68,28 +68,28 @@ def make_days(source: str, target: str, date: str | None, seconds: int, clear_al
     before today. Their paths are printed, with those that were made earlier of these 31. The folder of days has the
     claim of any day, and the evidence of all. Then recordings are taken away but those of the newest days, if so many
     are named. The status is the worst of all days."""
-    planned, worst = answer(lambda *_: plan(source, target, date)), 0
+    planned, worst = answer(lambda *_: plan(source, target, date), Days), 0
     for line in planned.lines:
         note(line)
     for path in planned.earlier:
         print(plain(path))
 
-    def make(path: str, _: int) -> Result:
+    def make(path: str, _: int) -> Said:
         return make_day(source, target, path, {name for other, name in planned.shown if other == path})
 
-    for path, result in run_all(planned.days, make, seconds):
-        for line in [result.refusal.line] if result.refusal else result.lines:
+    for path, result in run_all(planned.days, make, Said, seconds):
+        for line in [result.line] if isinstance(result, Refusal) else result.lines:
             note(line)
-        if not result.refusal:
+        if not isinstance(result, Refusal):
             print(plain(path), flush=True)
         worst = max(worst, result.status)
     if clear_all_but:
-        for line in answer(lambda *_: clear(source, target, clear_all_but or 1)).lines:
+        for line in answer(lambda *_: clear(source, target, clear_all_but or 1), list[str]):
             note(line)
     return worst
 
 
-def plan(source: str, target: str, date: str | None) -> Result:
+def plan(source: str, target: str, date: str | None) -> Days:
     """The folders of days that are to be made, and those that were made earlier. What is from the future is named."""
     def folder_of(number: int) -> str:
         return os.path.normpath(os.path.join(target, day_of(number * DAY)))
@@ -105,7 +105,7 @@ def plan(source: str, target: str, date: str | None) -> Result:
     if len(later) > FEW:
         notes.append(f"{len(later) - FEW} more are from the future: is the clock right?")
     if date:
-        return Result(lines=notes, days=[folder_of(day_named(date))], shown=shown)
+        return Days(notes, [folder_of(day_named(date))], shown)
     oldest = today - MOST_DAYS
     first = max(min((recorded.begin // DAY + 1 for recorded in found), default=today), oldest)
     before = sorted(number for number in map(day_named, made) if number < today)
@@ -113,8 +113,8 @@ def plan(source: str, target: str, date: str | None) -> Result:
     if first < today and max(today - newest, first - max(before, default=first)) > MOST_DAYS:
         raise fault(f"more than {MOST_DAYS} days went by since the newest day or recording: is the clock right? "
                     "--date makes a day of them", USAGE)
-    return Result(lines=notes, days=[folder_of(number) for number in range(first, today)],
-                  earlier=[folder_of(number) for number in before if oldest <= number < first], shown=shown)
+    return Days(notes, [folder_of(number) for number in range(first, today)], shown,
+                [folder_of(number) for number in before if oldest <= number < first])
 
 
 def days_shown(recorder: Folder, name: str) -> set[int]:
@@ -131,7 +131,7 @@ def day_named(date: str) -> int:
     return seconds_of(f"{date}T00:00:00Z") // DAY
 
 
-def make_day(source: str, target: str, path: str, shown: set[str]) -> Result:
+def make_day(source: str, target: str, path: str, shown: set[str]) -> Said:
     """Puts into a day's folder what it hasn't: what was recorded on the day by its name, and what shows times of it. A
     file that can't be read is named, and the others are put there."""
     begin = day_named(os.path.basename(path)) * DAY
@@ -162,4 +162,4 @@ def make_day(source: str, target: str, path: str, shown: set[str]) -> Result:
                 made[CLAIM] = [claim.text]
             if made:
                 place(day, made)
-    return Result(status, notes)
+    return Said(status, notes)

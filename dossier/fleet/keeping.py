@@ -13,12 +13,12 @@ from functools import partial
 
 from ..fault import DEVICE, NOT_SHOWN, USAGE, fault
 from ..folder import files
-from ..folder.entry import DISPUTED, Record, is_made_anew, is_packable
+from ..folder.entry import DISPUTED, Record, Refusal, is_made_anew, is_packable
 from ..folder.files import Folder
 from ..folder.jobs import find_tool, run_all, stream
 from ..folder.placing import Copy, blocks_of, copy_of, is_ones_own, make_last, place, remove_folder, take_away
 from ..folder.registry import Known
-from ..folder.result import Result
+from ..folder.result import Said
 from ..text import label, note, plain
 from ..units import DAY
 from ..verdict.making import packed_in
@@ -36,13 +36,14 @@ def keep_all(folders: list[str], years: int | None, force: bool, known: Known, s
     is the worst."""
     over, worst = set[str](), 0
     if years is not None:
-        lasts = {path: found.last for path, found in run_all(folders, partial(ended, known), seconds) if found.last}
+        lasts = {path: last for path, last in run_all(folders, partial(ended, known), int, seconds)
+                 if isinstance(last, int) and last}
         over, words = over_of(lasts, years, force, known)
         if words:
             note(f"ntpaudit-dossier: {words}")
             worst = USAGE
-    for path, found in run_all(folders, lambda path, _: keep(path, path in over, known), seconds):
-        line = found.refusal.line if found.refusal else found.lines[0]
+    for path, found in run_all(folders, lambda path, _: keep(path, path in over, known), Said, seconds):
+        line = found.line if isinstance(found, Refusal) else found.lines[0]
         if line == GONE:
             remove_folder(path)
         print(f"{label(path)}: {plain(line)}", flush=True)
@@ -53,11 +54,11 @@ def keep_all(folders: list[str], years: int | None, force: bool, known: Known, s
 GONE = "taken away"
 
 
-def ended(known: Known, path: str, _: int) -> Result:
+def ended(known: Known, path: str, _: int) -> int:
     """When the span of a folder ended, if it is known here."""
     with Folder(path) as folder:
         record = known_in(folder, known)[1]
-        return Result(last=max(entry.claim.last for entry in record.entries) if record and record.entries else 0)
+        return max(entry.claim.last for entry in record.entries) if record and record.entries else 0
 
 
 def over_of(lasts: dict[str, int], years: int, force: bool, known: Known) -> tuple[set[str], str]:
@@ -84,7 +85,7 @@ def over_of(lasts: dict[str, int], years: int, force: bool, known: Known) -> tup
     return found, ""
 
 
-def keep(path: str, is_over: bool, known: Known) -> Result:
+def keep(path: str, is_over: bool, known: Known) -> Said:
     """What was done with a folder whose audit was made or verified here. What is disputed is left as it is."""
     with Folder(path) as folder, known.alone(folder):
         is_ones_own(folder.place)
@@ -92,7 +93,7 @@ def keep(path: str, is_over: bool, known: Known) -> Result:
         if not seen:
             raise fault("neither made nor verified here: `ntpaudit-dossier verify` comes first", USAGE)
         if words := known.dispute(record):
-            return Result(NOT_SHOWN, [f"{DISPUTED}: {words}"])
+            return Said(NOT_SHOWN, [f"{DISPUTED}: {words}"])
         if record.refusal:
             raise fault("the audit was refused, so there is nothing to keep", DEVICE)
         if min(entry.claim.last for entry in record.entries) > time.time() + DAY:
@@ -101,17 +102,17 @@ def keep(path: str, is_over: bool, known: Known) -> Result:
                  if is_packable(name) and f"{name}.zst" not in record.inputs and folder.has(name)]
         again = list(filter(folder.has, filter(is_made_anew, record.outputs)))
         if not (is_over or loose or again):
-            return Result(lines=["kept"])
+            return Said(lines=["kept"])
         if changed := change_of(folder, record):
             raise fault(changed)
         if is_over:
             take_all(folder, record)
-            return Result(lines=[GONE])
+            return Said(lines=[GONE])
         pack_all(folder, [name for name in loose if not folder.has(f"{name}.zst")])
         make_last(folder, [f"{name}.zst" for name in loose])
         for name in (*loose, *again):
             take_away(folder.place, name)
-        return Result(lines=["kept"])
+        return Said(lines=["kept"])
 
 
 def pack_all(folder: Folder, names: list[str]) -> None:

@@ -19,12 +19,12 @@ from ..capture.watch import State, read_state, since_boot
 from ..fault import NOT_SHOWN, REFUSED as INPUT_REFUSED, Fault
 from ..folder.answers import Settled, read_envelope, read_settled
 from ..folder.claim import Claim
-from ..folder.entry import NO_EVIDENCE, NOTHING_FITS, OF_LEAPS, REFUSED, UNSUPPORTED, YES, LeapList
+from ..folder.entry import NO_EVIDENCE, NOTHING_FITS, OF_LEAPS, REFUSED, UNSUPPORTED, YES, LeapList, Refusal
 from ..folder.files import CLAIM, Folder, data_named
 from ..folder.jobs import answer, run_all
 from ..folder.placing import keep
 from ..folder.program import Program
-from ..folder.result import Moment, Result
+from ..folder.result import Moment
 from ..premise.leap import alerts_of, look_up
 from ..records import replace
 from ..schema import read_typed
@@ -115,12 +115,13 @@ def follow(wanted: Wanted, metrics: str | None, seconds: int, has_colour: bool) 
 def moments(wanted: Wanted) -> list[Moment]:
     """What the last minutes of each recorder say, the worst first. Each is looked at in a process of its own, side by
     side: none holds up the others, or blinds them."""
-    told = {moment.recorder: moment for moment in answer(lambda *_: recorders(wanted)).moments}
+    told = {moment.recorder: moment for moment in answer(lambda *_: recorders(wanted), list[Moment])}
     jobs = min(len(told), len(os.sched_getaffinity(0)))
     found = []
-    for recorder, result in run_all(list(told), partial(look, wanted), LIMIT * ceil_div(wanted.minutes, HOUR), jobs):
-        found += result.moments or [replace(told[recorder], verdict=REFUSED, bad=[plain(result.refusal.line)])
-                                    if result.refusal else told[recorder]]
+    for recorder, result in run_all(list(told), partial(look, wanted), Moment, LIMIT * ceil_div(wanted.minutes, HOUR),
+                                    jobs):
+        found.append(replace(told[recorder], verdict=REFUSED, bad=[plain(result.line)])
+                     if isinstance(result, Refusal) else result)
     return sorted(found, key=lambda moment: moment.badness)
 
 
@@ -129,17 +130,17 @@ def claim_of(wanted: Wanted) -> Claim:
     return found
 
 
-def recorders(wanted: Wanted) -> Result:
+def recorders(wanted: Wanted) -> list[Moment]:
     """Of each recorder that nothing is known of it yet; of none, that there is none."""
     claim = claim_of(wanted)
     with Folder(wanted.source) as folder:
         names = sorted({one.before.removesuffix("-") for one in begun_files(folder)})
     end, groups = int(time.time()), len(claim.grouped)
-    return Result(moments=[Moment(name, end - MINUTE * wanted.minutes, end, NO_EVIDENCE, claim.bound_ns, groups,
-                                  2 * claim.false_max + 1) for name in names or [""]])
+    return [Moment(name, end - MINUTE * wanted.minutes, end, NO_EVIDENCE, claim.bound_ns, groups,
+                   2 * claim.false_max + 1) for name in names or [""]]
 
 
-def look(wanted: Wanted, recorder: str, _: int) -> Result:
+def look(wanted: Wanted, recorder: str, _: int) -> Moment:
     """What the last minutes of a recorder say. Files that can't be read are left out and named."""
     claim, bad, now, end = claim_of(wanted), list[str](), int(since_boot()), int(time.time())
     with Folder(wanted.source) as folder:
@@ -154,7 +155,7 @@ def look(wanted: Wanted, recorder: str, _: int) -> Result:
                     lost=state.lost if state else 0, left_out=state.left_out if state else 0)
     if found.last:
         moment = told_of(wanted, claim, found, moment)
-    return Result(moments=[replace(moment, bad=list(map(plain, dict.fromkeys(bad))))])
+    return replace(moment, bad=list(map(plain, dict.fromkeys(bad))))
 
 
 def age_of(state: State | None, runs: bool, found: Latest, now: int, end: int) -> int | None:

@@ -7,10 +7,10 @@ from typing import NamedTuple
 
 from ..fault import Fault, fault
 from ..folder import files
+from ..folder.entry import Refusal
 from ..folder.files import Folder
 from ..folder.jobs import run_all, run_one
 from ..folder.older import read_any
-from ..folder.result import Result
 from .days import is_day
 from .signature import signed_in
 from .statements import days_of, folders_above
@@ -25,7 +25,7 @@ class Plan(NamedTuple):
 
     every: list[str]
     stated: dict[str, str]
-    beside: dict[str, Result]
+    beside: dict[str, list[str] | Refusal]
 
 
 def planned(folders: list[str], named: set[str], seconds: int) -> Plan:
@@ -44,36 +44,39 @@ def planned(folders: list[str], named: set[str], seconds: int) -> Plan:
               for folder in folders if files.absolute(folder) in machines}
     counted = named.union(map(files.absolute, stated))
     for folder, found in beside.items():
-        others = [day for day in found.lines if files.absolute(day) not in counted]
-        below[folder] += others
-        counted.update(map(files.absolute, others))
-        found.lines.clear()
+        if not isinstance(found, Refusal):
+            others = [day for day in found if files.absolute(day) not in counted]
+            below[folder] += others
+            counted.update(map(files.absolute, others))
+            found.clear()
     return Plan([each for folder in folders for each in (*below[folder], folder)], stated, beside)
 
 
 def names_of(plan: Plan, seconds: int) -> dict[str, str]:
     """The days of which some are drawn, each with its name for good: as a year states it, else as audit.json does."""
-    def work(path: str, _: int) -> Result:
+    def work(path: str, _: int) -> str:
         with Folder(path) as folder:
-            return Result(text=read_any(folder.data(files.AUDIT)).name)
+            return read_any(folder.data(files.AUDIT)).name
     others = [path for path in plan.every if path not in plan.stated]
-    return plan.stated | {path: found.text for path, found in run_all(others, work, seconds) if found.text}
+    return plan.stated | {path: name for path, name in run_all(others, work, str, seconds)
+                          if isinstance(name, str) and name}
 
 
 def days_below(path: str, named: set[str], seconds: int) -> list[str]:
     """The names for good of the days on which a year's statements rest, if there are such in a folder, each with its
     folder, if that is there."""
-    def work(path: str, _: int) -> Result:
+    def work(path: str, _: int) -> list[str]:
         with Folder(path) as folder:
             days = days_of(folder, named) if signed_in(folder) == files.YEAR else {}
-            return Result(lines=[f"{name} {day}" for day, name in days.items() if is_there(day)])
-    return run_one(path, work, seconds).lines
+            return [f"{name} {day}" for day, name in days.items() if is_there(day)]
+    found = run_one(path, work, list[str], seconds)
+    return [] if isinstance(found, Refusal) else found
 
 
-def days_beside(path: str, machines: list[str], seconds: int) -> Result:
+def days_beside(path: str, machines: list[str], seconds: int) -> list[str] | Refusal:
     """The folders of all days in a folder, in those in it, and in those of machines below it; and the folders among
     these that can't be looked into."""
-    def work(path: str, _: int) -> Result:
+    def work(path: str, _: int) -> list[str]:
         with Folder(path) as folder:
             inner = {os.path.join(path, name) for name in folder.names() if folder.is_folder(name) and not is_day(name)}
         found = list[str]()
@@ -86,8 +89,8 @@ def days_beside(path: str, machines: list[str], seconds: int) -> Result:
                 found.append(place)
             if len(found) > MOST_DAYS:
                 raise fault(f"more than {MOST_DAYS:,} days are in the folder")
-        return Result(lines=found)
-    return run_one(path, work, seconds)
+        return found
+    return run_one(path, work, list[str], seconds)
 
 
 def is_there(path: str) -> bool:

@@ -6,12 +6,12 @@ from typing import IO
 
 from ..fault import DEVICE, NOT_SHOWN, USAGE, Fault, fault, summed
 from ..folder import files
-from ..folder.entry import DISPUTED, LeapList, read_record, record_text
+from ..folder.entry import DISPUTED, LeapList, Refusal, read_record, record_text, refusal_by
 from ..folder.files import YEAR, Folder, own_data, sum_of
 from ..folder.jobs import DEVNULL, ENVIRONMENT, PIPE, begun, find_tool, private_folder, run_all, run_one
 from ..folder.placing import is_ones_own, keep, place
 from ..folder.registry import Known
-from ..folder.result import Result
+from ..folder.result import Said, Written
 from ..folder.year import read_statements
 from ..premise.leap import record_by
 from ..records import replace
@@ -33,20 +33,19 @@ def sign_all(folders: list[str], key: str, known: Known, seconds: int, leaps: Le
     """Signs each folder, and prints a line for each. The status is the worst. The key is asked for between two looks at
     a folder, by the process that has the terminal."""
     worst, key = 0, os.path.abspath(key)
-    for path, found in run_all(folders, partial(to_be_signed, known, leaps, signers), seconds):
-        if found.text:
+    for path, found in run_all(folders, partial(to_be_signed, known, leaps, signers), Written, seconds):
+        told: Written | Said | Refusal = found
+        if isinstance(found, Written) and (text := found.text.encode()):
             try:
-                signature = signature_by(key, found.text.encode())
-                found = run_one(path, partial(sign, known, leaps, found.text.encode(), signature), seconds)
+                told = run_one(path, partial(sign, known, leaps, text, signature_by(key, text)), Said, seconds)
             except Fault as refused:
-                found = Result(refused.status, [refused.line])
-        lines = [found.refusal.line] if found.refusal else found.lines
-        print(f"{label(path)}: {plain(lines[0])}", flush=True)
-        worst = summed(worst, found.status)
+                told = refusal_by(refused)
+        print(f"{label(path)}: {plain(told.line if isinstance(told, Refusal) else told.lines[0])}", flush=True)
+        worst = summed(worst, told.status)
     return worst
 
 
-def to_be_signed(known: Known, leaps: LeapList, signers: Signers, path: str, _: int) -> Result:
+def to_be_signed(known: Known, leaps: LeapList, signers: Signers, path: str, _: int) -> Written:
     """A folder's audit.json as it was made or verified here, with the time in it, which is to be signed. If a file
     isn't what it says, that is said. A year's statements likewise, if they follow from days that are known here."""
     with Folder(path) as folder:
@@ -55,8 +54,8 @@ def to_be_signed(known: Known, leaps: LeapList, signers: Signers, path: str, _: 
             raise fault(f"signed already; who wants another signature takes {signature} away", DEVICE)
         if signed_in(folder) == YEAR:
             if wrong := difference(folder, known, leaps, signers):
-                return Result(NOT_SHOWN, [wrong])
-            return Result(text=json_text(replace(read_statements(folder.data(YEAR)), signed=now())).decode())
+                return Written("", [wrong], NOT_SHOWN)
+            return Written(json_text(replace(read_statements(folder.data(YEAR)), signed=now())).decode())
         record, seen = known_in(folder, known)
         if record.refusal:
             raise fault("the audit was refused, so there is nothing to sign", DEVICE)
@@ -64,17 +63,17 @@ def to_be_signed(known: Known, leaps: LeapList, signers: Signers, path: str, _: 
             raise fault("neither made nor verified here, so it isn't signed: `ntpaudit-dossier verify` comes first",
                         USAGE)
         if words := known.dispute(record):
-            return Result(NOT_SHOWN, [f"{DISPUTED}: {words}"])
+            return Written("", [f"{DISPUTED}: {words}"], NOT_SHOWN)
         if changed := change_of(folder, record):
-            return Result(NOT_SHOWN, [changed])
+            return Written("", [changed], NOT_SHOWN)
         found = record_by(leaps, seen)
         if found.verdicts != seen.verdicts:
             raise fault("by your own list of leap seconds it says something else: name the list by which it was "
                         "verified (--leap-seconds)", USAGE)
-        return Result(text=record_text(replace(found, signed=now())).decode())
+        return Written(record_text(replace(found, signed=now())).decode())
 
 
-def sign(known: Known, leaps: LeapList, signed: bytes, signature: bytes, path: str, _: int) -> Result:
+def sign(known: Known, leaps: LeapList, signed: bytes, signature: bytes, path: str, _: int) -> Said:
     """Puts what was signed in its place, with the signature, if the folder's audit.json is still the same but for the
     time."""
     with Folder(path) as folder, known.alone(folder):
@@ -83,14 +82,14 @@ def sign(known: Known, leaps: LeapList, signed: bytes, signature: bytes, path: s
             if folder.has(f"{YEAR}.sig") or standing != own:
                 raise fault(f"{YEAR} has changed meanwhile")
             place(folder, {YEAR: [signed], f"{YEAR}.sig": [signature]})
-            return Result(lines=["signed"])
+            return Said(lines=["signed"])
         record, seen = read_record(signed), known_in(folder, known)[1]
         if folder.has(files.SIGNATURE) or not seen or \
                 replace(record_by(leaps, seen), signed=record.signed) != record:
             raise fault(f"{files.AUDIT} has changed meanwhile")
         place(folder, {files.AUDIT: [signed], files.SIGNATURE: [signature]})
         known.add(sum_of(signed), seen)
-    return Result(lines=["signed"])
+    return Said(lines=["signed"])
 
 
 def hand_on(said: IO[bytes] | None) -> None:

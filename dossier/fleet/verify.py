@@ -6,13 +6,13 @@ from typing import NamedTuple
 from .. import VERSION
 from ..fault import DEVICE, NOT_SHOWN, Fault, fault, summed
 from ..folder import files
-from ..folder.entry import DISPUTED, OPEN, UNSUPPORTED, YES, Entry, LeapList, Record, is_made_anew, read_record
+from ..folder.entry import DISPUTED, OPEN, UNSUPPORTED, YES, Entry, LeapList, Record, Refusal, is_made_anew, read_record
 from ..folder.files import Folder, own, sum_of
 from ..folder.jobs import run_all
 from ..folder.older import differs as differs_from_older, form_of, read_any
 from ..folder.program import Program
 from ..folder.registry import Known
-from ..folder.result import Result
+from ..folder.result import Compared
 from ..premise.leap import record_by
 from ..records import replace
 from ..schema import first_difference, said
@@ -210,17 +210,18 @@ def verify_all(folders: list[str], verifier: Verifier, signers: Signers, seconds
     def is_left(path: str) -> bool:
         return how.sample is not None and not how.answers and path in names and path not in drawn
 
-    def work(path: str, _: int) -> Result:  # (a year's signature is one for its days)
+    def work(path: str, _: int) -> Compared:  # (a year's signature is one for its days)
         if path in plan.beside and is_of_days(path):
-            if refusal := plan.beside[path].refusal:
+            if isinstance(refusal := plan.beside[path], Refusal):
                 raise Fault(refusal.line, refusal.status)
-            return Result(lines=["(a year's days are in it)"], is_same=True)
+            return Compared(0, ["(a year's days are in it)"], is_same=True)
         is_signed = files.absolute(path) in named or (how.as_signed and path not in plan.stated)
         who = signers if is_signed else Signers(None)
         return verify(verifier, signers, who, path, named, how._replace(answers=how.answers and path not in drawn))
-    for path, found in run_all([path for path in plan.every if not is_left(path)], work, seconds):
-        if how.answers and found.text and found.is_same:
-            verifier.known.believed.add(bytes.fromhex(found.text))
+    for path, came in run_all([path for path in plan.every if not is_left(path)], work, Compared, seconds):
+        found = Compared(came.status, [came.line]) if isinstance(came, Refusal) else came
+        if how.answers and found.sum and found.is_same:
+            verifier.known.believed.add(bytes.fromhex(found.sum))
         twins = seen.twins(path, found.claims, found.captures)
         told.tell(path, found, [f"({words})" for words in twins], plan.stated)
     if how.sample is not None:
@@ -241,15 +242,14 @@ class Told:
     def say(self, line: str) -> None:
         print(plain(line), flush=True)
 
-    def tell(self, path: str, found: Result, more: list[str], stated: dict[str, str]) -> None:
-        lines = [found.refusal.line] if found.refusal else found.lines
-        for line in [*lines, *more]:
+    def tell(self, path: str, found: Compared, more: list[str], stated: dict[str, str]) -> None:
+        for line in [*found.lines, *more]:
             print(f"{label(path)}: {plain(line)}", flush=True)
         status = (0 if found.is_same else NOT_SHOWN) if self.as_signed else found.status
         self.worst = summed(self.worst, status)
         if not found.is_same:
             self.others.append(label(path))
-        self.of_years += found.earlier
+        self.of_years += found.hidden
         if verdicts := {verdict for verdict in found.verdicts if verdict != YES}:
             self.hidden[path in stated].append(f"{label(path)} {' and '.join(sorted(verdicts))}")
 
@@ -275,7 +275,7 @@ def before(verifier: Verifier, folder: Folder, how: How) -> Verified | None:
     return None
 
 
-def verify(verifier: Verifier, signers: Signers, who: Signers, path: str, named: set[str], how: How) -> Result:
+def verify(verifier: Verifier, signers: Signers, who: Signers, path: str, named: set[str], how: How) -> Compared:
     """What verifying a folder comes to. With a file of those who may sign it, a folder that nobody signed differs
     too."""
     findings: list[str] = []
@@ -293,7 +293,7 @@ def verify(verifier: Verifier, signers: Signers, who: Signers, path: str, named:
                 differs, hidden = year_compared(folder, verifier.known, verifier.leaps, signers)
                 findings += filter(None, [differs])
                 lines = [*(findings or [year_words(verifier.known)]), *(f"({n})" for n in notes)]
-                return Result(NOT_SHOWN if findings else 0, lines, is_same=not findings, earlier=hidden)
+                return Compared(NOT_SHOWN if findings else 0, lines, not findings, hidden=hidden)
             found = before(verifier, folder, how) if how.known else None
             difference, others, made, is_judged = \
                 found or (verifier.judge(folder) if how.answers else verifier.verify(folder))
@@ -301,7 +301,7 @@ def verify(verifier: Verifier, signers: Signers, who: Signers, path: str, named:
             if is_judged and not difference:
                 verifier.known.add_answers(data, verifier.program.made.sha256, now())
     except Fault as found:
-        return Result(found.status, [*findings, found.line, *(f"({note})" for note in notes)])
+        return Compared(found.status, [*findings, found.line, *(f"({note})" for note in notes)])
     findings += [difference] if difference else []
     if made and (words := verifier.known.dispute(made)):
         findings.insert(0, f"{DISPUTED}: {words}")
@@ -311,9 +311,8 @@ def verify(verifier: Verifier, signers: Signers, who: Signers, path: str, named:
     lines = [*(findings or [f"{'judged' if is_judged else 'verified'}: {words}"]),
              *(f"({note})" for note in [*notes, *others])]
     status, captures = (made.status, sorted(made.recordings)) if made else (NOT_SHOWN, [])
-    return Result(NOT_SHOWN if findings else status, lines, captures=captures, is_same=not findings,
-                  verdicts=list(verdicts), claims=[entry.claim for entry in made.entries] if made else [],
-                  text="" if findings else data)
+    return Compared(NOT_SHOWN if findings else status, lines, not findings, list(verdicts),
+                    [entry.claim for entry in made.entries] if made else [], captures, sum="" if findings else data)
 
 
 def year_words(known: Known) -> str:

@@ -1,4 +1,4 @@
-"""How folders are worked on: each in a process of its own, which hands back one typed result.
+"""How folders are worked on: each in a process of its own, which hands back a result of one kind, or why there is none.
 
 Such a process has a limit of memory, of processor, of files and of time, a private folder (0700) for its copies, and
 a group of processes, in which all that it calls is too. Whatever becomes of it (it crashes, reads without an end, takes
@@ -17,15 +17,14 @@ import sys
 import time
 from collections.abc import Callable, Iterator, Sequence
 from contextlib import contextmanager, suppress
-from typing import NamedTuple
+from typing import Any, Generic, NamedTuple, TypeVar
 
 from ..fault import DEVICE, MEMORY, MISSING, REFUSED, Fault, fault
-from ..schema import read_typed, said
-from .entry import refusal_by
+from ..schema import parsed, said, typed
+from .entry import Refusal, refusal_by
 from .files import BLOCK, own, own_data
 from .placing import END, ROOM, make_private, nameless, write
 from .progress import Progress
-from .result import Result
 
 SECONDS = 600
 MOST_ROOM, MOST_FILES, MOST_OF_A_RESULT = 1 << 34, 1 << 14, 1 << 27
@@ -47,7 +46,8 @@ LIBRARIES = [place for place in os.environ.get("LD_LIBRARY_PATH", "").split(":")
 if LIBRARIES:
     ENVIRONMENT["LD_LIBRARY_PATH"] = ":".join(LIBRARIES)
 DEVNULL, PIPE = subprocess.DEVNULL, subprocess.PIPE
-Work = Callable[[str, int], Result]
+T = TypeVar("T")
+Work = Callable[[str, int], T]
 """What is done with a folder, by its path and its number."""
 
 
@@ -159,11 +159,11 @@ class Beside:
 # ---- folders
 
 
-class Process:
-    """A process that works on one folder, in a private folder of its own."""
+class Process(Generic[T]):
+    """A process that works on one folder, in a private folder of its own, and hands back a value of a kind."""
 
-    def __init__(self, path: str, number: int, work: Work, bounds: Bounds, private: str):
-        self.private, self.bounds, self.data = private, bounds, bytearray()
+    def __init__(self, path: str, number: int, work: Work[T], kind: type[T], bounds: Bounds, private: str):
+        self.kind, self.private, self.bounds, self.data = kind, private, bounds, bytearray()
         self.end = time.monotonic() + bounds.seconds
         sys.stdout.flush()
         try:
@@ -176,7 +176,7 @@ class Process:
             try:
                 limit(parent, bounds, os.path.dirname(private))
                 os.chdir(private)
-                write(its_output, json.dumps(said(outcome(path, number, work))).encode())
+                write(its_output, json.dumps(outcome(path, number, work)).encode())
             finally:  # (whatever comes: nothing here is for this process any more)
                 os._exit(0)
         os.close(its_output)
@@ -189,17 +189,18 @@ class Process:
         self.data += block
         return bool(block) and len(self.data) <= MOST_OF_A_RESULT
 
-    def result(self) -> Result:
+    def result(self) -> T | Refusal:
         """What it handed back, or why it handed nothing back. It is ended, and all that it called."""
         ended_by = self.ended()
-        with suppress(Fault):
-            found: Result = read_typed("the result", Result, bytes(self.data))
+        with suppress(ValueError):
+            (word, value), = parsed(bytes(self.data)).items()
+            found: T | Refusal = typed(Refusal if word == REFUSAL else self.kind, value)
             return found
         if time.monotonic() >= self.end or ended_by == signal.SIGXCPU:
-            return failed(fault(f"not done within {self.bounds.seconds} s (--limit)"))
+            return refusal_by(fault(f"not done within {self.bounds.seconds} s (--limit)"))
         if len(self.data) > MOST_OF_A_RESULT:
-            return failed(fault("its result is too big"))
-        return failed(fault("the process of this folder was ended", MEMORY))
+            return refusal_by(fault("its result is too big"))
+        return refusal_by(fault("the process of this folder was ended", MEMORY))
 
     def ended(self) -> int:
         """The signal that ended it, or 0. It is asked to end, which it does once its files are in their places; then it
@@ -251,36 +252,38 @@ def limit(parent: int, bounds: Bounds, copies: str) -> None:
     ROOM.left = bounds.room
 
 
-def outcome(path: str, number: int, work: Work) -> Result:
+REFUSAL, RESULT = "refusal", "result"
+"""By one of these words JSON has what comes of a folder."""
+
+
+def outcome(path: str, number: int, work: Work[T]) -> dict[str, Any]:
     """What comes of a folder, whatever goes wrong with it."""
     try:
-        return work(path, number)
+        return {RESULT: said(work(path, number))}
     except Fault as found:
-        return failed(found)
+        refusal = found
     except MemoryError:
-        return failed(fault("out of memory", MEMORY))
+        refusal = fault("out of memory", MEMORY)
     except OSError as error:
-        return failed(fault(f"it can't be worked on ({error.strerror})", DEVICE))
+        refusal = fault(f"it can't be worked on ({error.strerror})", DEVICE)
     except Exception as error:
-        return failed(fault(f"it can't be worked on ({type(error).__name__}: {str(error)[:200]})", REFUSED))
+        refusal = fault(f"it can't be worked on ({type(error).__name__}: {str(error)[:200]})", REFUSED)
+    return {REFUSAL: said(refusal_by(refusal))}
 
 
-def failed(found: Fault) -> Result:
-    return Result(status=found.status, refusal=refusal_by(found))
-
-
-def run_all(paths: list[str], work: Work, seconds: int, jobs: int = 1,
-            shown: Progress | None = None) -> Iterator[tuple[str, Result]]:
-    """The result of each folder, in order."""
-    live, done, left = dict[int, tuple[int, Process]](), dict[int, Result](), iter(enumerate(paths))
+def run_all(paths: list[str], work: Work[T], kind: type[T], seconds: int, jobs: int = 1,
+            shown: Progress | None = None) -> Iterator[tuple[str, T | Refusal]]:
+    """The result of each folder, of a kind, in order."""
+    live, done, left = dict[int, tuple[int, Process[T]]](), dict[int, T | Refusal](), iter(enumerate(paths))
     with private_folder() as root:
         bounds = bounds_of(seconds, jobs, root)
         try:
             for number, path in enumerate(paths):
                 while number not in done:
                     while len(live) < jobs and (following := next(left, None)):
-                        begun_process = Process(following[1], following[0], work, bounds, f"{root}/{following[0]}")
-                        live[begun_process.output] = following[0], begun_process
+                        at, its_path = following
+                        begun_process = Process(its_path, at, work, kind, bounds, f"{root}/{at}")
+                        live[begun_process.output] = at, begun_process
                     for at, process in ready(live, shown):
                         del live[process.output]
                         done[at] = process.result()
@@ -292,7 +295,7 @@ def run_all(paths: list[str], work: Work, seconds: int, jobs: int = 1,
                 process.ended()
 
 
-def ready(live: dict[int, tuple[int, Process]], shown: Progress | None) -> list[tuple[int, Process]]:
+def ready(live: dict[int, tuple[int, Process[T]]], shown: Progress | None) -> list[tuple[int, Process[T]]]:
     """Waits for a moment. The processes that are done, or whose time is over."""
     if shown:
         shown.show()
@@ -305,17 +308,17 @@ def ready(live: dict[int, tuple[int, Process]], shown: Progress | None) -> list[
     return [each for output, each in live.items() if output in over or time.monotonic() >= each[1].end]
 
 
-def run_one(path: str, work: Work, seconds: int = SECONDS) -> Result:
+def run_one(path: str, work: Work[T], kind: type[T], seconds: int = SECONDS) -> T | Refusal:
     """The result of one folder."""
-    (_, found), = run_all([path], work, seconds)
+    (_, found), = run_all([path], work, kind, seconds)
     return found
 
 
-def answer(work: Work) -> Result:
+def answer(work: Work[T], kind: type[T]) -> T:
     """What comes of work on files that are named, in a process of its own."""
-    found = run_one("", work)
-    if found.refusal:
-        raise Fault(found.refusal.line, found.refusal.status)
+    found = run_one("", work, kind)
+    if isinstance(found, Refusal):
+        raise Fault(found.line, found.status)
     return found
 
 

@@ -3,7 +3,7 @@ import sys
 import time
 
 from .entry import ANSWERED, DISPUTED, REFUSED
-from .result import Result
+from .result import Audited
 
 WIDTH = 30
 
@@ -16,9 +16,9 @@ class Progress:
         self.tally = dict.fromkeys([*ANSWERED, REFUSED, DISPUTED], 0)
         self.is_shown = sys.stderr.isatty() and total > 1
 
-    def add(self, done: Result) -> None:
+    def add(self, done: object) -> None:
         self.finished += 1
-        for verdict in done.verdicts or [REFUSED]:
+        for verdict in (done.verdicts if isinstance(done, Audited) else []) or [REFUSED]:
             self.tally[verdict] += 1
 
     def summed(self, between: str) -> str:

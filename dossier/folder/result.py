@@ -1,4 +1,4 @@
-"""What the process of a folder hands back."""
+"""What the processes of folders hand back, by the kinds of work."""
 from collections import Counter
 from typing import Annotated
 
@@ -6,7 +6,7 @@ from ..records import dataclass, field
 from ..schema import Address, Count, Sum, Text, Ticks, length, matching
 from ..units import bound_ticks
 from .claim import Claim
-from .entry import NOTHING_FITS, WORST_FIRST, YES, Day, Made, Move, Piece, Refusal, side_of
+from .entry import NOTHING_FITS, WORST_FIRST, YES, Day, Made, Move, Piece, side_of
 
 MISSING, NOT_COUNTED = "missing", "not counted"
 """There is no folder of a day; there is one, and it isn't counted."""
@@ -210,25 +210,62 @@ class Year:
 
 
 @dataclass(frozen=True)
-class Result:
-    """A status, lines for a terminal, verdicts, metrics, sections of a page, sums of captures; what last minutes say; a
-    year; when the newest recording ends; the days that are to be made, and that were made earlier; of days the
-    recordings that show times of them; a text, such as one
-    that is to be signed; whether all is as it was; the claims of audits; and if nothing came of it, why."""
+class Said:
+    """A status, and lines for a terminal."""
 
     status: Count = 0
     lines: list[str] = field(default_factory=list)
-    verdicts: list[str] = field(default_factory=list)
-    metrics: list[tuple[str, str, int]] = field(default_factory=list)
-    sections: list[Section] = field(default_factory=list)
-    captures: list[str] = field(default_factory=list)
-    moments: list[Moment] = field(default_factory=list)
-    year: Year | None = None
-    last: int = 0
-    days: list[str] = field(default_factory=list)
-    earlier: list[str] = field(default_factory=list)
-    shown: list[tuple[str, str]] = field(default_factory=list)
+
+
+@dataclass(frozen=True)
+class Written:
+    """A text, such as one that is to be signed, and remarks; without a text a status, and why there is none."""
+
     text: str = ""
+    lines: list[str] = field(default_factory=list)
+    status: Count = 0
+
+
+@dataclass(frozen=True)
+class Audited:
+    """What an audit left: verdicts and metrics, besides status and lines."""
+
+    status: Count
+    lines: list[str]
+    verdicts: list[str]
+    metrics: list[tuple[str, str, int]]
+
+
+@dataclass(frozen=True)
+class OnPage:
+    """What a page has of a folder."""
+
+    sections: list[Section]
+    metrics: list[tuple[str, str, int]]
+    verdicts: list[str]
+    status: Count = 0
+
+
+@dataclass(frozen=True)
+class Days:
+    """The days that are to be made, and that were made earlier; which recordings show times of which day; and notes."""
+
+    lines: list[str]
+    days: list[str]
+    shown: list[tuple[str, str]]
+    earlier: list[str] = field(default_factory=list)
+
+
+@dataclass(frozen=True)
+class Compared:
+    """What verifying a folder came to: whether all is as it was; verdicts, claims, and sums of captures; of a year the
+    days that aren't shown; and the sum of audit.json, if that is verified."""
+
+    status: Count
+    lines: list[str]
     is_same: bool = False
+    verdicts: list[str] = field(default_factory=list)
     claims: list[Claim] = field(default_factory=list)
-    refusal: Refusal | None = None
+    captures: list[str] = field(default_factory=list)
+    hidden: list[str] = field(default_factory=list)
+    sum: str = ""

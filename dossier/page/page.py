@@ -18,7 +18,7 @@ from ..folder.files import Folder, sum_of
 from ..folder.jobs import run_all
 from ..folder.older import read_any
 from ..folder.registry import Known
-from ..folder.result import Result, Row, Section
+from ..folder.result import OnPage, Row, Section
 from ..premise.leap import record_by
 from ..records import asdict, replace
 from ..schema import json_text
@@ -91,12 +91,12 @@ class Looking(NamedTuple):
     verifier: Verifier | None
     has_articles: bool
 
-    def at(self, paths: list[str], seconds: int) -> Iterator[Result]:
+    def at(self, paths: list[str], seconds: int) -> Iterator[OnPage]:
         """The sections of each folder. One whose process handed nothing back has those that say so."""
-        for path, result in run_all(paths, self.look, seconds):
-            yield self.refused(path, result.refusal, Signature(NONE)) if result.refusal else result
+        for path, result in run_all(paths, self.look, OnPage, seconds):
+            yield self.refused(path, result, Signature(NONE)) if isinstance(result, Refusal) else result
 
-    def look(self, path: str, number: int) -> Result:
+    def look(self, path: str, number: int) -> OnPage:
         """The sections of a folder, whatever stands in it. Its status is 2 if it was refused for that."""
         signature = Signature(NONE)
         try:
@@ -106,7 +106,7 @@ class Looking(NamedTuple):
         except Fault as found:
             return self.refused(path, found, signature)
 
-    def look_in(self, path: str, folder: Folder, signature: Signature, number: int) -> Result:
+    def look_in(self, path: str, folder: Folder, signature: Signature, number: int) -> OnPage:
         data = audit_json(folder)
         written = read_any(data)
         if self.verifier:
@@ -129,22 +129,21 @@ class Looking(NamedTuple):
                 said = article(path, folder, record, entry, signature, judged, name)
             row = row_of(path, entry, signature, judged)
             found.append(Section(row, *said, record.program, sorted(record.recordings)))
-        return Result(sections=found, metrics=list(of_record(path, record)), verdicts=record.verdicts)
+        return OnPage(found, list(of_record(path, record)), record.verdicts)
 
     def refused(self, path: str, found: Fault | Refusal, signature: Signature,
-                metrics: Sequence[Sample] = ()) -> Result:
+                metrics: Sequence[Sample] = ()) -> OnPage:
         why, what = (f"{found.why}.", capital(found.what)) if found.why else remedy(found.line, path)
         row = row_without_verdict(path, REFUSED, f"{found.line}. {why}", what, signature)
         is_for_input = found.status == INPUT_REFUSED and not metrics
         short = self.short(path, row, found.line, signature, metrics)
         return replace(short, status=INPUT_REFUSED if is_for_input else 0)
 
-    def short(self, path: str, row: Row, line: str, signature: Signature, metrics: Sequence[Sample] = ()) -> Result:
+    def short(self, path: str, row: Row, line: str, signature: Signature, metrics: Sequence[Sample] = ()) -> OnPage:
         """A folder without a verdict. It has an audit, unless there is no other reason why nothing is shown."""
         section = Section(row, short_article(row, line, signature) if self.has_articles else "")
         is_audit = row.verdict in (NOT_VERIFIED, DISPUTED) or bool(metrics)
-        return Result(sections=[section], metrics=[*metrics, *of_verdict(path, row.verdict)],
-                      verdicts=[row.verdict] if is_audit else [])
+        return OnPage([section], [*metrics, *of_verdict(path, row.verdict)], [row.verdict] if is_audit else [])
 
 
 def name_of(number: int, part: int) -> str:

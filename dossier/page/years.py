@@ -9,10 +9,10 @@ from typing import NamedTuple
 from ..fault import Fault, fault
 from ..fleet.days import Twins, Wanted, is_day, machines_of, packed, unpacked, year_of
 from ..fleet.statements import lines_of, stated_of, statement
-from ..folder.entry import YES
+from ..folder.entry import YES, Refusal
 from ..folder.files import AUDIT, YEAR, Folder
 from ..folder.jobs import run_all, run_one
-from ..folder.result import Result, Told, Year
+from ..folder.result import Told, Year
 from ..folder.year import Stated, Statements
 from ..schema import json_text
 from ..text import note
@@ -95,13 +95,14 @@ def row_of(link: str, year: Year) -> Row:
 def days_among(folders: list[str], seconds: int) -> list[str]:
     """The folders that have an audit of their own, so that they are a day's and no machine's, whatever they are
     called."""
-    def work(*_: object) -> Result:
+    def work(*_: object) -> list[str]:
         found = list[str]()
         for path in folders:
             with suppress(Fault), Folder(path) as folder:
                 found += [path] * folder.has(AUDIT)
-        return Result(lines=found)
-    return run_one("", work, seconds).lines if folders else []
+        return found
+    found = run_one("", work, list[str], seconds) if folders else []
+    return [] if isinstance(found, Refusal) else found
 
 
 def write_year(folders: list[str], wanted: Wanted, pages: Pages, seconds: int, jobs: int) -> int:
@@ -112,15 +113,15 @@ def write_year(folders: list[str], wanted: Wanted, pages: Pages, seconds: int, j
     wanted = wanted._replace(machines=len(names))
     templates()
 
-    def work(machine: str, _: int) -> Result:
-        return Result(year=year_of(wanted, machine, names[machine]))
-    for machine, result in run_all(list(names), work, seconds, min(jobs, len(names))):
-        if result.refusal or result.year is None:
+    def work(machine: str, _: int) -> Year:
+        return year_of(wanted, machine, names[machine])
+    for machine, result in run_all(list(names), work, Year, seconds, min(jobs, len(names))):
+        if isinstance(result, Refusal):
             worst = max(worst, result.status)
-            note(f"{machine}: {result.refusal.line if result.refusal else 'nothing came of it'}")
+            note(f"{machine}: {result.line}")
             continue
-        twins.add(result.year)
-        found.append(packed(result.year))
+        twins.add(result)
+        found.append(packed(result))
     if not found:
         raise fault("none of these folders has a year")
     years = (twins.of(number, unpacked(data)) for number, data in enumerate(found))

@@ -16,7 +16,7 @@ from ..fault import DEVICE, fault
 from ..folder.jobs import PIPE, answer, begun, find_tool, run
 from ..folder.placing import keep, write_named
 from ..folder.program import Program
-from ..folder.result import Result
+from ..folder.result import Written
 from ..schema import json_text, said
 from ..text import plain
 from ..units import now, round_up
@@ -41,14 +41,14 @@ neigh add {THERE} lladdr {CARD} nud permanent dev {ENDS[0]}
 
 def measure(program: Program, packets: int, is_loaded: bool, output: str | None) -> int:
     """Measures, prints what came of it, and leaves it in a file if one is named."""
-    def work(*_: object) -> Result:
+    def work(*_: object) -> Written:
         busy = len(os.sched_getaffinity(0)) if is_loaded else 0
         tool, system = find_tool("tcpdump", "tcpdump isn't installed, which records the packets"), os.uname()
         make_link()
         earlier = sorted(sent_over(program, tool, packets, busy))
         found = measurement(earlier, busy, version_of(tool), plain(system.nodename), plain(system.release), now())
-        return Result(lines=found.lines(), text=json_text({**said(found), "reason": found.why}).decode())
-    measured = answer(work)
+        return Written(json_text({**said(found), "reason": found.why}).decode(), found.lines())
+    measured = answer(work, Written)
     for line in measured.lines:
         print(line)
     if output:

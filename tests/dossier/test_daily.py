@@ -442,6 +442,7 @@ def test_kept_on_the_disk(place: Path) -> None:
         return
     from dossier.fleet.keeping import keep
     from dossier.folder.jobs import run_one
+    from dossier.folder.result import Said
     from dossier.folder.registry import Known
     last = folder_of(place, "last")
     dossier("audit", "--state", place / "state", last)
@@ -459,7 +460,7 @@ def test_kept_on_the_disk(place: Path) -> None:
         noted(f"away {os.path.basename(name)}")
         unlink(name, **how)
     with patch.object(os, "fsync", flushed), patch.object(os, "unlink", taken):
-        run_one(str(last), lambda path, _: keep(path, False, Known(str(place / "state"), True)))
+        run_one(str(last), lambda path, _: keep(path, False, Known(str(place / "state"), True)), Said)
     lines = log.read_text().splitlines()
     check("what is packed is on the disk before the capture goes", order=(
         [line for line in lines if line.startswith("disk ") or line == "away f.pcap"],

@@ -748,9 +748,9 @@ def test_second_look(place: Path) -> None:
     def ended(*_: Any) -> Any:
         os.kill(os.getpid(), signal.SIGKILL)
 
-    def second(paths: list[str], work: Any, seconds: int) -> Any:
+    def second(paths: list[str], work: Any, kind: Any, seconds: int) -> Any:
         calls.append(paths)
-        return run_all(paths, ended if len(calls) == 2 else work, seconds)
+        return run_all(paths, ended if len(calls) == 2 else work, kind, seconds)
     with patch.object(page, "run_all", second), patch.dict(os.environ, ENVIRONMENT):
         status = command_line.main(["page", "--state", str(place / "state"), "--split", str(place / "pages"),
                                     "--leap-seconds", ENVIRONMENT["NTPAUDIT_LEAP_SECONDS"], *map(str, folders)])
@@ -769,6 +769,7 @@ def test_own_faults(place: Path) -> None:
     from dossier.folder.entry import LeapList, Made, Options
     from dossier.folder.registry import Known
     from dossier.folder.program import Program
+    from dossier.folder.result import Audited
     from dossier.page.remedies import remedy
     folders = [str(folder_of(place, name)) for name in ("one", "two")]
     wanted = audit.Wanted(Options(), False, LeapList("none", good_until=4_000_000_000),
@@ -794,11 +795,12 @@ def test_own_faults(place: Path) -> None:
         first_sum = sums_of(Path(folders[0]), "f.pcap")["f.pcap"]
         with patch.object(making, "make", failing):
             for limit in (3, 15, 75) if "--limit" in line else (SECONDS,):
-                found = dict(jobs.run_all(folders, lambda path, number: audit.audit(wanted, path, number), limit, 2))
+                found = dict(jobs.run_all(folders, lambda path, number: audit.audit(wanted, path, number),
+                                          Audited, limit, 2))
                 if found[folders[1]].status == 0:
                     break
-        refusal = found[folders[0]].refusal
-        lines = [refusal.line.partition(": ")[2]] if refusal else found[folders[0]].lines
+        came = found[folders[0]]
+        lines = came.lines if isinstance(came, Audited) else [came.line.partition(": ")[2]]
         check(f"a folder with {line}", status=(found[folders[0]].status, status),
               line=(line.format(limit) in lines[0], True), other=(found[folders[1]].status, 0))
     room = placing.Room()

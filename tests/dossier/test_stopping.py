@@ -117,6 +117,7 @@ def test_budget(place: Path) -> None:
 def test_bounds(place: Path) -> None:
     """What a folder's process may take of memory, room and processor, and a draft of addresses."""
     from dossier.folder import jobs
+    from dossier.folder.result import Audited
     from dossier.capture import traffic
     work, bounds = wanted_of(place), jobs.bounds_of
     for name, few, limit in (("memory", jobs.Bounds(SECONDS, 1 << 22, 1 << 30), "out of memory"),
@@ -126,10 +127,10 @@ def test_bounds(place: Path) -> None:
         try:
             own = str(folder_of(place, name))
             does: Any = {"processor": endless, "memory": lambda *_: bytearray(1 << 30)}.get(name, work)
-            found, = (found for _, found in jobs.run_all([own], does, SECONDS))
+            found, = (found for _, found in jobs.run_all([own], does, Audited, SECONDS))
         finally:
             jobs.bounds_of = bounds
-        said_of = [found.refusal.line] if found.refusal else found.lines
+        said_of = found.lines if isinstance(found, Audited) else [found.line]
         check(f"a budget of {name}", status=(found.status in (2, 3, 4), True), said=(limit in said_of[0], True))
     all_jobs = [jobs.bounds_of(600, number) for number in (1, 4)]
     check("one budget for all jobs", memory=(all_jobs[0].memory // 4, all_jobs[1].memory),
@@ -188,6 +189,7 @@ def test_flood(place: Path) -> None:
     the page names it."""
     from dossier.capture import captures, classic
     from dossier.folder import jobs
+    from dossier.folder.result import Audited
     words = [f"{server}:-1000..1000@{FIRST + 5 + 5 * number}" for number in range(10) for server in range(1, 8)]
     own = [word for word in words if word[0] in "12"]
     flooded, plain = (folder_of(place, name, capture_of(place / f"{name}.pcap", *some), **TWO)
@@ -205,16 +207,16 @@ def test_flood(place: Path) -> None:
     kept, captures.MANY, classic.MOST_RECORDS = (captures.MANY, classic.MOST_RECORDS), 16, 60
     most = captures.MOST_BYTES
     try:
-        found = dict(jobs.run_all([str(flooded), str(plain)], wanted_of(place), 600))
-        refused = jobs.run_one(str(damaged), wanted_of(place))
+        found = dict(jobs.run_all([str(flooded), str(plain)], wanted_of(place), Audited, 600))
+        refused = jobs.run_one(str(damaged), wanted_of(place), Audited)
         classic.MOST_RECORDS, captures.MOST_BYTES = kept[1], 5000
-        found |= jobs.run_all([str(great)], wanted_of(place), 600)
+        found |= jobs.run_all([str(great)], wanted_of(place), Audited, 600)
     finally:
         captures.MANY, classic.MOST_RECORDS, captures.MOST_BYTES = *kept, most
     check("a flood of great packets",
           same=((great / "joined.pcap").read_bytes(), (flooded / "joined.pcap").read_bytes()))
     check("a flood that is damaged", status=(refused.status, 2),
-          said=("so it can't be thinned out" in refused.lines[0], True))
+          said=(isinstance(refused, Audited) and "so it can't be thinned out" in refused.lines[0], True))
     records = records_of((flooded / "joined.pcap").read_bytes())
     row, = json.loads(dossier("page", "--json", "--state", place / "state", flooded)[1])
     check("a flood", status=([one.status for one in found.values()], [0, 0, 0]),

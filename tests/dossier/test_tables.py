@@ -418,7 +418,7 @@ def test_stopped_amid_a_name(place: Path) -> None:
     from dossier.folder.files import Folder
     from dossier.folder.jobs import run_all
     from dossier.folder.progress import Progress
-    from dossier.folder.result import Result
+    from dossier.folder.result import Said
     folder, begun, rename = folder_of(place, "host"), place / "begun", os.rename
 
     def late(*names: Any, **how: Any) -> None:
@@ -426,18 +426,18 @@ def test_stopped_amid_a_name(place: Path) -> None:
         time.sleep(0.7)
         rename(*names, **how)
 
-    def work(path: str, _: int) -> Result:
+    def work(path: str, _: int) -> Said:
         with Folder(path) as opened, patch.object(os, "rename", late):
             placing.place(opened, {"report.txt": [b"a report"]})
         time.sleep(SECONDS)
-        return Result()
+        return Said()
 
     class Stopping(Progress):
         def show(self) -> None:
             if begun.exists():
                 raise Stopped(signal.SIGTERM)
     try:
-        ended = list(run_all([str(folder)], work, SECONDS, 1, Stopping(1)))
+        ended = list(run_all([str(folder)], work, Said, SECONDS, 1, Stopping(1)))
     except Stopped:
         ended = []
     check("a call that is stopped amid a name", ended=(ended, []),
