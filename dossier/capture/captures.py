@@ -18,7 +18,7 @@ from typing import NamedTuple
 
 from ..fault import Fault, fault
 from ..folder.claim import Claim, Part
-from ..folder.entry import Alert
+from ..folder.entry import Alert, Figure, Torn
 from ..folder.files import BLOCK, JOINED, MOST_OF_A_CAPTURE, mapped, own, size_of, sum_of, sum_of_file, too_big
 from ..folder.jobs import find_tool, stream
 from ..folder.placing import ROOM, Copy, cut_off, keep, move
@@ -72,7 +72,7 @@ def joined(opened: dict[str, Opened], copies: dict[str, str], program: Program |
     """One capture of those that are opened, which may be fewer than all copies; in the order in which they were made by
     the servers' time, if the program can be asked for that."""
     torn = [(name, one.torn) for name, one in opened.items() if one.torn is not None]
-    alerts = [Alert("torn", len(torn), file=torn[0][0], place=torn[0][1])] if torn else []
+    alerts: list[Alert] = [Torn("torn", len(torn), *torn[0])] if torn else []
     (name, one), *others = opened.items()
     extent: Extent | None = one.extent
     whole = {name: Classic(each.path, each.extent) for name, each in opened.items() if size_of(each.path)} \
@@ -160,7 +160,7 @@ def thinned(whole: Audited, claim: Claim, program: Program) -> Audited:
     if not dropped:
         return whole
     move(THINNED, JOINED)
-    return Audited(JOINED, True, [*whole.alerts, Alert("flood", dropped)], None)
+    return Audited(JOINED, True, [*whole.alerts, Figure("flood", dropped)], None)
 
 
 def open_capture(name: str, copy: str) -> Opened:

@@ -3,7 +3,7 @@
 A reply to a request that was recorded twice is of no use, since it may be the answer to either. So a file is left out,
 and named, if larger ones have most of its requests too.
 """
-from ..folder.entry import Alert
+from ..folder.entry import Again
 from ..folder.files import CLAIM
 from ..folder.program import Program
 from .captures import Audited, joined, open_capture
@@ -28,7 +28,7 @@ def once(copies: dict[str, str], program: Program) -> Audited:
     left = {name: one for name, one in opened.items() if name not in again}
     whole = joined(left, copies, program)
     first = min(again)
-    return whole._replace(alerts=[*whole.alerts, Alert("twice", len(again), file=first, beside=again[first])])
+    return whole._replace(alerts=[*whole.alerts, Again("twice", len(again), first, again[first])])
 
 
 def are_twice(counts: dict[str, int]) -> bool:

@@ -265,31 +265,139 @@ class Refutation:
 
 
 @dataclass(frozen=True)
-class Alert:
-    """A warning that stands beside a verdict."""
+class Bare:
+    """A warning of which the kind says all."""
 
-    kind: Literal["outside", "no-drift", "falls", "silence", "far", "leap", "leap-second", "leap-ends", "sources",
-                  "reference", "apart", "apart-for-a-time", "drift", "reading", "step", "oscillator", "torn",
-                  "interleaved", "no-list", "flood", "slip", "twice", "address", "unread", "rate",
-                  "offset", "unlogged", "logged", "zone", "wrong", "contrary"]
+    kind: Literal["no-drift", "no-list", "zone"]
+
+
+@dataclass(frozen=True)
+class Figure:
+    """A warning with a number: of samples, servers or records, or in the unit of what the claim grants."""
+
+    kind: Literal["leap", "sources", "flood", "slip", "drift", "reading", "oscillator", "rate", "offset"]
+    count: Count = 0
+
+
+@dataclass(frozen=True)
+class OfServers:
+    kind: Literal["apart", "interleaved", "address", "wrong", "contrary"]
+    servers: list[Address] = field(default_factory=list)
+
+
+@dataclass(frozen=True)
+class Between:
+    """How far a span goes beyond the packets that count, before and after them; or between which times no step is
+    logged."""
+
+    kind: Literal["outside", "unlogged"]
+    before: Nanoseconds = 0
+    after: Nanoseconds = 0
+
+
+@dataclass(frozen=True)
+class Falls:
+    """How often times of records fall back, and the first record at which they do, from when to when."""
+
+    kind: Literal["falls"]
     count: Count = 0
     record: Count = 0
     before: Nanoseconds = 0
     after: Nanoseconds = 0
-    distance: Nanoseconds = 0
-    piece: Piece | None = None
-    reference: Annotated[str, matching("[0-9a-f]{0,8}")] = ""
-    seconds: list[tuple[Seconds, Annotated[int, within(-9, 9)]]] = field(default_factory=list)
-    servers: list[Address] = field(default_factory=list)
-    file: Annotated[str, or_nothing(is_name)] = ""
-    place: Count = 0
+
+
+@dataclass(frozen=True)
+class Quiet:
+    """How many times there are in which no server was heard, the longest of them, and what was recorded then."""
+
+    kind: Literal["silence"]
+    count: Count = 0
+    before: Nanoseconds = 0
+    after: Nanoseconds = 0
     requests: Count = 0
     replies: Count = 0
-    """`silence`: what was recorded then."""
+
+
+@dataclass(frozen=True)
+class Far:
+    """How many pieces are far from every sample, the farthest, and how far it is."""
+
+    kind: Literal["far"]
+    count: Count = 0
+    distance: Nanoseconds = 0
+    piece: Piece | None = None
+
+
+@dataclass(frozen=True)
+class LeapSeconds:
+    kind: Literal["leap-second"]
+    seconds: list[tuple[Seconds, Annotated[int, within(-9, 9)]]] = field(default_factory=list)
+
+
+@dataclass(frozen=True)
+class ListEnds:
+    kind: Literal["leap-ends"]
+    before: Nanoseconds = 0
+
+
+@dataclass(frozen=True)
+class OneReference:
+    kind: Literal["reference"]
+    reference: Annotated[str, matching("[0-9a-f]{0,8}")] = ""
+
+
+@dataclass(frozen=True)
+class ForATime:
+    """Servers that stand apart for a time, and how many other such times there are."""
+
+    kind: Literal["apart-for-a-time"]
+    count: Count = 0
+    before: Nanoseconds = 0
+    after: Nanoseconds = 0
+    servers: list[Address] = field(default_factory=list)
+
+
+@dataclass(frozen=True)
+class Logged:
+    """How many steps the client logged, and when the first was."""
+
+    kind: Literal["step", "logged"]
+    count: Count = 0
+    before: Nanoseconds = 0
+
+
+@dataclass(frozen=True)
+class Torn:
+    """How many files end inside a record, the first of them, and up to which byte it counts."""
+
+    kind: Literal["torn"]
+    count: Count = 0
+    file: Annotated[str, or_nothing(is_name)] = ""
+    place: Count = 0
+
+
+@dataclass(frozen=True)
+class Again:
+    """How many files have the packets of others once more, the first of them, and which has them too."""
+
+    kind: Literal["twice"]
+    count: Count = 0
+    file: Annotated[str, or_nothing(is_name)] = ""
     beside: Annotated[str, or_nothing(is_name)] = ""
-    """`twice`: of the files that have the packets of others once more the first, and which has them too."""
 
 
+@dataclass(frozen=True)
+class Unread:
+    """How many lines of a file are of no known form."""
+
+    kind: Literal["unread"]
+    count: Count = 0
+    file: Annotated[str, or_nothing(is_name)] = ""
+
+
+Alert = (Bare | Figure | OfServers | Between | Falls | Quiet | Far | LeapSeconds | ListEnds | OneReference | ForATime
+         | Logged | Torn | Again | Unread)
+"""A warning that stands beside a verdict."""
 OF_LEAPS = {"leap-second": "a leap second", "leap-ends": "the list of leap seconds has ended",
             "no-list": "no list of leap seconds"}
 AGAINST = {"drift": "more drift than is granted", "reading": "a greater allowance than is granted",

@@ -11,7 +11,7 @@ from typing import TYPE_CHECKING, NamedTuple, TypeVar
 
 from ..fault import Fault
 from ..folder.claim import Claim
-from ..folder.entry import Alert, Leap, Move
+from ..folder.entry import Alert, Bare, Between, Figure, Leap, Logged, Move, OfServers, Unread
 from ..folder.evidence import evidence, named_in
 from ..folder.files import CLAIM, EVIDENCE, Folder
 from ..schema import is_name, read_typed
@@ -86,15 +86,15 @@ def against(found: Backing, claim: Claim, leap: Leap, moves: list[Move]) -> Iter
     """What speaks against a claim."""
     reading = max((measured.greatest_ns for measured in found.measured), default=0)
     if reading > claim.reading_ns:
-        yield Alert("reading", reading)
+        yield Figure("reading", reading)
     drift = max((read.drift_ppb for read in found.read), default=0)
     if drift > claim.drift_ppb:
-        yield Alert("drift", drift)
+        yield Figure("drift", drift)
     for recorded in found.recorded:
         if claim.client not in recorded.addresses:
-            yield Alert("address", reference="", servers=recorded.addresses[:1] or [claim.client])
+            yield OfServers("address", recorded.addresses[:1] or [claim.client])
     for file, lines in found.unread.items():
-        yield Alert("unread", lines, file=file if is_name(file) else "")
+        yield Unread("unread", lines, file if is_name(file) else "")
     yield from logged(found.logs, claim, leap, moves)
 
 
@@ -104,9 +104,9 @@ def logged(logs: list[Tracking], claim: Claim, leap: Leap, moves: list[Move]) ->
     most = [tracking.greatest(log, leap.from_, leap.to) for log in logs]
     rate, offset = max((rate for rate, _ in most), default=0), max((offset for _, offset in most), default=0)
     if rate > claim.drift_ppb:
-        yield Alert("rate", rate)
+        yield Figure("rate", rate)
     if offset > claim.bound_ns:
-        yield Alert("offset", offset)
+        yield Figure("offset", offset)
     steps = {step for log in logs for step in log.steps}
     are_known = not any(how.endswith(tracking.NO_ZONE) or time == tracking.UNKNOWN for time, _, how in steps)
     left = set(steps)
@@ -116,15 +116,15 @@ def logged(logs: list[Tracking], claim: Claim, leap: Leap, moves: list[Move]) ->
         left -= set({how: (time, size, how) for time, size, how in own}.values())  # (each way to see it sees it once)
         if not own and are_known and any(seconds_of(log.first) * SECOND <= first and
                                          last <= seconds_of(log.last) * SECOND for log in logs):
-            yield Alert("unlogged", before=first, after=last)
+            yield Between("unlogged", first, last)
     inside = {step for step in left if tracking.is_within(step, leap.from_, leap.to)}
     within, others = sorted(inside), sorted(left - inside) if moves else []
     if within:
-        yield Alert("step", len(within), before=seconds_of(within[0][0]) * SECOND)
+        yield Logged("step", len(within), seconds_of(within[0][0]) * SECOND)
     if others:
-        yield Alert("logged", len(others), before=seconds_of(others[0][0]) * SECOND)
+        yield Logged("logged", len(others), seconds_of(others[0][0]) * SECOND)
     if any(how.endswith(tracking.NO_ZONE) for *_, how in inside):
-        yield Alert("zone")
+        yield Bare("zone")
 
 
 def is_of(move: Move, step: Step) -> bool:

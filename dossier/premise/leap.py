@@ -12,7 +12,8 @@ from typing import Final
 from ..capture.recording import Recording
 from ..fault import Fault, fault
 from ..folder.claim import Claim
-from ..folder.entry import AGAINST, OF_LEAPS, UNSUPPORTED, YES, Alert, Cause, Entry, Leap, LeapList, Record
+from ..folder.entry import (AGAINST, OF_LEAPS, UNSUPPORTED, YES, Alert, Bare, Cause, Entry, Leap, LeapList,
+                            LeapSeconds, ListEnds, Record)
 from ..folder.files import data_named
 from ..records import replace
 from ..schema import said, typed
@@ -93,11 +94,11 @@ def look_up(leaps: LeapList, begin: int, end: int) -> Leap:
 def alerts_of(leap: Leap, leaps: LeapList) -> Iterator[Alert]:
     """What takes a yes away."""
     if leap.says == WITHIN:
-        yield Alert("leap-second", seconds=leap.seconds)
+        yield LeapSeconds("leap-second", leap.seconds)
     if leap.says == EXPIRED:
-        yield Alert("leap-ends", before=max(0, leaps.good_until) * SECOND)
+        yield ListEnds("leap-ends", max(0, leaps.good_until) * SECOND)
     if leap.says == NO_LIST:
-        yield Alert("no-list")
+        yield Bare("no-list")
 
 
 def entry_by(leaps: LeapList, entry: Entry) -> Entry:

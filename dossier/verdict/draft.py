@@ -11,7 +11,7 @@ from ..capture.twice import are_twice
 from ..fault import USAGE, fault
 from ..folder.answers import read_envelope, read_settled
 from ..folder.claim import Claim
-from ..folder.entry import NOTHING_FITS, Alert, LeapList
+from ..folder.entry import NOTHING_FITS, LeapList, OfServers
 from ..folder.files import CLAIM
 from ..folder.placing import copy_named, keep
 from ..folder.program import Program
@@ -102,7 +102,7 @@ class Draft:
         if wanted.is_oscillator:
             self.remarks.insert(0, f"drift_ppb is {wanted.drift_ppb}, an oscillator alone: {NOT_IN_IT}")
         if mode := seen.interleaving(client, sorted(seen.answered[client], key=number_of)):
-            self.remark(warning_words(Alert("interleaved", servers=mode)))
+            self.remark(warning_words(OfServers("interleaved", mode)))
         servers = sorted((server for server, _ in seen.answered[client].most_common(MOST_SERVERS)), key=number_of)
         if len(seen.answered[client]) > MOST_SERVERS:
             self.remark(f"A claim names at most {MOST_SERVERS} servers: those that answered least are left out.")

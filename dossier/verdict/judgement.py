@@ -11,9 +11,10 @@ from ..capture.traffic import Traffic, number_of
 from ..capture.twice import are_twice
 from ..folder.answers import Envelope, Settled, read_advice, read_settled
 from ..folder.claim import GREATEST_DRIFT, OSCILLATOR, Claim, Part
-from ..folder.entry import (FEW, NO_EVIDENCE, NOTHING_FITS, OPEN, REFUTED, YES, Alert, AtTick, Cause, Conflict,
-                            Doubled, Elsewhere, Entry, Gap, Gaps, Hull, LeapList, Misfit, Move, Piece, Reason, Server,
-                            Silence, Silent, Stretch)
+from ..folder.entry import (FEW, NO_EVIDENCE, NOTHING_FITS, OPEN, REFUTED, YES, Alert, AtTick, Bare, Between,
+                            Cause, Conflict, Doubled, Elsewhere, Entry, Falls, Far, Figure, ForATime, Gap, Gaps, Hull,
+                            LeapList, Misfit, Move, OfServers, OneReference, Piece, Quiet, Reason, Server, Silence,
+                            Silent, Stretch)
 from ..premise.allowance import slip
 from ..premise.backing import Backing, against
 from ..premise.leap import entry_by, look_up, stretch
@@ -84,9 +85,9 @@ def judge(part: Part, recording: Recording, beside: Beside, texts: Texts, step: 
     warned = [*beside.alerts, *warnings(claim, recording, texts, advice, gaps),
               *against(beside.backing, claim, leap, texts.moves)]
     if texts.traffic and (mode := texts.traffic.interleaving(claim.client, claim.servers)):
-        warned.insert(0, Alert("interleaved", servers=mode))
+        warned.insert(0, OfServers("interleaved", mode))
     if 0 < claim.drift_ppb <= OSCILLATOR and not beside.backing.read:
-        warned.append(Alert("oscillator", claim.drift_ppb))
+        warned.append(Figure("oscillator", claim.drift_ppb))
     reason = reason_of(claim, settled, Seen(servers, recording, gaps, texts, beside.capture))
     if isinstance(reason, (Gaps, Elsewhere)):
         warned = [alert for alert in warned if alert.kind not in TOLD]
@@ -193,35 +194,34 @@ def warnings(claim: Claim, recording: Recording, texts: Texts, advice: dict[str,
     if recording.first is not None and recording.last is not None and not is_parted:
         before, after = recording.first - claim.first * SECOND, claim.last * SECOND - recording.last
         if before > 0 or after > 0:
-            yield Alert("outside", before=max(0, before), after=max(0, after))
+            yield Between("outside", max(0, before), max(0, after))
     if claim.drift_ppb == 0:
-        yield Alert("no-drift")
+        yield Bare("no-drift")
     if slip(claim.reading_ns):
-        yield Alert("slip", claim.reading_ns)
+        yield Figure("slip", claim.reading_ns)
     if recording.fall and not texts.moves:
         record, before, after = recording.fall
-        yield Alert("falls", recording.falls, record, before, after)
+        yield Falls("falls", recording.falls, record, before, after)
     if inner := [gap for gap, _ in texts.gaps] if is_parted and texts.gaps else \
             [] if is_parted else inner_gaps(recording, gaps):
         longest = longest_of(inner)[0]
         during = texts.silent[longest]
-        yield Alert("silence", len(inner), before=longest[0], after=longest[1], requests=during.requests,
-                    replies=during.replies)
+        yield Quiet("silence", len(inner), *longest, during.requests, during.replies)
     yield from far_pieces(claim, recording, texts.envelope, gaps) if not is_parted else ()
     if recording.counts.get("warnings"):
-        yield Alert("leap", recording.counts["warnings"])
+        yield Figure("leap", recording.counts["warnings"])
     if "sources" in advice:
-        yield Alert("sources", int(advice["sources"]))
+        yield Figure("sources", int(advice["sources"]))
     if "reference" in advice:
-        yield Alert("reference", reference=advice["reference"])
+        yield OneReference("reference", advice["reference"])
     if texts.apart.always:
-        yield Alert("apart", servers=texts.apart.always)
+        yield OfServers("apart", texts.apart.always)
     yield from for_a_time(texts.apart.times)
     named = {*texts.apart.always, *(time.server for time in texts.apart.times)}
     if wrong := [server for server in texts.apart.wrong if server not in named]:
-        yield Alert("wrong", servers=wrong)
+        yield OfServers("wrong", wrong)
     if texts.apart.some:
-        yield Alert("contrary", servers=texts.apart.some)
+        yield OfServers("contrary", texts.apart.some)
 
 
 def for_a_time(times: list[Time]) -> Iterator[Alert]:
@@ -232,9 +232,8 @@ def for_a_time(times: list[Time]) -> Iterator[Alert]:
         own = [time for time in left if time.first <= longest.last and longest.first <= time.last]
         named = {time.server for time in own}
         left = [time for time in left if time.server not in named]
-        yield Alert("apart-for-a-time", sum(time.server in named for time in times) - len(own),
-                    before=min(time.first for time in own), after=max(time.last for time in own),
-                    servers=sorted(named, key=number_of))
+        yield ForATime("apart-for-a-time", sum(time.server in named for time in times) - len(own),
+                       min(time.first for time in own), max(time.last for time in own), sorted(named, key=number_of))
 
 
 def far_pieces(claim: Claim, recording: Recording, envelope: Envelope, gaps: list[Gap]) -> Iterator[Alert]:
@@ -250,4 +249,4 @@ def far_pieces(claim: Claim, recording: Recording, envelope: Envelope, gaps: lis
     farthest = max(distances)
     if farthest > limit:
         far = sum(distance > limit for distance in distances)
-        yield Alert("far", far, distance=farthest, piece=piece_of(envelope, distances.index(farthest)))
+        yield Far("far", far, farthest, piece_of(envelope, distances.index(farthest)))

@@ -144,7 +144,7 @@ class Player:
         stub = SimpleNamespace(time=lambda: machine / SECOND)
         self.now.__dict__["time"] = stub
         try:
-            moment, = self.now.look(self.wanted, "eth0", 0).moments
+            moment = self.now.look(self.wanted, "eth0", 0)
         finally:
             os.chdir(self.place)
             shutil.rmtree(private)
