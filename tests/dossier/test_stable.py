@@ -6,9 +6,12 @@ import os
 import re
 import shutil
 import subprocess
+from collections.abc import Callable, Iterator
+from contextlib import suppress
+from functools import partial
 from pathlib import Path
 from types import NoneType
-from typing import Any
+from typing import Any, get_args
 
 from tests.support import DATA, ROOT, check, files_in, is_here, run, sum_of
 from tests.dossier.audits import ENVIRONMENT, PROGRAM, check_page, dossier, record_of
@@ -112,7 +115,11 @@ def test_shown(place: Path) -> None:
 def test_changed(place: Path) -> None:
     """What was changed in a folder of an older version is said, and so is a form that nobody reads any more."""
     record = (OLDER / "0.8.0/yes/audit.json").read_text()
-    changes = {"a report": ("report.txt", "verdict yes", "verdict  yes"),
+    changes = {"a verdict": ("audit.json", '"verdict": "yes"', '"verdict": "open", "reason": {"why": "tick"}'),
+               "a least bound": ("audit.json", '"least_ns": ', '"least_ns": 1'),
+               "a sum of an input": ("audit.json", '"f.pcap": "', '"f.pcap": "0" , "x": "'),
+               "a report": ("report.txt", "verdict yes", "verdict  yes"),
+               "a claim": ("claim.json", '"bound_ns":2', '"bound_ns":3'),
                "a form to come": ("audit.json", '"dossier": 8', '"dossier": 99'),
                "a form of long ago": ("audit.json", '"dossier": 8', '"dossier": 5')}
     for what, (name, old, new) in changes.items():
@@ -165,8 +172,27 @@ def is_valid(schema: Any, value: Any, known: dict[str, Any]) -> bool:
     return all(fits(word, rule) for word, rule in schema.items() if word not in ("$schema", "title", "$defs"))
 
 
+def with_name(put: Callable[[Any], Any], value: dict[str, Any], name: str, item: Any) -> Any:
+    return put({**value, name: item})
+
+
+def spoilt(record: Any) -> Iterator[tuple[str, Any]]:
+    """The record with a name more, one less, or a value of another kind, at each place where a name stands."""
+    def at_each(value: Any, put: Callable[[Any], Any], place: str) -> Iterator[tuple[str, Any]]:
+        if isinstance(value, dict):
+            yield f"{place} with a name more", put({**value, "A name/": 1.5})
+            for name, item in value.items():
+                rest = {other: each for other, each in value.items() if other != name}
+                yield f"{place} without {name}", put(rest)
+                yield f"{place} {name} of another kind", put({**value, name: [[None]]})
+                yield from at_each(item, partial(with_name, put, value, name), f"{place} {name}")
+        elif isinstance(value, list) and value:
+            yield from at_each(value[0], lambda new: put([new, *value[1:]]), f"{place} 0")
+    yield from at_each(record, lambda new: new, "")
+
+
 def test_schema(place: Path) -> None:
-    """docs/audit.schema.json is what the types say, and what is written is valid by it."""
+    """docs/audit.schema.json is what the types say; all that is read is valid by it, and what isn't is refused too."""
     text = (ROOT / "docs/audit.schema.json").read_text()
     check("docs/audit.schema.json", printed=(run([ROOT / "docs/schema"]), (0, text.encode(), b"")))
     schema = json.loads(text)
@@ -177,6 +203,47 @@ def test_schema(place: Path) -> None:
     newest = [record_of(kept) for kept in (*made, folder)]
     check("records by the schema", valid=([is_valid(schema, record, schema["$defs"]) for record in newest],
                                           [True] * len(newest)))
+    seen, record = 0, newest[-1]
+    for what, wrong in spoilt({**record, "entries": record["entries"][:1]}):
+        (folder / "audit.json").write_text(json.dumps(wrong))
+        is_right = is_valid(schema, wrong, schema["$defs"])
+        seen += not is_right
+        if not is_right:
+            check(f"a record{what}", refused=(is_read(folder / "audit.json"), False))
+    check("spoilt records", seen=(seen, lambda seen: seen > 100))
+
+
+def is_read(path: Path) -> bool:
+    """Whether the dossier takes this audit.json."""
+    from dossier.folder.entry import read_record
+    from dossier.fault import Fault
+    try:
+        return bool(read_record(path.read_bytes()))
+    except Fault:
+        return False
+
+
+def test_kinds(_: Path) -> None:
+    """A reason and a warning are read by the word that says their kind, with the names of that kind alone."""
+    from dossier.folder.entry import Alert, Reason
+    from dossier.schema import Mangled, said, typed
+    for union, name in ((Reason, "why"), (Alert, "kind")):
+        words = [(word, kind) for kind in get_args(union) for word in get_args(kind.__annotations__[name])]
+        names = {each for kind in get_args(union) for each in kind.__annotations__}
+        check(f"each {name} is of one kind", number=(len(dict(words)), len(words)), all=(len(words) > 10, True))
+        for word, kind in words:
+            taken = set[str]()
+            for each in names:
+                with suppress(Mangled):
+                    taken |= {each} & vars(typed(union, {name: word, each: KEPT.get(each, 0)})).keys()
+            check(f"{name} {word}", read=(typed(union, said(kind(word))), kind(word)),
+                  taken=(taken | {name}, set(kind.__annotations__)))
+
+
+KEPT: dict[str, object] = {"why": None, "kind": None, "file": "", "reference": "", "beside": "", "hull": "empty",
+                           "recorded": [0, 0], "piece": None, **dict.fromkeys(
+                               ("gaps", "conflicts", "apart", "camps", "asking", "asked", "servers", "seconds"), [])}
+"""A value that a name may have."""
 
 
 def add() -> None:
