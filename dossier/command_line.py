@@ -305,8 +305,8 @@ def run(given: argparse.Namespace) -> int:
         return make_days(given.source, given.target, given.date, SECONDS, given.clear)
     if given.command in ("filter", "record"):
         if given.command == "record":
-            from .capture.watch import Wanted as Recording, record
-            return record(Recording(given.interface, given.folder, given.hourly, given.claim))
+            from .capture.watch import RecordCall, record
+            return record(RecordCall(given.interface, given.folder, given.hourly, given.claim))
         from .capture.recorder import filter_of
         print(filter_of(given.claim))
         return 0
@@ -327,22 +327,22 @@ def run(given: argparse.Namespace) -> int:
 
 
 def run_now(given: argparse.Namespace, program: Program) -> int:
-    from .fleet.now import Wanted, follow, show_now
+    from .fleet.now import NowCall, follow, show_now
     from .premise.leap import read_list
-    wanted = Wanted(given.source, given.claim, given.minutes, read_list(given.leap_seconds), program)
+    wanted = NowCall(given.source, given.claim, given.minutes, read_list(given.leap_seconds), program)
     if given.follow:
         return follow(wanted, given.metrics, given.follow, not given.no_color)
     return show_now(wanted, given.metrics)
 
 
 def run_year(given: argparse.Namespace, folders: list[str]) -> int:
-    from .fleet.days import Wanted
+    from .fleet.days import YearCall
     from .fleet.signature import Signers
     from .page.years import Pages, write_year
     from .premise.leap import read_list
     number = given.year or int(now()[:4])
-    wanted = Wanted(number, Known(state_of(given.state), writes=False), read_list(given.leap_seconds),
-                    int(time.time()), Signers(given.signers))
+    wanted = YearCall(number, Known(state_of(given.state), writes=False), read_list(given.leap_seconds),
+                      int(time.time()), Signers(given.signers))
     pages = Pages(given.title or f"Clocks in {number}", given.output, given.split)
     return write_year(folders, wanted, pages, given.limit, given.jobs)
 
@@ -365,9 +365,9 @@ def run_on_folders(given: argparse.Namespace, folders: list[str]) -> int:
         return write_page(folders, given, known, leaps)
     program = find_program()
     if given.command == "audit":
-        from .fleet.audit import Wanted as Audit, audit_all
+        from .fleet.audit import AuditCall, audit_all
         from .folder.entry import Options
-        wanted = Audit(Options(given.step, given.days), given.again, leaps, known, program)
+        wanted = AuditCall(Options(given.step, given.days), given.again, leaps, known, program)
         return audit_all(folders, wanted, given.jobs, given.limit, given.metrics)
     from .fleet.verify import How, Verifier, verify_all
     if given.command == "page":

@@ -81,7 +81,7 @@ def read_state(folder: Folder, interface: str) -> State | None:
         return None
 
 
-class Wanted(NamedTuple):
+class RecordCall(NamedTuple):
     interface: str
     folder: str
     is_hourly: bool
@@ -93,7 +93,7 @@ def since_boot() -> float:
     return time.clock_gettime(time.CLOCK_BOOTTIME)
 
 
-def record(wanted: Wanted) -> int:
+def record(wanted: RecordCall) -> int:
     """Records until it is ended, which is no fault."""
     if not INTERFACE.fullmatch(wanted.interface):
         raise fault("--interface takes the name of one, such as eth0", USAGE)
@@ -111,7 +111,7 @@ def record(wanted: Wanted) -> int:
 
 
 class Watch:
-    def __init__(self, wanted: Wanted, tool: str, folder: Folder):
+    def __init__(self, wanted: RecordCall, tool: str, folder: Folder):
         self.wanted, self.tool, self.folder = wanted, tool, folder
         self.keeping = Keeping(since_boot)
         self.call: Beside | None = None

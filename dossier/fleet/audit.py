@@ -27,7 +27,7 @@ from .metrics import Sample, of_record, of_verdict, write_metrics
 
 
 @dataclass(frozen=True)
-class Wanted:
+class AuditCall:
     """How folders are to be audited, and where it is recorded."""
 
     options: Options
@@ -41,7 +41,7 @@ SIGNED = ("signed, and not as it would be audited now. It is audited again only 
           "signature away")
 
 
-def audit_all(folders: list[str], wanted: Wanted, jobs: int, seconds: int, metrics: str | None) -> int:
+def audit_all(folders: list[str], wanted: AuditCall, jobs: int, seconds: int, metrics: str | None) -> int:
     """Audits all folders and prints a line for each audit, in the order of the folders. Metrics are written at the end.
     The status is that of all."""
     shown, worst, samples = Progress(len(folders)), 0, list[Sample]()
@@ -59,7 +59,7 @@ def audit_all(folders: list[str], wanted: Wanted, jobs: int, seconds: int, metri
     return summed(worst, write_metrics(metrics, samples)) if metrics else worst
 
 
-def audit(wanted: Wanted, path: str, _: int) -> Audited:
+def audit(wanted: AuditCall, path: str, _: int) -> Audited:
     """Audits a folder and leaves its files, audit.json last. No other call writes there meanwhile.
 
     A refusal is an audit too, and is written down. A fault is raised only if that isn't possible, or if it would take
@@ -73,7 +73,7 @@ def audit(wanted: Wanted, path: str, _: int) -> Audited:
         return audited_anew(wanted, path, old)
 
 
-def audited_anew(wanted: Wanted, path: str, old: Record | None) -> Audited:
+def audited_anew(wanted: AuditCall, path: str, old: Record | None) -> Audited:
     """Makes an audit, and puts it in place."""
     is_signed, _ = before = standing(path)
     with Folder(path) as folder:
@@ -163,7 +163,7 @@ def known_record(folder: Folder, known: Known) -> Record | None:
         return None
 
 
-def is_same(folder: Folder, old: Record, wanted: Wanted) -> bool:
+def is_same(folder: Folder, old: Record, wanted: AuditCall) -> bool:
     """Whether a folder would be audited as it was, and all its files are there as they were left. What was refused is
     tried again."""
     if old.refusal or (old.program, old.options) != (wanted.program.made, wanted.options):

@@ -42,7 +42,7 @@ class Found(NamedTuple):
     captures: frozenset[str] = frozenset()
 
 
-class Wanted(NamedTuple):
+class YearCall(NamedTuple):
     """Which year, what is known here, up to which Unix second days have ended, who may have signed what isn't known
     here, who signed which folder by what is to be verified, and how many machines there are."""
 
@@ -76,7 +76,7 @@ def machines_of(folders: list[str], others: Collection[str] = ()) -> dict[str, l
     return found
 
 
-def year_of(wanted: Wanted, machine: str, names: list[str]) -> Year:
+def year_of(wanted: YearCall, machine: str, names: list[str]) -> Year:
     """The year of a machine, by its folder. Of two folders with the same day the worse counts."""
     with Folder(machine) as folder:
         twice = [name for name, number in Counter(names).items() if number > 1]
@@ -156,7 +156,7 @@ def same(claim: Claim) -> str:
     return repr({**vars(claim), "from_": "", "to": ""})
 
 
-def found_in(wanted: Wanted, folder: Folder, name: str) -> Iterator[Found]:
+def found_in(wanted: YearCall, folder: Folder, name: str) -> Iterator[Found]:
     """What is known of the days that a folder of one has: one, if it is as it should be."""
     named = name if is_day(name) else ""
     try:

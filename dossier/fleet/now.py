@@ -51,7 +51,7 @@ SILENT = 60
 """Seconds of silence, at the least, that are more than chance: or two polls."""
 
 
-class Wanted(NamedTuple):
+class NowCall(NamedTuple):
     source: str
     claim: str
     minutes: int
@@ -59,7 +59,7 @@ class Wanted(NamedTuple):
     program: Program
 
 
-def show_now(wanted: Wanted, metrics: str | None) -> int:
+def show_now(wanted: NowCall, metrics: str | None) -> int:
     """Prints a line for each recorder, the worst first, and writes metrics. The status is 1 if any clock isn't shown,
     or a fault's."""
     found = moments(wanted)
@@ -82,7 +82,7 @@ def status_of(found: list[Moment]) -> int:
     return INPUT_REFUSED * any(moment.bad for moment in found) if is_shown else NOT_SHOWN
 
 
-def follow(wanted: Wanted, metrics: str | None, seconds: int, has_colour: bool) -> int:
+def follow(wanted: NowCall, metrics: str | None, seconds: int, has_colour: bool) -> int:
     """Does so again and again until it is broken off: a line each time; on a terminal always the same lines, and below
     them a band of the last hour, of the worst recorder."""
     screen = Band(sys.stdout.isatty(), has_colour and not os.environ.get("NO_COLOR"))
@@ -112,7 +112,7 @@ def follow(wanted: Wanted, metrics: str | None, seconds: int, has_colour: bool) 
         return status
 
 
-def moments(wanted: Wanted) -> list[Moment]:
+def moments(wanted: NowCall) -> list[Moment]:
     """What the last minutes of each recorder say, the worst first. Each is looked at in a process of its own, side by
     side: none holds up the others, or blinds them."""
     told = {moment.recorder: moment for moment in answer(lambda *_: recorders(wanted), list[Moment])}
@@ -125,12 +125,12 @@ def moments(wanted: Wanted) -> list[Moment]:
     return sorted(found, key=lambda moment: moment.badness)
 
 
-def claim_of(wanted: Wanted) -> Claim:
+def claim_of(wanted: NowCall) -> Claim:
     found: Claim = read_typed(os.path.basename(wanted.claim), Claim, data_named(wanted.claim))
     return found
 
 
-def recorders(wanted: Wanted) -> list[Moment]:
+def recorders(wanted: NowCall) -> list[Moment]:
     """Of each recorder that nothing is known of it yet; of none, that there is none."""
     claim = claim_of(wanted)
     with Folder(wanted.source) as folder:
@@ -140,7 +140,7 @@ def recorders(wanted: Wanted) -> list[Moment]:
                    2 * claim.false_max + 1) for name in names or [""]]
 
 
-def look(wanted: Wanted, recorder: str, _: int) -> Moment:
+def look(wanted: NowCall, recorder: str, _: int) -> Moment:
     """What the last minutes of a recorder say. Files that can't be read are left out and named."""
     claim, bad, now, end = claim_of(wanted), list[str](), int(since_boot()), int(time.time())
     with Folder(wanted.source) as folder:
@@ -167,7 +167,7 @@ def age_of(state: State | None, runs: bool, found: Latest, now: int, end: int) -
     return by_clock
 
 
-def told_of(wanted: Wanted, claim: Claim, found: Latest, moment: Moment) -> Moment:
+def told_of(wanted: NowCall, claim: Claim, found: Latest, moment: Moment) -> Moment:
     """What the program says of the last minutes, of which there are records."""
     path, whole, span = found.path, Classic(found.path), MINUTE * wanted.minutes
     own = replace(claim, from_=civil(found.last), to=civil(found.last))

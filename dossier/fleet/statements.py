@@ -14,7 +14,7 @@ from ..folder.year import Stated, read_statements
 from ..records import replace
 from ..text import count, label, listed, plain, spelled
 from ..units import low_ms, ns_ms, ns_up_ms, seconds_of
-from .days import Twins, Wanted, packed, unpacked, year_of
+from .days import Twins, YearCall, packed, unpacked, year_of
 from .signature import Signers
 
 RULES = {100_000: "MiFID II's RTS 25 of high-frequency trading, and CAT's 6.8 of exchanges",
@@ -177,7 +177,7 @@ def compared(folder: Folder, known: Known, leaps: LeapList, signers: Signers) ->
             return f"{label(stated.file)} isn't the file that {YEAR} names", []
         if wrong := has_one_machine(folder, stated):
             return wrong, []
-        year = year_stated(folder, stated, Wanted(found.year, known, leaps, seconds_of(found.made), signers))
+        year = year_stated(folder, stated, YearCall(found.year, known, leaps, seconds_of(found.made), signers))
         if wrong := other_days(folder, stated, year):
             return wrong, []
         twins.add(year)
@@ -200,7 +200,7 @@ def has_one_machine(folder: Folder, stated: Stated) -> str:
     return f"{label(stated.machine)}: its days are in {other}, which has another name" if other else ""
 
 
-def year_stated(folder: Folder, stated: Stated, wanted: Wanted) -> Year:
+def year_stated(folder: Folder, stated: Stated, wanted: YearCall) -> Year:
     """The year of a machine by the folders that a statement names, as far as they are known here."""
     lines = lines_in(folder, stated)
     if not lines:

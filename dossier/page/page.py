@@ -206,14 +206,14 @@ def write_page(folders: list[str], given: argparse.Namespace, known: Known, leap
 def years_of(folders: list[str], given: argparse.Namespace, known: Known, leaps: LeapList) -> list[str]:
     """Writes a calendar of each year below the page, if the folders are days: of all days that stand beside them. Which
     years these are."""
-    from ..fleet.days import Wanted, is_day, machines_of
+    from ..fleet.days import YearCall, is_day, machines_of
     from .years import Pages, write_year
     if not all(is_day(os.path.basename(folder)) for folder in folders):
         return []
     found = []
     for year in sorted({os.path.basename(folder)[:4] for folder in folders}):
         pages = Pages(f"{given.title}, {year}", None, os.path.join(given.split, year))
-        wanted = Wanted(int(year), known, leaps, int(time.time()), Signers(given.signers))
+        wanted = YearCall(int(year), known, leaps, int(time.time()), Signers(given.signers))
         try:  # (of a machine that can't be looked at the page has the line)
             write_year(list(machines_of(folders)), wanted, pages, given.limit, 1)
         except Fault as refused:

@@ -7,7 +7,7 @@ from itertools import groupby
 from typing import NamedTuple
 
 from ..fault import Fault, fault
-from ..fleet.days import Twins, Wanted, is_day, machines_of, packed, unpacked, year_of
+from ..fleet.days import Twins, YearCall, is_day, machines_of, packed, unpacked, year_of
 from ..fleet.statements import lines_of, stated_of, statement
 from ..folder.entry import YES, Refusal
 from ..folder.files import AUDIT, YEAR, Folder
@@ -105,7 +105,7 @@ def days_among(folders: list[str], seconds: int) -> list[str]:
     return [] if isinstance(found, Refusal) else found
 
 
-def write_year(folders: list[str], wanted: Wanted, pages: Pages, seconds: int, jobs: int) -> int:
+def write_year(folders: list[str], wanted: YearCall, pages: Pages, seconds: int, jobs: int) -> int:
     """Writes the year. The status is that of the worst machine that couldn't be looked at; 0 if all could."""
     others = days_among([folder for folder in folders if not is_day(os.path.basename(folder))], seconds)
     names, worst, found = machines_of(folders, others), 0, list[bytes]()

@@ -772,8 +772,8 @@ def test_own_faults(place: Path) -> None:
     from dossier.folder.result import Audited
     from dossier.page.remedies import remedy
     folders = [str(folder_of(place, name)) for name in ("one", "two")]
-    wanted = audit.Wanted(Options(), False, LeapList("none", good_until=4_000_000_000),
-                          Known(str(place / "state"), True), Program(PROGRAM, Made("ntpaudit", "0" * 64)))
+    wanted = audit.AuditCall(Options(), False, LeapList("none", good_until=4_000_000_000),
+                             Known(str(place / "state"), True), Program(PROGRAM, Made("ntpaudit", "0" * 64)))
     make, first = making.make, []
 
     def all_memory() -> None:

@@ -176,8 +176,8 @@ def wanted_of(place: Path) -> Any:
     from dossier.fleet import audit
     from dossier.folder.entry import LeapList, Options
     from dossier.folder.registry import Known
-    wanted = audit.Wanted(Options(), False, LeapList("none", good_until=4_000_000_000),
-                          Known(str(place / "state"), True), running_program())
+    wanted = audit.AuditCall(Options(), False, LeapList("none", good_until=4_000_000_000),
+                             Known(str(place / "state"), True), running_program())
     return lambda path, number: audit.audit(wanted, path, number)
 
 

@@ -106,8 +106,8 @@ class Player:
         self.record, self.was_off = place / "rec", False
         self.record.mkdir()
         (place / "claim.json").write_text(json.dumps(history.claim))
-        self.wanted = now.Wanted(str(self.record), str(place / "claim.json"), 10, LeapList("none", good_until=1 << 40),
-                                 Program(program(), Made("", "")))
+        self.wanted = now.NowCall(str(self.record), str(place / "claim.json"), 10, LeapList("none", good_until=1 << 40),
+                                  Program(program(), Made("", "")))
         self.data = capture(history, history.recorders[0])
         self.looks = self.unseen = 0
 
