@@ -221,7 +221,7 @@ def hold_links(document: Path) -> None:
             check(f"{document.name}: link {link}", there=((document.parent / link).exists(), True))
     prose = re.sub(r"^```.*?^```$", "", text, flags=re.M | re.S)
     for path in {code for code in CODE.findall(prose)
-                 if re.match(r"(crates|data|docs|tests|bench|dist|dossier|\.ci)/", code)}:
+                 if re.match(r"(crates|data|docs|tests|bench|dist|dossier|judge|second|\.ci)/", code)}:
         name = path.split()[0]
         if not re.search(r"[A-Z]{4}|[<>|$]", name.removesuffix(".md")):
             check(f"{document.name}: path {name}", there=(any(ROOT.glob(name.rstrip("/"))), True))
