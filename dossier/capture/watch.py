@@ -43,7 +43,7 @@ PATIENCE = 60
 """Seconds in which tcpdump is begun again if it ends at once, and then no more."""
 BUFFER = "16384"
 """KiB in which the kernel holds packets while this process is busy."""
-COUNTED = re.compile(r"(\d+) packets? captured(?:, (\d+) packets? received by filter, (\d+) packets? dropped)?")
+COUNTED, LOST = re.compile(r"(\d+) packets? captured"), re.compile(r"(\d+) packets? dropped by kernel")
 OF_ROOT = "name one of root's own, such as /srv/web-1, since tcpdump needs root"
 ENDING, MOST_NAMED = ".recording", 20
 
@@ -288,8 +288,9 @@ class Watch:
             line = line.removeprefix("tcpdump: ")
             if counts := COUNTED.search(line):
                 self.counted, self.waits = int(counts[1]), None
-                self.dropped = self.dropped_before + int(counts[3] or 0)
-            elif line.startswith("listening on"):
+            if lost := LOST.search(line):
+                self.dropped = self.dropped_before + int(lost[1])
+            if line.startswith("listening on"):
                 self.listens, self.failing, self.waits = since_boot(), None, None
                 note(f"ntpaudit-dossier: {line}")
                 self.is_well("ended", "tcpdump records again")

@@ -21,8 +21,9 @@ if __name__ == "__main__":
 
 from tests.support import SECONDS, check, children, run, skip, wanting  # noqa: E402
 
-RECORDER = """import sys
+RECORDER = """import signal, sys
 sys.path.insert(0, sys.argv.pop(1))
+signal.signal(signal.SIGINT, signal.default_int_handler)
 from dossier.capture import watch
 from dossier.command_line import main
 watch.LOOK = 1
@@ -186,6 +187,26 @@ def many(place: Path) -> dict[str, Any]:
     return {"files": files, "said": is_said, "held": before == files, "again": again, "end": (rig.end(), rig.files())}
 
 
+LOSING = """#!/bin/sh
+case $* in --version) echo tcpdump; exit;; esac
+trap 'echo "0 packets captured, 7 packets received by filter, 7 packets dropped by kernel" >&2' USR1
+trap 'echo "0 packets captured" >&2; echo "8 packets received by filter" >&2; echo "8 packets dropped by kernel" >&2
+exit' INT
+echo "tcpdump: listening on lo" >&2
+while :; do sleep 0.1; done
+"""
+
+
+def lost(place: Path) -> dict[str, Any]:
+    """Packets that the kernel drops are told while it records, and at the end."""
+    (place / "tcpdump").write_text(LOSING)
+    (place / "tcpdump").chmod(0o755)
+    rig = Rig(place, tools=f"{place}:")
+    said = rig.until("packets are lost") and rig.state_with(lambda state: state["lost"] == 7)
+    return {"said": said, "status": rig.end(), "end": "0 packets were recorded, 8 were lost" in rig.said(),
+            "lost": rig.state()["lost"]}
+
+
 def wrong(place: Path) -> dict[str, Any]:
     """A clock that is set to 2099, to 1970, back by an hour and right again: all that was recorded is in files that are
     called so."""
@@ -226,6 +247,7 @@ WANTED: dict[Callable[[Path], dict[str, Any]], dict[str, Any]] = {
     link: {"again": (0, 5), "gone": (4, True)},
     many: {"files": [2, 3, 20], "said": True, "held": True, "again": True, "end": (0, [4])},
     counts: {"said": True, "again": True, "status": 0},
+    lost: {"said": True, "status": 0, "end": True, "lost": 8},
     wrong: {"status": 0, "files": [0, 1, 2, 3, 4, 5], "years": True},
 }
 
