@@ -286,6 +286,23 @@ def test_newest(place: Path) -> None:
         copy.unlink()
 
 
+def test_order(place: Path) -> None:
+    """A clock ten minutes ahead that was set back: the recorder says which of its files came after which, though the
+    first was written later by the clock."""
+    last = int(time.time()) - 5
+    last -= last % 10
+    ticks, rec = 600 << 32, place / "rec"
+    names = [recorded(rec, begin, (begin, end, ends)).name for begin, end, ends in (
+        (last - 1810, last - 600, f"{ticks - 1000}..{ticks + 1000}"), (last - 1200, last - 900, RIGHT),
+        (last - 900, last + 1, RIGHT))]
+    at = int(time.clock_gettime(time.CLOCK_BOOTTIME))
+    (rec / "eth0.recording").write_text(json.dumps({
+        "kind": "recording", "at": at, "last": at, "files": names, "kept": 9, "left_out": 0, "lost": 0}))
+    line = now(rec, "--minutes", "25")[1][0]
+    check("files in the recorder's order", by=(f"{civil(last - 1200)[11:]} by -600,0" in line, True),
+          verdict=(line.split("  ")[2], "yes"))
+
+
 def test_now_of_files(place: Path) -> None:
     """Files that rotate, one that is torn at its end, two interfaces with the worse first, and a silent group."""
     last = int(time.time()) - 5
