@@ -681,3 +681,31 @@ def test_copies(place: Path) -> None:
     check("a script with NTPAUDIT", status=(run(called, env={**bare, "NTPAUDIT": PROGRAM})[0], 0))
     shutil.copy(PROGRAM, place / "ntpaudit")
     check("a script beside the program", status=(run([*called[:2], "--again", *called[2:]], env=bare)[0], 0))
+
+
+def test_auditing(place: Path) -> None:
+    """What a page says of docs/AUDITING.md is there, by its name."""
+    folder = audited(place, "page")
+    text = dossier("page", folder)[1].decode()
+    named = re.findall(r"docs/AUDITING\.md, \u201c([^\u201d]*)\u201d", text)
+    headings = re.findall(r"^## (.*)$", (ROOT / "docs" / "AUDITING.md").read_text("utf-8"), flags=re.M)
+    check("the sections of AUDITING.md that a page names", there=([name for name in named if name not in headings], []),
+          count=(len(set(named)) > 2, True))
+
+
+def test_logged_steps() -> None:
+    """A step in a log counts whatever other lines are there, and by what the clock showed just before it, too."""
+    from dossier.folder.claim import Claim
+    from dossier.folder.entry import Leap
+    from dossier.premise.backing import logged as against
+    from dossier.premise.tracking import read_tracking
+    step = b"2024-10-04T00:25:00Z web-1 chronyd[411]: System clock was stepped by {} seconds\n"
+    bad = b"2024-10-04T00:00:61Z web-1 chronyd[411]: Selected source 10.9.1.1\n"
+    claim = Claim("10.9.0.1", ["10.9.1.1"], 0, "2024-10-04T00:00:00Z", "2024-10-04T01:00:00Z", 1_000_000, 100_000, 0)
+    for name, size, hours, wanted in (("in the span", b"3.000000", 0, ["step"]), ("elsewhere", b"3.000000", -12, []),
+                                      ("from the span", b"43200.000000", -12, ["step"])):
+        log = read_tracking({"messages.log": step.replace(b"{}", size) + bad}, None, "2024-10-05T00:00:00Z")
+        first, last = claim.first + 3600 * hours, claim.last + 3600 * hours
+        leap = Leap("none", first, last)
+        check(f"a logged step {name}", unread=(log.unread, 1),
+              kinds=([alert.kind for alert in against([log], claim, leap, [])], wanted))
