@@ -68,25 +68,28 @@ def test_signed_days(place: Path) -> None:
                  [("09", ""), ("10", ", signed by web-1")]),
           statement=("1 day is signed by web-1, and nobody made it again where this was put together" in words, True))
     lines = (place / "pages" / f"{called(two)}.days").read_text().splitlines()
-    check("who answers for days", by=([line.split(" ")[1] for line in lines], ["web-2"] * 3))
     shutil.copytree(two / "2001-09-11", one / "2001-09-11")
     dossier(*asked, "--signers", signers, one, env=here)
     text = (place / "pages" / f"{called(one)}.html").read_text()
-    check("a day that another machine signed", cell=('title="2001-09-11: not' in text, True))
+    check("a day that another machine signed", cell=('title="2001-09-11: not' in text, True),
+          by=([line.split(" ")[1] for line in lines], ["web-2"] * 3), pages=(
+              {path.name for path in (place / "pages").iterdir()},
+              {"index.html", "year.json", "pages.sums", f"{called(one)}.html", f"{called(one)}.days"}))
     shutil.rmtree(one / "2001-09-11")
-    check("pages of the machines that aren't named are gone", names=(
-        {path.name for path in (place / "pages").iterdir()},
-        {"index.html", "year.json", "pages.sums", f"{called(one)}.html", f"{called(one)}.days"}))
     dossier(*asked, "--signers", signers, one, two, env=here)
-    key = place / "ann"
-    signing = ["sign", "--key", key]
+    sign_fleet(place, signers, [one, two], here)
+
+
+def sign_fleet(place: Path, signers: Path, machines: list[Path], here: dict[str, Any]) -> None:
+    """The statements of a fleet are signed, and said to be as they were signed, until something is changed."""
+    one, two = machines
+    signing = ["sign", "--key", place / "ann"]
     check("a year with days of others, signed", without=(dossier(*signing, place / "pages", env=here)[0], 1),
           with_=(dossier(*signing, "--signers", signers, place / "pages", env=here)[0], 0))
-    again = dossier(*asked, one, env=here)
+    again = dossier("year", "--year", "2001", "--split", place / "pages", one, env=here)
     check("what is signed isn't replaced", status=(again[0], 5),
           said=(b"is signed, so nothing is replaced" in again[2], True))
-    words_ = ["verify", "--signers", signers, "--as-signed"]
-    named = [place / "pages", place / "fleet"]
+    words_, named = ["verify", "--signers", signers, "--as-signed"], [place / "pages", place / "fleet"]
     status, out, _ = dossier(*words_, *named, env={**here, "XDG_STATE_HOME": str(place / "auditor")})
     last = out.decode().splitlines()[-1]
     check("as it was signed", status=(status, 0), last=(last.partition(";")[0], "all is as it was signed"),
@@ -134,7 +137,7 @@ MOVE = {"after": 1_000_000_000_000_000_000, "by": 1_000_000_060_000_000_000, "lo
 
 
 def test_answers(place: Path) -> None:
-    """Each answer is held to its sum and judged by the program; what is forged beside right sums is seen."""
+    """Each answer is held to its sum and judged by the program."""
     own = machine(place / "fleet", "web-1", 3)
     other = day(place / "fleet" / "web-1", 3, RIGHT, servers=1)
     dossier("audit", *days_of(own))
@@ -150,15 +153,23 @@ def test_answers(place: Path) -> None:
           calls=(calls[1:], [*["check --sums", "refute --drift"] * 2, "refute --drift", "refute --drift", "settle"]))
     second = dossier("verify", "--answers", "--second", *days_of(own))[1].decode()
     check("days by their answers and two programs", judged=(second.count("(judged by two programs)"), 4))
-    first = own / "2001-09-09"
+    with open(other / "report.txt", "ab") as opened:
+        opened.write(b"\n")
+    check("by answers: a file that was changed", said=(
+        b"report.txt was changed since the audit" in dossier("verify", "--answers", other)[1], True))
+
+
+def test_forged_answers(place: Path) -> None:
+    """What is forged beside right sums is seen by the answers."""
+    first = machine(place / "fleet", "web-1", 2) / "2001-09-09"
+    dossier("audit", *days_of(first.parent))
     files = {path.name: path.read_bytes() for path in first.iterdir()}
     record = json.loads(files["audit.json"])
 
     def forged(name: str, data: bytes, **changes: object) -> str:
         """What is said where a file, its sum, and some of the entry are others."""
-        entry = record["entries"][0]
-        outputs = {**entry["outputs"], **({name: hashlib.sha256(data).hexdigest()} if name in entry["outputs"] else {})}
-        inputs = {**record["inputs"], **({name: hashlib.sha256(data).hexdigest()} if name in record["inputs"] else {})}
+        entry, sums = record["entries"][0], {name: hashlib.sha256(data).hexdigest()}
+        outputs, inputs = ({**own, **(sums if name in own else {})} for own in (entry["outputs"], record["inputs"]))
         (first / name).write_bytes(data)
         (first / "audit.json").write_text(json.dumps({
             **record, "inputs": inputs, "entries": [{**entry, **changes, "outputs": outputs}]}))
@@ -188,10 +199,6 @@ def test_answers(place: Path) -> None:
             ("a move that excuses a logged step", forged("report.txt", files["report.txt"], moves=[MOVE]),
              "entries 0 moves is")):
         check(f"by answers: {what} that was forged", status=(said[0], "1"), said=(wanted in said, True))
-    with open(other / "report.txt", "ab") as opened:
-        opened.write(b"\n")
-    check("by answers: a file that was changed", said=(
-        b"report.txt was changed since the audit" in dossier("verify", "--answers", other)[1], True))
 
 
 def test_changed_bytes(place: Path) -> None:
@@ -263,8 +270,6 @@ def test_figures(place: Path) -> None:
           cells=(['title="2001-09-11: yes' in page, 'title="2001-09-12: not counted' in page], [True, True]))
     check("twice under any name", copy=(f"has a recording of {place}/fleet/copy-1" in index, True),
           client=(f"its client has days of {place}/fleet/copy-1 too" in index, True))
-    check("day numbers", row=(re.findall(r"<span>(\d+)</span>", page[:page.index("Jan")]),
-                              [str(number) for number in range(1, 32)]))
     status, _, err = dossier("draft", ROOT / "data" / "vlan-ns.pcap")
     servers = json.loads((ROOT / "data" / "vlan-ns.claim.json").read_text())["servers"]
     words = "In groups " + ", ".join(f"{number} is {server}" for number, server in enumerate(servers))

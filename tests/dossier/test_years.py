@@ -6,7 +6,7 @@ import json
 import re
 import shutil
 import time
-from collections.abc import Callable
+from collections.abc import Callable, Iterator
 from html import unescape
 from pathlib import Path
 from typing import Any
@@ -77,11 +77,6 @@ def test_year(place: Path) -> None:
     check("what isn't counted", twice=("2001-09-16: 2001-09-09 stands twice" in others
                                        or "2001-09-09: 2001-09-09 stands twice" in others, True),
           other=("2001-09-14: another claim or client" in others, True), number=(others.count("<li>"), 2))
-    (place / "table").mkdir()
-    (place / "table" / "2001").touch()
-    check("a calendar that can't be written",
-          run=(dossier("page", "--split", place / "table", *sorted(own.iterdir()))[::2],
-               (4, f"ntpaudit-dossier: {called(own)}.html can't be written (Not a directory)\n".encode())))
     words = text.partition('class="statement">')[2].partition("</p>")[0]
     for said in ("The clock of 192.0.2.10", "within 1 ms of UTC", "From 2001-01-01 to 2001-12-31 this is shown on 2 of "
                  "365 days", "Not shown: 1 refuted, 1 no evidence, 1 not verified, 1 not counted, 359 missing",
@@ -98,6 +93,10 @@ def test_year(place: Path) -> None:
     check("the names of its days", number=(len(lines), 6), paths=({path for _, _, path in lines} <= paths, True),
           by=([by for _, by, _ in lines], [*["verified"] * 3, "-", "verified", "verified"]),
           by_hand=(lines[2][0], name_by_hand(own / "2001-09-11", "refutation.json report.txt envelope.txt")))
+
+
+def test_other_days(place: Path) -> None:
+    """A day that the second program disputes, and one that hasn't ended."""
     maybe = place / "second"
     runnable(maybe, "#!/bin/sh\necho verdict maybe\n")
     state = {**ENVIRONMENT, "XDG_STATE_HOME": str(place / "disputed"), "NTPAUDIT_SECOND": str(maybe)}
@@ -110,8 +109,6 @@ def test_year(place: Path) -> None:
     check("a day that the second program disputes", status=(disputed, 1), before=("1 of 365" in before, True),
           after=("0 of 365" in text, True), named=("1 disputed" in text, True),
           cell=('title="2001-09-10: disputed"' in text, True))
-    status, out, _ = dossier("year", "--year", "2001", *sorted(own.iterdir()))
-    check("a year by its days", status=(status, 0), same=("2 of 365" in out.decode(), True))
     begin = int(time.time()) // DAY * DAY + DAY
     tomorrow, after = (time.strftime("%Y-%m-%d", time.gmtime(begin + DAY * k)) for k in (0, 1))
     span: dict[str, Any] = {"from": f"{tomorrow}T00:00:00Z", "to": f"{after}T00:00:00Z"}
@@ -119,7 +116,7 @@ def test_year(place: Path) -> None:
     text = dossier("year", "--year", tomorrow[:4], place / "ahead")[1].decode()
     said = f"<li>{tomorrow}: {tomorrow} hasn't ended yet</li>"
     check("a day that hasn't ended", named=(said in unescape(text), True), cell=(f'title="{tomorrow}' in text, False))
-    check("another year", none=("0 of 365" in dossier("year", "--year", "2002", own)[1].decode(), True))
+    check("another year, by its days", none=("0 of 365" in dossier("year", "--year", "2002", once)[1].decode(), True))
 
 
 def test_strange_years(place: Path) -> None:
@@ -149,20 +146,39 @@ def test_strange_years(place: Path) -> None:
     check("a year that nobody made here", shown=("0 of 365" in text, True), told=("6 not verified" in text, True))
 
 
+def strange_statements(year: dict[str, Any], sums: str) -> Iterator[tuple[str, list[dict[str, Any]], str, str]]:
+    """Statements that don't follow from a machine's days: what is wrong, all statements, all days, and what is said."""
+    (machine,), more = year["machines"], "web 2) was right on each day. And that of ("
+    odd = sums.replace(" verified ", "  ")
+    many = "".join(f"{sums[:64]} verified ../fleet/web 1/{1000 + number}-01-01\n" for number in range(5000))
+    long = f"{sums[:64]} verified ../fleet/web 1{'/x' * 2048}/2001-09-09\n"
+    other = "which has another name"
+    for name, changes, days, said in (
+            ("another machine's name", {"machine": "web 2",
+                                        "statement": machine["statement"].replace("web 1", "web 2")}, sums, other),
+            ("another machine's statement before its own", {
+                "machine": f"{more}/{machine['machine']}",
+                "statement": machine["statement"].replace("(", f"({more}/", 1)}, sums, other),
+            ("a sentence before a path", {"machine": f"{more}x/../fleet/web 1"}, sums, other),
+            ("a long path", {"sha256": sum_of(long.encode())}, long, "more than 4,096 characters"),
+            ("more days shown than are", {"shown": 9}, sums, "doesn't follow from its days"),
+            ("lines that name nobody", {"sha256": sum_of(odd.encode())}, odd, "a file of days isn't one"),
+            ("days that aren't there", {"sha256": sum_of(many.encode())}, many, "isn't the day that")):
+        yield name, [{**machine, **changes}], days, said
+    yield "one machine's days as those of two", [machine, {**machine, "machine": "web 2"}], sums, "there twice"
+
+
 def test_signed_year(place: Path) -> None:
     """A signature on the statements is held to the days, and each day to its inputs."""
     if not is_here("ssh-keygen", "a year that is signed"):
         return
-    own, pages, (key, allowed) = machine_of(place), place / "pages", key_of(place, "key")
-    signers = place / "signers"
+    own, pages, (key, allowed), signers = machine_of(place), place / "pages", key_of(place, "key"), place / "signers"
     signers.write_text(allowed)
     shutil.rmtree(own / "2001-09-12")
     dossier("year", "--year", "2001", "--split", pages, own)
-    status, out, _ = dossier("sign", "--key", key, pages)
-    check("sign a year", run=((status, out), (0, f"{pages}: signed\n".encode())),
+    check("sign a year", run=(dossier("sign", "--key", key, pages)[:2], (0, f"{pages}: signed\n".encode())),
           again=(dossier("sign", "--key", key, pages)[0], 4))
-    named = (pages, place / "fleet")
-    other = place / "fleet" / "web 2" / "2001-09-09"
+    named, other = (pages, place / "fleet"), place / "fleet" / "web 2" / "2001-09-09"
     other.mkdir(parents=True)
     status, out, _ = dossier("verify", "--signers", signers, *named)
     lines = out.decode().splitlines()
@@ -170,12 +186,10 @@ def test_signed_year(place: Path) -> None:
           beside=(f"{other}: ntpaudit-dossier: not audited" in lines, True),
           by=(any("by key@example.org" in line for line in lines), True),
           end=(f"{pages}: verified: its statements follow from its days" in lines, True),
-          named=(lines[-1], f"{place / 'fleet'}: (a year's days are in it)"))
-    check("verify a year by relative names",
-          run=(dossier("verify", "--signers", signers, "pages", "fleet", cwd=place)[:2],
-               (status, out.replace(f"{place}/".encode(), b""))))
-    check("a year whose machine is named besides",
-          days=(dossier("verify", *named, own)[1].decode().count(": verified: "), 7))
+          named=(lines[-1], f"{place / 'fleet'}: (a year's days are in it)"),
+          besides=(dossier("verify", *named, own)[1].decode().count(": verified: "), 7),
+          relative=(dossier("verify", "--signers", signers, "pages", "fleet", cwd=place)[:2],
+                    (status, out.replace(f"{place}/".encode(), b""))))
     run(["sh", "-c", "seq 100001 | xargs touch"], cwd=place / "fleet")
     check("a folder with too much in it", told=(
         f"{place / 'fleet'}: ntpaudit-dossier: more than 100,000 files are in the folder"
@@ -185,30 +199,18 @@ def test_signed_year(place: Path) -> None:
     check("a year whose days are in no folder that is named", status=(status, 2), days=(out.count(b"2001-09-09"), 1),
           told=(out.decode().partition("\n")[0], f"{pages}: ntpaudit-dossier: {own}/2001-09-09 is in no folder that is "
                 "named: if it may be read, name the folder of its machine too"))
-    text = (pages / "year.json").read_text()
+    change_year(own, pages, signers)
+
+
+def change_year(own: Path, pages: Path, signers: Path) -> None:
+    """Statements, days and audits that are changed behind a signature are seen."""
+    named, text, days = (pages, own.parent), (pages / "year.json").read_text(), pages / f"{called(own)}.days"
     (pages / "year.json").write_text(text.replace("shown on 2 of", "shown on 9 of"))
     status, out, _ = dossier("verify", "--signers", signers, *named)
     check("a statement that was changed", status=(status, 1), told=(b"the signature doesn't fit" in out
                                                                     and b"doesn't follow from its days" in out, True))
-    year = json.loads(text)
-    (machine,), sums = year["machines"], (days := pages / f"{called(own)}.days").read_text()
-    odd, more = sums.replace(" verified ", "  "), "web 2) was right on each day. And that of ("
-    many = "".join(f"{sums[:64]} verified ../fleet/web 1/{1000 + number}-01-01\n" for number in range(5000))
-    long = f"{sums[:64]} verified ../fleet/web 1{'/x' * 2048}/2001-09-09\n"
-    for name, machines, rows, words in (
-            ("one machine's days as those of two", [machine, {**machine, "machine": "web 2"}], sums, "there twice"),
-            ("another machine's name", [{**machine, "machine": "web 2",
-                                         "statement": machine["statement"].replace("web 1", "web 2")}], sums,
-             "which has another name"),
-            ("another machine's statement before its own", [
-                {**machine, "machine": f"{more}/{machine['machine']}",
-                 "statement": machine["statement"].replace("(", f"({more}/", 1)}], sums, "which has another name"),
-            ("a sentence before a path", [{**machine, "machine": f"{more}x/../fleet/web 1"}], sums,
-             "which has another name"),
-            ("a long path", [{**machine, "sha256": sum_of(long.encode())}], long, "more than 4,096 characters"),
-            ("more days shown than are", [{**machine, "shown": 9}], sums, "doesn't follow from its days"),
-            ("lines that name nobody", [{**machine, "sha256": sum_of(odd.encode())}], odd, "a file of days isn't one"),
-            ("days that aren't there", [{**machine, "sha256": sum_of(many.encode())}], many, "isn't the day that")):
+    year, sums = json.loads(text), days.read_text()
+    for name, machines, rows, words in strange_statements(year, sums):
         (pages / "year.json").write_text(json.dumps({**year, "machines": machines}))
         days.write_text(rows)
         status, out, _ = dossier("verify", *named)
@@ -218,21 +220,19 @@ def test_signed_year(place: Path) -> None:
                                                                       False))
     (pages / "year.json").write_text(text)
     days.write_text(sums)
-    with open(own / "2001-09-10" / "f.pcap", "ab") as opened:
+    record = own / "2001-09-10" / "audit.json"
+    with open(record.parent / "f.pcap", "ab") as opened:
         opened.write(b"\0")
     status, out, _ = dossier("verify", *named)
     check("a day that was changed", status=(status, 1), told=(b"2001-09-10: f.pcap isn't the file" in out, True))
-    record = own / "2001-09-10" / "audit.json"
     record.write_text(record.read_text().replace('"samples": 576', '"samples": 577'))
-    status, out, _ = dossier("verify", *named)
     check("an audit that was changed", told=(f"{record.parent} is verified by {days.name}, and here not verified"
-                                             in out.decode(), True))
-    record.write_text(record.read_text().replace('"report.txt": "', '"report.txt": "0').replace("0" * 64, "0"))
+                                             in dossier("verify", *named)[1].decode(), True))
     text = record.read_text()
-    record.write_text(text[:(at := text.index('"report.txt": "') + 15)] + text[at:at + 63] + text[at + 64:])
-    status, out, _ = dossier("verify", *named)
-    check("a sum that was changed",
-          told=(f"{record.parent} isn't the day that {days.name} names" in out.decode(), True))
+    at = text.index('"report.txt": "') + len('"report.txt": "')
+    record.write_text(text[:at] + ("1" if text[at] == "0" else "0") + text[at + 1:])
+    check("a sum that was changed", told=(f"{record.parent} isn't the day that {days.name} names"
+                                          in dossier("verify", *named)[1].decode(), True))
 
 
 def test_copied_years(place: Path) -> None:
@@ -241,8 +241,7 @@ def test_copied_years(place: Path) -> None:
         return
     fleet, pages, key = place / "fleet", place / "pages", key_of(place, "key")[0]
     for number in (0, 1):
-        dossier("audit", day(fleet / "web 1", number, RIGHT))
-        dossier("audit", day(fleet / "web 2", number, WIDE, bound_ns=1_500_000))
+        dossier("audit", day(fleet / "web 1", number, RIGHT), day(fleet / "web 2", number, WIDE, bound_ns=1_500_000))
     known, other = fleet / "web 1" / "2001-09-09", fleet / "web 2" / "2001-09-09"
     kept = (other / "audit.json").read_bytes()
     shutil.copy(known / "audit.json", other)
@@ -271,10 +270,6 @@ def test_copied_years(place: Path) -> None:
         (pages / "year.json").write_text(json.dumps({**year, "machines": machines}))
         out = dossier("verify", pages, fleet)[1]
         check(f"a year with {name}", told=(b"doesn't follow from its days" in out, True))
-    from dossier.fleet.statements import in_quotes
-    names = {"web-1": "web-1", "web 1\u201d) is (\u201c": r'"web 1\u201d\x29 is \x28\u201c"',
-             "\u670d\u52a1": '"\u670d\u52a1"'}
-    check("names in sentences", seen=({name: in_quotes(name) for name in names}, names))
     dossier("year", "--year", "2002", "--split", place / "2002", fleet / "web 1")
     check("a year without days", verified=(dossier("verify", place / "2002")[:2], (
         0, f"{place}/2002: verified: its statements follow from its days\n".encode())))
