@@ -12,7 +12,7 @@ from ..folder.entry import Hull
 from ..folder.files import CLAIM
 from ..folder.program import Program
 from ..folder.result import Heard
-from ..units import SECOND
+from ..units import SECOND, TICKS
 
 TWO = 2
 """Samples that have to miss the hull: one alone may be the first behind a step."""
@@ -28,12 +28,15 @@ class Hearing:
 
     def __init__(self, program: Program, claim: Claim, whole: Classic, capture: str):
         self.claim, self.whole = claim, whole
-        stamps = whole.extent.stamps
-        self.gone = list(accumulate((max(0, (after >> 32) - (before >> 32)) for before, after in pairwise(stamps)),
-                                    initial=0))
-        """Of each record the seconds that went by since the first, but for those by which the clock fell back."""
-        self.samples, self.times, self.requests = dict[str, list[Sample]](), dict[str, list[int]](), dict[str, int]()
+        self.leaps = [max(0, (after >> 32) - (before >> 32)) for before, after in pairwise(whole.extent.stamps)]
+        """Seconds from each record to the next, but for those by which the clock fell back."""
+        self.samples, self.replies, self.requests = dict[str, list[Sample]](), dict[str, list[int]](), dict[str, int]()
+        self.errors, self.steps, self.last = dict[str, int](), dict[int, int](), 0
         program.blocks(self.take, "samples", CLAIM, capture)
+        self.gone = list(accumulate((max(0, leap - self.steps.get(at, leap * (at >= self.last and leap > SILENT)))
+                                     for at, leap in enumerate(self.leaps)), initial=0))
+        """Of each record the seconds that went by since the first."""
+        self.times = {server: [self.gone[reply] for reply in own] for server, own in self.replies.items()}
         own = {server: float(median(map(sub, times[1:], times))) for server, times in self.times.items() if times[1:]}
         self.polls = {server: poll for server, poll in own.items() if poll}
         self.poll = max(self.polls.values(), default=0.0)
@@ -44,12 +47,22 @@ class Hearing:
             fields = line.split(" ")
             request, reply = map(int, fields[2:4])
             asked, answered = self.whole.nanoseconds(self.whole.extent.stamps[at] for at in (request, reply))
-            self.times.setdefault(fields[1], []).append(self.gone[reply])
+            low, high = in_era(asked // SECOND, int(fields[11]), int(fields[13]))
+            self.step(fields[1], reply, (low + high) // (2 * TICKS))
             self.requests[fields[1]] = request
             if answered <= self.claim.last * SECOND:
                 own = self.samples.setdefault(fields[1], [])
-                own.append((asked, answered, *in_era(asked // SECOND, int(fields[11]), int(fields[13]))))
+                own.append((asked, answered, low, high))
                 del own[:-TWO]
+
+    def step(self, server: str, reply: int, error: int) -> None:
+        """If a server says that the clock is so many seconds further ahead than before, it was stepped in the longest
+        time between two records since; of one of more than a minute behind the last reply nobody knows."""
+        own = self.replies.setdefault(server, [])
+        if own and own[-1] < reply and (ahead := error - self.errors[server]) > 1:
+            self.steps[max(range(own[-1], reply), key=self.leaps.__getitem__)] = ahead
+        own.append(reply)
+        self.errors[server], self.last = error, max(self.last, reply)
 
     def is_silent(self, server: str) -> bool:
         if server not in self.times:

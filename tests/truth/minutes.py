@@ -176,7 +176,8 @@ class Player:
             yield f"a yes, and the error was {shown}"
         if shown and moment.least_ns is not None and max(-shown[0], shown[1]) > moment.least_ns:
             yield f"the least bound {moment.least_ns}, and the error was {shown}"
-        if moment.before and not any(since - self.BEFORE < end and begin < last for begin, end in clock.breaks) and \
+        if moment.before and not any(since - self.BEFORE < end and begin < seen[-1].at  # (all that was recorded counts)
+                                     for begin, end in clock.breaks) and \
                 sum(one.is_wrong(since) or one.is_wrong(last) for one in self.of.servers) <= self.of.false_max:
             yield "all fits with what was before"
         at = {packet.stamp: packet.at for packet in seen}
