@@ -286,6 +286,19 @@ def test_newest(place: Path) -> None:
         copy.unlink()
 
 
+def test_step_ahead(place: Path) -> None:
+    """By a step of 300 s ahead no server is silent that wasn't heard since; by a gap of that length one is."""
+    last, ticks = int(time.time()) - 5, 300 << 32
+    last -= last % 10
+    for name, ends in ("step", f"{ticks - 1000}..{ticks + 1000}"), ("gap", RIGHT):
+        (place / name).mkdir()
+        written(capture_of(place / name / name_of(last - 900, "eth0"), *by_time(
+            words_of([(last - 900, last - 309, RIGHT)], (1, 2, 3, 4)), words_of([(last - 10, last + 1, ends)], (1, 2)))))
+        line = now(place / name)[1][0]
+        check(f"servers behind a {name}", silent=("silent: 192.0.2.3, 192.0.2.4" in line, name == "gap"),
+              heard=("  4 of 4 groups" in line, name == "step"))
+
+
 def test_order(place: Path) -> None:
     """A clock ten minutes ahead that was set back: the recorder says which of its files came after which, though the
     first was written later by the clock."""
