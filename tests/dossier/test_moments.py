@@ -244,6 +244,8 @@ def test_set_back(place: Path) -> None:
         ahead = {key: value for (key, *_), value in metrics_of(place / "m.prom").items()}["now_records_ahead_seconds"]
         check(f"a clock that was set back: {name}", status=(status, 1), said=(bool(re.search(words, lines[0])), True),
               yes=("  yes  " in lines[0], False), ahead=(1980 < float(ahead) < 2100, True))
+        if name == "another file":
+            check("the file that was written since", end=(civil(last)[11:] in lines[0].split("  ")[1], True))
     for name, second in (("2099", 4_102_444_740), ("1970", 9)):
         recorded(place / name, second, (second, second + 60, RIGHT))
         recorded(place / name, last - 900, (last - 900, last + 1, RIGHT))
@@ -279,7 +281,7 @@ def test_newest(place: Path) -> None:
     status, lines, _ = now(old)
     check("an old file under the newest name", status=(status, 0), verdict=(lines[0].split("  ")[2], "yes"))
     own = recorded(place / "copied", last - 300, (last - 300, last + 1, RIGHT))
-    for name, size in (("copy", 301 * 4 * 106 // 5), ("part", 24 + 60 * 4 * 106)):
+    for name, size in (("copy", 301 * 4 * 106 // 5), ("part", 24 + 60 * 4 * 106), ("short", 24 + 100 * 106)):
         copy = own.with_name(own.name.replace(".pcap", f"-{name}.pcap"))
         copy.write_bytes(own.read_bytes()[:size])
         check(f"a {name} beside", line=(now(place / "copied")[1][0].split("  ")[2:], lines[0].split("  ")[2:]))
