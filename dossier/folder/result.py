@@ -3,7 +3,7 @@ from collections import Counter
 from typing import Annotated
 
 from ..records import dataclass, field
-from ..schema import Address, Count, Sum, Text, Ticks, length, matching
+from ..schema import Address, Count, Nanoseconds, Sum, Text, Ticks, length, matching
 from ..units import bound_ticks
 from .claim import Claim
 from .entry import NOTHING_FITS, WORST_FIRST, YES, Day, Made, Move, Piece, side_of
@@ -137,7 +137,7 @@ class Told:
     verdict: Text
     folder: Text = ""
     cause: Text = ""
-    least_ns: Count | None = None
+    least_ns: Nanoseconds | None = None
     off: Ticks = 0
     """The least distance from UTC that the clock had at some time of it, as far as that is known."""
     name: Annotated[str, matching("[0-9a-f]{64}|")] = ""

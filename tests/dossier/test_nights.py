@@ -192,3 +192,17 @@ def test_clear_of_a_wrong_clock(place: Path) -> None:
     dossier("day", "--from", recorder, "--to", days, "--clear", "10")
     taken = sorted({*names} - {path.name for path in recorder.iterdir()})
     check("clearing what shows 2099", named=(named.exists(), False), taken=(taken, names[5:11]))
+
+
+def test_year_of_a_wrong_clock(place: Path) -> None:
+    """A day on which the clock was two days ahead stands in the machine's calendar."""
+    recorder, days, _ = recorded(place, ())
+    ticks = 2 * DAY << 32
+    path = capture_of(recorder / "eth0-2001-09-09T000000Z.pcap", *(
+        f"{server}:{ticks - 1000}..{ticks + 1000}@{NIGHT + 600 * k}" for k in range(144) for server in (1, 2)))
+    os.utime(path, (NIGHT + DAY, NIGHT + DAY))
+    dossier("day", "--from", recorder, "--to", days, "--date", "2001-09-09")
+    dossier("audit", days / "2001-09-09")
+    *_, err = dossier("year", "--year", "2001", "--split", place / "pages", days / "2001-09-09")
+    pages = "".join(path.read_text() for path in (place / "pages").rglob("*.html"))
+    check("a year of a wrong clock", err=(err, b""), said=("refuted" in pages, True))
