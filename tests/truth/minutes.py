@@ -162,7 +162,8 @@ class Player:
         clock = self.of.clock
         near = range((moment.end - 2) * SECOND - 2 * self.of.poll, (moment.end + 1) * SECOND)
         last = next((packet.at for packet in reversed(seen) if packet.stamp in near), seen[-1].at)
-        since = last - (moment.end - moment.begin + 1) * SECOND
+        since, at = last - (moment.end - moment.begin + 1) * SECOND, {packet.stamp: packet.at for packet in seen}
+        since = max([since, *(at[move.by] for move in moment.moves)])  # (what holds since then)
         for piece in [*moment.pieces[:-1:7], *moment.pieces[-1:]] if moment.verdict != "nothing fits" else ():
             shown = clock.errors(piece.from_ * SECOND, piece.to * SECOND, since, last + 1)
             if shown and not isinstance(piece.hull, str):
@@ -180,7 +181,6 @@ class Player:
                                      for begin, end in clock.breaks) and \
                 sum(one.is_wrong(since) or one.is_wrong(last) for one in self.of.servers) <= self.of.false_max:
             yield "all fits with what was before"
-        at = {packet.stamp: packet.at for packet in seen}
         for move in moment.moves:
             held = [jump for jump in clock.breaks if at[move.after] <= jump[0] and jump[1] <= at[move.by]]
             changed = (clock.error(at[move.by]) or 0) - (clock.error(at[move.after]) or 0)
