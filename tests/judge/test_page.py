@@ -226,14 +226,11 @@ def test_no_way_out(folder: Path) -> None:
 
 
 def test_made_again(folder: Path) -> None:
-    """The page is the same bytes each time, and small; and dist/ has what is made, the program too."""
+    """What is made is what dist/ has, byte for byte, the program too; and the page is small."""
     if tool := missing():
         skip("the page, made again", wanting(tool))
         return
-    status, _, err = run([ROOT / "judge/make", "--page", folder])
-    page = (folder / "judge.html").read_bytes()
-    check("made again", status=(status, 0), same=(page == made("judge.html").read_bytes(), True), said=(err, b""),
-          small=(len(page) <= 300_000, True))
     for name in ("judge.html", "ntpaudit-judge"):
         check(f"dist/{name} is another than what is made: call judge/make dist, with --page too",
               same=((ROOT / "dist" / name).read_bytes() == made(name).read_bytes(), True))
+    check("small", size=(len(made("judge.html").read_bytes()) <= 300_000, True))

@@ -161,7 +161,7 @@ def without_proofs(file: Path) -> str:
 
 def coqc(place: Path, name: str) -> str:
     status, out, err = run(["coqc", "-q", "-R", ".", "Judge", f"{name}.v"], cwd=place, timeout=3000)
-    return (out + err).decode()[-1000:] if status else ""
+    return (out + err).decode() if status else ""
 
 
 def built(place: Path, edits: list[Edit]) -> str:
@@ -172,7 +172,7 @@ def built(place: Path, edits: list[Edit]) -> str:
     for name in names[:names.index("Extract") + 1]:
         (place / f"{name}.v").write_text(without_proofs(place / f"{name}.v"))
         if wrong := coqc(place, name):
-            return wrong
+            return wrong[-1000:]
     status, out, err = run([place / "make", place], env={**os.environ, "JUDGE_EXTRACTED": str(place / "extracted")})
     return (out + err).decode()[-300:] if status else ""
 
@@ -185,7 +185,7 @@ def stopped(place: Path, edit: Edit) -> tuple[str, str]:
     text = file.read_text("utf-8")
     file.write_text(without_proofs(file))
     if wrong := coqc(place, edit[0]):
-        return f"{edit[2]} is nothing that Coq takes: {wrong}", ""
+        return f"{edit[2]} is nothing that Coq takes: {wrong[-1000:]}", ""
     file.write_text(text)
     for name in names[names.index(edit[0]):]:
         if wrong := coqc(place, name):
