@@ -105,7 +105,7 @@ BUGS: dict[str, Edit] = {
     "T3 for T2": ("Reading", "receive := read64 b (ntp + n32)", "receive := read64 b (ntp + n40)"),
     "the first of two requests": ("Pairing", "| Some _ => Several end", "| Some s => s end"),
     "a request of any version": ("Pairing", "(mode p =? n3) && (version p =? n4)", "(mode p =? n3)"),
-    "a request from any port": ("Pairing", "(n * n65536 + port) * n2048", "n * n2048"),
+    "a request from any port": ("Pairing", "(n * n65536 + port) * n2048", "(n * n65536 + port * 0) * n2048"),
     "a reply of stratum 0": ("Pairing", "(1 <=? stratum p) && ", ""),
     "T3 unfolded near the reply": (
         "Pairing", "t3 := unfold_near low (transmit p)", "t3 := unfold_near (window_begin p) (transmit p)"),
