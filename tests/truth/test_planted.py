@@ -9,7 +9,7 @@ from pathlib import Path
 from tests.support import ROOT, count
 from tests.truth import trial
 from tests.truth.test_cases import CASES, wrong_in
-from tests.truth.test_histories import ONCE_UNTRUE
+from tests.truth.test_histories import ONCE_UNSAID, ONCE_UNTRUE
 
 PLANTS = [
     ("a yes by the stretch that was recorded last, whatever another one may have shown", "verdict/parts.py",
@@ -40,11 +40,14 @@ PLANTS = [
     ("a side for the other", "verdict/sentences.py", "'ahead of' if hull[0] > 0 else 'behind'",
      "'ahead of' if hull[0] <= 0 else 'behind'"),
     ("a leap second's day for the next", "premise/premises.py", "civil(end - 1)[:10]", "civil(end)[:10]"),
+    ("a server that may be wrong for one that has to be", "verdict/apart.py", "set.intersection(*found)",
+     "set.union(*found)"),
+    ("half an exchange for all of it", "verdict/breaks.py", "[*named, *map(self.other.__getitem__, named)]", "named"),
 ]
 """What the bug is, in which file of dossier/ it is, what stands there, and what stands there then."""
 
 
-SEEDS = *ONCE_UNTRUE, 54, *range(140, 150), 312
+SEEDS = *ONCE_UNTRUE, *ONCE_UNSAID, 54, *range(140, 150), 312
 
 
 def seen(number: int, place: Path, missed: dict[int, list[str]]) -> str:
