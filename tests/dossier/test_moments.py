@@ -295,7 +295,8 @@ def test_step_ahead(place: Path) -> None:
     for name, ends in ("step", f"{ticks - 1000}..{ticks + 1000}"), ("gap", RIGHT):
         (place / name).mkdir()
         written(capture_of(place / name / name_of(last - 900, "eth0"), *by_time(
-            words_of([(last - 900, last - 309, RIGHT)], (1, 2, 3, 4)), words_of([(last - 10, last + 1, ends)], (1, 2)))))
+            words_of([(last - 900, last - 309, RIGHT)], (1, 2, 3, 4)),
+            words_of([(last - 10, last + 1, ends)], (1, 2)))))
         line = now(place / name)[1][0]
         check(f"servers behind a {name}", silent=("silent: 192.0.2.3, 192.0.2.4" in line, name == "gap"),
               heard=("  4 of 4 groups" in line, name == "step"))
