@@ -1,12 +1,15 @@
 """Captures in which each packet is there twice: a copy beside its original, packed or cut, or two interfaces.
 
-A reply to a request that was recorded twice is of no use, since it may be the answer to either. So a file is left out,
-and named, if larger ones have most of its requests too.
+A reply to a request that was recorded twice is of no use, since it may be the answer to either. So of a file most of
+whose requests larger ones have too only what they haven't counts, and it is named.
 """
+from itertools import chain
+
 from ..folder.entry import Again
 from ..folder.files import CLAIM
 from ..folder.program import Program
-from .captures import Audited, joined, open_capture
+from .captures import Audited, Opened, joined, open_capture
+from .classic import HEADER, Classic, write
 from .recording import Samples
 
 Requests = set[tuple[str, str, str]]
@@ -15,17 +18,23 @@ Requests = set[tuple[str, str, str]]
 
 def once(copies: dict[str, str], program: Program) -> Audited:
     """One capture of all, given by their names and their copies, in which each packet is there once, if that can be
-    had by leaving out files."""
+    had by leaving out what files have that larger ones have too."""
     opened = {name: open_capture(name, copy) for name, copy in copies.items()}
     whole, seen = joined(dict(opened), copies, program), Samples()
     if len(copies) > 1:
         program.blocks(seen.take, "samples", CLAIM, whole.path)
     if not are_twice(seen.counts):
         return whole
-    again = repeated({name: requests_of(program, one.path) for name, one in opened.items()})
+    requests = {name: requests_of(program, one.path) for name, one in opened.items()}
+    again = repeated(requests)
     if not again:
         return whole
     left = {name: one for name, one in opened.items() if name not in again}
+    had = set[tuple[str, str, str]]().union(*(requests[name] for name in left))
+    for name in sorted(again, key=lambda name: (-len(requests[name]), name)):
+        if requests[name] - had:
+            left[name] = without(program, opened[name], had, f"{copies[name]}.own")
+            had |= requests[name]
     whole = joined(left, copies, program)
     first = min(again)
     return whole._replace(alerts=[*whole.alerts, Again("twice", len(again), first, again[first])])
@@ -46,6 +55,23 @@ def requests_of(program: Program, capture: str) -> Requests:
                 found.add((words[2], words[3], words[15]))
     program.blocks(take, "list", capture)
     return found
+
+
+def without(program: Program, opened: Opened, had: Requests, path: str) -> Opened:
+    """A capture without requests that others have, and without the replies to these."""
+    dropped = set[int]()
+
+    def take(block: bytes) -> None:
+        for line in block.decode("ascii").splitlines():
+            words = line.split(" ", 16)
+            if words[0] != "records" and ((words[2], words[3], words[15]) in had if words[5] == "m3" else
+                                          (words[3], words[2], words[13]) in had):
+                dropped.add(int(words[0]))
+    program.blocks(take, "list", opened.path)
+    capture = Classic(opened.path, opened.extent)
+    write(path, chain([capture.data[:HEADER]], (capture.data[begin:end] for number, (_, begin, end)
+                                                in enumerate(capture.rows()) if number not in dropped)))
+    return Opened(path, opened.torn, Classic(path).extent)
 
 
 def repeated(requests: dict[str, Requests]) -> dict[str, str]:

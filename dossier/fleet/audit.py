@@ -144,12 +144,12 @@ def result_of(path: str, record: Record, known: Known, more: str, others: Iterab
                        list(of_verdict(path, DISPUTED)))
     lines = [refusal_of(path, record.refusal.line)] if record.refusal else []
     lines += [line_of(path, entry) + more for entry in record.entries]
-    lines += [f"{'':14}{label(path)}: {words}" for words in left_out(record)]
+    lines += [f"{'':14}{label(path)}: {words}" for words in counted_once(record)]
     return Audited(record.status, [*lines, *others], record.verdicts, list(of_record(path, record)))
 
 
-def left_out(record: Record) -> list[str]:
-    """Of captures that were left out, since larger ones have their packets too, what is said of each audit."""
+def counted_once(record: Record) -> list[str]:
+    """Of captures that have packets of larger ones once more, what is said of each audit."""
     alerts = (alert for entry in record.entries for alert in entry.warnings if alert.kind == "twice")
     return sorted({warning_words(alert) for alert in alerts})
 

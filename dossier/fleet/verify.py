@@ -21,7 +21,7 @@ from ..units import now
 from ..verdict.making import Making
 from ..verdict.second import Second
 from ..verdict.sentences import reason
-from .audit import change_of, left_out
+from .audit import change_of, counted_once
 from .drawing import drawn_of, likelihoods
 from .judging import ONLY_MADE, Judging, Other
 from .planning import is_of_days, names_of, planned
@@ -79,7 +79,7 @@ class Verifier:
         found = self.compared(folder, record, made, is_other, form < VERSION)
         notes = ["by another build of the program than the audit's"] if is_other else []
         notes += sorted({reason(entry) for entry in made.entries if entry.verdict == UNSUPPORTED})
-        notes += left_out(made)
+        notes += counted_once(made)
         if not found:
             if form == VERSION:
                 self.known.add(sum_of(data), made)

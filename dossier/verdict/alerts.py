@@ -65,9 +65,8 @@ def torn(found: Torn) -> str:
 def twice(found: Again) -> str:
     others = f"{'has' if found.count == 2 else 'have'} {count(found.count - 1, 'other file')}"
     more = f", and so {others}" if found.count > 1 else ""
-    is_out = "it is left out" if found.count == 1 else "they are left out"
-    return (f"{plain(found.file)} has packets once more that {plain(found.beside)} has{more}: {is_out}, since of a "
-            "packet that is there twice nothing follows.")
+    return (f"{plain(found.file)} has packets once more that {plain(found.beside)} has{more}: they count once, since "
+            "of a packet that is there twice nothing follows.")
 
 
 def apart_for_a_time(found: ForATime) -> str:
@@ -171,6 +170,7 @@ TO_DO = {
     "logged": "See in the log when the clock was stepped, and claim the time between two steps by itself.",
     "reading": "Grant as much as was measured, and audit again.",
     "step": "Claim the time before the step and the time after it by themselves.",
+    "fell": "Claim the time before the records' times fall back and the time after it by themselves.",
     "leap-second": "Claim another span.",
     "leap-ends": "Bring the system's list up to date (`apt-get install tzdata`, after `apt-get update`), or fetch it "
                  "from https://data.iana.org/time-zones/data/leap-seconds.list and name it (`--leap-seconds`).",

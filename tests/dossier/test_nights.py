@@ -47,13 +47,13 @@ def test_twice_in_one(place: Path) -> None:
 
 
 def test_displaced(place: Path) -> None:
-    """A capture whose requests another has too, by other stamps: each command that audits says which was left out."""
+    """A capture whose requests another has too, by other stamps: each command that audits says which it is."""
     folder = folder_of(place, "displaced", *VLAN)
     whole = (folder / "f.pcap").read_bytes()
     later = [record[:4] + (int.from_bytes(record[4:8], "little") % 999_999_000 + 1).to_bytes(4, "little") + record[8:]
              for record in records_of(whole)]
     (folder / "a.pcap").write_bytes(whole[:24] + b"".join(later))
-    told = "f.pcap has packets once more that a.pcap has: it is left out"
+    told = "f.pcap has packets once more that a.pcap has: they count once"
     for words in (("audit", folder), ("audit", folder), ("audit", "--days", folder), ("verify", folder)):
         lines = dossier(*words)[1].decode().splitlines()
         check(f"{words[0]} of a capture that another displaces", line=(sum(told in line for line in lines), 1))
