@@ -1,7 +1,7 @@
 """What a folder's own evidence says of the clock, and what of it speaks against the claim.
 
 Files of JSON that evidence.json names beside a premise are read: what it was recorded by, what was measured, and what
-was read of the client; and its logs, by their names.
+was read of the client; and beside the drift all others as logs, but those whose names say that they are none.
 """
 from __future__ import annotations
 
@@ -24,6 +24,8 @@ if TYPE_CHECKING:
     from .tracking import Step, Tracking
 
 Kind = TypeVar("Kind")
+MAY_BE_A_LOG = r"(?i)^(?!.*\.(json|conf|pdf|html?|md|odt|docx?|xlsx?|png|jpe?g)$)"
+"""A name that may be that of a log: not that of a text for a person, or of a configuration."""
 
 
 class Backing(NamedTuple):
@@ -50,7 +52,7 @@ def backing(folder: Folder, inputs: Collection[str]) -> Backing:
     reading, read = named("reading"), all_of(Correction, folder, named("drift"))
     logs, unread = [log for one in read for log in one.logs], dict[str, int]()
     step = next((one.configuration.step_s for one in read), None)
-    for name in named("drift", r"\.log(\.\d+)?$|^(syslog|messages)(\.\d+)?$"):
+    for name in named("drift", MAY_BE_A_LOG):
         log, lines = log_of(folder, name, step)
         logs += [log] if log else []
         unread |= {name: lines} if lines else {}

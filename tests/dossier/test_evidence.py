@@ -709,3 +709,18 @@ def test_logged_steps() -> None:
         leap = Leap("none", first, last)
         check(f"a logged step {name}", unread=(log.unread, 1),
               kinds=([alert.kind for alert in against([log], claim, leap, [])], wanted))
+
+
+def test_names_of_logs(place: Path) -> None:
+    """Beside the drift a file is read as a log, but if its name says that it is none."""
+    from dossier.folder.files import Folder
+    from dossier.premise.backing import backing
+    (place / "claim.json").write_bytes((DATA / "clients-us.claim.json").read_bytes())
+    step = "2026-11-22T07:03:40Z web-1 chronyd[411]: System clock was stepped by 1.000000 seconds\n"
+    for name, is_log in (("messages-20261122", True), ("journal.txt", True), ("syslog", True), ("tracking.log.1", True),
+                         ("chrony.conf", False), ("sheet.PDF", False)):
+        (place / "evidence.json").write_text(json.dumps({"drift": f"the client's, see {name}"}))
+        (place / name).write_text(step)
+        with Folder(str(place)) as folder:
+            logs = backing(folder, {"claim.json", "evidence.json", name}).logs
+        check(f"a log that is called {name}", steps=([len(log.steps) for log in logs], [1] * is_log))
