@@ -12,6 +12,7 @@ from collections import Counter
 from functools import cached_property
 
 from ..folder.answers import read_counts
+from ..folder.entry import Move
 from ..folder.program import Program
 from ..units import SECOND
 from .classic import Classic, Extent, do_rise
@@ -34,9 +35,9 @@ class Recording:
         self.by_server = {server.decode("ascii"): number for server, number in samples.by_server.items()}
         falls = [] if do_rise(own) else [k for k in range(1, len(own)) if own[k] < own[k - 1]]
         self.first, self.last = at([min(own), max(own)] if falls else [own[0], own[-1]]) if own else (None, None)
-        self.falls = len(falls)
-        self.fall = next(((packets[k] if packets else k, *at(own[k - 1 : k + 1])) for k in falls), None)
-        """The first record whose time falls back: its number, the time before it, and its own."""
+        self.falls, times = len(falls), at(own[j] for k in falls for j in (k - 1, k))
+        self.fallen = list(zip([packets[k] if packets else k for k in falls], times[::2], times[1::2]))
+        """The records whose time falls back: of each its number, the time before it, and its own."""
         self.requests = at(map(stamps.__getitem__, sorted(samples.requests)))
         """When the requests that have samples were recorded, in this order."""
         self.first_request = next(iter(self.requests), None)
@@ -53,6 +54,13 @@ class Recording:
     def times(self) -> list[int]:
         """When each sample's reply was recorded, in rising order."""
         return sorted(self.replies)
+
+    def fall(self, moves: list[Move]) -> tuple[int, int, int] | None:
+        """The first record whose time falls back, or the first of those by more than a second; if the clock moved,
+        the first of these that no move explains."""
+        far = [fall for fall in self.fallen if fall[1] - fall[2] > SECOND and not any(
+            min(move.around) <= fall[1] and fall[2] <= max(move.around) for move in moves)]
+        return next(iter(far if far or moves else self.fallen), None)
 
     def exchanges(self) -> list[int]:
         """The times between which all exchanges lie, if there are any: the first request and the last reply; or of all

@@ -297,9 +297,10 @@ class Between:
 
 @dataclass(frozen=True)
 class Falls:
-    """How often times of records fall back, and the first record at which they do, from when to when."""
+    """How often times of records fall back, and the first record at which they do, from when to when; or by more than a
+    second, which only a clock does that is set."""
 
-    kind: Literal["falls"]
+    kind: Literal["falls", "fell"]
     count: Count = 0
     record: Count = 0
     before: Nanoseconds = 0
@@ -402,7 +403,7 @@ OF_LEAPS = {"leap-second": "a leap second", "leap-ends": "the list of leap secon
             "no-list": "no list of leap seconds"}
 AGAINST = {"drift": "more drift than is granted", "reading": "a greater allowance than is granted",
            "step": "a logged step", "rate": "a logged frequency", "offset": "a logged offset",
-           "logged": "another logged step", **OF_LEAPS}
+           "logged": "another logged step", "fell": "times of records that fall back", **OF_LEAPS}
 """The warnings that take a yes away, in short: by the folder's own evidence or by the list of leap seconds something
 that the claim grants isn't so, or isn't known."""
 

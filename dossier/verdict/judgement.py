@@ -199,9 +199,9 @@ def warnings(claim: Claim, recording: Recording, texts: Texts, advice: dict[str,
         yield Bare("no-drift")
     if slip(claim.reading_ns):
         yield Figure("slip", claim.reading_ns)
-    if recording.fall and not texts.moves:
-        record, before, after = recording.fall
-        yield Falls("falls", recording.falls, record, before, after)
+    if fall := recording.fall(texts.moves):
+        record, before, after = fall
+        yield Falls("fell" if before - after > SECOND else "falls", recording.falls, record, before, after)
     if inner := [gap for gap, _ in texts.gaps] if is_parted and texts.gaps else \
             [] if is_parted else inner_gaps(recording, gaps):
         longest = longest_of(inner)[0]

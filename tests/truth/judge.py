@@ -59,7 +59,7 @@ def figures(view: View, bound: int, *_: Any) -> str:
 
 
 def unsupported(view: View, *_: Any) -> str:
-    return unless(view.logged_against(MARGIN) or view.is_leap_near(), "nothing of the evidence does")
+    return unless(view.logged_against(MARGIN) or view.is_leap_near() or not falls(view), "nothing of the evidence does")
 
 
 def nothing_fits(view: View, *_: Any) -> str:

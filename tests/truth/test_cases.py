@@ -2,7 +2,7 @@
 from collections.abc import Callable, Iterable
 from pathlib import Path
 
-from tests.support import count
+from tests.support import check, count
 from tests.truth.clock import FAST, SECOND, STEP, Event
 from tests.truth.files import Logs
 from tests.truth.history import DAY, LEAP, History, Recorder
@@ -111,6 +111,30 @@ def stepped_unseen(seed: int) -> Callable[[], History]:
     return lambda: stepped(MIDNIGHT + 1503 * SECOND, 4 * SECOND // 1000, seed=seed)
 
 
+def ahead_while_nobody_answers() -> History:
+    """For 40 s it is an hour ahead, and only its requests are recorded then."""
+    history = History(1, MIDNIGHT, 16, 400, near=0.05)
+    begin = MIDNIGHT + 1200 * SECOND
+    history.events = [Event(STEP, begin, begin, 3600 * SECOND),
+                      Event(STEP, begin + 40 * SECOND, begin + 40 * SECOND, -3600 * SECOND)]
+    history.outages = [(begin - SECOND, begin + 41 * SECOND)]
+    history.first, history.last, history.bound = MIDNIGHT, MIDNIGHT + 6400 * SECOND, 50_000_000
+    history.recorders = [history.recorders[0]._replace(end=history.end)]
+    return history
+
+
+def off_in_one_of_two_recordings() -> History:
+    """It is a second behind for eight minutes, which the smaller of two recordings has alone."""
+    poll = 16 * SECOND
+    history = History(1, MIDNIGHT, 16, 230, near=0.05)
+    step = MIDNIGHT + 30 * poll - 5 * SECOND
+    history.aim, history.events = -SECOND, [Event(STEP, step, step, SECOND)]
+    history.first, history.last, history.bound = MIDNIGHT, MIDNIGHT + 230 * poll, 120_000_000
+    history.recorders = [Recorder("eth0.pcap", MIDNIGHT, MIDNIGHT + 130 * poll),
+                         Recorder("bond0.pcap", MIDNIGHT + 30 * poll, MIDNIGHT + 230 * poll)]
+    return history
+
+
 CASES: dict[str, tuple[Callable[[], History], bool, set[str], list[str]]] = {
     "set back at midnight": (set_back_at_midnight, False, {"nothing fits", "refuted"}, ["by -60"]),
     "set back at midnight, by the log too": (set_back_by_the_log, True, {"nothing fits", "refuted", "unsupported"}, []),
@@ -126,9 +150,19 @@ CASES: dict[str, tuple[Callable[[], History], bool, set[str], list[str]]] = {
     "a step by a log in local time": (stepped_unseen(32), True, {"unsupported"}, ["journalctl --utc -o short-iso"]),
     "a step by busybox's log": (stepped_unseen(43), True, {"unsupported"}, ["logged a step of the clock"]),
     "a leap second in no record": (leap_in_no_record, False, {"refuted"}, ["to 23:59:58", "from 2026-07-01 00:0"]),
+    "ahead while nobody answers": (ahead_while_nobody_answers, False, {"unsupported"}, ["fall back (1 time;"]),
     "a leap second between polls": (leap_between_polls, False, {"nothing fits"}, ["to 23:59:57 before the step"]),
 }
 """Of each case the history, whether there are logs, the verdicts that it may have, and words that are said."""
+
+
+def test_two_interfaces(place: Path) -> None:
+    """What one recording alone has counts, if most of it stands in a larger one too, with stamps 3 us earlier."""
+    history = off_in_one_of_two_recordings().live()
+    history.files["eth0.pcap"] = [one._replace(stamp=one.stamp + 3000) for one in history.files["eth0.pcap"]]
+    one, = read({place / "web-1": (history, None)})
+    check("two interfaces", verdict=(one.view.verdict, "nothing fits"),
+          said=("they count once" in str(one.texts), True))
 
 
 def wrong_in(names: Iterable[str], place: Path) -> dict[str, str]:
