@@ -127,10 +127,10 @@ class Search:
         return low, found
 
     def told(self) -> list[Pair]:
-        """Of each stretch from the left the conflict by which it ends that spans the fewest records."""
+        """Of each stretch from the left the nearest conflicts by which it ends."""
         keep(ANY, self.any)
         found = (self.narrowest(first, end + 1)[1] for first, end in pairwise([0, *self.left]))
-        return [min(own, key=lambda pair: abs(pair[1] - pair[3])) for own in found if own]
+        return [pair for own in found for pair in sorted(own, key=lambda pair: abs(pair[1] - pair[3]))[:FEW]]
 
     def conflicts(self, first: int, end: int) -> list[Pair]:
         """The conflicts for which no course fits the records from the first to before the end, if none does."""
