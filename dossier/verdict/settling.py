@@ -94,11 +94,12 @@ class Settling:
             texts = self.decide()
         if read_settled(texts.settled).answer != NOTHING_FITS:
             return texts
+        search = parting.search
         spared, parting = (0, parting) if parting.moves else self.spared(parting)
         found = in_parts(self.program, parting, self.step)
         if found.texts:
             self.keep(files.PARTS, b"".join(found.texts))
-        more = parting.search.told() if not parting.moves and parting.search.whole.path == self.capture else []
+        more = search.told() if not parting.moves and search.whole.path == self.capture else []
         shown = read_shown(self.program, self.claim, self.capture, self.extent,
                            read_settled(texts.settled).conflicts + more)
         return texts._replace(moves=parting.moves, parts=found.parts, conflicts=shown, spared=spared, gaps=found.gaps,
