@@ -31,7 +31,8 @@ def read_shown(program: Program, claim: str, capture: str, extent: Extent | None
     def at(record: int) -> int:
         return whole.nanoseconds([whole.extent.stamps[record]])[0]
     return [Conflict(low, request, at(request), least[low, request], high, reply, at(reply), most[high, reply])
-            for low, request, high, reply in dict.fromkeys(conflicts)]
+            for low, request, high, reply in dict.fromkeys(conflicts)
+            if (low, request) in least and (high, reply) in most]  # (in a part a reply may be of use that isn't in all)
 
 
 LONG = 60
