@@ -450,7 +450,7 @@ class Entry:
     reason: Reason | None = None
     refutation: Refutation | None = None
     """That of the claim; or, at a yes, of the same claim with the bound 0."""
-    warnings: Annotated[list[Alert], length(0, 20)] = field(default_factory=list)
+    warnings: Annotated[list[Alert], length(0, 60)] = field(default_factory=list)
     moves: Annotated[list[Move], length(0, FEW)] = field(default_factory=list)
     """When the clock was stepped, if just so often, or moved faster than is granted."""
     parts: Annotated[list[Stretch], length(0, 100)] = field(default_factory=list)
