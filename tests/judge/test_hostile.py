@@ -19,6 +19,7 @@ def test_conflicts(folder: Path) -> None:
     if tool := missing():
         skip("the judge on long lists of conflicts", wanting(tool))
         return
+    judge = made("ntpaudit-judge")
     hostile = families.conflicting(families.Setting(GROUPS, 0, 50_000, 3600), GROUPS)
     claim, capture, answer = folder / "claim", folder / "capture", folder / "answer"
     families.write(hostile.exchanges, capture)
@@ -29,6 +30,6 @@ def test_conflicts(folder: Path) -> None:
         for most, said in ((fewest - 1, b"nothing fits\n"), (fewest, b"not right: nothing fits\n")):
             claim.write_text(json.dumps({**hostile.claims["none"], "false_max": most}))
             before = resource.getrusage(resource.RUSAGE_CHILDREN).ru_utime
-            ran = run([made("ntpaudit-judge"), claim, capture, answer])
+            ran = run([judge, claim, capture, answer])
             seconds = resource.getrusage(resource.RUSAGE_CHILDREN).ru_utime - before
             check(f"{name}, {most} wrong", run=(ran, (1, said, b"")), within_a_second=(seconds < 1, True))
