@@ -4,10 +4,11 @@ It takes a part of the time that making all again takes. What is only made, and 
 held to its sum alone: envelopes, least bounds, warnings, and all that pages make of them. A yes is judged only with a
 course that fits the whole capture: a certificate may leave out what contradicts it.
 """
+from itertools import pairwise
 from typing import NamedTuple
 
 from ..capture.captures import audited
-from ..capture.classic import Classic
+from ..capture.classic import Classic, do_rise
 from ..fault import REFUSED, Fault
 from ..folder.answers import read_counts
 from ..folder.claim import Claim
@@ -62,6 +63,10 @@ class Judging:
         for name in ANSWERS:
             if name in entry.outputs:
                 copy_of(self.folder, name, name)
+        stamps = self.whole.extent.stamps
+        if entry.answer == YES and not do_rise(stamps) and any(before >> 32 > after >> 32 for before, after
+                                                               in pairwise(stamps)):
+            raise Other  # (times that fall back by a second may take the yes away)
         own = self.verdict_of(entry, taken)
         if own != entry.verdict and entry.answer == YES:
             if own == UNSUPPORTED:
