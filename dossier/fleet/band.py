@@ -35,9 +35,10 @@ def fields_of(moment: Moment) -> list[str]:
     begin, end, recorder = civil(moment.begin), civil(moment.end), label(moment.recorder)
     said = [f"{begin} .. {end[11:] if begin[:10] == end[:10] else end}", moment.verdict]
     hull, few = whole(moment.pieces), f", {moment.needed} needed" if moment.heard < moment.needed else ""
+    groups = f"{moment.heard} of {count(moment.groups, 'group')}{few}"
     if hull is None:
-        return [recorder, *said, *([] if moment.verdict == REFUSED else [unheard(moment)]),
-                *warnings_of(moment)]
+        said += [] if moment.verdict == REFUSED else [unheard(moment), *([groups] if moment.since else [])]
+        return [recorder, *said, *servers_of(moment), *warnings_of(moment)]
     for move in moment.moves[:-1]:
         said.append(moved(move))
     since = f"{moved(moment.moves[-1])}; since then " if moment.moves else ""
@@ -52,20 +53,21 @@ def fields_of(moment: Moment) -> list[str]:
         said.append(f"least {ns_up_ms(moment.least_ns)} ms")
     if moment.camps:
         said.append(f"servers contradict one another: {' and '.join(map(', '.join, moment.camps))}")
-    said.append(f"{moment.heard} of {count(moment.groups, 'group')}{few}")
+    said.append(groups)
     said += ["the clock is off"] if moment.is_off else []
     return [recorder, *said, *servers_of(moment), *([moment.against] if moment.against else []), *warnings_of(moment)]
 
 
 def unheard(moment: Moment) -> str:
-    """That nothing was recorded, and since when."""
-    if not moment.last:
-        return "nothing was recorded"
-    by_clock, age = moment.end - moment.last, moment.age
+    """That nothing was recorded, or too little, and since when."""
+    last, what = (moment.since, "too few groups were heard") if moment.since else (moment.last, "nothing was recorded")
+    if not last:
+        return what
+    by_clock, age = moment.end - last, None if moment.since else moment.age
     ago = f", {span_of_seconds(by_clock)} ago" if by_clock > 0 else ""
     if age is not None and abs(age - by_clock) > MINUTE:
         ago += f", by the recorder's word {span_of_seconds(max(1, age))}"
-    return f"nothing was recorded since {civil(moment.last)}{ago}"
+    return f"{what} since {civil(last)}{ago}"
 
 
 def moved(move: Move) -> str:

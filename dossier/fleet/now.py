@@ -15,7 +15,7 @@ from typing import NamedTuple
 from ..capture.classic import HEADER, Classic, write
 from ..capture.latest import Latest, latest
 from ..capture.recorder import begun_files
-from ..capture.watch import State, read_state, since_boot
+from ..capture.watch import LOOK, State, read_state, since_boot
 from ..fault import NOT_SHOWN, REFUSED as INPUT_REFUSED, Fault
 from ..folder.answers import Settled, read_envelope, read_settled
 from ..folder.claim import Claim
@@ -24,7 +24,7 @@ from ..folder.files import CLAIM, Folder, data_named
 from ..folder.jobs import answer, run_all
 from ..folder.placing import keep
 from ..folder.program import Program
-from ..folder.result import Moment
+from ..folder.result import Heard, Moment
 from ..premise.leap import alerts_of, look_up
 from ..records import replace
 from ..schema import read_typed
@@ -173,13 +173,19 @@ def told_of(wanted: NowCall, claim: Claim, found: Latest, moment: Moment) -> Mom
     own = replace(claim, from_=civil(found.last), to=civil(found.last))
     keep(CLAIM, own.text)
     hearing = Hearing(wanted.program, own, whole, path)
-    if max(moment.age or 0, moment.end - found.last) > max(SILENT, 2 * hearing.poll):  # (its word may be another's)
+    limit, at = max(SILENT, 2 * hearing.poll), hearing.enough
+    if max(moment.age or 0, moment.end - found.last) > limit:  # (its word may be another's)
         return moment
-    if (fell := fell_at(whole)) > hearing.enough:  # (too few were heard since)
+    silent = set(filter(hearing.is_silent, own.servers))
+    moment = replace(moment, heard=sum(any(own.servers[k] not in silent for k in group) for group in own.grouped))
+    since, gone = whole.extent.stamps[at] >> 32, hearing.gone[-1] - hearing.gone[at]
+    if max((moment.age or 0) - LOOK + gone, moment.end - since) > limit:  # (a word may be a look old)
+        return replace(moment, since=since, servers=[Heard(server, server in silent) for server in own.servers])
+    if (fell := fell_at(whole)) > at:  # (too few were heard since)
         path = cut(whole, 0, fell, UNTIL)
         whole = Classic(path)
         fell = fell_at(whole)
-    end = whole.extent.stamps[hearing.enough] >> 32
+    end = since
     own = replace(own, from_=civil(min(end, max(end - span, min(whole.extent.stamps[fell:]) >> 32))), to=civil(end))
     step, program = 1 + span // MOST_PIECES, wanted.program
     said = spoken(program, own, path, whole.extent)
@@ -202,14 +208,13 @@ def told_of(wanted: NowCall, claim: Claim, found: Latest, moment: Moment) -> Mom
     against = next((OF_LEAPS[alert.kind] for alert in alerts_of(leaps, wanted.leaps)), "")
     if found.ahead:
         against = f"the clock was set back: records up to {span_of_seconds(found.ahead)} ahead of it"
-    fits, silent = settled.answer != NOTHING_FITS, set(filter(hearing.is_silent, own.servers))
+    fits = settled.answer != NOTHING_FITS
     camps = () if fits else camps_at(envelope, len(envelope.hulls) - 1)
     last = Hearing(program, own, Classic(capture), capture)
     return replace(
         moment, begin=own.first, end=own.last, against=against,
         servers=[last.heard(server, envelope, server in silent) for server in own.servers],
         verdict=UNSUPPORTED if settled.answer == YES and against else settled.answer,
-        heard=sum(any(own.servers[k] not in silent for k in group) for group in own.grouped),
         camps=[list(camp) for camp in camps] if len(camps) > 1 else [],
         moves=[move for move in said.moves if move.by > (own.last - span) * SECOND], before=before if fits else "",
         least_ns=envelope.least_ns if fits else None,

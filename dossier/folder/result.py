@@ -87,6 +87,8 @@ class Moment:
     """Seconds since then, by a clock that isn't set, if the recorder is known by one."""
     ahead: Count = 0
     """By how many seconds records are later than the machine's clock."""
+    since: int = 0
+    """When enough groups were heard last, by the clock that is looked at, if that is too long ago; else 0."""
     heard: int = 0
     """How many groups have a server that isn't silent."""
     servers: list[Heard] = field(default_factory=list)

@@ -182,6 +182,28 @@ def test_word_of_a_recorder(place: Path) -> None:
               trouble=(("the recorder doesn't run" in lines[0], dead), (bool(age), [str(int(bool(age)))])))
 
 
+def test_unanswered(place: Path) -> None:
+    """Servers answer no more and the client asks on, whether its clock is stepped or not: what was shown until then is
+    no yes of now. By a step back they were heard a moment ago by the clock, but not by what was recorded since."""
+    last, metrics = int(time.time()), place / "m.prom"
+    last -= last % 10
+    for name, step in (("no step", 0), ("a second", 1), ("a year", 31_536_000), ("back", -380)):
+        heard, folder = last - 400 - step, place / name
+        folder.mkdir()
+        answered, asked = (records_of(CAPTURE(words_of([part], (1, 2, 3, 4)))) for part in (
+            (heard - 500, heard + 1, RIGHT), (last - 390, last + 1, RIGHT)))
+        asked = [record for record in asked if record[58] & 7 == 3]  # (a request's mode)
+        path = folder / name_of(heard - 500, "eth0")
+        path.write_bytes(CAPTURE([]) + b"".join([*answered, *asked]))
+        status, lines, _ = now(written(path).parent, "--metrics", metrics)
+        found = {key: value for (key, *labels), value in metrics_of(metrics).items() if len(labels) == 1}
+        _, _, verdict, since, *rest = lines[0].split("  ")
+        check(f"unanswered: {name}", status=(status, 1), verdict=(verdict, "no evidence"), rest=(rest, [
+            "0 of 4 groups, 3 needed", "silent: 192.0.2.1, 192.0.2.2, 192.0.2.3, 192.0.2.4"]),
+            since=(since.partition(",")[0], f"too few groups were heard since {civil(heard)}"),
+            metrics=((found["now_seen"], "now_clock_off" in found, found["now_groups_heard"]), ("0", False, "0")))
+
+
 def test_fall(place: Path) -> None:
     """A clock that falls back by 2 s, which far servers leave open: the error is that of what was recorded since, for
     the same readings were shown twice. By hand: it was within -1 .. +3 s, and is within -4 .. -0.5 s."""
@@ -307,10 +329,16 @@ def test_order(place: Path) -> None:
     first was written later by the clock."""
     last = int(time.time()) - 5
     last -= last % 10
-    ticks, rec = 600 << 32, place / "rec"
-    names = [recorded(rec, begin, (begin, end, ends)).name for begin, end, ends in (
-        (last - 1810, last - 600, f"{ticks - 1000}..{ticks + 1000}"), (last - 1200, last - 900, RIGHT),
-        (last - 900, last + 1, RIGHT))]
+    ticks, rec, names = 600 << 32, place / "rec", list[str]()
+    parts = [(last - 1810, last - 600, f"{ticks - 1000}..{ticks + 1000}"), (last - 1200, last - 900, RIGHT),
+             (last - 900, last + 1, RIGHT)]
+    records = records_of(CAPTURE(words_of(parts, (1, 2, 3, 4))))  # (no two of their exchanges are alike)
+    rec.mkdir()
+    for begin, end, _ in parts:
+        own, records = records[: (number := 8 * len(range(begin, end, 10)))], records[number:]
+        names.append(name_of(begin, "eth0"))
+        (rec / names[-1]).write_bytes(CAPTURE([]) + b"".join(own))
+        written(rec / names[-1])
     at = int(time.clock_gettime(time.CLOCK_BOOTTIME))
     (rec / "eth0.recording").write_text(json.dumps({
         "kind": "recording", "at": at, "last": at, "files": names, "kept": 9, "left_out": 0, "lost": 0}))
