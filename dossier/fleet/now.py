@@ -153,8 +153,9 @@ def look(wanted: NowCall, recorder: str, _: int) -> Moment:
                     2 * claim.false_max + 1, found.last, age_of(state, runs, found, now, end), found.ahead,
                     troubles=[] if state is None else state.troubles if runs else ["dead"],
                     lost=state.lost if state else 0, left_out=state.left_out if state else 0)
-    if found.last:
-        moment = told_of(wanted, claim, found, moment)
+    kept = state.kept if state and runs else sys.maxsize
+    if found.last and kept:  # (what was recorded before a recorder that has nothing yet may be older than a boot)
+        moment = told_of(wanted, claim, found, moment, kept)
     return replace(moment, bad=list(map(plain, dict.fromkeys(bad))))
 
 
@@ -167,19 +168,20 @@ def age_of(state: State | None, runs: bool, found: Latest, now: int, end: int) -
     return by_clock
 
 
-def told_of(wanted: NowCall, claim: Claim, found: Latest, moment: Moment) -> Moment:
-    """What the program says of the last minutes, of which there are records."""
+def told_of(wanted: NowCall, claim: Claim, found: Latest, moment: Moment, kept: int) -> Moment:
+    """What the program says of the last minutes, of which there are records. The recorder that runs has kept so many.
+    """
     path, whole, span = found.path, Classic(found.path), MINUTE * wanted.minutes
     own = replace(claim, from_=civil(found.last), to=civil(found.last))
     keep(CLAIM, own.text)
     hearing = Hearing(wanted.program, own, whole, path)
-    limit, at = max(SILENT, 2 * hearing.poll), hearing.enough
+    limit, at, begun = max(SILENT, 2 * hearing.poll), hearing.enough, len(whole.extent.stamps) - kept
     if max(moment.age or 0, moment.end - found.last) > limit:  # (its word may be another's)
         return moment
-    silent = set(filter(hearing.is_silent, own.servers))
+    silent = {server for server in own.servers if hearing.is_silent(server) or hearing.requests[server] < begun}
     moment = replace(moment, heard=sum(any(own.servers[k] not in silent for k in group) for group in own.grouped))
     since, gone = whole.extent.stamps[at] >> 32, hearing.gone[-1] - hearing.gone[at]
-    if max((moment.age or 0) - LOOK + gone, moment.end - since) > limit:  # (a word may be a look old)
+    if at < begun or max((moment.age or 0) - LOOK + gone, moment.end - since) > limit:  # (a word may be a look old)
         return replace(moment, since=since, servers=[Heard(server, server in silent) for server in own.servers])
     if (fell := fell_at(whole)) > at:  # (too few were heard since)
         path = cut(whole, 0, fell, UNTIL)

@@ -204,6 +204,28 @@ def test_unanswered(place: Path) -> None:
             metrics=((found["now_seen"], "now_clock_off" in found, found["now_groups_heard"]), ("0", False, "0")))
 
 
+def test_begun(place: Path) -> None:
+    """A recorder that has just begun: what was recorded before may be older than a boot, whatever the clock shows, so
+    there is no yes until it has heard enough groups itself."""
+    last, at = int(time.time()) - 5, int(time.clock_gettime(time.CLOCK_BOOTTIME))
+    last -= last % 10
+    old = recorded(place / "rec", last - 900, (last - 900, last - 9, RIGHT))
+    new = old.with_name(name_of(last - 9, "eth0"))
+    for kept, verdict, said in ((0, "no evidence", f"nothing was recorded since {civil(last - 10)}"),
+                                (4, "no evidence", f"too few groups were heard since {civil(last - 10)}"),
+                                (8, "yes", "-0.001 .. +0.001 ms of 5.000 ms")):
+        new.write_bytes(CAPTURE(words_of([(last, last + 1, RIGHT)], (1, 2, 3, 4)[: kept // 2])))
+        (place / "rec/eth0.recording").write_text(json.dumps({
+            "kind": "recording", "at": at, "last": at if kept else 0, "files": [old.name, new.name], "kept": kept,
+            "left_out": 0, "lost": 0}))
+        status, lines, _ = now(place / "rec")
+        words = lines[0].split("  ")
+        check(f"a recorder of {kept} records", status=(status, int(verdict != "yes")), verdict=(words[2], verdict),
+              said=(words[3][: len(said)], said),
+              groups=([word for word in words if "group" in word][-1:], {
+                  0: [], 4: ["2 of 4 groups, 3 needed"], 8: ["4 of 4 groups"]}[kept]))
+
+
 def test_fall(place: Path) -> None:
     """A clock that falls back by 2 s, which far servers leave open: the error is that of what was recorded since, for
     the same readings were shown twice. By hand: it was within -1 .. +3 s, and is within -4 .. -0.5 s."""

@@ -126,16 +126,16 @@ class Player:
             path.write_bytes(self.data[: ends[number]])
             os.utime(path, ns=(own[number - 1].stamp, own[number - 1].stamp))
             if self.of.seed % 2:
-                self.say(path.name, (time - own[number - 1].at) // SECOND)
+                self.say(path.name, (time - own[number - 1].at) // SECOND, number)
             self.look(time, machine, own[:number])
 
-    def say(self, name: str, age: int) -> None:
+    def say(self, name: str, age: int, kept: int) -> None:
         """Leaves the recorder's word, as it does itself."""
         from dossier.capture.watch import since_boot
         at = int(since_boot())
         (self.record / "eth0.recording").write_text(json.dumps({
-            "kind": "recording", "at": at, "last": max(1, at - age), "files": [name], "kept": 9, "left_out": 0,
-            "lost": 0}))
+            "kind": "recording", "at": at, "last": max(1, at - age), "files": [name], "kept": kept,
+            "left_out": 0, "lost": 0}))
 
     def look(self, time: int, machine: int, seen: list[Any]) -> None:
         private = tempfile.mkdtemp(dir=self.place)
