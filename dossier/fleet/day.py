@@ -11,7 +11,8 @@ from contextlib import suppress
 from itertools import chain
 from typing import NamedTuple
 
-from ..capture.captures import MARGIN
+from ..capture.captures import MARGIN, open_capture
+from ..capture.classic import HEADER, Classic
 from ..capture.recorder import begun_files
 from ..capture.tail import Growing
 from ..capture.watch import read_state
@@ -21,7 +22,7 @@ from ..folder.entry import FEW, Refusal
 from ..folder.evidence import evidence_files
 from ..folder.files import CLAIM, Folder
 from ..folder.jobs import answer, run_all
-from ..folder.placing import blocks_of, copy_of, make_in, place
+from ..folder.placing import ROOM, blocks_of, copy_of, make_in, place
 from ..folder.result import Days, Said
 from ..records import replace
 from ..schema import is_time, read_typed
@@ -31,8 +32,10 @@ from .clearing import clear
 
 FOREVER, MOST_DAYS = 1 << 40, 31
 """Later than any Unix second; and the days before today that are made if none is named."""
-QUIET = 3600
-"""Seconds without a packet after which the last file of a recorder counts as finished."""
+QUIET = HOUR = 3600
+"""Seconds without a packet after which the last file of a recorder counts as finished; and in an hour."""
+LOOKED_AT = "recording"
+"""A private copy."""
 
 
 class Recorded(NamedTuple):
@@ -68,7 +71,8 @@ def make_days(source: str, target: str, date: str | None, seconds: int, clear_al
     before today. Their paths are printed, with those that were made earlier of these 31. The folder of days has the
     claim of any day, and the evidence of all. Then recordings are taken away but those of the newest days, if so many
     are named. The status is the worst of all days."""
-    planned, worst = answer(lambda *_: plan(source, target, date), Days), 0
+    planned = answer(lambda *_: plan(source, target, date), Days)
+    worst = planned.status
     for line in planned.lines:
         note(line)
     for path in planned.earlier:
@@ -79,7 +83,8 @@ def make_days(source: str, target: str, date: str | None, seconds: int, clear_al
 
     for path, result in run_all(planned.days, make, Said, seconds):
         for line in [result.line] if isinstance(result, Refusal) else result.lines:
-            note(line)
+            if line not in planned.lines:
+                note(line)
         if not isinstance(result, Refusal):
             print(plain(path), flush=True)
         worst = max(worst, result.status)
@@ -97,15 +102,20 @@ def plan(source: str, target: str, date: str | None) -> Days:
     with Folder(source) as recorder, Folder(target) as days:
         read_typed(CLAIM, Claim, days.data(CLAIM))
         (found, ahead), made = recordings(recorder), [name for name in days.names() if is_time(f"{name}T00:00:00Z")]
-        days_of = {one.name: days_shown(recorder, one.name) for one in [*found, *ahead]}
+        faults = list[Fault]()
+        days_of = {one.name: days_shown(recorder, one.name, faults) for one in [*found, *ahead]}
     shown = [(folder_of(day), name) for name, own in days_of.items() for day in own]
     later = [one.name for one in ahead if min(days_of[one.name], default=today + 1) > today]
     later += [name for name in made if day_named(name) > today]
     notes = [f"{name} is from the future: it is left out" for name in later[:FEW]]
     if len(later) > FEW:
         notes.append(f"{len(later) - FEW} more are from the future: is the clock right?")
+    notes += [wrong.line for wrong in faults[:FEW]]
+    if len(faults) > FEW:
+        notes.append(f"{len(faults) - FEW} more can't be looked at")
+    status = max((wrong.status for wrong in faults), default=0)
     if date:
-        return Days(notes, [folder_of(day_named(date))], shown)
+        return Days(notes, [folder_of(day_named(date))], shown, status=status)
     oldest = today - MOST_DAYS
     first = max(min((recorded.begin // DAY + 1 for recorded in found), default=today), oldest)
     before = sorted(number for number in map(day_named, made) if number < today)
@@ -114,14 +124,34 @@ def plan(source: str, target: str, date: str | None) -> Days:
         raise fault(f"more than {MOST_DAYS} days went by since the newest day or recording: is the clock right? "
                     "--date makes a day of them", USAGE)
     return Days(notes, [folder_of(number) for number in range(first, today)], shown,
-                [folder_of(number) for number in before if oldest <= number < first])
+                [folder_of(number) for number in before if oldest <= number < first], status)
 
 
-def days_shown(recorder: Folder, name: str) -> set[int]:
-    """The days since 1970 of which a recording's records show times, or of the hours beside them."""
-    with suppress(Fault):
-        return {hour // 24 for own in Growing(recorder, name).hours() for hour in (max(0, own - 1), own + 1)}
+def days_shown(recorder: Folder, name: str, faults: list[Fault]) -> set[int]:
+    """The days since 1970 of which a recording's records show times, or of the hours beside them; none of one that
+    can't be read, whose fault is kept."""
+    left = ROOM.left
+    try:
+        return {hour // 24 for own in hours_shown(recorder, name) for hour in (max(0, own - 1), own + 1)}
+    except Fault as wrong:
+        faults.append(wrong)
+    finally:
+        ROOM.left = left  # (the next one's copy takes the same room)
     return set()
+
+
+def hours_shown(recorder: Folder, name: str) -> set[int]:
+    """The hours since 1970 in which the times of a recording's records lie; of what is packed, or in another form, by a
+    private copy."""
+    with suppress(Fault):
+        return Growing(recorder, name).hours() if recorder.size(name) >= HEADER else set()
+    copy_of(recorder, name, LOOKED_AT)
+    try:
+        if not (capture := Classic(open_capture(name, LOOKED_AT).path)).is_one:
+            raise fault(f"{name} is no capture")
+    except Fault as wrong:
+        raise fault(f"{wrong.words}: it counts to the days of its name alone", wrong.status) from None
+    return {time // (HOUR * capture.unit) for time, _, _ in capture.rows()}
 
 
 def day_named(date: str) -> int:

@@ -250,12 +250,14 @@ class OnPage:
 
 @dataclass(frozen=True)
 class Days:
-    """The days that are to be made, and that were made earlier; which recordings show times of which day; and notes."""
+    """The days that are to be made, and that were made earlier; which recordings show times of which day; and notes,
+    with the worst status of recordings that can't be read."""
 
     lines: list[str]
     days: list[str]
     shown: list[tuple[str, str]]
     earlier: list[str] = field(default_factory=list)
+    status: Count = 0
 
 
 @dataclass(frozen=True)

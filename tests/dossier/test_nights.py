@@ -1,6 +1,7 @@
 """Tests of what else is said at three in the night: of names, of packets that are there twice, and of drafts, with the
 commands that mend it. What is said of clocks and servers is held to histories (tests/truth).
 """
+import gzip
 import json
 import os
 import shutil
@@ -135,6 +136,35 @@ def test_day_of_a_wrong_clock(place: Path) -> None:
             shutil.rmtree(folder)
             dossier(*words)
             (folder / "eth0-2099-01-01T000000Z.pcap").unlink()
+
+
+def test_day_of_what_is_packed(place: Path) -> None:
+    """A recording of a clock two days ahead, packed since: the day that it shows has it. One that can't be unpacked is
+    named, with the days to which it counts, and has a status."""
+    recorder, days, names = recorded(place, range(-3, 29))
+    ticks, ahead = 2 * DAY << 32, NIGHT + 6 * 3600
+    data = capture_of(place / "wrong.pcap", *(f"{server}:{ticks - 1000}..{ticks + 1000}@{ahead + second}"
+                                              for second in range(0, 1800, 60) for server in (1, 2))).read_bytes()
+    words, folder = ("day", "--from", recorder, "--to", days, "--date", "2001-09-09"), days / "2001-09-09"
+    packed = {"gz": gzip.compress(data)}
+    if is_here("zstd", "a recording that zstd packed"):
+        packed["zst"] = run(["zstd", "-qc"], data)[1]
+    for ending, stray in packed.items():
+        path = recorder / f"eth0-2001-09-07T060000Z.pcap.{ending}"
+        for name, bytes_, status, said in (
+                ("whole", stray, 0, f"{path.name} shows times of 2001-09-09, though its name and age say otherwise\n"),
+                ("damaged", stray[:9] + b"x" * 90, 2, "it counts to the days of its name alone\n")):
+            path.write_bytes(bytes_)
+            os.utime(path, (ahead - 2 * DAY, ahead - 2 * DAY))
+            found, out, err = dossier(*words)
+            lines = err.decode().splitlines(keepends=True)
+            check(f"a day of what is packed: {ending}, {name}", run=((found, out), (status, f"{folder}\n".encode())),
+                  said=([path.name in line and line.endswith(said) for line in lines], [True]),
+                  there=((folder / path.name).exists(), not status))
+            if not status:
+                check(f"an audit of it: {ending}", verdict=(dossier("audit", folder)[1].split()[0], b"nothing"))
+            shutil.rmtree(folder)
+        path.unlink()
 
 
 def test_still_written(place: Path) -> None:
