@@ -119,7 +119,7 @@ def seen_in_texts(claim: Path, capture: Path) -> dict[str, Any]:
     times = list(at.items())
     falls = [(number, before, time) for (_, before), (number, time) in zip(times, times[1:]) if time < before]
     return {"by_server": dict(Counter(words[1] for words in samples)), "falls": len(falls),
-            "fall": falls[0] if falls else None, "replies": [at[int(words[3])] for words in samples],
+            "fallen": falls, "replies": [at[int(words[3])] for words in samples],
             "first_request": at[min(int(words[2]) for words in samples)] if samples else None,
             "first": min(at.values(), default=None), "last": max(at.values(), default=None)}
 
