@@ -11,8 +11,8 @@ use Rattle.checker.specs.declared.verdict.Why.TheVariants.{Cut, Uncovered}
 use Rattle.span_cover.specs.Group.{piece_hull}
 use Rattle.std.specs.Option.{option_map}
 use Rattle.std.proofs.lemmas.List.Elements.{All-cons}
-use Rattle.cover_checker.proofs.Common.{◌≡◌, ℕ, zero, suc, ◌+◌, ◌-◌, ◌<◌, ℤ, pos, ◌≤ℤ◌, Bool, true, false, cond, ◌&&◌, ◌||◌, int_lt, nat_lt, List, [], ◌∷◌, length, Option, Some, None, Result, Ok, Err, refl, sym, subst, ap, ◌∙◌, arith, ints, nat_tests, rules, All, All-nil, cond-false, slice_get, CaseData, ClaimData, Exchange, PieceData, Part, Stretch, Bounded, CaseHolds, IsHull, Of, PieceWhy, ShowBound, begin_of, group_intervals, last_end, names, parts_after, size_of}
-use Rattle.cover_checker.specs.Case.{first_of}
+use Rattle.cover_checker.proofs.Common.{◌≡◌, ℕ, zero, suc, ◌+◌, ◌-◌, ◌<◌, ℤ, pos, ◌≤ℤ◌, Bool, true, false, cond, ◌&&◌, ◌||◌, int_lt, nat_lt, List, [], ◌∷◌, length, Option, Some, None, Result, Ok, Err, refl, sym, subst, ap, ◌∙◌, arith, ints, nat_tests, rules, All, All-nil, cond-false, slice_get, AreAnswered, CaseData, ClaimData, CoverCertificateData, Exchange, PieceData, Part, Stretch, Bounded, CaseHolds, IsAccepted, IsConflict, IsHull, Of, PieceWhy, ShowBound, begin_of, group_intervals, last_end, names, parts_after, size_of}
+use Rattle.cover_checker.specs.Case.{cases_why, first_of}
 use Rattle.cover_checker.specs.Verdict.{case_fault, case_faults, parts_why, piece_why, pieces_why}
 
 -- the laws that the argument stands on
@@ -22,7 +22,7 @@ pub record Laws : Type 0 where
       → first ≡ second
 
 -- nothing is found exactly if the first has no fault and nothing is found in the rest
-none_first : {W : Type 0} (k : ℕ) (fault : Option W) (rest : Option (ℕ × W)) → first_of k fault rest ≡ None
+pub none_first : {W : Type 0} (k : ℕ) (fault : Option W) (rest : Option (ℕ × W)) → first_of k fault rest ≡ None
     → (fault ≡ None) × (rest ≡ None)
 none_first k None rest e = (refl, e)
 none_first k (Some why) rest e = absurd cc
@@ -168,3 +168,16 @@ module _ (laws : Laws) (claim : ClaimData) (xs : List Exchange) where
       ap (λ (f : Option (ℕ × PieceWhy)). first_of k f (case_faults claim xs (k + 1) cases))
       (none_from case (each 0 case refl))
       ∙ none_fails (k + 1) cases (λ c next at. each (suc c) next at)
+
+  -- ---- the certificate
+
+  pub accepted : (certificate : CoverCertificateData) → All (IsConflict claim xs) certificate.conflicts
+      → 0 < length certificate.cases → cases_why claim [] certificate.cases ≡ None → AreAnswered claim xs certificate
+      → case_faults claim xs 0 certificate.cases ≡ None → IsAccepted claim xs certificate
+  accepted certificate conflicts some fit answered none = record {
+    conflicts = conflicts;
+    some_case = some;
+    fit = fit;
+    answered = answered;
+    each = all_hold 0 certificate.cases none;
+  }

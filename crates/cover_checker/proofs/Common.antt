@@ -4,6 +4,7 @@ pub use Rattle.std.proofs.Common.{false, get_or, inl, inr, int_le, int_lt, lengt
 pub use Rattle.std.proofs.Common.{refl, rules, slice_get, subst, suc, sym, true, unsigned_abs, zero, ℕ, ℤ, ⊎_elim, ◌&&◌}
 pub use Rattle.std.proofs.Common.{◌*ℤ◌, ◌*◌, ◌++◌, ◌+ℤ◌, ◌+◌, ◌-ℤ◌, ◌-◌, ◌<ℤ◌, ◌<◌, ◌||◌, ◌∙◌, ◌∷◌, ◌≡◌, ◌≢◌, ◌≤ℤ◌, ◌≤◌}
 pub use Rattle.std.proofs.Common.{◌⊎◌}
+pub use Rattle.std.proofs.Math.Seq.{drop-cons}
 pub use Rattle.std.proofs.lemmas.Bool.{and_parts, and_from, cond-false, cond-true, or_parts}
 pub use Rattle.std.proofs.lemmas.Bool.Decides.{nat_tests}
 pub use Rattle.std.proofs.lemmas.Int.{by_lt_z, clamps, ints}
@@ -11,7 +12,7 @@ pub use Rattle.std.proofs.lemmas.List.Elements.{All-nil, All-push}
 pub use Rattle.std.proofs.lemmas.Option.{get_or_from_slice_get, slice_get-get_or, slice_get_within}
 pub use Rattle.std.specs.Int.{int_max}
 pub use Rattle.std.specs.List.{list_any}
-pub use Rattle.std.specs.Prelude.{All, slice_index, ◌==◌}
+pub use Rattle.std.specs.Prelude.{All, slice_index, ◌==◌, ◌↔◌}
 pub use Rattle.certificate.specs.Certificate.{PieceData}
 pub use Rattle.cover_certificate.specs.CoverCertificate.{CaseData, CoverCertificateData}
 pub use Rattle.checker.specs.Course.{ArrivesBeforeStamp, ComesInOrder, Course, Fits, IsClientMoment, KeepsRootDistance}
@@ -22,10 +23,13 @@ pub use Rattle.checker.specs.Traceability.{IsObservedIn, IsWithin}
 pub use Rattle.claim_file.specs.Claim.{ClaimData, IsLawful}
 pub use Rattle.error_marks.specs.Mark.{AreCompatible, IsPossible, high_mark, low_mark}
 pub use Rattle.error_marks.specs.declared.mark.Mark.{Mark}
+pub use Rattle.feasibility.specs.Conflicts.{ConflictData, IsCover, group_count, is_pair}
 pub use Rattle.feasibility.specs.Contradiction.{IsImpossiblePair}
 pub use Rattle.feasibility.specs.Cover.{group_of, size_of}
+pub use Rattle.feasibility.specs.CoverSearch.{Covers, IsBusiest, IsSimple, degree, edge_of, neighbour}
 pub use Rattle.feasibility.specs.Keeping.{KeepsHigh, KeepsLow}
-pub use Rattle.feasibility.specs.Members.{LieWithin}
+pub use Rattle.feasibility.specs.Members.{LieWithin, has}
+unfoldable pub use Rattle.feasibility.specs.Members.{passing}
 pub use Rattle.intersection.specs.Fineness.{times-add, times_le}
 pub use Rattle.intersection.specs.Fraction.{HoldsFraction, HullHoldsFraction, IsAdmissibleFraction}
 pub use Rattle.intersection.specs.Hull.{IsHull}
@@ -44,6 +48,7 @@ pub use Rattle.lemma_base.proofs.Int.{≤ℤ_trans_twice}
 pub use Rattle.lemma_base.proofs.List.{All-slice_get}
 pub use Rattle.cover_checker.specs.Acceptance.{CaseHolds, IsAccepted, ShowBound}
 pub use Rattle.cover_checker.specs.Conflict.{AreAnswered, HoldsCase, HoldsEnd, IsConflict, names}
+pub use Rattle.cover_checker.specs.CoverSearch.{HoldsOne, IsCoverWithout, data_of}
 pub use Rattle.cover_checker.specs.Entry.{part_from, parts_after, unless_refused}
 pub use Rattle.cover_checker.specs.Interval.{ahead, fall, high_over, low_over, part_of}
 unfoldable pub use Rattle.cover_checker.specs.Interval.{rise}

@@ -1,5 +1,5 @@
 -- What the entries of a piece say, each by itself.
-use Rattle.cover_checker.proofs.Common.{◌≡◌, ℕ, suc, Bool, true, false, cond, not, List, [], ◌∷◌, ◌++◌, Option, None, Some, Result, Ok, Err, refl, subst, arith, nat_tests, All, All-nil, All-push, slice_get, ◌==◌, list_any, ClaimData, Exchange, Part, PieceWhy, Stretch, LeftOut, Of, group_of, part_from, part_of, parts_after, unless_refused}
+use Rattle.cover_checker.proofs.Common.{◌≡◌, ◌<◌, ℕ, suc, ap, All-slice_get, IsLawfulExchange, Bool, true, false, cond, not, List, [], ◌∷◌, ◌++◌, Option, None, Some, Result, Ok, Err, refl, subst, arith, nat_tests, All, All-nil, All-push, slice_get, ◌==◌, list_any, ClaimData, Exchange, Part, PieceWhy, Stretch, LeftOut, Of, group_of, part_from, part_of, parts_after, unless_refused}
 use Rattle.checker.specs.declared.verdict.Why.TheVariants.{MixedServers, RepeatedServer}
 
 module _ (claim : ClaimData) (xs : List Exchange) (out : ℕ → Bool) (stretch : Stretch) where
@@ -67,3 +67,16 @@ module _ (claim : ClaimData) (xs : List Exchange) (out : ℕ → Bool) (stretch 
         → ((j : ℕ) (entry : ℕ × ℕ) (part : Part) → slice_get entries j ≡ Some entry → IsSaid entry part → P part)
         → parts_after claim xs out stretch [] entries ≡ Ok parts → All P parts
     all_said entries parts each e = after [] entries parts each (All-nil P) e
+
+  -- their servers are listed, if those of the exchanges are
+  pub listed_parts : (servers : ℕ) (entries : List (ℕ × ℕ)) (parts : List Part)
+      → All (IsLawfulExchange servers) xs → parts_after claim xs out stretch [] entries ≡ Ok parts
+      → All (λ part. part.server < servers) parts
+  listed_parts servers entries parts each e =
+      all_said (λ part. part.server < servers) entries parts
+      (λ j entry part at said'.
+      let x = All-slice_get (IsLawfulExchange servers) xs entry.0 said'.low each said'.low_stands in
+      let is : said'.low.server ≡ part.server = ap (λ (p : Part). p.server) said'.is in
+      let below = x.listed in
+      omega arith)
+      e

@@ -7,3 +7,12 @@ mod Pieces
 mod Theorem
 mod Acceptance
 mod Verdicts
+mod CasesHeld
+mod Ends
+mod RoundedUp
+mod ConflictTest
+mod MovedMark
+mod CaseFaults
+mod CaseSets
+mod PartFaults
+mod PieceFaults

@@ -1,6 +1,6 @@
 -- What the definitions and contracts of this crate name of others.
 pub use Rattle.certificate.specs.Certificate.{PieceData, max_pieces, piece_data}
-pub use Rattle.cover_certificate.specs.CoverCertificate.{CaseData, CoverCertificateData, case_data, max_cases, max_conflicts}
+pub use Rattle.cover_certificate.specs.CoverCertificate.{CaseData, CoverCertificateData, IsFew, case_data, max_cases, max_conflicts}
 pub use Rattle.cover_certificate.specs.CoverCertificate.{data_of as certificate_data}
 pub use Rattle.certificate.specs.Refutation.{RefutationData}
 pub use Rattle.checker.specs.Course.{ArrivesBeforeStamp, ComesInOrder, Course, Fits, KeepsRootDistance, LeavesAfterStamp}
@@ -15,12 +15,14 @@ pub use Rattle.era_unfold.specs.Ratio.{ceiling_of}
 pub use Rattle.error_marks.specs.Mark.{AreCompatible, IsPossible, high_mark, low_mark}
 pub use Rattle.error_marks.specs.Range.{IsWithinRange}
 pub use Rattle.error_marks.specs.declared.mark.Mark.{Mark}
+pub use Rattle.feasibility.specs.Conflicts.{ConflictData, IsCover, group_count, is_pair}
 pub use Rattle.feasibility.specs.Contradiction.{IsImpossiblePair, Pair}
 pub use Rattle.feasibility.specs.Cover.{group_of, size_of}
+pub use Rattle.feasibility.specs.CoverSearch.{Covers, IsBusiest, IsSimple, degree, edge_of}
 pub use Rattle.feasibility.specs.DriftRefutation.{IsRefutedWithDrift}
 pub use Rattle.feasibility.specs.Groups.{holds}
 pub use Rattle.feasibility.specs.Keeping.{KeepsHigh, KeepsLow}
-pub use Rattle.feasibility.specs.Members.{LieWithin}
+pub use Rattle.feasibility.specs.Members.{LieWithin, has, passing}
 pub use Rattle.feasibility.specs.declared.groups.Groups.{Groups}
 pub use Rattle.intersection.specs.Hull.{IsHull}
 pub use Rattle.intersection.specs.declared.kinds.Hull.TheVariants.{Bounded}
@@ -29,7 +31,7 @@ pub use Rattle.pairing.specs.Exchange.{IsLawful}
 pub use Rattle.pairing.specs.declared.exchange.Exchange.{Exchange}
 pub use Rattle.sample_interval.specs.Moment.{DriftsWithin, IsInWindow, Moment, error_of}
 pub use Rattle.sample_interval.specs.Widening.{IsRate, billion, widening}
-pub use Rattle.span_cover.specs.Group.{group_intervals, piece_hull}
+pub use Rattle.span_cover.specs.Group.{group_intervals, numbers_below, piece_hull}
 pub use Rattle.span_cover.specs.Piece.{IsPiece}
 pub use Rattle.span_cover.specs.declared.part.Part.{Part}
 pub use Rattle.span_cover.specs.declared.stretch.Stretch.{Stretch}

@@ -1,6 +1,7 @@
 pub mod Common
 pub mod Interval
 pub mod Conflict
+pub mod CoverSearch
 pub mod Case
 pub mod Entry
 pub mod Acceptance

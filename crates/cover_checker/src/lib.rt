@@ -3,7 +3,7 @@
 //! Such a certificate names conflicts, pairs of exchanges of which one has a false server, and
 //! cases: groups that hold a false server, with pieces of the span that go by the others
 //! (specs/Acceptance). [`CoverVerdict`] says whether it is accepted, and if it isn't, which test is
-//! the first that fails (specs/Verdict). The function that gives a verdict isn't here yet.
+//! the first that fails (specs/Verdict). [`check_covers`] gives it.
 //!
 //! An accepted certificate shows the claim in every course of events that fits the exchanges that
 //! it names: the false groups have an end of each conflict, so they hold all groups of some case,
@@ -19,7 +19,17 @@
 
 #![tactic(auto)]
 
+mod case;
+mod conflict;
+mod cover_search;
+mod entry;
+mod exchange;
+mod interval;
 pub mod laws;
+mod members;
+mod piece;
+mod table;
 mod verdict;
 
-pub use verdict::{CaseWhy, CoverVerdict, PieceWhy};
+pub use interval::{high_over, low_over};
+pub use verdict::{CaseWhy, CoverVerdict, PieceWhy, check_covers};

@@ -1,0 +1,40 @@
+use Rattle.std.proofs.Common.{arith}
+use Rattle.std.proofs.lemmas.Int.{ints}
+use Rattle.cover_checker.proofs.MovedMark.{high_exact, high_fits}
+use Rattle.cover_checker.proofs.interval.high_over.Goals as goal
+
+pub overflow_add-result : goal.overflow_add-result
+overflow_add-result c =
+    high_fits c.args.drift_ppb c.args.stretch c.args.mark c.ahead-2.result c.widen-fall.result c.ahead.result c.rise-rise.result
+    c.max.result c.requires.stretch c.requires.mark
+    (record {
+      distance_is = c.ahead.ensures.value;
+      change_is = c.rise-rise.ensures.exact;
+      from_zero = c.rise-rise.ensures.not_negative;
+      at_most = c.rise-rise.ensures.at_most_the_distance;
+    })
+    (record {
+      distance_is = c.ahead-2.ensures.value;
+      change_is = c.widen-fall.ensures.exact;
+      from_zero = omega (arith, ints, c.widen-fall.ensures.exact);
+      at_most = c.widen-fall.ensures.at_most_the_distance;
+    })
+    c.max.ensures.value
+
+pub returns : goal.returns
+returns c =
+    high_exact c.args.drift_ppb c.args.stretch c.args.mark c.ahead-2.result c.widen-fall.result c.ahead.result c.rise-rise.result
+    c.max.result c.requires.stretch c.requires.mark
+    (record {
+      distance_is = c.ahead.ensures.value;
+      change_is = c.rise-rise.ensures.exact;
+      from_zero = c.rise-rise.ensures.not_negative;
+      at_most = c.rise-rise.ensures.at_most_the_distance;
+    })
+    (record {
+      distance_is = c.ahead-2.ensures.value;
+      change_is = c.widen-fall.ensures.exact;
+      from_zero = omega (arith, ints, c.widen-fall.ensures.exact);
+      at_most = c.widen-fall.ensures.at_most_the_distance;
+    })
+    c.max.ensures.value
