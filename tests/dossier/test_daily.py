@@ -84,7 +84,7 @@ def test_metrics(place: Path) -> None:
               own=(own,
                    {**least, "clock_off": str(int(folder.name == "off")),
                     "claimed_bound_seconds": seconds(row["bound_ns"]), "samples": str(row["samples"]),
-                    "servers_apart": str(sum("apart" in words for words in row["warnings"])),
+                    "servers_apart": str(sum(" apart: " in words for words in row["warnings"])),
                     "warnings": str(sum("is a copy" not in words for words in row["warnings"])),
                     "span_end_timestamp_seconds": seconds(span_end * 10**9),
                     "leap_list_end_timestamp_seconds": seconds(end),

@@ -53,7 +53,8 @@ def test_clock_of_2058(place: Path) -> None:
     at(night + DAY // 2, "day", *words, "--date", "2057-12-31")
     status, out, err = dossier("day", *words)
     check("day afterwards", status=(status, 0), last=(out.decode().splitlines()[-1], str(own[-1])),
-          others=(b"2057" in out, False), said=(err.count(b"is from the future"), 11))
+          others=(b"2057" in out, False), said=(err.count(b"is from the future"), 8),
+          more=(b"3 more are from the future: is the clock right?" in err, True))
     shutil.rmtree(days / "2057-12-31")
     later = folder_of(days, "2057-12-31", **{"from": "2057-12-31T00:00:00Z", "to": "2058-01-01T00:00:00Z"})
     dossier("audit", *state, later)
