@@ -1,1 +1,3 @@
 pub mod Meaning
+mod Proven
+pub mod Refused

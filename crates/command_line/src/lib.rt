@@ -17,9 +17,10 @@
 
 mod advice;
 mod command;
+pub mod laws;
 mod misuse;
 mod run;
 mod words;
 
-pub use run::run_process;
+pub use run::{run, run_process};
 pub use words::words_of;

@@ -1,8 +1,8 @@
 //! The program: from the words of a command line to its response, over any files and outputs.
 
-ghost use Rattle.std.specs.Prelude.{◌≡◌, Err};
+ghost use Rattle.std.specs.Prelude.{◌≡◌, Err, MatchResult, None, option_map};
 ghost use Rattle.command_line.specs.Common.{IsWritable, Concludes, conclusion_of, Memory, MayOpen, IsBare, world};
-ghost use Rattle.command_line.specs.Run.{Runs};
+ghost use Rattle.command_line.specs.Run.{Runs, RunsOnOutputs};
 
 use crate::words::read_words;
 use audit::Outputs;
@@ -29,7 +29,7 @@ fn out_of_memory<E: Sink>(err: &mut E) -> Response
 
 /// Does what the words of a command line call for. What is read of a capture is hashed by `hasher`,
 /// on which no answer depends.
-pub(crate) fn run<Fs: Files, S: Sink, E: Sink, H: BuildHasher + Copy + Drop>(
+pub fn run<Fs: Files, S: Sink, E: Sink, H: BuildHasher + Copy + Drop>(
     alloc: Global,
     words: &[String],
     files: &mut Fs,
@@ -58,6 +58,10 @@ pub fn run_process<Fs: Files, H: BuildHasher + Copy + Drop>(
     hasher: H,
 ) -> Response
     requires { MayOpen (Fs.state files.old) }
+    ensures { MatchResult words.now
+        (λ given. RunsOnOutputs (option_map (λ w. w.items) given)
+        (Fs.state files.old) (Fs.state files.new) result)
+        (λ refused. RunsOnOutputs None (Fs.state files.old) (Fs.state files.new) result) }
 {
     let alloc = rt.alloc();
     let mut to = Outputs {

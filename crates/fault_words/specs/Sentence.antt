@@ -1,8 +1,9 @@
 -- The sentence of a fault: what is wrong, and what to do. That there is a sentence for each, and
 -- which, is a table, which tests/system/test_words.py sees; here stands what holds of all.
-use Rattle.std.specs.Prelude.{List, ℕ, [], ◌∷◌, Bool, false, T, if◌then◌else◌, nat_eq, chars, string_bytes}
+use Rattle.std.specs.Prelude.{◌≡◌, ◌⊎◌, List, ℕ, [], ◌∷◌, Bool, false, T, if◌then◌else◌, nat_eq, chars, string_bytes}
 use Rattle.std.specs.List.{flat_map}
 use Rattle.fault_words.specs.Quote.{IsQuiet, are_visible, shown_char}
+use Rattle.fault_words.specs.Shell.{AreThree, AreTwo, IsName}
 use Rattle.fault_words.specs.declared.remedy.Known.{Known}
 use Rattle.fault_words.specs.declared.sentence.Sentence.{Sentence}
 
@@ -35,13 +36,21 @@ known_data known = record {
   sums = string_bytes known.sums;
 }
 
--- a terminal obeys nothing of it
+-- A shell reads each file's name in it as one word.
+pub record AreNames (known : KnownData) : Type 0 where
+  pub file : IsName known.file
+  pub evidence : (known.evidence ≡ []) ⊎ AreTwo known.evidence
+  pub inputs : (known.inputs ≡ []) ⊎ (AreTwo known.inputs ⊎ AreThree known.inputs)
+  pub sums : (known.sums ≡ []) ⊎ IsName known.sums
+
+-- A terminal obeys nothing of it, and a shell reads the names as words.
 pub record IsQuietKnown (known : KnownData) : Type 0 where
   pub file : IsQuiet known.file
   pub place : IsQuiet known.place
   pub evidence : IsQuiet known.evidence
   pub inputs : IsQuiet known.inputs
   pub sums : IsQuiet known.sums
+  pub names : AreNames known
 
 -- what is put in place of a character: `@`, `#`, `~`, `&`, `%`, or one that is no mark
 abbrev pub filling : KnownData → ℕ → List ℕ

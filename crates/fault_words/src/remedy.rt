@@ -4,9 +4,11 @@
 //! claim and the capture, `&` for these and the second input, and `%` for the file of sums.
 //! new.pcap, new.json and new.sums are files to be made.
 
-ghost use Rattle.std.specs.Prelude.{◌≡◌, ◌++◌, IfOk, OnOk, string_bytes};
+ghost use Rattle.std.specs.Prelude.{◌≡◌, ◌++◌, IfOk, OnOk, codes, false, string_bytes};
+ghost use Rattle.std.specs.List.{list_all};
 ghost use Rattle.fault_words.specs.Quote.{IsQuiet};
 ghost use Rattle.fault_words.specs.Sentence as spec;
+ghost use Rattle.fault_words.specs.Shell as shell;
 ghost use Rattle.fault_words.specs.Sentence.{IsQuietKnown, known_data};
 
 use crate::quote::{add_shown, shown};
@@ -56,36 +58,64 @@ pub(crate) struct Known {
     pub(crate) sums: String,
 }
 
-/// Whether a file's name can be read as it stands by a shell.
-fn is_plain(name: &str) -> bool {
-    name.chars().all(|c| {
-        c.is_ascii_alphanumeric() || matches!(c, '/' | '.' | '_' | '-' | '+' | ',' | ':' | '=')
-    })
+/// Whether this byte stands for itself in a word of a shell.
+fn is_plain(c: u8) -> bool
+    ensures { result ≡ shell.is_plain c }
+{
+    // From + to : there are + , - . / the digits and :
+    matches!(c, b'a'..=b'z' | b'A'..=b'Z' | b'+'..=b':' | b'_' | b'=')
 }
 
-/// Whether a name is none by which a command gets the file: that of a stream, or one that would
-/// need more than quotes.
-fn is_no_word(name: &str) -> bool {
-    name.is_empty()
-        || name == STANDARD_INPUT
-        || name.starts_with("/dev/")
-        || name.starts_with("-")
-        || name.contains("'")
+/// Whether each of these bytes does.
+fn are_plain(word: &[u8]) -> bool
+    ensures { result ≡ list_all shell.is_plain word.now }
+{
+    word.iter().all(|c| is_plain(*c))
 }
 
-/// A file's name as a word of a shell.
-#[tactic(auto, using(crate::proofs::Quiet::visible_is_quiet))]
+/// Whether quotes are no help: there is nothing to quote, or a single quote in it.
+fn is_past_quoting(word: &[u8]) -> bool
+    ensures { result ≡ shell.is_past_quoting word.now }
+{
+    word.is_empty() || word.contains(&b'\'')
+}
+
+/// Whether a name is none by which a command gets the file: that of a stream, or an option.
+fn is_no_word(name: &str) -> bool
+    ensures { result ≡ shell.is_no_word name.now }
+{
+    let bytes = name.as_bytes();
+    name == STANDARD_INPUT || bytes.starts_with(b"/dev/") || bytes.starts_with(b"-")
+}
+
+/// A text as one word of a shell.
+fn quoted_word(alloc: Global, word: String) -> Result<String, AllocError>
+    requires { shell.is_past_quoting (string_bytes word) ≡ false }
+    ensures quiet { IfOk result (λ text. IsQuiet (string_bytes word) →
+        IsQuiet (string_bytes text)) }
+    ensures reads { IfOk result (λ text.
+        shell.ReadsAs (string_bytes text) (string_bytes word)) }
+{
+    if are_plain(word.as_bytes()) {
+        return Ok(word);
+    }
+    Ok(format!(in alloc; "'{}'", word.as_str())?)
+}
+
+/// A file's name as one word of a shell.
 fn shell_word(alloc: Global, name: &str) -> Result<String, AllocError>
-    ensures { IfOk result (λ word. IsQuiet (string_bytes word)) }
+    ensures quiet { IfOk result (λ text. IsQuiet (string_bytes text)) }
+    ensures reads { IfOk result (λ text.
+        shell.ReadsAs (string_bytes text) (shell.word_of name.now)) }
 {
     if is_no_word(name) {
         return String::from_str(alloc, UNNAMED);
     }
     let word = shown(alloc, name)?;
-    if is_plain(name) {
-        return Ok(word);
+    if is_past_quoting(word.as_bytes()) {
+        return String::from_str(alloc, UNNAMED);
     }
-    Ok(format!(in alloc; "'{}'", word.as_str())?)
+    quoted_word(alloc, word)
 }
 
 /// The place of a fault in its file.
@@ -105,8 +135,10 @@ fn place_of(alloc: Global, fault: &RunFault) -> Result<String, AllocError>
 
 /// Two words of a shell.
 fn both(alloc: Global, first: &str, second: &str) -> Result<String, AllocError>
-    ensures { IfOk result (λ words. IsQuiet first.now → IsQuiet second.now →
+    ensures quiet { IfOk result (λ words. IsQuiet first.now → IsQuiet second.now →
         IsQuiet (string_bytes words)) }
+    ensures words { IfOk result (λ words.
+        string_bytes words ≡ first.now ++ codes " " ++ second.now) }
 {
     Ok(format!(in alloc; "{first} {second}")?)
 }

@@ -19,6 +19,27 @@ reads : (E : Type 0) (G : List ℕ → Result ℕ E → Type 0) →
 reads E G parses None seconds none value = let wrong : Some seconds ≡ None = none refl in cc
 reads E G parses (Some text) seconds none value = ap Some (sym (parses text (Ok seconds) (value text refl)).1)
 
+-- a text is the number of seconds that a piece may be long
+abbrev IsStep : List ℕ → Type 0 → Type 0
+IsStep text X = IsNumeral 10 (without_leading_plus text) → 1 ≤ number text → number text ≤ 86400 → X
+
+module _ (E : Type 0) (G : List ℕ → Result ℕ E → Type 0)
+    (parses : (text : List ℕ) (x : Result ℕ E) → G text x → ParsesUnsigned 32 10 text x) where
+  -- what can't be read isn't one
+  unread : (given : Option (List ℕ)) → ((text : List ℕ) → given ≡ Some text → ReadsOne G text None) →
+      IfSome given (λ text. IsStep text ⊥)
+  unread None value = tt
+  unread (Some text) value = λ numeral least most.
+      let read = value text refl in parses text (Err read.0) read.1 (numeral, omega arith)
+
+  -- nor is one what is read and is none
+  outside : (given : Option (List ℕ)) (seconds : ℕ) → ((1 ≤ seconds) × (seconds ≤ 86400) → ⊥) →
+      ((text : List ℕ) → given ≡ Some text → ReadsOne G text (Some seconds)) → IfSome given (λ text. IsStep text ⊥)
+  outside None seconds wrong value = tt
+  outside (Some text) seconds wrong value = λ numeral least most.
+      let is = (parses text (Ok seconds) (value text refl)).1 in
+      wrong (subst (λ (n : ℕ). (1 ≤ n) × (n ≤ 86400)) (sym is) (least, most))
+
 pub returns : goal.returns
 returns c =
     let f = found_of c.args.words.now in

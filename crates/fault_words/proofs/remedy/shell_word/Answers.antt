@@ -1,8 +1,0 @@
-use Rattle.fault_words.proofs.Common.{codes, subst, sym, IsQuiet}
-use Rattle.fault_words.proofs.Quiet.{said_between}
-use Rattle.fault_words.proofs.remedy.shell_word.Goals as goal
-
-pub returns : goal.returns
-returns c =
-    said_between _ (codes "'") _ (codes "'") c.in_ok-format.ensures.ok tt
-    (subst IsQuiet (sym c.as_str.ensures.value) c.in_ok-word.ensures.quiet) tt
