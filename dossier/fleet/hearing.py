@@ -33,7 +33,9 @@ class Hearing:
         self.samples, self.replies, self.requests = dict[str, list[Sample]](), dict[str, list[int]](), dict[str, int]()
         self.errors, self.steps, self.last = dict[str, int](), dict[int, int](), 0
         program.blocks(self.take, "samples", CLAIM, capture)
-        self.gone = list(accumulate((max(0, leap - self.steps.get(at, leap * (at >= self.last and leap > SILENT)))
+        usual = max((leap - self.steps.get(at, 0) for at, leap in enumerate(self.leaps[: self.last])), default=0)
+        most = max(SILENT, 2 * usual)  # (behind the last reply nobody knows a longer leap from a step)
+        self.gone = list(accumulate((max(0, leap - self.steps.get(at, leap * (at >= self.last and leap > most)))
                                      for at, leap in enumerate(self.leaps)), initial=0))
         """Of each record the seconds that went by since the first."""
         self.times = {server: [self.gone[reply] for reply in own] for server, own in self.replies.items()}

@@ -204,6 +204,23 @@ def test_unanswered(place: Path) -> None:
             metrics=((found["now_seen"], "now_clock_off" in found, found["now_groups_heard"]), ("0", False, "0")))
 
 
+def test_unanswered_seldom(place: Path) -> None:
+    """A client that asks each 64 s and isn't answered for seven minutes: each of these leaps is time that went by, also
+    if the clock was set back then."""
+    for back in (0, 400):
+        begin, folder = int(time.time()) - 5 - 45 * 64 + back, place / f"{back}"
+        folder.mkdir()
+        answered, asked = ([f"{server}:-1000..1000@{begin - less + 64 * k}" for k in own for server in (1, 2, 3, 4)]
+                           for own, less in ((range(39), 0), (range(39, 46), back)))
+        requests = [record for record in records_of(CAPTURE(asked)) if record[58] & 7 == 3]
+        path = folder / name_of(begin, "eth0")
+        path.write_bytes(CAPTURE(answered) + b"".join(requests))
+        status, lines, _ = now(written(path).parent)
+        check(f"unanswered, asked seldom and set back by {back} s", status=(status, 1),
+              said=("  no evidence  too few groups were heard since" in lines[0], True),
+              heard=("  0 of 4 groups, 3 needed  silent: 192.0.2.1, " in lines[0], True))
+
+
 def test_begun(place: Path) -> None:
     """A recorder that has just begun: what was recorded before may be older than a boot, whatever the clock shows, so
     there is no yes until it has heard enough groups itself."""
