@@ -205,6 +205,7 @@ def test_alerts_of_now(place: Path) -> None:
         "healed", clock_off="0 0 1 0x90", last_step_timestamp_seconds="_ _ 99x9 stale")
     blind = values("blind", seen="1 1 0x90", clock_off="0 1 stale", groups_heard="4 4 0x90")
     unseen = values("unseen", seen="1 1 0x90", clock_off="0 0 stale")
+    fitful = values("fitful", seen="1 1" + 12 * " 1 0" + " 1x90", clock_off="0 0" + 12 * " 1 stale" + " 0x90")
     silent, few = values("silent", last_record_age_seconds="0+60x99"), values("few", groups_heard="4 4 2x90")
     files, back = values("files", refused_files="1x99"), values("back", records_ahead_seconds="0 0 2040x90")
     stuck, gone = values("stuck", looked_timestamp_seconds="77x99"), {"job": "node", "instance": "gone"}
@@ -219,8 +220,8 @@ def test_alerts_of_now(place: Path) -> None:
         (well, "yes", "1x99"), (off, "refuted", "0 0 1x90"), (few, "refuted", "0 0 1x90"), (few, "yes", "1 1 0x90"),
         (unseen, "refuted", "1x99"), ({**gone, "recorder": "eth0"}, "yes", "1x9"))]
     said: dict[tuple[str, str], dict[str, list[dict[str, str]]]] = {
-            ("ClockIsOff", "page"): {"2m": [], "4m": [off], "20m": [off]},
-            ("ClockWasOff", "page"): {"2m": [], "4m": [blind], "90m": [blind]},
+            ("ClockIsOff", "page"): {"1m": [], "2m": [blind], "4m": [off, blind, fitful], "20m": [off, blind, fitful],
+                                     "90m": [off, blind]},
             ("ClockUnseen", "ticket"): {"11m": [], "13m": [blind, unseen]},
             ("ClockStepped", "ticket"): {"1m": [], "3m": [healed], "95m": [healed]},
             ("ClockSetBack", "ticket"): {"2m": [], "4m": [back]},
