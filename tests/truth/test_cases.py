@@ -7,7 +7,7 @@ from tests.truth.clock import FAST, SECOND, STEP, Event
 from tests.truth.files import Logs
 from tests.truth.history import DAY, LEAP, History, Recorder
 from tests.truth.network import OFF as WRONG
-from tests.truth.trial import read, untrue
+from tests.truth.trial import call, read, untrue
 
 MIDNIGHT = 20_010 * DAY
 
@@ -163,6 +163,31 @@ def test_two_interfaces(place: Path) -> None:
     one, = read({place / "web-1": (history, None)})
     check("two interfaces", verdict=(one.view.verdict, "nothing fits"),
           said=("they count once" in str(one.texts), True))
+
+
+def test_falls_by_answers(place: Path) -> None:
+    """By its answers alone, too, a folder whose records' times fall back is verified to be no yes."""
+    read_one, = read({place / "web-1": (ahead_while_nobody_answers().live(), None)})
+    said = call("verify", "--answers", place / "web-1", XDG_STATE_HOME=f"{place}/state",
+                NTPAUDIT_LEAP_SECONDS=f"{place}/leaps")
+    check("falls by answers", verdict=(read_one.view.verdict, "unsupported"),
+          said=("verified: unsupported" in said, True))
+
+
+def test_first_fall() -> None:
+    """The first time that falls back is told, or the first by more than a second that no move explains."""
+    from dossier.capture.recording import Recording
+    from dossier.folder.entry import Move
+    recording = Recording.__new__(Recording)
+    small, far = (3, 10 * SECOND, 10 * SECOND - 1), (9, 90 * SECOND, 50 * SECOND)
+    move = Move(90 * SECOND, 50 * SECOND, -40 << 32, -40 << 32, 0)
+    other = Move(200 * SECOND, 210 * SECOND, 0, 0, 0)
+    rows: list[tuple[list[tuple[int, int, int]], list[Move], object]] = [
+        ([small, far], [], far), ([small], [], small), ([], [], None), ([small], [move], None),
+        ([small, far], [move], None), ([small, far], [other], far)]
+    for fallen, moves, wanted in rows:
+        recording.fallen = fallen
+        check(f"falls {fallen} beside {len(moves)} moves", told=(recording.fall(moves), wanted))
 
 
 def wrong_in(names: Iterable[str], place: Path) -> dict[str, str]:
