@@ -43,16 +43,21 @@ NEXT, MOST_FALLS = 160, 1000
 BLOCKS, EACH = 64, 32
 """Of all other records so many blocks are looked at, evenly apart, of so many records for each server."""
 PART, THINNED, CUT = "part.pcap", "thinned.pcap", "cut.pcap"
+ASKED = re.compile(rb"(?m)^(?:\S+ ){5}m3 (?:\S+ ){9}(\S+)")
+ANSWERED = re.compile(rb"(?m)^(?:\S+ ){5}m4 (?:\S+ ){7}(\S+)")
+"""The timestamp by which a line of `list` asks, and the one by which it answers."""
 
 
 class Audited(NamedTuple):
     """The capture that is audited; whether it was made, of captures that the program doesn't take as they are; warnings
-    if any of them was cut off, or records were left out; and its extent, if it is known."""
+    if any of them was cut off, or records were left out; its extent, if it is known; and by their names the captures
+    that are in it, as far as they are still there."""
 
     path: str
     is_made: bool
     alerts: list[Alert]
     extent: Extent | None
+    paths: dict[str, str] = {}
 
 
 class Opened(NamedTuple):
@@ -64,13 +69,10 @@ class Opened(NamedTuple):
 
 
 def audited(copies: dict[str, str], program: Program | None = None) -> Audited:
-    """One capture of all, given by their names and their copies."""
-    return joined({name: open_capture(name, copy) for name, copy in copies.items()}, copies, program)
-
-
-def joined(opened: dict[str, Opened], copies: dict[str, str], program: Program | None = None) -> Audited:
-    """One capture of those that are opened, which may be fewer than all copies; in the order in which they were made by
-    the servers' time, if the program can be asked for that."""
+    """One capture of all, given by their names and their copies; in the order in which they were made by the servers'
+    time, if the program can be asked for that."""
+    opened = {name: open_capture(name, copy) for name, copy in copies.items()}
+    paths = {name: one.path for name, one in opened.items()}
     torn = [(name, one.torn) for name, one in opened.items() if one.torn is not None]
     alerts: list[Alert] = [Torn("torn", len(torn), *torn[0])] if torn else []
     (name, one), *others = opened.items()
@@ -79,39 +81,72 @@ def joined(opened: dict[str, Opened], copies: dict[str, str], program: Program |
         if others else {}
     if whole:
         extent = join(whole, JOINED, times_of(whole, program) if program else None)
-    elif one.path != copies[name] or one.torn is not None or len(opened) < len(copies):
+    elif one.path != copies[name] or one.torn is not None:
         move(one.path, JOINED)
     else:
-        return Audited(one.path, False, alerts, extent)
-    return Audited(JOINED, True, alerts, extent)
+        return Audited(one.path, False, alerts, extent, paths)
+    return Audited(JOINED, True, alerts, extent, paths)
 
 
 def times_of(captures: dict[str, Classic], program: Program) -> Times | None:
-    """When captures begin and end by what servers say at their ends, in the median; None if that isn't known of all, or
-    they can't be joined."""
+    """When captures begin and end by what servers say at their ends, in the median, however far in they are heard. One
+    in which none is heard follows the one before it by name, unless its requests are answered in others. None if that
+    is so, if none is heard in any, or if they can't be joined."""
     first = next(iter(captures.values()))
     if any(not capture.is_one or capture.kind != first.kind for capture in captures.values()):
         return None
-    unit, some, owners = min(capture.unit for capture in captures.values()), list[bytes](), list[tuple[str, int]]()
+    said = heard_at([(name, side) for name in captures for side in (0, 1)], AT_ENDS, captures, program)
     for name, capture in captures.items():
-        rows = capture.rows()
-        ends = [list(islice(rows, AT_ENDS))]
-        ends.append(list(deque(rows, AT_ENDS)) or ends[0])
-        for side, rows_of_it in enumerate(ends):
-            some += (capture.renewed(begin, end, unit) for _, begin, end in rows_of_it)
-            owners += [(name, side)] * len(rows_of_it)
-    write(PART, [new_header(unit, first.kind), *some])
-    said = dict[tuple[str, int], list[int]]()
+        for side in (0, 1):
+            if (name, side) not in said and (not side or (name, 0) in said) and len(capture.extent.stamps) > AT_ENDS:
+                said |= heard_at([(name, side)], MANY, captures, program)
+    ends = {name: sorted([median_low(said[name, 0][:AT_ENDS]), median_low(said[name, 1][-AT_ENDS:])])
+            for name in captures if (name, 0) in said and (name, 1) in said}
+    silent = [capture.path for name, capture in captures.items() if name not in ends]
+    if not ends or silent and are_answered(silent, [captures[name].path for name in ends], program):
+        return None
+    found, last = dict[str, tuple[int, int]](), 0
+    for name in sorted(captures, key=by_number):
+        begin, last = ends.get(name, (last, last))
+        found[name] = begin, last
+    return found
+
+
+def heard_at(ends: list[tuple[str, int]], most: int, captures: dict[str, Classic],
+             program: Program) -> dict[tuple[str, int], list[int]]:
+    """What servers say among so many records at the begins (0) or ends (1) of captures."""
+    unit, kind = min(captures[name].unit for name, _ in ends), captures[ends[0][0]].kind
+    owners, said = list[tuple[str, int]](), dict[tuple[str, int], list[int]]()
+
+    def some() -> Iterator[bytes]:
+        for end in ends:
+            capture = captures[end[0]]
+            for _, begin, last in deque(capture.rows(), most) if end[1] else islice(capture.rows(), most):
+                owners.append(end)
+                yield capture.renewed(begin, last, unit)
 
     def take(block: bytes) -> None:
-        for words in (line.split() for line in block.splitlines()):
+        for words in (line.split() for line in block[:closing_of(block)].splitlines()):
             if words[5] == b"m4" and words[-1] != b"-":
                 said.setdefault(owners[int(words[0])], []).append(int(words[-1]))
-    program.blocks(lambda block: take(block[:closing_of(block)]), "list", PART)
-    if len(said) < 2 * sum(size_of(capture.path) > HEADER for capture in captures.values()):
-        return None
-    found = {name: [median_low(said.get((name, side), [0])) for side in (0, 1)] for name in captures}
-    return {name: (min(ends), max(ends)) for name, ends in found.items()}
+    write(PART, chain([new_header(unit, kind)], some()))
+    ROOM.take(-size_of(PART))  # (the next part takes the same room)
+    program.blocks(take, "list", PART)
+    return said
+
+
+def are_answered(silent: list[str], others: list[str], program: Program) -> bool:
+    """Whether others have an answer to a request of captures in which none is."""
+    asked, answered = set[bytes](), set[bytes]()
+    for known, form, paths in ((asked, ASKED, silent), (answered, ANSWERED, others)):
+        for path in paths:
+            program.blocks(lambda block: known.update(form.findall(block)), "list", path)
+    return not asked.isdisjoint(answered)
+
+
+def by_number(name: str) -> list[str | int]:
+    """What puts names in order, as f.pcap2 before f.pcap10."""
+    return [int(word) if number % 2 else word for number, word in enumerate(re.split("([0-9]+)", name))]
 
 
 def thinned(whole: Audited, claim: Claim, program: Program) -> Audited:
@@ -160,7 +195,7 @@ def thinned(whole: Audited, claim: Claim, program: Program) -> Audited:
     if not dropped:
         return whole
     move(THINNED, JOINED)
-    return Audited(JOINED, True, [*whole.alerts, Figure("flood", dropped)], None)
+    return Audited(JOINED, True, [*whole.alerts, Figure("flood", dropped)], None, whole.paths)
 
 
 def open_capture(name: str, copy: str) -> Opened:

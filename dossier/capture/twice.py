@@ -1,88 +1,75 @@
-"""Captures in which each packet is there twice: a copy beside its original, packed or cut, or two interfaces.
+"""Captures in which a packet is there more than once: of two interfaces, of one file of all of them, or of a copy
+beside its original, packed, cut, or in other units.
 
-A reply to a request that was recorded twice is of no use, since it may be the answer to either. So of a file most of
-whose requests larger ones have too only what they haven't counts, and it is named.
+A reply to a request that was recorded twice may be the answer to either, so nothing follows from it, and whatever the
+clock did then would be hidden. So each packet counts once: a request by its earliest stamp, and a reply by its latest.
+That holds for each of the stamps, of whichever clock they are.
 """
+import re
+from contextlib import suppress
 from itertools import chain
 
+from ..fault import Fault
+from ..folder.answers import read_counts
 from ..folder.entry import Again
-from ..folder.files import CLAIM
+from ..folder.files import CLAIM, JOINED, mapped
+from ..folder.placing import move
 from ..folder.program import Program
-from .captures import Audited, Opened, joined, open_capture
-from .classic import HEADER, Classic, write
-from .recording import Samples
+from .captures import Audited
+from .classic import HEAD, HEADER, Classic, write
+from .recording import closing_of
+from .traffic import NONE
 
-Requests = set[tuple[str, str, str]]
-"""Of each request who asked whom, and the timestamp in it, which no two of a client's have in common."""
+PACKET = re.compile(rb"(?m)^(\d+) \S+ (\S+ \S+ )\S+ m([34]) (?:\S+ ){7}(\S+ \S+ )(\S+)")
+"""A line of `list`: the record's number, who sent it to whom, its mode, origin and receive timestamp, and transmit
+timestamp: of a client's requests no two have that in common."""
+ONCE = "once.pcap"
+"""A private file."""
 
 
-def once(copies: dict[str, str], program: Program) -> Audited:
-    """One capture of all, given by their names and their copies, in which each packet is there once, if that can be
-    had by leaving out what files have that larger ones have too."""
-    opened = {name: open_capture(name, copy) for name, copy in copies.items()}
-    whole, seen = joined(dict(opened), copies, program), Samples()
-    if len(copies) > 1:
-        program.blocks(seen.take, "samples", CLAIM, whole.path)
-    if not are_twice(seen.counts):
+def once(whole: Audited, program: Program) -> Audited:
+    """The capture in which each packet is there once: looked for if a reply of the claim's servers may be one to two
+    requests, and in what isn't one recording after the other."""
+    if whole.extent and not is_ambiguous(program, whole.path):
         return whole
-    requests = {name: requests_of(program, one.path) for name, one in opened.items()}
-    again = repeated(requests)
+    capture, kept, again = Classic(whole.path, whole.extent), dict[bytes, int](), dict[int, bytes]()
+    stamps = capture.extent.stamps
+
+    def take(block: bytes) -> None:
+        for number, ends, mode, others, transmit in PACKET.findall(block):
+            key = ends + (b"" if mode == b"3" else others) + transmit
+            if transmit == NONE.encode() or (other := kept.setdefault(key, int(number))) == int(number):
+                continue
+            of = sorted((other, int(number)), key=stamps.__getitem__)
+            kept[key], left = of if mode == b"3" else reversed(of)
+            again[left] = key
+    program.blocks(take, "list", whole.path)
     if not again:
         return whole
-    left = {name: one for name, one in opened.items() if name not in again}
-    had = set[tuple[str, str, str]]().union(*(requests[name] for name in left))
-    for name in sorted(again, key=lambda name: (-len(requests[name]), name)):
-        if requests[name] - had:
-            left[name] = without(program, opened[name], had, f"{copies[name]}.own")
-            had |= requests[name]
-    whole = joined(left, copies, program)
-    first = min(again)
-    return whole._replace(alerts=[*whole.alerts, Again("twice", len(again), first, again[first])])
+    times = (capture.nanoseconds(stamps[at] for at in (left, kept[key])) for left, key in again.items())
+    spread = max(abs(one - other) for one, other in times)
+    file, beside, *_ = *having(whole, capture, min(again)), ""
+    write(ONCE, chain([capture.data[:HEADER]], (capture.data[begin:end] for number, (_, begin, end)
+                                                in enumerate(capture.rows()) if number not in again)))
+    move(ONCE, JOINED)
+    return Audited(JOINED, True, [*whole.alerts, Again("twice", len(again), file, beside, spread)], None)
 
 
-def are_twice(counts: dict[str, int]) -> bool:
-    """Whether most replies may be the answer to two requests."""
-    return 2 * counts.get("ambiguous", 0) > counts.get("replies", 0)
-
-
-def requests_of(program: Program, capture: str) -> Requests:
-    found: Requests = set()
+def is_ambiguous(program: Program, capture: str) -> bool:
+    """Whether a reply may be one to two requests, or there is more than can be said at once."""
+    last = b""
 
     def take(block: bytes) -> None:
-        for line in block.decode("ascii").splitlines():
-            words = line.split(" ", 16)
-            if words[0] != "records" and words[5] == "m3":
-                found.add((words[2], words[3], words[15]))
-    program.blocks(take, "list", capture)
-    return found
+        nonlocal last
+        last = block
+    with suppress(Fault):
+        program.blocks(take, "samples", CLAIM, capture)
+        return bool(read_counts(last[closing_of(last):].decode("ascii"))["ambiguous"])
+    return True
 
 
-def without(program: Program, opened: Opened, had: Requests, path: str) -> Opened:
-    """A capture without requests that others have, and without the replies to these."""
-    dropped = set[int]()
-
-    def take(block: bytes) -> None:
-        for line in block.decode("ascii").splitlines():
-            words = line.split(" ", 16)
-            if words[0] != "records" and ((words[2], words[3], words[15]) in had if words[5] == "m3" else
-                                          (words[3], words[2], words[13]) in had):
-                dropped.add(int(words[0]))
-    program.blocks(take, "list", opened.path)
-    capture = Classic(opened.path, opened.extent)
-    write(path, chain([capture.data[:HEADER]], (capture.data[begin:end] for number, (_, begin, end)
-                                                in enumerate(capture.rows()) if number not in dropped)))
-    return Opened(path, opened.torn, Classic(path).extent)
-
-
-def repeated(requests: dict[str, Requests]) -> dict[str, str]:
-    """The files most of whose requests larger ones have too, each with the first of these."""
-    kept: dict[str, Requests] = {}
-    found: dict[str, str] = {}
-    for name in sorted(requests, key=lambda name: (-len(requests[name]), name)):
-        own = requests[name]
-        met = {other: len(own & had) for other, had in kept.items()}
-        if own and 2 * sum(met.values()) >= len(own):
-            found[name] = min(other for other, number in met.items() if number)
-        else:
-            kept[name] = own
-    return found
+def having(whole: Audited, capture: Classic, record: int) -> list[str]:
+    """The files that have a record's packet."""
+    _, begin, end = next(row for number, row in enumerate(capture.rows()) if number == record)
+    return [name for name, path in whole.paths.items() if len(whole.paths) == 1 or
+            mapped(path).find(capture.data[begin + HEAD : end]) >= 0]

@@ -225,14 +225,6 @@ class Silent:
 
 
 @dataclass(frozen=True)
-class Doubled:
-    """The capture in which each packet is there twice."""
-
-    why: Literal["twice"]
-    file: Annotated[str, or_nothing(is_name)] = ""
-
-
-@dataclass(frozen=True)
 class Elsewhere:
     """When the last NTP packet before the span was recorded and the first after it; 0 if there is none."""
 
@@ -240,10 +232,10 @@ class Elsewhere:
     recorded: Gap = (0, 0)
 
 
-Reason = Cause | AtTick | Gaps | Misfit | Silent | Doubled | Elsewhere
+Reason = Cause | AtTick | Gaps | Misfit | Silent | Elsewhere
 """Why it isn't a yes, and what shows it."""
 REASONS: dict[str, tuple[type, ...]] = {
-    REFUTED: (Cause, Gaps), UNSUPPORTED: (Cause,), NOTHING_FITS: (Misfit,), NO_EVIDENCE: (Silent, Doubled, Elsewhere),
+    REFUTED: (Cause, Gaps), UNSUPPORTED: (Cause,), NOTHING_FITS: (Misfit,), NO_EVIDENCE: (Silent, Elsewhere),
     OPEN: (AtTick,), YES: (type(None),)}
 """Of what kinds the reason of each verdict is."""
 
@@ -379,12 +371,14 @@ class Torn:
 
 @dataclass(frozen=True)
 class Again:
-    """How many files have the packets of others once more, the first of them, and which has them too."""
+    """How many packets are left out that were recorded once more, which files have the first of them, and by how much
+    the stamps of a packet differ at the most."""
 
     kind: Literal["twice"]
     count: Count = 0
     file: Annotated[str, or_nothing(is_name)] = ""
     beside: Annotated[str, or_nothing(is_name)] = ""
+    spread: Nanoseconds = 0
 
 
 @dataclass(frozen=True)

@@ -10,6 +10,7 @@ from html import escape
 from itertools import groupby, starmap
 
 from ..capture.captures import audited
+from ..capture.twice import once
 from ..folder.answers import Envelope, read_envelope
 from ..folder.claim import Claim
 from ..folder.entry import YES, Hull
@@ -325,7 +326,7 @@ def picture_of(program: Program, claim: str, capture: str, step: int) -> str:
     """The picture of a claim and a capture, from what `envelope` says about them."""
     copy_named(claim, CLAIM, LIMITS[CLAIM])
     copy_named(capture, "0.pcap")
-    whole = audited({os.path.basename(capture): "0.pcap"})
+    whole = once(audited({os.path.basename(capture): "0.pcap"}), program)
     text = program.run("envelope", CLAIM, whole.path, "--servers", "--step", str(step)).text
     given: Claim = read_typed(CLAIM, Claim, own_data(CLAIM))
     label = f"The error of the clock of {given.client}"

@@ -1,20 +1,22 @@
 """What a folder's own evidence says of the clock, and what of it speaks against the claim.
 
 Files of JSON that evidence.json names beside a premise are read: what it was recorded by, what was measured, and what
-was read of the client; and beside the drift all others as logs, but those whose names say that they are none.
+was read of the client. Each other file that it names is read as a log: of those beside the drift it is said what isn't
+understood, unless their names say that they are none; all others count if they have a line of a log.
 """
 from __future__ import annotations
 
 import re
 from collections.abc import Collection, Iterator
+from contextlib import suppress
 from typing import TYPE_CHECKING, NamedTuple, TypeVar
 
-from ..fault import Fault
+from ..fault import Fault, fault
 from ..folder.claim import Claim
 from ..folder.entry import Alert, Bare, Between, Figure, Leap, Logged, Move, OfServers, Unread
 from ..folder.evidence import evidence, named_in
-from ..folder.files import CLAIM, EVIDENCE, Folder
-from ..schema import is_name, read_typed
+from ..folder.files import CLAIM, EVIDENCE, Folder, is_capture
+from ..schema import is_name, parsed, read_typed
 from ..units import DAY, LAST_SECOND, SECOND, TICKS, civil, seconds_of
 
 if TYPE_CHECKING:
@@ -24,8 +26,10 @@ if TYPE_CHECKING:
     from .tracking import Step, Tracking
 
 Kind = TypeVar("Kind")
-MAY_BE_A_LOG = r"(?i)^(?!.*\.(json|conf|pdf|html?|md|odt|docx?|xlsx?|png|jpe?g)$)"
-"""A name that may be that of a log: not that of a text for a person, or of a configuration."""
+IS_NO_LOG = re.compile(r"(?i)\.(conf|pdf|html?|md|odt|docx?|xlsx?|png|jpe?g)$")
+"""The name of a text for a person, or of a configuration."""
+MOST_OF_A_LOG = 1 << 26
+"""Bytes of a file that isn't named as a log."""
 
 
 class Backing(NamedTuple):
@@ -45,42 +49,58 @@ def backing(folder: Folder, inputs: Collection[str]) -> Backing:
     from ..capture.recorder import Recorder
     from .correction import Correction
     from .measurement import Measurement
+    from .tracking import UNKNOWN
     kept = evidence(folder)
 
-    def named(premise: str, form: str = r"\.json$") -> list[str]:
-        return [name for name in named_in(kept.get(premise, "")) if name in inputs and re.search(form, name)]
-    reading, read = named("reading"), all_of(Correction, folder, named("drift"))
+    def named(premise: str) -> list[str]:
+        return [name for name in named_in(kept.get(premise, "")) if name in inputs]
+    recorded, measured = all_of(Recorder, folder, named("reading")), all_of(Measurement, folder, named("reading"))
+    corrections = all_of(Correction, folder, named("drift"))
+    read, known = list(corrections.values()), {CLAIM, *recorded, *measured, *corrections}
     logs, unread = [log for one in read for log in one.logs], dict[str, int]()
     step = next((one.configuration.step_s for one in read), None)
-    for name in named("drift", MAY_BE_A_LOG):
-        log, lines = log_of(folder, name, step)
-        logs += [log] if log else []
-        unread |= {name: lines} if lines else {}
+    for name in dict.fromkeys(name for premise in kept for name in named(premise)):
+        if name in known or is_capture(name):
+            continue
+        is_log = name in named("drift") and not IS_NO_LOG.search(name)
+        log, lines = log_of(folder, name, step) if is_log or folder.size(name) <= MOST_OF_A_LOG else (None, 0)
+        if is_log or log and log.last != UNKNOWN:
+            logs += [log] if log else []
+            unread |= {name: lines} if lines else {}
     unread |= {", ".join(log.files): log.unread for one in read for log in one.logs if log.unread}
-    return Backing(all_of(Recorder, folder, reading), all_of(Measurement, folder, reading), read, logs, unread)
+    return Backing(list(recorded.values()), list(measured.values()), read, logs, unread)
 
 
 def log_of(folder: Folder, name: str, step_s: str | None) -> tuple[Tracking | None, int]:
     """What a log of the client says, if anything, and how many of its lines aren't understood. Where it names no year,
-    it is one that ends before the half year behind the claim."""
+    it is one that ends before the half year behind the claim. JSON is one if it has messages, as a journal has."""
     from .tracking import read_tracking
     data = folder.data(name)
     claim: Claim = read_typed(CLAIM, Claim, folder.data(CLAIM))
     try:
+        if b'"MESSAGE"' not in data and is_json(data):
+            raise fault("these are no messages")
         log = read_tracking({name: data}, step_s, civil(min(claim.last + DAY * 180, LAST_SECOND)))
         return log, log.unread
     except Fault:
         return None, sum(bool(line.strip()) for line in data.splitlines())
 
 
-def all_of(kind: type[Kind], folder: Folder, names: list[str]) -> list[Kind]:
-    """What files hold, of those that are of a kind."""
-    found = []
+def is_json(data: bytes) -> bool:
+    try:
+        parsed(data)
+        return True
+    except ValueError:
+        return False
+
+
+def all_of(kind: type[Kind], folder: Folder, names: list[str]) -> dict[str, Kind]:
+    """What files of JSON hold, by their names, of those that are of a kind."""
+    found = dict[str, Kind]()
     for name in names:
-        try:
-            found.append(read_typed(name, kind, folder.data(name)))
-        except Fault:
-            pass  # (it is a text of some other form, for a person)
+        with suppress(Fault):  # (it may be a text of some other form)
+            if name.endswith(".json"):
+                found[name] = read_typed(name, kind, folder.data(name))
     return found
 
 

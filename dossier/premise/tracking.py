@@ -12,7 +12,7 @@ from fractions import Fraction
 from ..fault import Fault, fault
 from ..folder.files import sum_of
 from ..records import dataclass, field
-from ..schema import Count, Sum, Text, Time, is_time
+from ..schema import Count, Sum, Text, Time, is_time, parsed
 from ..text import count
 from ..units import DAY, EPOCH, FORM, civil, seconds_of, shown_time
 
@@ -78,6 +78,7 @@ class Reading:
         self.last, self.unread = "", 0
 
     def take(self, line: str) -> None:
+        line = of_journal(line) if line.startswith("{") else line
         if update := UPDATE.match(line):
             self.update(update)
         elif (message := MESSAGE.match(line)) and (time := self.time_of(message)):
@@ -138,6 +139,15 @@ def read_tracking(logs: dict[str, bytes], step_s: str | None, now: str) -> Track
     return Tracking({name: sum_of(data) for name, data in logs.items()}, len(reading.rates), times[0], times[-1],
                     ppm(min(rates)), ppm(max(rates)), ppm(change), sorted(reading.steps), extremes_of(reading),
                     reading.unread)
+
+
+def of_journal(line: str) -> str:
+    """A line of JSON, as journalctl writes it, in the form of the others."""
+    with suppress(ValueError, KeyError, TypeError):
+        said = parsed(line.encode())
+        seconds, part = divmod(int(said["__REALTIME_TIMESTAMP"]), 10**6)
+        return f"{seconds:010}.{part:06} {said.get('_HOSTNAME', '-')} {said['SYSLOG_IDENTIFIER']}: {said['MESSAGE']}"
+    return line
 
 
 def extremes_of(reading: Reading) -> list[Extremes]:

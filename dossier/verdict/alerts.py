@@ -6,7 +6,7 @@ from ..folder.entry import (Again, Alert, Bare, Between, Falls, Far, Figure, For
 from ..premise import allowance
 from ..premise.premises import named
 from ..text import capital, count, is_or_are, listed, plain, reference
-from ..units import SECOND, between, civil, from_to, inward, ns_ms, outward, shown_time, span_of_seconds
+from ..units import SECOND, between, civil, from_to, inward, ns_ms, ns_up_ms, outward, shown_time, span_of_seconds
 
 ON_DRIFT = "There it rests on the drift that the claim grants, and on nothing recorded."
 
@@ -63,10 +63,10 @@ def torn(found: Torn) -> str:
 
 
 def twice(found: Again) -> str:
-    others = f"{'has' if found.count == 2 else 'have'} {count(found.count - 1, 'other file')}"
-    more = f", and so {others}" if found.count > 1 else ""
-    return (f"{plain(found.file)} has packets once more that {plain(found.beside)} has{more}: they count once, since "
-            "of a packet that is there twice nothing follows.")
+    where = f"{plain(found.file)} and {plain(found.beside)}" if found.beside else plain(found.file)
+    return (f"{count(found.count, 'packet')} {'was' if found.count == 1 else 'were'} recorded once more, the first of "
+            f"them in {where}, with stamps up to {ns_up_ms(found.spread)} ms apart: each counts once, a request by its "
+            "earliest stamp and a reply by its latest.")
 
 
 def apart_for_a_time(found: ForATime) -> str:

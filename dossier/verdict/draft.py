@@ -4,10 +4,10 @@ import json
 import os
 from collections import defaultdict
 
-from ..capture.captures import audited, begins
+from ..capture.captures import Audited, audited, begins
 from ..capture.recording import Recording, read_recording
 from ..capture.traffic import Traffic, number_of, read_traffic
-from ..capture.twice import are_twice
+from ..capture.twice import once
 from ..fault import USAGE, fault
 from ..folder.answers import read_envelope, read_settled
 from ..folder.claim import Claim
@@ -86,9 +86,9 @@ def span_of(first_request: int, last_reply: int, whole_days: bool) -> tuple[int,
 class Draft:
     """Drafts a claim for one capture, and says on the way what a person has to look at."""
 
-    def __init__(self, program: Program, capture: str):
-        self.program, self.capture = program, capture
-        self.remarks: list[str] = []
+    def __init__(self, program: Program, whole: Audited):
+        self.program, self.whole, self.capture = program, whole, whole.path
+        self.remarks = [warning_words(warning) for warning in whole.alerts]
 
     def remark(self, *words: str) -> None:
         self.remarks.append(" ".join(words))
@@ -109,11 +109,12 @@ class Draft:
         reading = wanted.reading(client)
         claim = Claim(client, servers, 0, civil(0), civil(0), 0, wanted.drift_ppb, reading.ns)
         keep(CLAIM, claim.text)
+        whole = once(self.whole, self.program)
+        self.remarks += map(warning_words, whole.alerts[len(self.whole.alerts):])
+        self.capture = whole.path
         recording = read_recording(self.program, CLAIM, self.capture)
         if recording.first_request is None:
             self.remark(f"None of {client}'s servers gave a sample: {counted(recording.counts)}.")
-            if are_twice(recording.counts):
-                self.remark("Each packet is there twice, as in a copy beside its original, or of two interfaces.")
             return None
         claim = self.named(claim, recording, {server: seen.references[client, server] for server in servers})
         first, last = span_of(recording.first_request, recording.times[-1], wanted.whole_days)
@@ -226,9 +227,7 @@ def draft(program: Program, captures: list[str], wanted: Wanted) -> tuple[Claim 
                         "claim", USAGE)
     whole = audited({f"{os.path.basename(path)} ({copy})" if len(copies) > 1 else os.path.basename(path): copy
                      for copy, path in copies.items()})
-    drafting = Draft(program, whole.path)
-    for warning in whole.alerts:
-        drafting.remark(warning_words(warning))
+    drafting = Draft(program, whole)
     if len(copies) > 1:
         drafting.remark(f"{len(copies)} captures were joined in order of time.")
     claim = drafting.claim(wanted)

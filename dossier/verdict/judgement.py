@@ -8,11 +8,10 @@ from typing import NamedTuple
 
 from ..capture.recording import Recording
 from ..capture.traffic import Traffic, number_of
-from ..capture.twice import are_twice
 from ..folder.answers import Envelope, Settled, read_advice, read_settled
 from ..folder.claim import GREATEST_DRIFT, OSCILLATOR, Claim, Part
 from ..folder.entry import (FEW, NO_EVIDENCE, NOTHING_FITS, OPEN, REFUTED, YES, Alert, AtTick, Bare, Between,
-                            Cause, Conflict, Doubled, Elsewhere, Entry, Falls, Far, Figure, ForATime, Gap, Gaps, Hull,
+                            Cause, Conflict, Elsewhere, Entry, Falls, Far, Figure, ForATime, Gap, Gaps, Hull,
                             LeapList, Misfit, Move, OfServers, OneReference, Piece, Quiet, Reason, Server, Silence,
                             Silent, Stretch)
 from ..premise.allowance import slip
@@ -65,8 +64,6 @@ class Beside(NamedTuple):
     leaps: LeapList
     backing: Backing
     alerts: list[Alert]
-    capture: str
-    """The capture that is audited, by its name in the folder."""
 
 
 def more_drift(claim: Claim) -> int:
@@ -88,7 +85,7 @@ def judge(part: Part, recording: Recording, beside: Beside, texts: Texts, step: 
         warned.insert(0, OfServers("interleaved", mode))
     if 0 < claim.drift_ppb <= OSCILLATOR and not beside.backing.read:
         warned.append(Figure("oscillator", claim.drift_ppb))
-    reason = reason_of(claim, settled, Seen(servers, recording, gaps, texts, beside.capture))
+    reason = reason_of(claim, settled, Seen(servers, recording, gaps, texts))
     if isinstance(reason, (Gaps, Elsewhere)):
         warned = [alert for alert in warned if alert.kind not in TOLD]
     return entry_by(beside.leaps, Entry(
@@ -125,7 +122,6 @@ class Seen(NamedTuple):
     recording: Recording
     gaps: list[Gap]
     texts: Texts
-    capture: str
 
 
 def reason_of(claim: Claim, settled: Settled, seen: Seen) -> Reason | None:
@@ -135,8 +131,6 @@ def reason_of(claim: Claim, settled: Settled, seen: Seen) -> Reason | None:
     if settled.answer == OPEN:
         return AtTick("tick", tick=settled.tick, hull=settled.hull)
     if settled.answer == NO_EVIDENCE:
-        if are_twice(seen.recording.counts):
-            return Doubled("twice", file=seen.capture)
         return silent(claim, settled.heard, seen.texts.traffic or Traffic())
     if settled.answer == NOTHING_FITS:
         return why_nothing_fits(claim, seen.texts)

@@ -8,7 +8,8 @@ import time
 from collections.abc import Collection
 
 from .. import VERSION
-from ..capture.captures import around, cut, falls_in, sum_of_unpacked, thinned, unpacked, unpacked_at_once
+from ..capture.captures import (around, audited, cut, falls_in, sum_of_unpacked, thinned, unpacked,
+                                unpacked_at_once)
 from ..capture.classic import Classic
 from ..capture.twice import once
 from ..fault import DEVICE, Fault, fault
@@ -118,13 +119,13 @@ def make(taken: Inputs, options: Options, leaps: LeapList, backed: Backing, prog
     name, copy = next(iter(taken.copies.items()))
     claim = read_claim(program, copy)
     parts = list(parts_of(claim, options.days))
-    whole = thinned(once(taken.copies, program), claim, program)
+    whole = once(thinned(audited(taken.copies, program), claim, program), program)
     if size_of(whole.path) > MOST_OF_A_CAPTURE:
         raise too_big(JOINED, MOST_OF_A_CAPTURE)
     taken.capture = JOINED if whole.is_made else name
     made = {JOINED: sum_of_file(JOINED)} if whole.is_made else {}
     sums = {CLAIM: taken.sums[CLAIM], whole.path: made.get(JOINED) or taken.sums[name]}
-    beside, entries, capture = Beside(leaps, backed, whole.alerts, taken.capture), [], Classic(whole.path, whole.extent)
+    beside, entries, capture = Beside(leaps, backed, whole.alerts), [], Classic(whole.path, whole.extent)
     falls = falls_in(capture.extent.stamps)
     for part, cut_to in zip(parts, cut(whole.path, parts, whole.extent)):
         settling = Settling(part, whole, program, options.step, sums, earlier.get(part.name, b""))

@@ -5,9 +5,9 @@ within the bound. Refuted is: in one of them it isn't, so nothing in the capture
 """
 from ..folder.claim import Claim
 from ..folder.entry import (AGAINST, NO_EVIDENCE, NOTHING_FITS, OPEN, REFUSED, REFUTED, UNSUPPORTED, YES, AtTick, Cause,
-                            Doubled, Elsewhere, Entry, Gaps, Misfit, Move, Silence, Silent, Stretch)
+                            Elsewhere, Entry, Gaps, Misfit, Move, Silence, Silent, Stretch)
 from ..folder.files import CLAIM, REFUTATION
-from ..text import capital, count, is_or_are, label, listed, operand, plain
+from ..text import capital, count, is_or_are, label, listed, plain
 from ..units import (SECOND, TICKS, between, civil, from_to, high_ms, inward, low_ms, ns_ms, ns_up_ms, outward,
                      range_ms, shown_time)
 from ..premise.premises import named
@@ -64,7 +64,7 @@ def reason(entry: Entry) -> str:
         return ""
     if entry.verdict == UNSUPPORTED:
         return " ".join(warning_words(warning) for warning in entry.warnings if warning.kind in AGAINST)
-    if isinstance(found, (Silent, Doubled, Elsewhere)):
+    if isinstance(found, (Silent, Elsewhere)):
         return why_no_evidence(entry, found)
     if isinstance(found, Misfit):
         return why_nothing_fits(entry, found)
@@ -82,7 +82,7 @@ def reason(entry: Entry) -> str:
 OFF = Cause("off")
 
 
-def why_no_evidence(entry: Entry, found: Silent | Doubled | Elsewhere) -> str:
+def why_no_evidence(entry: Entry, found: Silent | Elsewhere) -> str:
     """What is missing: the recording at the time of the span, the client, its servers' replies, or enough of them."""
     counts, client = entry.counts, entry.claim.client
     if isinstance(found, Elsewhere):
@@ -90,9 +90,6 @@ def why_no_evidence(entry: Entry, found: Silent | Doubled | Elsewhere) -> str:
         ends = [f"the last before it is from {shown_time(before)}"] if before else []
         ends += [f"the first after it from {shown_time(after)}"] if after else []
         return f"No packet was recorded within the span: {', '.join(ends)} UTC."
-    if isinstance(found, Doubled):
-        return (f"Each packet is there twice in {plain(found.file)}, so no reply is of use: it may be the answer to "
-                "either of two requests.")
     if not counts.get("records"):
         return "Nothing was recorded: there is no record at all."
     if not counts.get("requests"):
@@ -231,8 +228,6 @@ def in_short(entry: Entry) -> str:
         return f"no server heard {from_to(*inward(gap.after, gap.by))} UTC{more}"
     if isinstance(found, Misfit) and found.apart:
         return f"{listed(found.apart)} apart"
-    if isinstance(found, Doubled):
-        return f"each packet is there twice in {plain(found.file)}"
     if isinstance(found, Silent):
         mode = next((warning.servers for warning in entry.warnings if warning.kind == "interleaved"), None)
         return f"{listed(mode)} in interleaved mode" if mode else why_no_evidence(entry, found).rstrip(".")
@@ -262,8 +257,7 @@ def to_do(entry: Entry) -> str:
     if found.why == "silent" and not entry.counts.get("requests"):
         return NOT_ASKED
     gap = longest(found.gaps) if isinstance(found, Gaps) and found.gaps else None
-    return least + TO_DO[found.why].format(file=operand(found.file) if isinstance(found, Doubled) else "",
-                                           journal=journal(gap.after, gap.by) if gap else "")
+    return least + TO_DO[found.why].format(journal=journal(gap.after, gap.by) if gap else "")
 
 
 TIGHTER = "For a tighter one ask nearer servers, more of them, or more often; or grant less drift, if that is true."
@@ -278,8 +272,6 @@ TO_DO = {
               "fewer of them together, or grant fewer wrong ones.",
     "beside": "See whether machine, recorder and network were on, whether the claim's times are local ones, and "
               "whether this is the day's capture.",
-    "twice": "Record one interface. `editcap -F nsecpcap -D 50 {file} ../once.pcap` leaves the first of two like "
-             "packets (`-F pcap` if it has microseconds): put that in the place of the file.",
     "off": f"{MEND} See in the picture how it went.",
     "gap": "See what was off then, the machine, its recorder, the network, or all servers: {journal}. Claim the times "
            "before and after by themselves, since no other evidence of these times will come.",

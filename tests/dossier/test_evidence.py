@@ -712,15 +712,26 @@ def test_logged_steps() -> None:
 
 
 def test_names_of_logs(place: Path) -> None:
-    """Beside the drift a file is read as a log, but if its name says that it is none."""
+    """Whatever evidence.json names is read as a log; what isn't understood is said of those beside the drift alone,
+    unless their names say that they are none."""
     from dossier.folder.files import Folder
     from dossier.premise.backing import backing
     (place / "claim.json").write_bytes((DATA / "clients-us.claim.json").read_bytes())
     step = "2026-11-22T07:03:40Z web-1 chronyd[411]: System clock was stepped by 1.000000 seconds\n"
-    for name, is_log in (("messages-20261122", True), ("journal.txt", True), ("syslog", True), ("tracking.log.1", True),
-                         ("chrony.conf", False), ("sheet.PDF", False)):
-        (place / "evidence.json").write_text(json.dumps({"drift": f"the client's, see {name}"}))
-        (place / name).write_text(step)
+    journal = json.dumps({"__REALTIME_TIMESTAMP": "1795330733288925", "SYSLOG_IDENTIFIER": "chronyd",
+                          "MESSAGE": "System clock was stepped by 1.000000 seconds"})
+    bare, page, pretty = "makestep 1 3\n", "It was stepped in May.\n", '{\n"MESSAGE" : "clock was stepped by 1.0 s"\n}'
+    for premise, name, text, steps, unread in rows(
+            ("drift", "messages-20261122", step, 1, 0), ("drift", "journal.txt", step, 1, 0),
+            ("drift", "syslog", step, 1, 0), ("drift", "tracking.log.1", step, 1, 0), ("drift", "x.conf", step, 1, 0),
+            ("drift", "chrony.conf", bare, 0, 0), ("drift", "sheet.PDF", step, 1, 0), ("drift", "sheet.md", page, 0, 0),
+            ("drift", "journal.json", f"{journal}\n{{}}", 1, 1), ("drift", "pretty.json", pretty, 1, 2),
+            ("leap", "journal.json", journal, 1, 0), ("leap", "x.log", f"{page}{bare}", 0, 0),
+            ("drift", "notes.txt", bare, 0, 1), ("drift", "f.pcap", step, 0, 0),
+            ("drift", "log.json", step, 1, 0), ("drift", "x.json", '{"a": "It was stepped."}', 0, 1)):
+        (place / "evidence.json").write_text(json.dumps({premise: f"the client's, see {name}"}))
+        (place / name).write_text(text)
         with Folder(str(place)) as folder:
-            logs = backing(folder, {"claim.json", "evidence.json", name}).logs
-        check(f"a log that is called {name}", steps=([len(log.steps) for log in logs], [1] * is_log))
+            found = backing(folder, {"claim.json", "evidence.json", name})
+        check(f"{text[:20]!r} in {name} beside {premise}", unread=(sum(found.unread.values()), unread),
+              steps=([len(log.steps) for log in found.logs], [steps] * bool(steps)))

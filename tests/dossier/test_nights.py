@@ -32,29 +32,27 @@ def test_own_names(place: Path) -> None:
 
 
 def test_twice_in_one(place: Path) -> None:
-    """A capture of two interfaces: what is said, and the command that mends it."""
-    if not is_here("mergecap", "a capture of two interfaces"):
-        return
-    folder = folder_of(place, "twice", *VLAN)
-    joined = run(["mergecap", "-F", "nsecpcap", "-w", folder / "f.pcap", VLAN[0], VLAN[0]])
-    line, row = dossier("audit", folder)[1].decode().partition(": ")[2], table(folder)[0]
-    check("twice in one file", made=(joined[0], 0), verdict=(row["verdict"], "no evidence"),
-          line=(line, "each packet is there twice in f.pcap\n"),
-          said=(row["reason"].startswith("Each packet is there twice in f.pcap, so no reply is of use"), True))
-    command = match_of("`(editcap [^`]*)`", row["to_do"])[1]
-    check("the command against twice", run=(run(["sh", "-c", command], cwd=folder)[0], 0))
-    shutil.move(place / "once.pcap", folder / "f.pcap")
-    check("once", verdict=(dossier("audit", folder)[1].split()[0], b"yes"))
+    """A capture that has each packet twice, as one of all interfaces: the verdict is that of one that has it once."""
+    once, twice = folder_of(place, "once", *VLAN), folder_of(place, "twice", *VLAN)
+    whole = (twice / "f.pcap").read_bytes()
+    (twice / "f.pcap").write_bytes(whole[:24] + b"".join(2 * record for record in records_of(whole)))
+    lines = [dossier("audit", folder)[1].decode().splitlines() for folder in (once, twice)]
+    said, = lines[1][1:]
+    check("twice in one file", same=(lines[1][0].replace("twice", "once"), lines[0][0]), yes=(lines[0][0][:4], "yes "),
+          said=("640 packets were recorded once more, the first of them in f.pcap, with stamps up to 0" in said, True),
+          verified=(b"verified: yes" in dossier("verify", twice)[1], True),
+          picture=(dossier("picture", twice / "claim.json", twice / "f.pcap")[1],
+                   dossier("picture", *reversed(VLAN))[1]))
 
 
 def test_displaced(place: Path) -> None:
-    """A capture whose requests another has too, by other stamps: each command that audits says which it is."""
+    """A capture whose requests another has too, by other stamps: each command that audits says so."""
     folder = folder_of(place, "displaced", *VLAN)
     whole = (folder / "f.pcap").read_bytes()
     later = [record[:4] + (int.from_bytes(record[4:8], "little") % 999_999_000 + 1).to_bytes(4, "little") + record[8:]
              for record in records_of(whole)]
     (folder / "a.pcap").write_bytes(whole[:24] + b"".join(later))
-    told = "f.pcap has packets once more that a.pcap has: they count once"
+    told = "packets were recorded once more, the first of them in a.pcap and f.pcap"
     for words in (("audit", folder), ("audit", folder), ("audit", "--days", folder), ("verify", folder)):
         lines = dossier(*words)[1].decode().splitlines()
         check(f"{words[0]} of a capture that another displaces", line=(sum(told in line for line in lines), 1))
@@ -74,7 +72,8 @@ def test_drafts_of_nights(place: Path) -> None:
     twice, whole = folder_of(place, "twice", *VLAN), VLAN[0].read_bytes()
     (twice / "f.pcap").write_bytes(whole[:24] + b"".join(2 * record for record in records_of(whole)))
     status, out, err = dossier("draft", twice / "f.pcap")
-    check("a draft of packets twice", run=((status, out), (1, b"")), said=(b"Each packet is there twice" in err, True))
+    check("a draft of packets twice", run=((status, out), (0, dossier("draft", VLAN[0])[1])),
+          said=(b"640 packets were recorded once more" in err, True))
     words = 'exec "$0" draft --chrony <(cat "$1") "$2"'
     configuration = DATA / "client/chrony.conf"
     piped = run(["bash", "-c", words, SCRIPT, configuration, VLAN[0]], env=ENVIRONMENT)

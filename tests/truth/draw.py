@@ -116,7 +116,11 @@ class Drawn(History):
         elif kind == "overlap":
             first = self.recorders[-1]
             self.recorders[-1] = first._replace(end=min(first.end, time + while_))
-            self.recorders.append(Recorder(f"eth0-{len(self.recorders)}.pcap", max(first.begin, time), first.end))
+            second = Recorder(f"eth0-{len(self.recorders)}.pcap", max(first.begin, time), first.end)
+            other = random.Random(f"above {self.seed}")
+            if other.random() < 0.5:  # (by another interface, or by all into one file)
+                second = second._replace(name=other.choice((first.name, second.name)), above=other.choice((700, 3000)))
+            self.recorders.append(second)
         elif kind == "lost":
             self.lost = rng.uniform(0.1, 0.5)
         elif kind == "mistake":

@@ -18,11 +18,16 @@ def civil(time: int) -> str:
 
 
 class Recorder(NamedTuple):
-    """A file, the true times between which it was written, and whether its end is torn."""
+    """A file, the true times between which it was written, whether its end is torn, and by how many nanoseconds its
+    interface stamps requests earlier and replies later. Two may write one file."""
     name: str
     begin: int
     end: int
     is_torn: bool = False
+    above: int = 0
+
+    def sees(self, packet: Packet) -> Packet:
+        return packet._replace(stamp=packet.stamp + self.above * (1 if packet.is_reply else -1))
 
 
 class Trouble(NamedTuple):
@@ -66,12 +71,18 @@ class History:
                                self.outages).packets
         self.troubles += [Trouble(STEP, jump.begin, jump.end) for jump in self.clock.jumps]
         self.troubles += [Trouble(FAST, event.begin, event.end) for event in self.clock.fast]
-        self.files = {recorder.name: [packet for packet in self.packets
-                                      if recorder.begin <= packet.at < recorder.end] for recorder in self.recorders}
+        self.files: dict[str, list[Packet]] = {recorder.name: [] for recorder in self.recorders}
+        for recorder in self.recorders:
+            self.files[recorder.name] += [recorder.sees(packet) for packet in self.packets
+                                          if recorder.begin <= packet.at < recorder.end]
+            self.files[recorder.name].sort(key=lambda packet: (packet.at, packet.stamp))
         self.torn = {recorder.name: self.files[recorder.name].pop() for recorder in self.recorders
                      if recorder.is_torn and self.files[recorder.name]}
-        self.recorded: list[Packet] = sorted({packet for own in self.files.values() for packet in own},
-                                             key=lambda packet: packet.at)
+        self.again = {packet for own in self.files.values() for packet in own}
+        """All records; of those of one packet the earliest counts, or the latest of a reply."""
+        ordered = sorted(self.again, key=lambda packet: -packet.stamp if packet.is_reply else packet.stamp)
+        self.recorded = sorted({(packet.nonce, packet.is_reply): packet for packet in reversed(ordered)}.values(),
+                               key=lambda packet: packet.at)
         self.exchanges: list[Exchange] = paired(self.recorded)
         return self
 

@@ -70,7 +70,7 @@ broken = nothing_fits
 
 
 def no_evidence(view: View, *_: Any) -> str:
-    return unless(view.is_twice or not view.recorded(view.span), "there is evidence") and too_few(view)
+    return unless(not view.recorded(view.span), "there is evidence") and too_few(view)
 
 
 def off_then(view: View, *values: Any) -> str:
@@ -238,8 +238,14 @@ def torn(view: View, name: str, *_: Any) -> str:
     return unless(any(one.is_torn and one.name == name for one in view.of.recorders), "it is whole")
 
 
-def twice(view: View, name: str, beside: str, *_: Any) -> str:
-    return unless(view.do_share(name, beside), "they have no packet in common")
+def twice(view: View, number: int, name: str, *rest: Any) -> str:
+    beside, apart = (rest[0] if len(rest) > 1 else name), rest[-1]
+    of = view.of.files
+    if name != beside and not {one.nonce for one in of[name]} & {one.nonce for one in of[beside]}:
+        return "they have no packet in common"
+    most = max((abs(one.stamp - other.stamp) for one, other in view.doubles), default=0)
+    return unless(number == len(view.doubles) or view.of.flood and view.doubles, f"{len(view.doubles)} are") or \
+        unless(abs(apart - most) <= 2000, f"they are {most} ns apart")
 
 
 def copied(view: View, others: str) -> str:
@@ -267,10 +273,6 @@ def never(view: View, number: int) -> str:
 
 def too_few(view: View, *_: int) -> str:
     return unless(view.is_mistaken or len(view.heard) <= view.of.false_max, f"{len(view.heard)} groups were heard")
-
-
-def all_twice(view: View, *_: Any) -> str:
-    return unless(view.is_twice, "each was recorded once")
 
 
 def asks_others(view: View, *_: Any) -> str:

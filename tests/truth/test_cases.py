@@ -1,5 +1,6 @@
 """Tests of cases: what is said of a history that was made by hand, besides that all of it is so."""
 from collections.abc import Callable, Iterable
+from itertools import pairwise
 from pathlib import Path
 
 from tests.support import check, count
@@ -131,8 +132,40 @@ def off_in_one_of_two_recordings() -> History:
     history.aim, history.events = -SECOND, [Event(STEP, step, step, SECOND)]
     history.first, history.last, history.bound = MIDNIGHT, MIDNIGHT + 230 * poll, 120_000_000
     history.recorders = [Recorder("eth0.pcap", MIDNIGHT, MIDNIGHT + 130 * poll),
-                         Recorder("bond0.pcap", MIDNIGHT + 30 * poll, MIDNIGHT + 230 * poll)]
+                         Recorder("bond0.pcap", MIDNIGHT + 30 * poll, MIDNIGHT + 230 * poll, above=3000)]
     return history
+
+
+def off_where_all_is_twice(files: list[str], unit: int = SECOND) -> Callable[[], History]:
+    """It is 0.9 s ahead for five minutes, where two interfaces or more were recorded, into files of these names."""
+    def made() -> History:
+        poll = 16 * SECOND
+        history = History(len(set(files)), MIDNIGHT, 16, 200, near=0.05)
+        begin, end = (MIDNIGHT + number * poll - 5 * SECOND for number in (85, 105))
+        history.events = [Event(STEP, begin, begin, 9 * SECOND // 10), Event(STEP, end, end, -9 * SECOND // 10)]
+        history.first, history.last, history.bound = MIDNIGHT, MIDNIGHT + 200 * poll, 120_000_000
+        ends = (0, 110), (80, 200), *2 * [(84, 106)]
+        history.recorders = [Recorder(name, MIDNIGHT + begin * poll, MIDNIGHT + end * poll, above=3000 * number)
+                             for number, (name, (begin, end)) in enumerate(zip(files, ends))]
+        history.unit = unit
+        return history
+    return made
+
+
+def set_back_as_files_end(polls: int, files: int) -> Callable[[], History]:
+    """It is an hour ahead while nobody answers, for so many polls, and set back as a recorder rotates, which begins
+    another file as nobody answers, too, if they are three."""
+    def made() -> History:
+        history = History(1, MIDNIGHT, 16, 400, near=0.05)
+        begin = MIDNIGHT + 1200 * SECOND
+        end = begin + polls * 16 * SECOND
+        history.events = [Event(STEP, begin, begin, 3600 * SECOND), Event(STEP, end, end, -3600 * SECOND)]
+        history.outages = [(begin - SECOND, end + SECOND)]
+        history.first, history.last, history.bound = MIDNIGHT, MIDNIGHT + 6400 * SECOND, 150_000_000
+        ends = [MIDNIGHT, begin + SECOND, end, history.end] if files == 3 else [MIDNIGHT, end, history.end]
+        history.recorders = [Recorder(f"eth0-{8 + number}.pcap", *ends) for number, ends in enumerate(pairwise(ends))]
+        return history
+    return made
 
 
 CASES: dict[str, tuple[Callable[[], History], bool, set[str], list[str]]] = {
@@ -151,6 +184,14 @@ CASES: dict[str, tuple[Callable[[], History], bool, set[str], list[str]]] = {
     "a step by busybox's log": (stepped_unseen(43), True, {"unsupported"}, ["logged a step of the clock"]),
     "a leap second in no record": (leap_in_no_record, False, {"refuted"}, ["to 23:59:58", "from 2026-07-01 00:0"]),
     "ahead while nobody answers": (ahead_while_nobody_answers, False, {"unsupported"}, ["fall back (1 time;"]),
+    "off in what two recordings have": (off_where_all_is_twice(["a.pcap", "b.pcap"]), False, {"nothing fits"},
+                                        ["packets were recorded once more, the first of them in a.pcap and b.pcap"]),
+    "off in what one file has twice": (off_where_all_is_twice(["a.pcap", "a.pcap"], 10**6), False, {"nothing fits"},
+                                       ["packets were recorded once more, the first of them in a.pcap, with"]),
+    "off in what four recordings have": (off_where_all_is_twice(["a.pcap", "b.pcap", "c.pcap", "b.pcap"]), False,
+                                         {"nothing fits"}, ["with stamps up to 0.009 ms apart"]),
+    "set back as a file ends": (set_back_as_files_end(30, 2), False, {"unsupported"}, ["fall back (1 time;", "of 120"]),
+    "set back behind requests alone": (set_back_as_files_end(15, 3), False, {"unsupported"}, ["fall back (1 time;"]),
     "a leap second between polls": (leap_between_polls, False, {"nothing fits"}, ["to 23:59:57 before the step"]),
 }
 """Of each case the history, whether there are logs, the verdicts that it may have, and words that are said."""
@@ -158,11 +199,9 @@ CASES: dict[str, tuple[Callable[[], History], bool, set[str], list[str]]] = {
 
 def test_two_interfaces(place: Path) -> None:
     """What one recording alone has counts, if most of it stands in a larger one too, with stamps 3 us earlier."""
-    history = off_in_one_of_two_recordings().live()
-    history.files["eth0.pcap"] = [one._replace(stamp=one.stamp + 3000) for one in history.files["eth0.pcap"]]
-    one, = read({place / "web-1": (history, None)})
+    one, = read({place / "web-1": (off_in_one_of_two_recordings().live(), None)})
     check("two interfaces", verdict=(one.view.verdict, "nothing fits"),
-          said=("they count once" in str(one.texts), True))
+          said=("each counts once" in str(one.texts), True))
 
 
 def test_falls_by_answers(place: Path) -> None:

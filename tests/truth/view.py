@@ -103,10 +103,25 @@ class View:
         if not counts:
             return f"{len(inside)} packets were recorded" if inside else ""
         if len(counts) == 1:
-            near = [packet for packet in self.packets if when[0] - SECOND <= packet.stamp <= when[1] + SECOND]
-            more = sum(not packet.is_reply for packet in near)
-            return "" if asked <= counts[0] <= more and not heard else f"{asked} requests, {replied} replies"
+            between = self.between_replies(when)
+            near = {packet for packet in self.packets if when[0] - SECOND <= packet.stamp <= when[1] + SECOND}
+            asked = max(asked, sum(not self.is_answered(packet) for packet in between
+                                   if not when[1] < packet.stamp <= when[1] + 2 * SECOND))
+            more = sum(not packet.is_reply for packet in near | between)
+            return "" if asked <= counts[0] <= more and not heard else f"{asked} to {more} requests, {replied} replies"
         return "a reply was of use" if heard else ""
+
+    def between_replies(self, when: Sequence[Any]) -> set[Packet]:
+        """What was recorded, with whatever stamps, from the last reply before a time to the first behind it, if it was
+        requests alone."""
+        before = max((one for one in self.packets if one.is_reply and one.stamp < when[0]), key=lambda one: one.stamp,
+                     default=None)
+        behind = next((one for one in self.packets if one.is_reply and one.stamp > when[1]), None)
+        own = {one for one in self.packets if before and behind and before.at < one.at < behind.at}
+        return own if not any(one.is_reply for one in own) else set()
+
+    def is_answered(self, request: Packet) -> bool:
+        return any(one.is_reply and one.nonce == request.nonce for one in self.packets)
 
     def sides_of(self, when: When) -> set[int]:
         """Behind how many jumps the clock showed readings of a time."""
@@ -203,12 +218,11 @@ class View:
         return self.of.client != CLIENT or self.of.claimed != [server.address for server in self.of.servers]
 
     @cached_property
-    def is_twice(self) -> bool:
-        """Whether most packets stand in two files."""
-        return 2 * sum(map(len, self.of.files.values())) > 3 * len(self.of.recorded)
-
-    def do_share(self, name: str, other: str) -> bool:
-        return bool(set(self.of.files[name]) & set(self.of.files[other]))
+    def doubles(self) -> list[tuple[Packet, Packet]]:
+        """Records of packets that another record counts for, and that one."""
+        kept = {(one.nonce, one.is_reply): one for one in self.of.recorded}
+        pairs = [(one, kept[one.nonce, one.is_reply]) for one in self.of.again]
+        return [(one, other) for one, other in pairs if one.stamp != other.stamp]
 
     def is_wrong_in(self, address: str, when: Sequence[Any]) -> bool:
         """Whether a server was wrong in some exchange whose reply has a stamp of a time."""
