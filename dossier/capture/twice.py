@@ -3,7 +3,7 @@ beside its original, packed, cut, or in other units.
 
 A reply to a request that was recorded twice may be the answer to either, so nothing follows from it, and whatever the
 clock did then would be hidden. So each packet counts once: a request by its earliest stamp, and a reply by its latest.
-That holds for each of the stamps, of whichever clock they are.
+That holds by each of the stamps. If they differ by more than the bound, they aren't of one clock.
 """
 import re
 from contextlib import suppress

@@ -267,7 +267,7 @@ class Bare:
 class Figure:
     """A warning with a number: of samples, servers or records, or in the unit of what the claim grants."""
 
-    kind: Literal["leap", "sources", "flood", "slip", "drift", "reading", "oscillator", "rate", "offset"]
+    kind: Literal["leap", "sources", "flood", "slip", "drift", "reading", "oscillator", "rate", "offset", "stamps"]
     count: Count = 0
 
 
@@ -397,7 +397,8 @@ OF_LEAPS = {"leap-second": "a leap second", "leap-ends": "the list of leap secon
             "no-list": "no list of leap seconds"}
 AGAINST = {"drift": "more drift than is granted", "reading": "a greater allowance than is granted",
            "step": "a logged step", "rate": "a logged frequency", "offset": "a logged offset",
-           "logged": "another logged step", "fell": "times of records that fall back", **OF_LEAPS}
+           "logged": "another logged step", "fell": "times of records that fall back",
+           "stamps": "stamps of one packet that differ", **OF_LEAPS}
 """The warnings that take a yes away, in short: by the folder's own evidence or by the list of leap seconds something
 that the claim grants isn't so, or isn't known."""
 

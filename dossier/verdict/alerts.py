@@ -111,6 +111,8 @@ FIGURES: dict[str, Callable[[int], str]] = {
                            "span or near it. That is more than the claim grants (`drift_ppb`).",
     "offset": lambda number: f"The client logged an offset of {ns_ms(number)} ms in the span or near it. That is "
                              "beyond the bound.",
+    "stamps": lambda number: f"Stamps of one packet are up to {ns_up_ms(number)} ms apart, which is beyond the bound: "
+                             "they are of two clocks, or the clock was set between them.",
 }
 SERVERS: dict[str, Callable[[OfServers], str]] = {
     "address": lambda found: f"By the folder's own evidence the recorder had the address {found.servers[0]}, and not "
@@ -169,6 +171,7 @@ TO_DO = {
               "times.",
     "logged": "See in the log when the clock was stepped, and claim the time between two steps by itself.",
     "reading": "Grant as much as was measured, and audit again.",
+    "stamps": "Keep what this machine's clock has stamped alone in the folder.",
     "step": "Claim the time before the step and the time after it by themselves.",
     "fell": "Claim the time before the records' times fall back and the time after it by themselves.",
     "leap-second": "Claim another span.",

@@ -10,7 +10,7 @@ from ..capture.recording import Recording
 from ..capture.traffic import Traffic, number_of
 from ..folder.answers import Envelope, Settled, read_advice, read_settled
 from ..folder.claim import GREATEST_DRIFT, OSCILLATOR, Claim, Part
-from ..folder.entry import (FEW, NO_EVIDENCE, NOTHING_FITS, OPEN, REFUTED, YES, Alert, AtTick, Bare, Between,
+from ..folder.entry import (FEW, NO_EVIDENCE, NOTHING_FITS, OPEN, REFUTED, YES, Again, Alert, AtTick, Bare, Between,
                             Cause, Conflict, Elsewhere, Entry, Falls, Far, Figure, ForATime, Gap, Gaps, Hull,
                             LeapList, Misfit, Move, OfServers, OneReference, Piece, Quiet, Reason, Server, Silence,
                             Silent, Stretch)
@@ -83,6 +83,8 @@ def judge(part: Part, recording: Recording, beside: Beside, texts: Texts, step: 
               *against(beside.backing, claim, leap, texts.moves)]
     if texts.traffic and (mode := texts.traffic.interleaving(claim.client, claim.servers)):
         warned.insert(0, OfServers("interleaved", mode))
+    warned += [Figure("stamps", alert.spread) for alert in beside.alerts
+               if isinstance(alert, Again) and alert.spread > claim.bound_ns]
     if 0 < claim.drift_ppb <= OSCILLATOR and not beside.backing.read:
         warned.append(Figure("oscillator", claim.drift_ppb))
     reason = reason_of(claim, settled, Seen(servers, recording, gaps, texts))

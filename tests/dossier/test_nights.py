@@ -45,6 +45,16 @@ def test_twice_in_one(place: Path) -> None:
                    dossier("picture", *reversed(VLAN))[1]))
 
 
+def test_asked_elsewhere(place: Path) -> None:
+    """Requests and replies that two interfaces recorded at once: neither of the two files follows the other."""
+    folder = folder_of(place, "asked", *VLAN)
+    whole = (folder / "f.pcap").read_bytes()
+    for name, is_request in (("f.pcap", True), ("a.pcap", False)):
+        own = [record for record in records_of(whole) if (record[56:58] == b"\0\x7b") == is_request]
+        (folder / name).write_bytes(whole[:24] + b"".join(own))
+    check("asked elsewhere", line=(dossier("audit", folder)[1].split()[0], b"yes"))
+
+
 def test_displaced(place: Path) -> None:
     """A capture whose requests another has too, by other stamps: each command that audits says so."""
     folder = folder_of(place, "displaced", *VLAN)

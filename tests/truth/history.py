@@ -18,16 +18,18 @@ def civil(time: int) -> str:
 
 
 class Recorder(NamedTuple):
-    """A file, the true times between which it was written, whether its end is torn, and by how many nanoseconds its
-    interface stamps requests earlier and replies later. Two may write one file."""
+    """A file, the true times between which it was written, whether its end is torn, by how many nanoseconds its
+    interface stamps requests earlier and replies later, and how far its clock is ahead of the machine's. Two may write
+    one file."""
     name: str
     begin: int
     end: int
     is_torn: bool = False
     above: int = 0
+    ahead: int = 0
 
     def sees(self, packet: Packet) -> Packet:
-        return packet._replace(stamp=packet.stamp + self.above * (1 if packet.is_reply else -1))
+        return packet._replace(stamp=packet.stamp + self.ahead + self.above * (1 if packet.is_reply else -1))
 
 
 class Trouble(NamedTuple):

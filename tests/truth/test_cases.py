@@ -152,6 +152,15 @@ def off_where_all_is_twice(files: list[str], unit: int = SECOND) -> Callable[[],
     return made
 
 
+def recorded_by_another() -> History:
+    """It is 0.9 s ahead, and another machine, whose clock is right, has recorded the same and more."""
+    history = History(1, MIDNIGHT, 16, 60, near=0.05)
+    history.aim, history.bound = 9 * SECOND // 10, 120_000_000
+    history.recorders = [Recorder("a.pcap", MIDNIGHT + 32 * SECOND, history.end),
+                         Recorder("b.pcap", MIDNIGHT, history.end, ahead=-history.aim)]
+    return history
+
+
 def set_back_as_files_end(polls: int, files: int) -> Callable[[], History]:
     """It is an hour ahead while nobody answers, for so many polls, and set back as a recorder rotates, which begins
     another file as nobody answers, too, if they are three."""
@@ -202,6 +211,13 @@ def test_two_interfaces(place: Path) -> None:
     one, = read({place / "web-1": (off_in_one_of_two_recordings().live(), None)})
     check("two interfaces", verdict=(one.view.verdict, "nothing fits"),
           said=("each counts once" in str(one.texts), True))
+
+
+def test_two_clocks(place: Path) -> None:
+    """What two clocks have stamped is no yes, if the stamps of a packet differ by more than the bound."""
+    one, = read({place / "web-1": (recorded_by_another().live(), None)})
+    check("two clocks", verdict=(one.view.verdict, "unsupported"), said=(
+        "Stamps of one packet are up to 900.000 ms apart, which is beyond the bound" in str(one.texts), True))
 
 
 def test_falls_by_answers(place: Path) -> None:

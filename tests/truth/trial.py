@@ -89,8 +89,8 @@ def read(histories: dict[Path, tuple[History, Logs | None]], step: Sequence[obje
         if logs and logs.is_drafted:
             call(*logs.draft(folder), *(folder / recorder.name for recorder in history.recorders), **env)
     said = call("audit", "--jobs", 1, *step, *histories, **env)
-    lines = {Path(line[14:].split(": ", 1)[0]): line[14:].split(": ", 1)[-1] for line in said.splitlines()
-             if line[14:15] == "/"}
+    lines = {Path(line[14:].split(": ", 1)[0]): line[14:].split(": ", 1)[-1] for line in reversed(said.splitlines())
+             if line[14:15] == "/"}  # (of those of a folder the first)
     articles = Page(call("page", *histories, **env)).articles if has_page else []
     verified = call("verify", *histories, **env) if verifies else ""
     for folder, (history, logs) in histories.items():
