@@ -113,7 +113,7 @@ BUGS: dict[str, Edit] = {
         "if is_name name (fst m) then match found with Some v => Some v | None => Some (snd m) end else found"),
     "a number with a zero before it": ("Texts", "if d =? 48 then None else digits t 0", "digits t 0"),
     "a minute of 60 s": ("Texts", "(s <=? 59)", "(s <=? 60)"),
-    "a server in two groups": ("Texts", " && differ l.", "."),
+    "a server in two groups": ("Texts", " && differ l &&", " &&"),
     "33 entries": ("Texts", "if 32 <? long l then inr 4", "if Z.succ 32 <? long l then inr 4"),
     "a lie more than granted": ("Verdict", "is 0 <=? f", "is 0 <=? Z.succ f"),
     "the greatest low end": ("Verdict", "if fst i <? e then", "if e <? fst i then"),
