@@ -11,8 +11,7 @@ external to_string : t -> string = "whole_to_string"
 
 let zero = of_int 0
 let one = of_int 1
-let two = of_int 2
-let double x = mul two x
+let double x = add x x
 let succ x = add x one
 let succ_double x = succ (double x)
 let pred x = sub x one

@@ -43,14 +43,13 @@ PLANTS: dict[str, list[Edit]] = {
     "the widening by true time": [
         ("Definitions", "ceiling (ppb * d) (billion - ppb)", "ceiling (ppb * d) billion")],
     "the root delay is taken whole": [
-        ("Definitions", "root_delay p * 32768", "root_delay p * 65536"),
-        ("Reading", "root_delay p * n32768", "root_delay p * n65536")],
+        ("Definitions", "root_delay p * 32768", "root_delay p * 65536")],
     "stratum 16 is usable": [
         ("Definitions", "1 <= stratum p <= 15", "1 <= stratum p <= 16"),
-        ("Pairing", "stratum p <=? n15", "stratum p <=? n16")],
+        ("Pairing", "stratum p <=? 15", "stratum p <=? 16")],
     "an unsynchronized server is usable": [
         ("Definitions", "version p = 4 /\\ leap p <> 3 /\\", "version p = 4 /\\"),
-        ("Pairing", "negb (leap p =? n3) && ", "")],
+        ("Pairing", "negb (leap p =? 3) && ", "")],
     "the receive timestamp may be zero": [
         ("Definitions", "receive p <> 0 /\\ ", ""),
         ("Pairing", "negb (receive p =? 0) && ", "")],
@@ -84,28 +83,28 @@ PLANTS: dict[str, list[Edit]] = {
         ("Verdict", "if (k =? 0) || (p <? last c) then No k Uncovered", "if k =? 0 then No k Uncovered")],
     "the last fragment holds a datagram": [
         ("Definitions", "flags mod 16384 = 0", "flags / 8192 mod 2 = 0"),
-        ("Reading", "(read16 b (ip + n6) mod n16384 =? 0)", "((read16 b (ip + n6) / (n128 * n64)) mod n2 =? 0)")]}
+        ("Reading", "(high16 b (ip + 6) mod 16384 =? 0)", "((high16 b (ip + 6) / (128 * 64)) mod 2 =? 0)")]}
 
 BUGS: dict[str, Edit] = {
     "a fraction of a whole second": ("Reading", "if units <=? part then", "if units <? part then"),
     "a record that ends behind the file": (
-        "Reading", "if size b <? body + length then Fault n5 p else", "if size b <? length then Fault n5 p else"),
-    "records of a byte too many": ("Reading", "most_captured := 262144", "most_captured := 262145"),
+        "Reading", "if size b <? body + length then Fault 5 p else", "if size b <? length then Fault 5 p else"),
+    "records of a byte too many": ("Reading", "262144 <? length", "262145 <? length"),
     "a version of any minor number": (
-        "Reading", "(get16 o b n4 =? n2) && (get16 o b n6 =? n4)", "(get16 o b n4 =? n2)"),
+        "Reading", "(field16 o b 4 =? 2) && (field16 o b 6 =? 4)", "(field16 o b 4 =? 2)"),
     "the other order of bytes": (
-        "Reading", "l =? micro_magic then Some (LowFirst, micro)", "l =? micro_magic then Some (HighFirst, micro)"),
-    "a tag of two bytes": ("Reading", "=? n33024 then n4 else 0", "=? n33024 then n2 else 0"),
-    "a header of four words": ("Reading", "(n5 <=? words)", "(n4 <=? words)"),
-    "fragments": ("Reading", "(read16 b (ip + n6) mod n16384 =? 0) && ", ""),
+        "Reading", "header_in HighFirst b (header_in LowFirst b", "header_in HighFirst b (header_in HighFirst b"),
+    "a tag of two bytes": ("Reading", "=? 33024 then 4 else 0", "=? 33024 then 2 else 0"),
+    "a header of four words": ("Reading", "(69 <=? byte_at b ip)", "(68 <=? byte_at b ip)"),
+    "fragments": ("Reading", "(high16 b (ip + 6) mod 16384 =? 0) && ", ""),
     "port 123 at the source alone": (
-        "Reading", "(read16 b udp =? n123) || (read16 b (udp + n2) =? n123)", "read16 b udp =? n123"),
-    "mode for version": ("Reading", "version := (head / n8) mod n8", "version := head mod n8"),
-    "a precision without its sign": ("Reading", "if signed <? n128 then signed else signed - n256", "signed"),
-    "T3 for T2": ("Reading", "receive := read64 b (ntp + n32)", "receive := read64 b (ntp + n40)"),
+        "Reading", "(high16 b udp =? 123) || (high16 b (udp + 2) =? 123)", "high16 b udp =? 123"),
+    "mode for version": ("Reading", "version := (head / 8) mod 8", "version := head mod 8"),
+    "a precision without its sign": ("Reading", "if signed <? 128 then signed else signed - 256", "signed"),
+    "T3 for T2": ("Reading", "receive := high64 b (ntp + 32)", "receive := high64 b (ntp + 40)"),
     "the first of two requests": ("Pairing", "| Some _ => Several end", "| Some s => s end"),
-    "a request of any version": ("Pairing", "(mode p =? n3) && (version p =? n4)", "(mode p =? n3)"),
-    "a request from any port": ("Pairing", "(n * n65536 + port) * n2048", "(n * n65536 + port * 0) * n2048"),
+    "a request of any version": ("Pairing", "(mode p =? 3) && (version p =? 4)", "(mode p =? 3)"),
+    "a request from any port": ("Pairing", "(n * 65536 + port) * 2048", "(n * 65536 + port * 0) * 2048"),
     "a reply of stratum 0": ("Pairing", "(1 <=? stratum p) && ", ""),
     "T3 unfolded near the reply": (
         "Pairing", "t3 := unfold_near low (transmit p)", "t3 := unfold_near (window_begin p) (transmit p)"),
@@ -114,8 +113,8 @@ BUGS: dict[str, Edit] = {
         "if is_name name (fst m) then match found with Some v => Some v | None => Some (snd m) end else found"),
     "a number with a zero before it": ("Texts", "if d =? 48 then None else digits t 0", "digits t 0"),
     "a minute of 60 s": ("Texts", "(s <=? 59)", "(s <=? 60)"),
-    "a server in two groups": ("Texts", " && differ l.", "."),
-    "33 entries": ("Texts", "if n32 <? long l then inr 4", "if Z.succ n32 <? long l then inr 4"),
+    "a server in two groups": ("Texts", " && differ l &&", " &&"),
+    "33 entries": ("Texts", "if 32 <? long l then inr 4", "if Z.succ 32 <? long l then inr 4"),
     "a lie more than granted": ("Verdict", "is 0 <=? f", "is 0 <=? Z.succ f"),
     "the greatest low end": ("Verdict", "if fst i <? e then", "if e <? fst i then"),
     "a high end by the other exchange": ("Verdict", "moved_high c p q y", "moved_high c p q x"),
