@@ -10,7 +10,6 @@ import re
 import signal
 import time
 from contextlib import suppress
-from socket import inet_aton
 from struct import Struct
 from typing import Annotated, Literal, NamedTuple
 
@@ -25,6 +24,7 @@ from ..units import now
 from .classic import HEAD, HEADER, MAGICS
 from .exchange import ANY, Keeping
 from .recorder import BEGUN, INTERFACE, Recorder, addresses_of, ends_of, filter_of, keep, recorder
+from .traffic import number_of
 
 LOOK, HOUR = 10, 3600
 """Seconds from one look to the next, and of a file of an hourly recording."""
@@ -244,7 +244,7 @@ class Watch:
         except Fault as found:  # (what is recorded counts without it too)
             note(f"ntpaudit-dossier: no evidence of the recorder is left: {found.words}")
         ends = ends_of(self.wanted.claim, self.found.addresses if self.found else [])
-        self.keeping.clients = set(map(inet_aton, ends[0]))
+        self.keeping.clients = {bytes(number_of(client)) for client in ends[0]}
         words = [self.tool, "-i", self.wanted.interface, "-n", "-U", "-j", "host", "--time-stamp-precision=nano",
                  "-s", str(PACKET), "-B", BUFFER, "-w", "-", "--", filter_of(*ends)]
         self.header = self.rest = b""

@@ -34,7 +34,8 @@ def test_skips(place: Path) -> None:
     for folder in (".ci", "tests", "bin"):
         (place / folder).mkdir()
     shutil.copy(ROOT / ".ci/run", place / ".ci")
-    runnable(place / "bin/apt-get", "#!/bin/sh\n")
+    for tool in ("apt-get", "dpkg"):
+        runnable(place / "bin" / tool, "#!/bin/sh\n")
     for why, counts, status in ((wanting("zstd"), "1 passed, 1 failed, 1 skipped", 1),
                                 ("there are no namespaces", "1 passed, 0 failed, 1 skipped", 0)):
         skipped = f"skipped dossier.daily [it]: {why}"
