@@ -136,8 +136,9 @@ def logged(logs: list[Tracking], claim: Claim, leap: Leap, moves: list[Move]) ->
         first, last = move.around
         own = sorted((step for step in steps if is_of(move, step)), reverse=True)
         left -= set({how: (time, size, how) for time, size, how in own}.values())  # (each way to see it sees it once)
-        if not own and are_known and any(seconds_of(log.first) * SECOND <= first and
-                                         last <= seconds_of(log.last) * SECOND for log in logs):
+        is_there = any(first // SECOND - NEAR <= seconds_of(time) <= last // SECOND + NEAR for time, _, _ in steps)
+        if not is_there and are_known and any(seconds_of(log.first) * SECOND <= first and
+                                              last <= seconds_of(log.last) * SECOND for log in logs):
             yield Between("unlogged", first, last)
     inside = {step for step in left if tracking.is_within(step, leap.from_, leap.to)}
     within, others = sorted(inside), sorted(left - inside) if moves else []

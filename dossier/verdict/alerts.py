@@ -112,7 +112,7 @@ FIGURES: dict[str, Callable[[int], str]] = {
     "offset": lambda number: f"The client logged an offset of {ns_ms(number)} ms in the span or near it. That is "
                              "beyond the bound.",
     "stamps": lambda number: f"Stamps of one packet are up to {ns_up_ms(number)} ms apart, which is beyond the bound: "
-                             "they are of two clocks, or the clock was set between them.",
+                             "they are of two clocks, the clock was set between them, or two packets are alike.",
 }
 SERVERS: dict[str, Callable[[OfServers], str]] = {
     "address": lambda found: f"By the folder's own evidence the recorder had the address {found.servers[0]}, and not "

@@ -154,18 +154,21 @@ def in_parts(entry: Entry) -> str:
                     for part, hull in known[:MOST_TIMES]])
     more = f", and in {len(known) - MOST_TIMES} other parts what audit.json has" if len(known) > MOST_TIMES else ""
     off = f" It was {off_times(entry)}, and so beyond the bound." if any(part.beyond for part in entry.parts) else ""
-    return f" Its error (below 0 it was behind) lay within {parts}{more}, {IF_TRUE}.{off}"
+    is_spared = isinstance(entry.reason, Misfit) and entry.reason.count
+    if_true = "if so many were wrong and what else the claim grants is true" if is_spared else \
+        "if what the claim grants is true"
+    return f" Its error (below 0 it was behind) lay within {parts}{more}, {if_true}.{off}"
 
 
 MOST_TIMES = 4
 """Times that a sentence names."""
-IF_TRUE = "if what the claim grants is true"
 
 
 def why_nothing_fits(entry: Entry, found: Misfit) -> str:
     groups = count(len(entry.claim.grouped), "group")
     if entry.moves:
-        more = f" That takes {found.count} wrong of {groups}, more than the claim grants." if found.count else ""
+        more = f" That takes {found.count} wrong of {groups}, more than the claim grants, unless it moved once more." \
+            if found.count else ""
         return f"The clock was {moves_of(entry)}.{more}{in_parts(entry)}"
     wrong = f" (with {found.count} wrong of {groups} a course of events would fit)" if found.count else ""
     faster = f" (with a drift of {found.drift_ppb:,} parts in 10^9 one would fit)" if found.drift_ppb else ""

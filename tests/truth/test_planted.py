@@ -42,6 +42,12 @@ PLANTS = [
     ("a leap second's day for the next", "premise/premises.py", "civil(end - 1)[:10]", "civil(end)[:10]"),
     ("a server that may be wrong for one that has to be", "verdict/apart.py", "set.intersection(*found)",
      "set.union(*found)"),
+    ("a packet that was recorded twice for two", "capture/twice.py", "if whole.extent and not is_ambiguous(program, whole.path):",
+     "if True:"),
+    ("files put in order by their records' times", "capture/captures.py",
+     "said |= heard_at([(name, side)], MANY, captures, program)", "pass"),
+    ("what nobody answered counted by its times", "verdict/settling.py", "for is_between in (True, False):",
+     "for is_between in (False,):"),
     ("half an exchange for all of it", "verdict/breaks.py", "[*named, *map(self.other.__getitem__, named)]", "named"),
 ]
 """What the bug is, in which file of dossier/ it is, what stands there, and what stands there then."""

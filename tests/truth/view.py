@@ -33,8 +33,11 @@ class View:
         return unseen(self.of, [jump.begin for jump in self.logs.steps] if self.logs else [])
 
     def unless_unseen(self, wrong: str) -> str:
-        """Nothing if what went wrong can't be seen, or if the answer says itself that the folder speaks against it."""
+        """Nothing if what went wrong can't be seen; if the answer says itself that the folder speaks against it; or if
+        it says `if so many were wrong`, and none was more than is granted."""
+        spared = (self.entry.get("reason") or {}).get("count") if self.entry.get("moves") else 0
         if not wrong or self.verdict == "unsupported" and self.logged_against() or self.is_warned or \
+                spared and not self.too_many_wrong or \
                 self.verdict == "nothing fits" and self.most_agree:
             return ""
         return "" if self.excuse else wrong
