@@ -109,8 +109,9 @@ class Drawn(History):
             self.outages.append((time, time + while_))
             self.troubles.append(Trouble(kind, time, time + while_))
         elif kind in ("gap", "torn"):
-            self.cut(time, time + while_ if rng.random() < 0.8 else self.end, kind == "torn")
-            self.troubles.append(Trouble("gap", time, time + while_))
+            end = time + while_ if rng.random() < 0.8 else self.end
+            self.cut(time, end, kind == "torn")
+            self.troubles.append(Trouble("gap", time, end))
         elif kind == "rotated":
             self.cut(time, time)
         elif kind == "overlap":
@@ -119,7 +120,7 @@ class Drawn(History):
             second = Recorder(f"eth0-{len(self.recorders)}.pcap", max(first.begin, time), first.end)
             other = random.Random(f"above {self.seed}")
             if other.random() < 0.5:  # (by another interface, or by all into one file)
-                second = second._replace(name=other.choice((first.name, second.name)), above=other.choice((700, 3000)))
+                second = second._replace(name=other.choice((first.name, second.name)), above=other.choice((3000, 20_000)))
             self.recorders.append(second)
         elif kind == "lost":
             self.lost = rng.uniform(0.1, 0.5)

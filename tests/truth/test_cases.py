@@ -162,8 +162,8 @@ def recorded_by_another() -> History:
 
 
 def set_back_as_files_end(polls: int, files: int) -> Callable[[], History]:
-    """It is an hour ahead while nobody answers, for so many polls, and set back as a recorder rotates, which begins
-    another file as nobody answers, too, if they are three."""
+    """It is an hour ahead while nobody answers, for so many polls, and set back as a recorder rotates: of two files the
+    first has the later name; of three one begins as nobody answers, too."""
     def made() -> History:
         history = History(1, MIDNIGHT, 16, 400, near=0.05)
         begin = MIDNIGHT + 1200 * SECOND
@@ -172,7 +172,8 @@ def set_back_as_files_end(polls: int, files: int) -> Callable[[], History]:
         history.outages = [(begin - SECOND, end + SECOND)]
         history.first, history.last, history.bound = MIDNIGHT, MIDNIGHT + 6400 * SECOND, 150_000_000
         ends = [MIDNIGHT, begin + SECOND, end, history.end] if files == 3 else [MIDNIGHT, end, history.end]
-        history.recorders = [Recorder(f"eth0-{8 + number}.pcap", *ends) for number, ends in enumerate(pairwise(ends))]
+        names = ("eth0-1.pcap", "eth0-0.pcap") if files == 2 else ("eth0-8.pcap", "eth0-9.pcap", "eth0-10.pcap")
+        history.recorders = [Recorder(name, *own) for name, own in zip(names, pairwise(ends))]
         return history
     return made
 
