@@ -32,6 +32,8 @@ MOST_RUNS = 1 << 19
 """Of records that follow one another in time there are some for each day, however long a capture is."""
 AT_ONCE = 1 << 16
 """Records whose times are compared together."""
+MESSAGE, PORTS = 48, slice(HEAD + 34, HEAD + 42)
+"""Bytes of an NTP message; and where the ports of its record stand, behind Ethernet, perhaps a tag, and IPv4."""
 AT_ENDS = 100
 """Records at either end of a capture, by which it is known when it was made, and whether the next has them too."""
 NEW_HEADER, NEW_HEAD = Struct("<IHHIIII"), Struct("<IIII")
@@ -207,25 +209,33 @@ def woven(captures: Iterable[Iterable[Timed]], times: list[tuple[int, int]]) -> 
     found, end = list[Timed](), 0
     for capture, (begin, last) in zip(captures, times):
         own = list(capture)
-        do_share = found and not {record[2] for record in own[:AT_ENDS]}.isdisjoint(record[2] for record in found)
+        do_share = not {own_of(record[2]) for record in own[:AT_ENDS]}.isdisjoint(own_of(record[2]) for record in found)
         found = [*found, *own] if begin >= end and not do_share else both(found, own)
         end = max(end, last)
     return found
 
 
 def both(one: list[Timed], other: list[Timed]) -> list[Timed]:
-    """Records of two, in the order of both, those that both have once; between these in order of time."""
+    """Records of two, in the order of both, those that both have once; packets that both have, by other stamps, one
+    after the other; between these in order of time."""
     places, found = dict[bytes, list[int]](), list[Timed]()
     for number, record in enumerate(one):
-        places.setdefault(record[2], []).append(number)
+        places.setdefault(own_of(record[2]), []).append(number)
     i = j = 0
     for number, record in enumerate(other):
-        own = places.get(record[2], [])
+        own = places.get(own_of(record[2]), [])
         if (at := bisect_left(own, i)) < len(own):
+            same = one[own[at]]
             found += merge(one[i : own[at]], other[j:number], key=itemgetter(0, 1))
-            found.append(record)
+            found += [record] if record[2] == same[2] else sorted([same, record])
             i, j = own[at] + 1, number + 1
     return [*found, *merge(one[i:], other[j:], key=itemgetter(0, 1))]
+
+
+def own_of(record: bytes) -> bytes:
+    """What no other packet has: an NTP message with its timestamps; of others the record with its time."""
+    is_ntp = b"\0\x7b" in record[PORTS] and any(record[-8:])
+    return record[-MESSAGE:] if is_ntp else record
 
 
 def in_a_row(captures: list[Classic], is_known: bool) -> list[Classic] | None:

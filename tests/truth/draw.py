@@ -120,7 +120,8 @@ class Drawn(History):
             second = Recorder(f"eth0-{len(self.recorders)}.pcap", max(first.begin, time), first.end)
             other = random.Random(f"above {self.seed}")
             if other.random() < 0.5:  # (by another interface, or by all into one file)
-                second = second._replace(name=other.choice((first.name, second.name)), above=other.choice((3000, 20_000)))
+                name, above = other.choice((first.name, second.name)), other.choice((3000, 20_000))
+                second = second._replace(name=name, above=above)
             self.recorders.append(second)
         elif kind == "lost":
             self.lost = rng.uniform(0.1, 0.5)

@@ -244,7 +244,8 @@ def twice(view: View, number: int, name: str, *rest: Any) -> str:
     if name != beside and not {one.nonce for one in of[name]} & {one.nonce for one in of[beside]}:
         return "they have no packet in common"
     most = max((abs(one.stamp - other.stamp) for one, other in view.doubles), default=0)
-    return unless(number == len(view.doubles) or view.of.flood and view.doubles, f"{len(view.doubles)} are") or \
+    copies = sum(map(len, of.values())) - len(view.of.recorded)  # (some of one stamp are left out before)
+    return unless(len(view.doubles) <= number and (number <= copies or view.of.flood), f"{len(view.doubles)} are") or \
         unless(abs(apart - most) <= 2000, f"they are {most} ns apart")
 
 

@@ -163,17 +163,18 @@ def recorded_by_another() -> History:
 
 def set_back_as_files_end(polls: int, files: int) -> Callable[[], History]:
     """It is an hour ahead while nobody answers, for so many polls, and set back as a recorder rotates: of two files the
-    first has the later name; of three one begins as nobody answers, too."""
+    first has the later name; of three one begins as nobody answers, too; of four one has all, by another interface."""
     def made() -> History:
-        history = History(1, MIDNIGHT, 16, 400, near=0.05)
+        history = History(files - 1, MIDNIGHT, 16, 400, near=0.05)
         begin = MIDNIGHT + 1200 * SECOND
         end = begin + polls * 16 * SECOND
         history.events = [Event(STEP, begin, begin, 3600 * SECOND), Event(STEP, end, end, -3600 * SECOND)]
         history.outages = [(begin - SECOND, end + SECOND)]
         history.first, history.last, history.bound = MIDNIGHT, MIDNIGHT + 6400 * SECOND, 150_000_000
-        ends = [MIDNIGHT, begin + SECOND, end, history.end] if files == 3 else [MIDNIGHT, end, history.end]
+        ends = [MIDNIGHT, begin + SECOND, end, history.end] if files > 2 else [MIDNIGHT, end, history.end]
         names = ("eth0-1.pcap", "eth0-0.pcap") if files == 2 else ("eth0-8.pcap", "eth0-9.pcap", "eth0-10.pcap")
         history.recorders = [Recorder(name, *own) for name, own in zip(names, pairwise(ends))]
+        history.recorders += [Recorder("all.pcap", MIDNIGHT, history.end, above=3000)] * (files == 4)
         return history
     return made
 
@@ -201,6 +202,7 @@ CASES: dict[str, tuple[Callable[[], History], bool, set[str], list[str]]] = {
     "off in what four recordings have": (off_where_all_is_twice(["a.pcap", "b.pcap", "c.pcap", "b.pcap"]), False,
                                          {"nothing fits"}, ["with stamps up to 0.009 ms apart"]),
     "set back as a file ends": (set_back_as_files_end(30, 2), False, {"unsupported"}, ["fall back (1 time;", "of 120"]),
+    "set back beside another recording": (set_back_as_files_end(15, 4), False, {"unsupported"}, ["fall back (1 time;"]),
     "set back behind requests alone": (set_back_as_files_end(15, 3), False, {"unsupported"}, ["fall back (1 time;"]),
     "a leap second between polls": (leap_between_polls, False, {"nothing fits"}, ["to 23:59:57 before the step"]),
 }

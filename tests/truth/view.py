@@ -8,7 +8,7 @@ from tests.truth.files import Logs
 from tests.truth.forms import When
 from tests.truth.history import CLIENT, LEAP, History, civil
 from tests.truth.network import OFF, RIGHT, TICKS, Packet
-from tests.truth.sight import counted, unseen, wrong_groups
+from tests.truth.sight import MARGIN, counted, unseen, wrong_groups
 
 Range = tuple[int, int]
 
@@ -120,7 +120,8 @@ class View:
         before = max((one for one in self.packets if one.is_reply and one.stamp < when[0]), key=lambda one: one.stamp,
                      default=None)
         behind = next((one for one in self.packets if one.is_reply and one.stamp > when[1]), None)
-        own = {one for one in self.packets if before and behind and before.at < one.at < behind.at}
+        own = {one for one in self.packets if before and behind and before.at < one.at < behind.at
+               and self.span[0] - MARGIN <= one.stamp <= self.span[1] + MARGIN}
         return own if not any(one.is_reply for one in own) else set()
 
     def is_answered(self, request: Packet) -> bool:
