@@ -173,8 +173,9 @@ def set_back_as_files_end(polls: int, files: int) -> Callable[[], History]:
         history.first, history.last, history.bound = MIDNIGHT, MIDNIGHT + 6400 * SECOND, 150_000_000
         ends = [MIDNIGHT, begin + SECOND, end, history.end] if files > 2 else [MIDNIGHT, end, history.end]
         names = ("eth0-1.pcap", "eth0-0.pcap") if files == 2 else ("eth0-8.pcap", "eth0-9.pcap", "eth0-10.pcap")
-        history.recorders = [Recorder(name, *own) for name, own in zip(names, pairwise(ends))]
-        history.recorders += [Recorder("all.pcap", MIDNIGHT, history.end, above=3000)] * (files == 4)
+        above = 3000 * (files == 4)
+        history.recorders = [Recorder(name, *own, above=above) for name, own in zip(names, pairwise(ends))]
+        history.recorders += [Recorder("all.pcap", MIDNIGHT, history.end)] * (files == 4)
         return history
     return made
 
