@@ -44,8 +44,8 @@ BLOCKS, EACH = 64, 32
 """Of all other records so many blocks are looked at, evenly apart, of so many records for each server."""
 PART, THINNED, CUT = "part.pcap", "thinned.pcap", "cut.pcap"
 ASKED = re.compile(rb"(?m)^(?:\S+ ){5}m3 (?:\S+ ){9}(\S+)")
-ANSWERED = re.compile(rb"(?m)^(?:\S+ ){5}m4 (?:\S+ ){7}(\S+)")
-"""The timestamp by which a line of `list` asks, and the one by which it answers."""
+ANSWERED = re.compile(rb"(?m)^(?:\S+ ){5}m4 (?:\S+ ){7}(\S+) .* (\d+)$")
+"""The timestamp by which a line of `list` asks; and the one by which another answers, and when."""
 
 
 class Audited(NamedTuple):
@@ -89,9 +89,9 @@ def audited(copies: dict[str, str], program: Program | None = None) -> Audited:
 
 
 def times_of(captures: dict[str, Classic], program: Program) -> Times | None:
-    """When captures begin and end by what servers say at their ends, in the median, however far in they are heard. One
-    in which none is heard follows the one before it by name, unless its requests are answered in others. None if that
-    is so, if none is heard in any, or if they can't be joined."""
+    """When captures begin and end by what servers say at their ends, in the median, however far in they are heard, or
+    of its requests in others. One of which none is heard follows the one before it by name. None if none is heard in
+    any, or if they can't be joined."""
     first = next(iter(captures.values()))
     if any(not capture.is_one or capture.kind != first.kind for capture in captures.values()):
         return None
@@ -100,11 +100,11 @@ def times_of(captures: dict[str, Classic], program: Program) -> Times | None:
         for side in (0, 1):
             if (name, side) not in said and (not side or (name, 0) in said) and len(capture.extent.stamps) > AT_ENDS:
                 said |= heard_at([(name, side)], MANY, captures, program)
+    if not said:
+        return None
+    said |= answered_elsewhere([name for name in captures if (name, 1) not in said], captures, program)
     ends = {name: sorted([median_low(said[name, 0][:AT_ENDS]), median_low(said[name, 1][-AT_ENDS:])])
             for name in captures if (name, 0) in said and (name, 1) in said}
-    silent = [capture.path for name, capture in captures.items() if name not in ends]
-    if not ends or silent and are_answered(silent, [captures[name].path for name in ends], program):
-        return None
     found, last = dict[str, tuple[int, int]](), 0
     for name in sorted(captures, key=by_number):
         begin, last = ends.get(name, (last, last))
@@ -135,13 +135,19 @@ def heard_at(ends: list[tuple[str, int]], most: int, captures: dict[str, Classic
     return said
 
 
-def are_answered(silent: list[str], others: list[str], program: Program) -> bool:
-    """Whether others have an answer to a request of captures in which none is."""
-    asked, answered = set[bytes](), set[bytes]()
-    for known, form, paths in ((asked, ASKED, silent), (answered, ANSWERED, others)):
-        for path in paths:
-            program.blocks(lambda block: known.update(form.findall(block)), "list", path)
-    return not asked.isdisjoint(answered)
+def answered_elsewhere(silent: list[str], captures: dict[str, Classic],
+                       program: Program) -> dict[tuple[str, int], list[int]]:
+    """What servers say in others of the requests of captures in which none is heard."""
+    asked, said = dict[str, list[bytes]](), dict[bytes, int]()
+    for name in silent:
+        asked[name] = own = list[bytes]()
+        program.blocks(lambda block: own.extend(ASKED.findall(block)), "list", captures[name].path)
+    wanted = {stamp for own in asked.values() for stamp in own}
+    for name in captures.keys() - asked.keys() if wanted else ():
+        program.blocks(lambda block: said.update((stamp, int(time)) for stamp, time in ANSWERED.findall(block)
+                                                 if stamp in wanted), "list", captures[name].path)
+    return {(name, side): times for name, own in asked.items()
+            if (times := [said[stamp] for stamp in own if stamp in said]) for side in (0, 1)}
 
 
 def by_number(name: str) -> list[str | int]:

@@ -42,7 +42,7 @@ def silent(gap: Silence) -> str:
     """What was recorded in a gap."""
     first, last = map(shown_time, inward(gap.after, gap.by))
     when = f"from {first} to {last} ({length(gap.by - gap.after)})"
-    if not gap.requests:
+    if not gap.requests and not gap.replies:
         return f"No server was heard {when}: nothing of this client was recorded."
     asked = count(gap.requests, "request")
     if not gap.replies:

@@ -102,7 +102,8 @@ class View:
         inside = [packet for packet in self.packets if when[0] < packet.stamp < when[1] and not any(
             begin < packet.at < end for begin, end in self.moving)]
         asked, replied = (sum(packet.is_reply is kind for packet in inside) for kind in (False, True))
-        heard = {id(packet) for packet in inside if packet.is_reply}
+        heard = [one for one in self.of.exchanges if when[0] < one.answered < when[1] and not any(
+            begin < one.came_at < end for begin, end in self.moving)]
         if not counts:
             return f"{len(inside)} packets were recorded" if inside else ""
         if len(counts) == 1:
