@@ -40,6 +40,8 @@ MOST_BYTES = 1 << 31
 """Of a capture that isn't thinned out."""
 NEXT, MOST_FALLS = 160, 1000
 """Records that are next to others, for each server; and how often the times of a capture may fall back for that."""
+NEAREST = 15
+"""Replies at either end of a capture, by whose median it is known when it was made."""
 BLOCKS, EACH = 64, 32
 """Of all other records so many blocks are looked at, evenly apart, of so many records for each server."""
 PART, THINNED, CUT = "part.pcap", "thinned.pcap", "cut.pcap"
@@ -103,7 +105,7 @@ def times_of(captures: dict[str, Classic], program: Program) -> Times | None:
     if not said:
         return None
     said |= answered_elsewhere([name for name in captures if (name, 1) not in said], captures, program)
-    ends = {name: sorted([median_low(said[name, 0][:AT_ENDS]), median_low(said[name, 1][-AT_ENDS:])])
+    ends = {name: sorted([median_low(said[name, 0][:NEAREST]), median_low(said[name, 1][-NEAREST:])])
             for name in captures if (name, 0) in said and (name, 1) in said}
     found, last = dict[str, tuple[int, int]](), 0
     for name in sorted(captures, key=by_number):

@@ -35,7 +35,7 @@ AT_ONCE = 1 << 16
 MESSAGE, PORTS = 48, slice(HEAD + 34, HEAD + 42)
 """Bytes of an NTP message; and where the ports of its record stand, behind Ethernet, perhaps a tag, and IPv4."""
 AT_ENDS = 100
-"""Records at either end of a capture, by which it is known when it was made, and whether the next has them too."""
+"""Records at either end of a capture, among which it is seen when it was made, and whether the next has them too."""
 NEW_HEADER, NEW_HEAD = Struct("<IHHIIII"), Struct("<IIII")
 NEW_MAGIC = {10**6: 0xA1B2C3D4, 10**9: 0xA1B23C4D}
 

@@ -50,7 +50,7 @@ def test_asked_elsewhere(place: Path) -> None:
     folder = folder_of(place, "asked", *VLAN)
     whole = (folder / "f.pcap").read_bytes()
     for name, is_request in (("f.pcap", True), ("a.pcap", False)):
-        own = [record for record in records_of(whole) if (record[56:58] == b"\0\x7b") == is_request]
+        own = [record for record in records_of(whole)[:200] if (record[56:58] == b"\0\x7b") == is_request]
         (folder / name).write_bytes(whole[:24] + b"".join(own))
     check("asked elsewhere", line=(dossier("audit", folder)[1].split()[0], b"yes"))
 
