@@ -307,8 +307,8 @@ def run(given: argparse.Namespace) -> int:
         if given.command == "record":
             from .capture.watch import RecordCall, record
             return record(RecordCall(given.interface, given.folder, given.hourly, given.claim))
-        from .capture.recorder import filter_of
-        print(filter_of(given.claim))
+        from .capture.recorder import ends_of, filter_of
+        print(filter_of(*ends_of(given.claim, [])))
         return 0
     program = find_program()
     if given.command == "now":

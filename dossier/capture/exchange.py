@@ -1,8 +1,9 @@
 """Which packets of a recorder are kept when more come than a client's: its requests, and what answers them.
 
 Each minute a certain number of bytes is kept, whatever they are. What comes then beyond that is kept only if it is a
-request of a client, or has the time of one that was kept as its origin, which nobody knows who didn't see it; and of
-those too no more than so many bytes in a minute and in an hour. So a flood takes neither the disk nor the verdict.
+request of a client to somebody else, or has the time of one that was kept as its origin, which nobody knows who didn't
+see it; and of those too no more than so many bytes in a minute and in an hour. So a flood takes neither the disk nor
+the verdict.
 """
 from collections.abc import Callable
 
@@ -19,7 +20,8 @@ class Keeping:
     """Says of each packet whether it is kept, by a clock that isn't set."""
 
     def __init__(self, clock: Callable[[], float]):
-        self.clock, self.asked = clock, dict[bytes, None]()
+        self.clock, self.asked, self.clients = clock, dict[bytes, None](), set[bytes]()
+        """Whose requests are kept, if that is known."""
         self.minute = self.hour = clock()
         self.kept = self.beyond = 0
 
@@ -53,9 +55,12 @@ class Keeping:
         mode, ports, ntp = data[udp + 8] & 7, data[udp : udp + 4], udp + 8
         if mode == REPLY and ports[:2] == NTP:
             return data[ip + 12 : ip + 20] + ports + data[ntp + 24 : ntp + 32] in self.asked
+        source, target = data[ip + 12 : ip + 16], data[ip + 16 : ip + 20]
         if mode != REQUEST or ports[2:] != NTP:
             return False
-        back = data[ip + 16 : ip + 20] + data[ip + 12 : ip + 16] + ports[2:] + ports[:2]
+        if self.clients and (source not in self.clients or target in self.clients):
+            return False
+        back = target + source + ports[2:] + ports[:2]
         for stamp in (data[ntp + 40 : ntp + 48], data[ntp + 32 : ntp + 40]):  # (the latter in interleaved mode)
             if any(stamp):
                 self.asked[back + stamp] = None

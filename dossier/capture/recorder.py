@@ -52,17 +52,20 @@ class Recorder:
                 f"{self.machine}, since {self.since} under {self.kernel}, with the kernel's own stamps.")
 
 
-def filter_of(path: str | None, clients: Iterable[str] = ()) -> str:
-    """What tcpdump takes of the packets, tagged or not: what a claim's client and its servers send one another, if the
-    claim is there; else what some clients ask, and the answers; else all NTP packets."""
-    servers: list[str] = []
+def ends_of(path: str | None, clients: list[str]) -> tuple[list[str], list[str]]:
+    """A claim's client and its servers, if the claim is there; else some clients, and any servers."""
     try:
         if path is not None:
             claim: Claim = read_typed(os.path.basename(path), Claim, data_named(path))
-            clients, servers = [claim.client], claim.servers
+            return [claim.client], claim.servers
     except Fault as found:
         note(found.line)
+    return clients, []
 
+
+def filter_of(clients: list[str], servers: list[str]) -> str:
+    """What tcpdump takes of the packets, tagged or not: what clients and servers send one another; of any servers, if
+    none are known; all NTP packets, if nobody is."""
     def way(client: str, server: str) -> str:
         ends = (f"({' or '.join(f'{end} host {one}' for one in known)})"
                 for end, known in ((client, clients), (server, servers)) if known)

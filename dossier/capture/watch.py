@@ -10,6 +10,7 @@ import re
 import signal
 import time
 from contextlib import suppress
+from socket import inet_aton
 from struct import Struct
 from typing import Annotated, Literal, NamedTuple
 
@@ -23,7 +24,7 @@ from ..text import note, plain
 from ..units import now
 from .classic import HEAD, HEADER, MAGICS
 from .exchange import Keeping
-from .recorder import BEGUN, INTERFACE, Recorder, addresses_of, filter_of, keep, recorder
+from .recorder import BEGUN, INTERFACE, Recorder, addresses_of, ends_of, filter_of, keep, recorder
 
 LOOK, HOUR = 10, 3600
 """Seconds from one look to the next, and of a file of an hourly recording."""
@@ -237,9 +238,10 @@ class Watch:
             keep(self.wanted.folder, self.found)
         except Fault as found:  # (what is recorded counts without it too)
             note(f"ntpaudit-dossier: no evidence of the recorder is left: {found.words}")
-        own = self.found.addresses if self.found else []
+        ends = ends_of(self.wanted.claim, self.found.addresses if self.found else [])
+        self.keeping.clients = set(map(inet_aton, ends[0]))
         words = [self.tool, "-i", self.wanted.interface, "-n", "-U", "-j", "host", "--time-stamp-precision=nano",
-                 "-s", str(PACKET), "-B", BUFFER, "-w", "-", "--", filter_of(self.wanted.claim, own)]
+                 "-s", str(PACKET), "-B", BUFFER, "-w", "-", "--", filter_of(*ends)]
         self.header = self.rest = b""
         self.heard = self.said = ""
         self.taken = self.counted = 0

@@ -296,6 +296,7 @@ def test_kept() -> None:
         keeping.renew()
         return keeping.keeps(b"head" + data, 4, 4 + len(data), size)
     mine, server = "192.0.2.10", "192.0.2.1"
+    keeping.clients = {socket.inet_aton(mine)}
     asked = frame(mine, server, (5000, 123), 3, transmit=7)
     answer = frame(server, mine, (123, 5000), 4, origin=7)
     strange = frame(server, mine, (123, 5000), 4, origin=8)
@@ -305,8 +306,10 @@ def test_kept() -> None:
     others = {"an answer to another port": frame(server, mine, (123, 5001), 4, origin=7),
               "to another client": frame(server, "192.0.2.11", (123, 5000), 4, origin=7),
               "of another server": frame("192.0.2.2", mine, (123, 5000), 4, origin=7),
-              "cut": answer[:-1], "of another protocol": answer[:12] + b"\x86\xdd" + answer[14:],
-              "a control packet": frame(mine, server, (5000, 123), 6), "no frame": b"", "no origin": frame(
+              "cut": answer[:-1], "of another protocol": answer[:12] + b"\x86\xdd" + answer[14:], "no frame": b"",
+              "a control packet": frame(mine, server, (5000, 123), 6),
+              "a request of a server": frame(server, mine, (123, 123), 3, transmit=9),
+              "a request to oneself": frame(mine, mine, (5000, 123), 3, transmit=9), "no origin": frame(
                   server, mine, (123, 5000), 4)}
     tagged = [frame(mine, server, (123, 123), 3, transmit=9, receive=5, is_tagged=True),
               frame(server, mine, (123, 123), 4, origin=9, is_tagged=True),

@@ -240,7 +240,7 @@ def test_filter(place: Path) -> None:
     check("the recorder's filter", unit=(" --hourly --claim %S/ntpaudit/days/claim.json " in unit, True),
           run=((status, out.decode()), (0, f"({' or '.join(ways[::-1])}) or (vlan and ({' or '.join(ways[::-1])}))\n")),
           none=(dossier("filter", place / "none")[:2], (0, b"(udp port 123) or (vlan and (udp port 123))\n")),
-          clients=(recorder.filter_of(None, ["192.0.2.7", "192.0.2.8"]).count("dst host 192.0.2.8"), 2))
+          clients=(recorder.filter_of(["192.0.2.7", "192.0.2.8"], []).count("dst host 192.0.2.8"), 2))
     if shutil.which("tcpdump"):
         taken = run(["tcpdump", "--time-stamp-precision=nano", "-r", flooded / "f.pcap", "-w", "-",
                      out.decode().strip()])
