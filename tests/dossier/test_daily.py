@@ -205,6 +205,8 @@ def test_alerts_of_now(place: Path) -> None:
         "healed", clock_off="0 0 1 0x90", last_step_timestamp_seconds="_ _ 99x9 stale")
     blind = values("blind", seen="1 1 0x90", clock_off="0 1 stale", groups_heard="4 4 0x90")
     unseen = values("unseen", seen="1 1 0x90", clock_off="0 0 stale")
+    mute = values("mute", seen="1 1 1 stale", clock_off="0 1 1 stale", groups_heard="4 4 4 stale", groups_needed="",
+                  last_record_age_seconds="9 9 9 stale", looked_timestamp_seconds="0 60 120 stale")
     fitful = values("fitful", seen="1 1" + 12 * " 1 0" + " 1x90", clock_off="0 0" + 12 * " 1 stale" + " 0x90")
     silent, few = values("silent", last_record_age_seconds="0+60x99"), values("few", groups_heard="4 4 2x90")
     files, back = values("files", refused_files="1x99"), values("back", records_ahead_seconds="0 0 2040x90")
@@ -220,8 +222,8 @@ def test_alerts_of_now(place: Path) -> None:
         (well, "yes", "1x99"), (off, "refuted", "0 0 1x90"), (few, "refuted", "0 0 1x90"), (few, "yes", "1 1 0x90"),
         (unseen, "refuted", "1x99"), ({**gone, "recorder": "eth0"}, "yes", "1x9"))]
     said: dict[tuple[str, str], dict[str, list[dict[str, str]]]] = {
-            ("ClockIsOff", "page"): {"1m": [], "2m": [blind], "4m": [off, blind, fitful], "20m": [off, blind, fitful],
-                                     "90m": [off, blind]},
+            ("ClockIsOff", "page"): {"1m": [], "2m": [blind, mute], "4m": [off, blind, mute, fitful],
+                                     "20m": [off, blind, mute, fitful], "90m": [off, blind, mute]},
             ("ClockUnseen", "ticket"): {"11m": [], "13m": [blind, unseen]},
             ("ClockStepped", "ticket"): {"1m": [], "3m": [healed], "95m": [healed]},
             ("ClockSetBack", "ticket"): {"2m": [], "4m": [back]},
@@ -232,8 +234,8 @@ def test_alerts_of_now(place: Path) -> None:
             ("RecorderSilent", "ticket"): {"4m": [], "6m": [silent]},
             ("RecorderTrouble", "ticket"): {"2m": [], "4m": [room]},
             ("RecordingsRefused", "ticket"): {"4m": [], "6m": [files]},
-            ("ClockNowMissing", "ticket"): {"14m": [], "21m": [{"job": "node", "instance": "stuck"}],
-                                            "68m": [{"job": "node", "instance": "stuck"}, gone]}}
+            ("ClockNowMissing", "ticket"): {"14m": [], "22m": [{"job": "node", "instance": "stuck"}, gone],
+                                            "95m": [{"job": "node", "instance": "stuck"}, gone]}}
     assert stuck
     text = rules.read_text()
     names, severities = (re.findall(rf"{word}: (\w+)", text) for word in ("alert", "severity"))
