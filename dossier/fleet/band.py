@@ -36,25 +36,28 @@ def fields_of(moment: Moment) -> list[str]:
     said = [f"{begin} .. {end[11:] if begin[:10] == end[:10] else end}", moment.verdict]
     hull, few = whole(moment.pieces), f", {moment.needed} needed" if moment.heard < moment.needed else ""
     groups = f"{moment.heard} of {count(moment.groups, 'group')}{few}"
-    if hull is None:
-        said += [] if moment.verdict == REFUSED else [unheard(moment), *([groups] if moment.since else [])]
+    error = [f"now {range_of(moment.now)}"] if moment.now is not None else []
+    off = ["the clock is off"] if moment.is_off else []
+    if hull is None or moment.since:
+        if moment.verdict != REFUSED:
+            said += [unheard(moment), *error, *([groups] if moment.since else []), *off]
         return [recorder, *said, *servers_of(moment), *warnings_of(moment)]
     for move in moment.moves[:-1]:
         said.append(moved(move))
     since = f"{moved(moment.moves[-1])}; since then " if moment.moves else ""
     since += f"{moment.before}; since then " if moment.before else ""
+    if moment.drift_ppb:
+        since += f"moves by more than is granted: at {moment.drift_ppb // 1000:,} ppm at the most "
     if not isinstance(hull, str):
         said.append(f"{since}{range_of(hull)} of {exact_ms(moment.bound_ns)} ms")
     elif since:
         said.append(since.rpartition(";")[0])
-    if moment.now is not None:
-        said.append(f"now {range_of(moment.now)}")
+    said += error
     if moment.least_ns is not None and moment.verdict != NOTHING_FITS:
         said.append(f"least {ns_up_ms(moment.least_ns)} ms")
     if moment.camps:
         said.append(f"servers contradict one another: {' and '.join(map(', '.join, moment.camps))}")
-    said.append(groups)
-    said += ["the clock is off"] if moment.is_off else []
+    said += [groups, *off]
     return [recorder, *said, *servers_of(moment), *([moment.against] if moment.against else []), *warnings_of(moment)]
 
 
@@ -125,8 +128,9 @@ def metrics_of(moment: Moment) -> Iterator[Sample]:
         yield "now_verdict", labels_of(recorder=moment.recorder, verdict=other), int(other == verdict)
     yield "now_seen", labels, int(moment.now is not None)
     yield "now_claimed_bound_seconds", labels, moment.bound_ns
+    if moment.off is not None:
+        yield "now_clock_off", labels, int(moment.off)
     if moment.now is not None:
-        yield "now_clock_off", labels, int(moment.is_off)
         yield "now_hull_low_seconds", labels, down_ns(moment.now[0])
         yield "now_hull_high_seconds", labels, up_ns(moment.now[1])
     if moment.least_ns is not None:

@@ -1,5 +1,6 @@
 """Which servers are heard in the last minutes, and how far each is off."""
 from bisect import bisect_right
+from collections.abc import Iterable
 from itertools import accumulate, pairwise
 from operator import sub
 from statistics import median
@@ -31,8 +32,10 @@ class Hearing:
         self.leaps = [max(0, (after >> 32) - (before >> 32)) for before, after in pairwise(whole.extent.stamps)]
         """Seconds from each record to the next, but for those by which the clock fell back."""
         self.samples, self.replies, self.requests = dict[str, list[Sample]](), dict[str, list[int]](), dict[str, int]()
-        self.errors, self.steps, self.last = dict[str, int](), dict[int, int](), 0
+        self.errors, self.ahead, self.last = dict[str, int](), dict[int, dict[str, int]](), 0
         program.blocks(self.take, "samples", CLAIM, capture)
+        self.steps = {at: min(own.values()) for at, own in self.ahead.items()
+                      if len(self.groups(own)) > claim.false_max}
         usual = max((leap - self.steps.get(at, 0) for at, leap in enumerate(self.leaps[: self.last])), default=0)
         most = max(SILENT, 2 * usual)  # (behind the last reply nobody knows a longer leap from a step)
         self.gone = list(accumulate((max(0, leap - self.steps.get(at, leap * (at >= self.last and leap > most)))
@@ -41,8 +44,10 @@ class Hearing:
         self.times = {server: [self.gone[reply] for reply in own] for server, own in self.replies.items()}
         own = {server: float(median(map(sub, times[1:], times))) for server, times in self.times.items() if times[1:]}
         self.polls = {server: poll for server, poll in own.items() if poll}
-        self.poll = max(self.polls.values(), default=0.0)
-        """Seconds from one sample of a server to its next, of the one that is asked least."""
+        """Seconds from one sample of a server to its next."""
+        polls = sorted(min(map(self.polls.__getitem__, group)) for group in self.groups(self.polls))
+        self.poll = polls[min(claim.needed, len(polls)) - 1] if polls else 0.0
+        """In which so many groups are asked that a step is seen."""
 
     def take(self, block: bytes) -> None:
         for line in block[: closing_of(block)].decode("ascii").splitlines():
@@ -57,12 +62,19 @@ class Hearing:
                 own.append((asked, answered, low, high))
                 del own[:-TWO]
 
+    def groups(self, servers: Iterable[str]) -> list[list[str]]:
+        """Of each group those of some servers that it has, if it has any."""
+        own = set(servers)
+        every = ([self.claim.servers[k] for k in group if self.claim.servers[k] in own] for group in self.claim.grouped)
+        return list(filter(None, every))
+
     def step(self, server: str, reply: int, error: int) -> None:
         """If a server says that the clock is so many seconds further ahead than before, it was stepped in the longest
-        time between two records since; of one of more than a minute behind the last reply nobody knows."""
+        time between two records since, if more groups say so than may be wrong; of one of more than a minute behind the
+        last reply nobody knows."""
         own = self.replies.setdefault(server, [])
         if own and own[-1] < reply and (ahead := error - self.errors[server]) > 1:
-            self.steps[max(range(own[-1], reply), key=self.leaps.__getitem__)] = ahead
+            self.ahead.setdefault(max(range(own[-1], reply), key=self.leaps.__getitem__), {})[server] = ahead
         own.append(reply)
         self.errors[server], self.last = error, max(self.last, reply)
 
@@ -72,13 +84,10 @@ class Hearing:
         age = self.gone[-1] - self.times[server][-1]
         return age > max(SILENT, POLLS * self.polls.get(server, 0))
 
-    @property
-    def enough(self) -> int:
-        """The last record since which so many groups were asked and heard that a step before it is seen, however many
-        are wrong; or all that were heard at all."""
-        last = sorted((max(own) for group in self.claim.grouped if (own := [
-            self.requests[server] for k in group if (server := self.claim.servers[k]) in self.requests])), reverse=True)
-        return last[min(2 * self.claim.false_max, len(last) - 1)] if last else len(self.gone) - 1
+    def asked(self, number: int) -> int:
+        """The last record since which so many groups were asked and heard; -1 if fewer were at all."""
+        last = sorted((max(map(self.requests.__getitem__, own)) for own in self.groups(self.requests)), reverse=True)
+        return last[number - 1] if number <= len(last) else -1
 
     def heard(self, server: str, envelope: Envelope, is_silent: bool) -> Heard:
         """A server by its last sample, beside the hulls of the minutes; it can't be right if the last two miss them."""

@@ -18,7 +18,7 @@ from ..capture.recorder import begun_files
 from ..capture.watch import LOOK, State, read_state, since_boot
 from ..fault import NOT_SHOWN, REFUSED as INPUT_REFUSED, Fault
 from ..folder.answers import Settled, read_envelope, read_settled
-from ..folder.claim import Claim
+from ..folder.claim import GREATEST_DRIFT, Claim
 from ..folder.entry import NO_EVIDENCE, NOTHING_FITS, OF_LEAPS, REFUSED, UNSUPPORTED, YES, LeapList, Refusal
 from ..folder.files import CLAIM, Folder, data_named
 from ..folder.jobs import answer, run_all
@@ -44,7 +44,7 @@ MARGIN = 128
 MOST_PIECES = 10_000
 LIMIT = 60
 """Seconds for the minutes of a recorder, and for each hour of them."""
-UNTIL, SINCE, CUT = "until.pcap", "since.pcap", "last.pcap"
+SINCE, CUT = "since.pcap", "last.pcap"
 """Private files: parts of what was recorded."""
 SECOND_OF_STAMPS = 1 << 32
 SILENT = 60
@@ -137,7 +137,7 @@ def recorders(wanted: NowCall) -> list[Moment]:
         names = sorted({one.before.removesuffix("-") for one in begun_files(folder)})
     end, groups = int(time.time()), len(claim.grouped)
     return [Moment(name, end - MINUTE * wanted.minutes, end, NO_EVIDENCE, claim.bound_ns, groups,
-                   2 * claim.false_max + 1) for name in names or [""]]
+                   claim.needed) for name in names or [""]]
 
 
 def look(wanted: NowCall, recorder: str, _: int) -> Moment:
@@ -150,10 +150,10 @@ def look(wanted: NowCall, recorder: str, _: int) -> Moment:
         span = MINUTE * wanted.minutes
         found = latest(folder, files, state.files if state and runs else [], span + MARGIN, end, bad)
     moment = Moment(recorder, end - span, end, NO_EVIDENCE, claim.bound_ns, len(claim.grouped),
-                    2 * claim.false_max + 1, found.last, age_of(state, runs, found, now, end), found.ahead,
+                    claim.needed, found.last, age_of(state, runs, found, now, end), found.ahead,
                     troubles=[] if state is None else state.troubles if runs else ["dead"],
                     lost=state.lost if state else 0, left_out=state.left_out if state else 0)
-    kept = state.kept if state and runs else sys.maxsize
+    kept = sys.maxsize if state is None else state.kept * runs
     if found.last and kept:  # (what was recorded before a recorder that has nothing yet may be older than a boot)
         moment = told_of(wanted, claim, found, moment, kept)
     return replace(moment, bad=list(map(plain, dict.fromkeys(bad))))
@@ -170,31 +170,44 @@ def age_of(state: State | None, runs: bool, found: Latest, now: int, end: int) -
 
 def told_of(wanted: NowCall, claim: Claim, found: Latest, moment: Moment, kept: int) -> Moment:
     """What the program says of the last minutes, of which there are records. The recorder that runs has kept so many.
-    """
-    path, whole, span = found.path, Classic(found.path), MINUTE * wanted.minutes
+    Fewer groups than it takes to see a step, but more than may be wrong, say how the clock is now, and no more."""
+    whole = Classic(found.path)
     own = replace(claim, from_=civil(found.last), to=civil(found.last))
     keep(CLAIM, own.text)
-    hearing = Hearing(wanted.program, own, whole, path)
-    limit, at, begun = max(SILENT, 2 * hearing.poll), hearing.enough, len(whole.extent.stamps) - kept
+    hearing = Hearing(wanted.program, own, whole, found.path)
+    limit, begun = max(SILENT, 2 * hearing.poll), len(whole.extent.stamps) - kept
     if max(moment.age or 0, moment.end - found.last) > limit:  # (its word may be another's)
         return moment
     silent = {server for server in own.servers if hearing.is_silent(server) or hearing.requests[server] < begun}
     moment = replace(moment, heard=sum(any(own.servers[k] not in silent for k in group) for group in own.grouped))
-    since, gone = whole.extent.stamps[at] >> 32, hearing.gone[-1] - hearing.gone[at]
-    if at < begun or max((moment.age or 0) - LOOK + gone, moment.end - since) > limit:  # (a word may be a look old)
-        return replace(moment, since=since, servers=[Heard(server, server in silent) for server in own.servers])
-    if (fell := fell_at(whole)) > at:  # (too few were heard since)
-        path = cut(whole, 0, fell, UNTIL)
-        whole = Classic(path)
-        fell = fell_at(whole)
-    end = since
-    own = replace(own, from_=civil(min(end, max(end - span, min(whole.extent.stamps[fell:]) >> 32))), to=civil(end))
-    step, program = 1 + span // MOST_PIECES, wanted.program
-    said = spoken(program, own, path, whole.extent)
+
+    def since(number: int) -> tuple[int, bool]:
+        """Since when so many groups were asked and heard; and whether that is lately, and since the clock fell back."""
+        at = hearing.asked(number)
+        second, gone = whole.extent.stamps[max(0, at)] >> 32, hearing.gone[-1] - hearing.gone[at]
+        is_late = max((moment.age or 0) - LOOK + gone, moment.end - second) > limit  # (a word may be a look old)
+        return second, at >= max(0, begun, fell_at(whole)) and not is_late
+
+    end, is_now = since(min(claim.needed, len(claim.grouped)))
+    if is_now:
+        return minutes(wanted, hearing, moment, end, silent)
+    few = replace(moment, since=end, servers=[Heard(server, server in silent) for server in own.servers])
+    end, is_now = since(claim.false_max + 1)
+    some = minutes(wanted, hearing, moment, end, silent) if is_now else few
+    return few if some.now is None else replace(few, pieces=some.pieces[-1:])
+
+
+def minutes(wanted: NowCall, hearing: Hearing, moment: Moment, end: int, silent: set[str]) -> Moment:
+    """What the program says of the minutes down to a second."""
+    program, whole, span = wanted.program, hearing.whole, MINUTE * wanted.minutes
+    fell = fell_at(whole)
+    begin = min(end, max(end - span, min(whole.extent.stamps[fell:]) >> 32))
+    own = replace(hearing.claim, from_=civil(begin), to=civil(end))
+    said = spoken(program, own, whole.path, whole.extent)
     settled, capture, before = read_settled(said.settled), said.capture, ""
     if said.moves:
         begin, capture = ceil_div(said.moves[-1].by, SECOND), f"stretch-{len(said.moves)}.pcap"
-        end = end if begin <= end else max(begin, found.last)
+        end = end if begin <= end else max(begin, hearing.claim.last)
         own = replace(own, from_=civil(max(own.first, begin)), to=civil(end))
         settled = settle(program, own, capture)
     elif fell:  # (what was shown before may be the same readings)
@@ -203,22 +216,34 @@ def told_of(wanted: NowCall, claim: Claim, found: Latest, moment: Moment, kept: 
     if settled.answer == NOTHING_FITS:
         settled, own, capture = fitting(program, own, settled, capture, 2 * hearing.poll)
         before = "nothing fits with what was before"
+    fits = settled.answer != NOTHING_FITS
+    moment = replace(moment, moves=[move for move in said.moves if move.by > (own.last - span) * SECOND],
+                     before=before if fits else "")
+    if not fits and (loose := loosened(program, own, capture, 2 * hearing.poll)):
+        if (moving := pictured(wanted, moment, settled.answer, *loose, silent)).is_off:
+            return moving
+    return pictured(wanted, moment, settled.answer, own, capture, silent)
+
+
+def pictured(wanted: NowCall, moment: Moment, answer: str, own: Claim, capture: str, silent: set[str]) -> Moment:
+    """What minutes look like of which the program's answer is known."""
     keep(CLAIM, own.text)
+    step, fits = 1 + MINUTE * wanted.minutes // MOST_PIECES, answer != NOTHING_FITS
     words = ("envelope", CLAIM, capture, "--servers", "--least", "--step", str(step))
-    envelope = read_envelope(program.run(*words).text)
+    envelope = read_envelope(wanted.program.run(*words).text)
     leaps = look_up(wanted.leaps, own.first, own.last)
     against = next((OF_LEAPS[alert.kind] for alert in alerts_of(leaps, wanted.leaps)), "")
-    if found.ahead:
-        against = f"the clock was set back: records up to {span_of_seconds(found.ahead)} ahead of it"
-    fits = settled.answer != NOTHING_FITS
+    if moment.ahead:
+        against = f"the clock was set back: records up to {span_of_seconds(moment.ahead)} ahead of it"
     camps = () if fits else camps_at(envelope, len(envelope.hulls) - 1)
-    last = Hearing(program, own, Classic(capture), capture)
+    last = Hearing(wanted.program, own, Classic(capture), capture)
+    granted = claim_of(wanted).drift_ppb
     return replace(
         moment, begin=own.first, end=own.last, against=against,
         servers=[last.heard(server, envelope, server in silent) for server in own.servers],
-        verdict=UNSUPPORTED if settled.answer == YES and against else settled.answer,
+        verdict=UNSUPPORTED if answer == YES and against else answer,
         camps=[list(camp) for camp in camps] if len(camps) > 1 else [],
-        moves=[move for move in said.moves if move.by > (own.last - span) * SECOND], before=before if fits else "",
+        drift_ppb=own.drift_ppb if own.drift_ppb > granted else 0,
         least_ns=envelope.least_ns if fits else None,
         pieces=[piece_of(envelope, k) for k in range(len(envelope.hulls))])
 
@@ -233,16 +258,41 @@ def fitting(program: Program, claim: Claim, settled: Settled, capture: str,
     """Of minutes that nothing fits the last ones, if a course fits twice as many: what ended their fit lies as far
     before them as they are long. Else they stay as they are."""
     whole, length = Classic(capture), claim.last - claim.first
-    times = [stamp >> 32 for stamp in whole.extent.stamps]
-    while (length := length // 2) >= 2 * least:
-        own = replace(claim, from_=civil(claim.last - length))
-        first = next((k + 1 for k in range(len(times) - 1, -1, -1) if times[k] < own.first), 0)
-        if first == len(times):
-            break
-        if settle(program, own, cut(whole, first, len(times), CUT)).answer != NOTHING_FITS:
+    while (length := length // 2) >= 2 * least and (own := ending(whole, claim, length)):
+        if settle(program, own, CUT).answer != NOTHING_FITS:
             own = replace(claim, from_=civil(claim.last - length // 2))
             return settle(program, own, CUT), own, CUT
     return settled, claim, capture
+
+
+def loosened(program: Program, claim: Claim, capture: str, least: float) -> tuple[Claim, str] | None:
+    """Of minutes that nothing fits the last ones, and a claim that grants twice the drift at which a course fits them:
+    if the clock moves by more than is granted, by the word of all groups that are heard, each of its own, but those
+    that may be wrong."""
+    whole, length = Classic(capture), claim.last - claim.first
+    while length // 2 >= 2 * least:
+        length //= 2
+    if not (own := ending(whole, claim, min(4 * length, claim.last - claim.first))):
+        return None
+    alone = [{settle(program, replace(own, servers=[claim.servers[k]], groups=[], false_max=0), CUT).answer
+              for k in group} for group in claim.grouped]
+    moved, heard = sum(NOTHING_FITS in one for one in alone), sum(one != {NO_EVIDENCE} for one in alone)
+    if moved < max(claim.false_max + 1, heard - claim.false_max) or not (own := ending(whole, claim, length)):
+        return None
+    drifts = (min(GREATEST_DRIFT, max(1000, claim.drift_ppb) << k) for k in range(1, 20))
+    drift = next((drift for drift in drifts
+                  if settle(program, replace(own, drift_ppb=drift), CUT).answer != NOTHING_FITS), None)
+    return (replace(own, drift_ppb=min(GREATEST_DRIFT, 2 * drift)), CUT) if drift else None
+
+
+def ending(whole: Classic, claim: Claim, length: int) -> Claim | None:
+    """A claim of the last seconds of another's, of which a private file has the records; None if there are none."""
+    own, times = replace(claim, from_=civil(claim.last - length)), [stamp >> 32 for stamp in whole.extent.stamps]
+    first = next((k + 1 for k in range(len(times) - 1, -1, -1) if times[k] < own.first), 0)
+    if first == len(times):
+        return None
+    cut(whole, first, len(times), CUT)
+    return own
 
 
 def cut(whole: Classic, first: int, end: int, path: str) -> str:

@@ -46,6 +46,11 @@ class Claim:
         return self.groups or [[k] for k in range(len(self.servers))]
 
     @property
+    def needed(self) -> int:
+        """How many groups have to be heard to outvote those that may be wrong."""
+        return 2 * self.false_max + 1
+
+    @property
     def text(self) -> bytes:
         return COMPACT.encode(said(self)).encode() + b"\n"
 

@@ -97,6 +97,8 @@ class Moment:
     moves: list[Move] = field(default_factory=list)
     before: Text = ""
     """Why what was recorded before in the minutes that were asked for is left out, but for moves."""
+    drift_ppb: int = 0
+    """If the clock moves by more than is granted: at how much at the most, by what is told of it."""
     least_ns: int | None = None
     against: str = ""
     """What takes a yes away, if anything does."""
@@ -112,13 +114,22 @@ class Moment:
     @property
     def now(self) -> tuple[int, int] | None:
         """The error at the end, in ticks, if it is seen: where nothing fits, what is granted isn't so."""
-        hull = self.pieces[-1].hull if self.pieces and self.verdict != NOTHING_FITS else "unbounded"
+        is_granted = self.verdict != NOTHING_FITS or self.drift_ppb
+        hull = self.pieces[-1].hull if self.pieces and is_granted else "unbounded"
         return None if isinstance(hull, str) else hull
 
     @property
+    def off(self) -> bool | None:
+        """Whether the clock was beyond its bound at the end, wherever in the hull its error was; None if there is none,
+        or so wide a one that the error can't be shown to be within."""
+        bound = bound_ticks(self.bound_ns)
+        if self.now is None or side_of(self.now, bound):
+            return None if self.now is None else True
+        return False if self.now[1] - self.now[0] <= 2 * bound else None
+
+    @property
     def is_off(self) -> bool:
-        """Whether the clock was beyond its bound at the end, wherever in the hull its error was."""
-        return self.now is not None and side_of(self.now, bound_ticks(self.bound_ns)) != 0
+        return bool(self.off)
 
     @property
     def is_shown(self) -> bool:

@@ -221,6 +221,108 @@ def test_unanswered_seldom(place: Path) -> None:
               heard=("  0 of 4 groups, 3 needed  silent: 192.0.2.1, " in lines[0], True))
 
 
+def test_shown_again(place: Path) -> None:
+    """Nobody answers, and the clock is set back by 40 s and shows the last minute again: until it has shown that, what
+    was said of it is no yes, though it is later than all records by now."""
+    heard = int(time.time()) - 15
+    heard -= heard % 10
+    answered, asked = (records_of(CAPTURE(words_of([part], (1, 2, 3, 4)))) for part in (
+        (heard - 500, heard + 1, RIGHT), (heard - 30, heard + 11, RIGHT)))
+    path = place / "rec" / name_of(heard - 500, "eth0")
+    path.parent.mkdir()
+    path.write_bytes(CAPTURE([]) + b"".join([*answered, *(record for record in asked if record[58] & 7 == 3)]))
+    status, lines, _ = now(written(path).parent)
+    check("minutes that are shown again", status=(status, 1), said=(
+        f"  no evidence  too few groups were heard since {civil(heard)}, " in lines[0], True))
+
+
+def test_few_groups(place: Path) -> None:
+    """Two of four servers are heard, however long: one may be wrong, and a step not be seen, so it is no yes; but where
+    both say the same it is known how the clock is now."""
+    last, metrics = int(time.time()) - 5, place / "m.prom"
+    last -= last % 10
+    for name, ends, is_off in (("right", RIGHT, 0), ("off", AHEAD, 1)):
+        recorded(place / name, last - 900, (last - 900, last + 1, ends), servers=(1, 4))
+        status, lines, _ = now(place / name, "--metrics", metrics)
+        found = {key: value for (key, *labels), value in metrics_of(metrics).items() if len(labels) == 1}
+        words = lines[0].split("  ")
+        check(f"two of four servers: {name}", status=(status, 1), verdict=(words[2], "no evidence"), said=(words[4:], [
+            "now +20.000 .. +20.001 ms" if is_off else "now -0.001 .. +0.001 ms", "2 of 4 groups, 3 needed",
+            *["the clock is off"] * is_off, "silent: 192.0.2.2, 192.0.2.3"]),
+            off=((found["now_seen"], found["now_clock_off"]), ("1", str(is_off))))
+    capture_of(place / "right" / name_of(last - 900, "eth0"), *by_time(
+        words_of([(last - 900, last + 1, RIGHT)], (1,)), words_of([(last - 900, last + 1, AHEAD)], (4,))))
+    now(place / "right", "--metrics", metrics)
+    found = {key: value for (key, *labels), value in metrics_of(metrics).items() if len(labels) == 1}
+    check("two of four, which contradict each other", off=(found.get("now_clock_off"), None))
+
+
+def test_runs_away(place: Path) -> None:
+    """A clock that moves faster than is granted, without an end: how far it is off is said by more drift, which is
+    named; where half of the servers move it is not."""
+    last, tick = int(time.time()) - 5, 1 << 32
+    last -= last % 10
+    for name, moving in (("clock", (1, 2, 3, 4)), ("servers", (3, 4)), ("but one", (1, 2, 4))):
+        (place / name).mkdir()
+        words = [f"{server}:{far - 1000}..{far + 1000}@{second}" for second in range(last - 900, last + 1, 10)
+                 for server in (1, 2, 3, 4) for far in [(second - last + 800) * tick // 1000 * (server in moving)]]
+        written(capture_of(place / name / name_of(last - 900, "eth0"), *words))
+        status, lines, _ = now(place / name, "--metrics", place / "m.prom")
+        found = re.search(r"nothing fits  moves by more than is granted: at ([0-9,]+) ppm at the most \S+ \.\. \S+ ms "
+                          r"of 5.000 ms  now \+(\S+) \.\. \+(\S+) ms  4 of 4 groups  the clock is off", lines[0])
+        off = [value for (key, *_), value in metrics_of(place / "m.prom").items() if key == "now_clock_off"]
+        is_told = len(moving) > 2
+        check(f"a clock that runs away: {name}", status=(status, 1), told=(bool(found), is_told),
+              off=(off, ["1"] * is_told))
+        if found:
+            rate, low, high = (float(each.replace(",", "")) for each in found.groups())
+            check("how far it is", rate=(1000 <= rate <= 4000, True), error=(low <= 800 <= high <= low + 100, True))
+
+
+def test_wide(place: Path) -> None:
+    """An error that may be within the bound and far beyond it is none of which is told that it isn't off."""
+    last, metrics = int(time.time()) - 5, place / "m.prom"
+    recorded(place / "rec", last - 900, (last - 900, last + 1, "-42949673..42949673"))
+    for bound, off in ((9_000_000, None), (11_000_000, "0")):
+        now(place / "rec", "--metrics", metrics, claim=claim_in(place, bound_ns=bound))
+        found = {key: value for (key, *labels), value in metrics_of(metrics).items() if len(labels) == 1}
+        check(f"a wide hull of {bound}", off=(found.get("now_clock_off"), off), seen=(found["now_seen"], "1"))
+
+
+def test_one_for_all(place: Path) -> None:
+    """One server alone hides nothing of the others: neither by a time that leaps ahead, as if the clock was stepped and
+    no time went by, nor because it is asked seldom."""
+    last, tick = int(time.time()) - 5, 1 << 32
+    last -= last % 10
+    (place / "leaps").mkdir()
+    written(capture_of(place / "leaps" / name_of(last - 900, "eth0"), *by_time(
+        words_of([(last - 900, last + 1, RIGHT)], (1, 2)), words_of([(last - 900, last - 300, RIGHT)], (3,)),
+        [f"4:{k * 3600 * tick - 1000}..{k * 3600 * tick + 1000}@{last - 900 + 10 * k}" for k in range(91)])))
+    line = now(place / "leaps")[1][0]
+    check("a server that leaps", said=(line.split("  ")[-1], "silent: 192.0.2.3"),
+          heard=("  3 of 4 groups" in line, True))
+    (place / "seldom").mkdir()
+    written(capture_of(place / "seldom" / name_of(last - 900, "eth0"), *by_time(
+        words_of([(last - 900, last - 119, RIGHT)], (1, 2, 3)),
+        [f"4:{RIGHT}@{second}" for second in range(last - 720, last - 119, 300)])))
+    line = now(place / "seldom")[1][0]
+    check("a server that is asked seldom", said=(line.split("  ")[2:4], lambda said: said[0] == "no evidence" and
+                                                 said[1].startswith("nothing was recorded since ")))
+
+
+def test_after_a_boot(place: Path) -> None:
+    """A recorder's word of before a boot, and none since: the clock shows what it likes, so nothing is known of now."""
+    last = int(time.time()) - 5
+    path = recorded(place / "rec", last - 900, (last - 900, last + 1, RIGHT))
+    for ahead in (1000, -100):
+        at = int(time.clock_gettime(time.CLOCK_BOOTTIME)) + ahead
+        (place / "rec/eth0.recording").write_text(json.dumps({
+            "kind": "recording", "at": at, "last": at, "files": [path.name], "kept": 99, "left_out": 0, "lost": 0}))
+        status, lines, _ = now(place / "rec")
+        check(f"a word of a recorder that doesn't run: {ahead}", status=(status, 1),
+              verdict=(lines[0].split("  ")[2], "no evidence"))
+
+
 def test_begun(place: Path) -> None:
     """A recorder that has just begun: what was recorded before may be older than a boot, whatever the clock shows, so
     there is no yes until it has heard enough groups itself."""

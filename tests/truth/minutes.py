@@ -164,7 +164,8 @@ class Player:
         last = next((packet.at for packet in reversed(seen) if packet.stamp in near), seen[-1].at)
         since, at = last - (moment.end - moment.begin + 1) * SECOND, {packet.stamp: packet.at for packet in seen}
         since = max([since, *(at[move.by] for move in moment.moves)])  # (what holds since then)
-        for piece in [*moment.pieces[:-1:7], *moment.pieces[-1:]] if moment.verdict != "nothing fits" else ():
+        for piece in [*moment.pieces[:-1:7], *moment.pieces[-1:]] if moment.now is not None or \
+                moment.verdict != "nothing fits" else ():
             shown = clock.errors(piece.from_ * SECOND, piece.to * SECOND, since, last + 1)
             if shown and not isinstance(piece.hull, str):
                 low, high = (end * SECOND / TICKS for end in piece.hull)
@@ -236,9 +237,9 @@ class Player:
 
     def untold(self, time: int, moment: Any) -> Iterator[str]:
         """An error beyond the bound for four minutes that isn't told, or one that is told and was over for as long."""
-        told = moment.is_off or moment.now is None and self.was_off
-        if moment.now is not None:
-            self.was_off = moment.is_off
+        if moment.off is not None:
+            self.was_off = moment.off
+        told = self.was_off
         before = [self.of.clock.error(at) for at in range(time - LATE, time + 1, 5 * SECOND)]
         errors = [abs(error) for error in before if error is not None]
         if any(begin < time and time - LATE < end for begin, end in self.of.outages):
