@@ -310,6 +310,48 @@ def test_one_for_all(place: Path) -> None:
                                                  said[1].startswith("nothing was recorded since ")))
 
 
+def test_end(place: Path) -> None:
+    """The minutes end where so many groups were heard since that a step would have been seen, and not with the last
+    record: what one server says since is no word about a step."""
+    last = int(time.time()) - 5
+    last -= last % 10
+    (place / "rec").mkdir()
+    written(capture_of(place / "rec" / name_of(last - 900, "eth0"), *by_time(
+        words_of([(last - 900, last - 39, RIGHT)], (2, 3, 4)), words_of([(last - 900, last + 1, RIGHT)], (1,)))))
+    words = now(place / "rec")[1][0].split("  ")
+    check("where the minutes end", end=(words[1][-9:], civil(last - 40)[11:]), verdict=(words[2], "yes"))
+
+
+def test_to_and_fro(place: Path) -> None:
+    """A clock that is stepped to and fro more often than moves are told, and then no more: what ended the fit is left
+    out, and of what was recorded since then the error is told."""
+    last = int(time.time()) - 5
+    last -= last % 10
+    for name, ends, verdict, error in (("right", RIGHT, "yes", "-0.001 .. +0.001 ms"),
+                                       ("off", AHEAD, "refuted", "+20.000 .. +20.001 ms")):
+        parts = [(last - 700 + 20 * k, last - 680 + 20 * k, (RIGHT, AHEAD)[k % 2]) for k in range(20)]
+        recorded(place / name, last - 700, *parts, (last - 300, last + 1, ends))
+        words = now(place / name)[1][0].split("  ")
+        begin = words[1].partition(" ")[0]
+        check(f"stepped to and fro, and then {name}", verdict=(words[2], verdict), said=(words[3:5], [
+            f"nothing fits with what was before; since then {error} of 5.000 ms", f"now {error}"]),
+            begin=(civil(last - 300) <= begin <= civil(last - 60), True))
+
+
+def test_one_sample(place: Path) -> None:
+    """A server is off by two samples that miss the hull, and not by one, which may be the first behind a step."""
+    last = int(time.time()) - 5
+    last -= last % 10
+    for number in (1, 2):
+        (place / f"{number}").mkdir()
+        begin = last - 5 - 10 * number
+        written(capture_of(place / f"{number}" / name_of(last - 900, "eth0"), *by_time(
+            words_of([(last - 900, last + 1, RIGHT)], (1, 2, 3)),
+            words_of([(last - 905, begin + 1, RIGHT), (begin + 10, last, AHEAD)], (4,)))))
+        line = now(place / f"{number}")[1][0]
+        check(f"a server of which {number} misses the hull", off=("192.0.2.4 is off by" in line, number == 2))
+
+
 def test_after_a_boot(place: Path) -> None:
     """A recorder's word of before a boot, and none since: the clock shows what it likes, so nothing is known of now."""
     last = int(time.time()) - 5
