@@ -178,8 +178,9 @@ def told_of(wanted: NowCall, claim: Claim, found: Latest, moment: Moment, kept: 
     limit, begun = max(SILENT, 2 * hearing.poll), len(whole.extent.stamps) - kept
     if max(moment.age or 0, moment.end - found.last) > limit:  # (its word may be another's)
         return moment
-    silent = {server for server in own.servers if hearing.is_silent(server) or hearing.requests[server] < begun}
-    moment = replace(moment, heard=sum(any(own.servers[k] not in silent for k in group) for group in own.grouped))
+    silent = set(filter(hearing.is_silent, own.servers))
+    heard = (server for server in own.servers if server not in silent and hearing.requests[server] >= begun)
+    moment = replace(moment, heard=len(hearing.groups(heard)))
 
     def since(number: int) -> tuple[int, bool]:
         """Since when so many groups were asked and heard; and whether that is lately, and since the clock fell back."""

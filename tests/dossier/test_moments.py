@@ -384,7 +384,8 @@ def test_begun(place: Path) -> None:
         check(f"a recorder of {kept} records", status=(status, int(verdict != "yes")), verdict=(words[2], verdict),
               said=(words[3][: len(said)], said),
               groups=([word for word in words if "group" in word][-1:], {
-                  0: [], 4: ["2 of 4 groups, 3 needed"], 8: ["4 of 4 groups"]}[kept]))
+                  0: [], 4: ["2 of 4 groups, 3 needed"], 8: ["4 of 4 groups"]}[kept]),
+              silent=([word for word in words if "silent" in word], []))
 
 
 def test_fall(place: Path) -> None:

@@ -163,7 +163,8 @@ class Player:
         near = range((moment.end - 2) * SECOND - 2 * self.of.poll, (moment.end + 1) * SECOND)
         last = next((packet.at for packet in reversed(seen) if packet.stamp in near), seen[-1].at)
         since, at = last - (moment.end - moment.begin + 1) * SECOND, {packet.stamp: packet.at for packet in seen}
-        since = max([since, *(at[move.by] for move in moment.moves)])  # (what holds since then)
+        since = max([since, *(at[move.by] for move in moment.moves),  # (what holds since then, or now)
+                     *(end for _, end in clock.breaks if moment.since and end <= last)])
         for piece in [*moment.pieces[:-1:7], *moment.pieces[-1:]] if moment.now is not None or \
                 moment.verdict != "nothing fits" else ():
             shown = clock.errors(piece.from_ * SECOND, piece.to * SECOND, since, last + 1)
@@ -191,7 +192,7 @@ class Player:
                 yield f"it moved by {changed / 1e6:.3f} ms"
             rates = [abs(one.size) * BILLION // (one.end - one.begin) for one in clock.fast
                      if at[move.after] <= one.begin and one.end <= at[move.by]]
-            if held and not any(begin == end for begin, end in held) and move.rate_ppb > max(rates) + self.of.ppb:
+            if rates and not any(begin == end for begin, end in held) and move.rate_ppb > max(rates) + self.of.ppb:
                 yield f"it moved at {max(rates)} ppb"
 
     def is_unseen(self, seen: list[Any]) -> bool:
@@ -232,7 +233,7 @@ class Player:
                     yield f"{server.address} was off by {error / 1e6:.3f} ms, not by {ends}"
                 if server.is_apart and not own.is_wrong(replies[-1].at):
                     yield f"{server.address} was right"
-        if moment.servers and heard != moment.heard:
+        if moment.servers and (heard < moment.heard or heard > moment.heard and not moment.since):
             yield f"{heard} groups were heard"
 
     def untold(self, time: int, moment: Any) -> Iterator[str]:
