@@ -22,6 +22,7 @@ class Keeping:
     def __init__(self, clock: Callable[[], float]):
         self.clock, self.asked, self.clients = clock, dict[bytes, None](), set[bytes]()
         """Whose requests are kept, if that is known."""
+        self.any = ANY
         self.minute = self.hour = clock()
         self.kept = self.beyond = 0
 
@@ -35,7 +36,7 @@ class Keeping:
 
     def keeps(self, data: bytes, at: int, end: int, size: int) -> bool:
         """Of a packet that stands there, whose record has so many bytes."""
-        beyond = self.kept + size > ANY
+        beyond = self.kept + size > self.any
         if beyond and (self.kept + size > OWN or self.beyond + size > OWN_OF_AN_HOUR):
             return False
         if not self.is_own(data, at, end) and beyond:

@@ -23,7 +23,7 @@ from ..schema import Count, Text, json_text, length, read_typed
 from ..text import note, plain
 from ..units import now
 from .classic import HEAD, HEADER, MAGICS
-from .exchange import Keeping
+from .exchange import ANY, Keeping
 from .recorder import BEGUN, INTERFACE, Recorder, addresses_of, ends_of, filter_of, keep, recorder
 
 LOOK, HOUR = 10, 3600
@@ -31,7 +31,8 @@ LOOK, HOUR = 10, 3600
 PACKET = 1522
 """Bytes that are kept of a packet: a frame with a tag and the longest NTP packet, whatever its extension fields."""
 ALL = 10_000_000_000
-"""Bytes of all files of an interface in a folder. Then nothing is recorded until some are taken away."""
+"""Bytes of all files of an interface in a folder. Then nothing is recorded until some are taken away; and from half of
+that on only what is of an exchange, so that a flood of many days doesn't come that far."""
 FREE = 1 << 16
 """Bytes that have to be free before a file is begun where there was no room."""
 DEAD = 6 * LOOK
@@ -211,6 +212,7 @@ class Watch:
         for name in self.folder.names():
             if (match := BEGUN.fullmatch(name)) and match[1] == f"{self.wanted.interface}-":
                 size += self.folder.size(name)
+        self.keeping.any = ANY if size <= ALL // 2 else 0
         if size > ALL:
             self.trouble("all", f"its files have {size:,} bytes: nothing is recorded until some are taken away")
             self.close_file()
@@ -223,11 +225,14 @@ class Watch:
 
     def write_state(self) -> None:
         """What is said of this recorder until the next look."""
-        with suppress(OSError):
-            self.slate = self.slate or Slate(self.folder.place, f"{self.wanted.interface}{ENDING}")
+        name = f"{self.wanted.interface}{ENDING}"
+        try:
+            self.slate = self.slate or Slate(self.folder.place, name)
             self.slate.put(json_text(State("recording", int(since_boot()), int(self.last),
                                            self.files, self.kept, self.left_out,
                                            self.unwritten + self.dropped, sorted(self.troubles))))
+        except OSError as error:
+            self.trouble("state", f"{name} can't be written ({error.strerror}), so nobody knows that it is recorded")
 
     # ---- tcpdump
 

@@ -187,6 +187,20 @@ def many(place: Path) -> dict[str, Any]:
     return {"files": files, "said": is_said, "held": before == files, "again": again, "end": (rig.end(), rig.files())}
 
 
+def flooded(place: Path) -> dict[str, Any]:
+    """What is no client's request is kept until there is half of what all files may have, and not beyond. A word of
+    itself that can't be written is said."""
+    (place / "rec/lo.recording").mkdir(parents=True)
+    rig = Rig(place, setting="watch.ALL = 9000")
+    is_said = rig.until("lo.recording can't be written (Is a directory)")
+    for number in (60, 9, 9):
+        with socket.socket(socket.AF_INET, socket.SOCK_DGRAM) as out:
+            for _ in range(number):
+                out.sendto(b"\x23".ljust(48, b"\0"), ("127.0.0.1", 123))
+        time.sleep(3)
+    return {"said": is_said, "status": rig.end(), "files": rig.files(), "left": "18 were left out" in rig.said()}
+
+
 LOSING = """#!/bin/sh
 case $* in --version) echo tcpdump; exit;; esac
 trap 'echo "0 packets captured, 7 packets received by filter, 7 packets dropped by kernel" >&2' USR1
@@ -246,6 +260,7 @@ WANTED: dict[Callable[[Path], dict[str, Any]], dict[str, Any]] = {
     removed: {"file": (True, [3]), "folder": (4, True)},
     link: {"again": (0, 5), "gone": (4, True)},
     many: {"files": [2, 3, 20], "said": True, "held": True, "again": True, "end": (0, [4])},
+    flooded: {"said": True, "status": 0, "files": [60], "left": True},
     counts: {"said": True, "again": True, "status": 0},
     lost: {"said": True, "status": 0, "end": True, "lost": 8},
     wrong: {"status": 0, "files": [0, 1, 2, 3, 4, 5], "years": True},
@@ -338,6 +353,9 @@ def test_kept() -> None:
     for number in range(exchange.MOST_ASKED + 9):
         keeping.is_own(data := frame(mine, server, (5000, 123), 3, transmit=1000 + number), 0, len(data))
     check("requests that are known", number=(len(keeping.asked), exchange.MOST_ASKED))
+    keeping, keeping.any = exchange.Keeping(lambda: now[0]), 0
+    check("where there is half of all", kept=([keeps(data) for data in (strange, asked, answer, strange)],
+                                              [False, True, True, False]))
 
 
 if __name__ == "__main__":
