@@ -9,11 +9,11 @@ from ..capture.classic import Classic
 from ..capture.recording import closing_of
 from ..folder.answers import Envelope, in_era
 from ..folder.claim import Claim
-from ..folder.entry import Hull
+from ..folder.entry import Hull, side_of
 from ..folder.files import CLAIM
 from ..folder.program import Program
 from ..folder.result import Heard
-from ..units import SECOND, TICKS
+from ..units import SECOND, TICKS, bound_ticks
 
 TWO = 2
 """Samples that have to miss the hull: one alone may be the first behind a step."""
@@ -88,6 +88,19 @@ class Hearing:
         """The last record since which so many groups were asked and heard; -1 if fewer were at all."""
         last = sorted((max(map(self.requests.__getitem__, own)) for own in self.groups(self.requests)), reverse=True)
         return last[number - 1] if number <= len(last) else -1
+
+    def beyond(self, silent: set[str]) -> tuple[int, int] | None:
+        """The error when it was asked last, in ticks, whatever the clock did before, if that is beyond the bound on one
+        side by the word of more groups than may be wrong, and no more of those that are heard say otherwise."""
+        groups = [[self.samples[server][-1][2:] for server in own]
+                  for own in self.groups(server for server in self.samples if server not in silent)]
+        bound = bound_ticks(self.claim.bound_ns)
+        for side in (-1, 1):
+            own = [ends for ends in groups if all(side_of(one, bound) == side for one in ends)]
+            if len(own) > self.claim.false_max >= len(groups) - len(own):
+                ends = [end for each in own for one in each for end in one]
+                return min(ends), max(ends)
+        return None
 
     def heard(self, server: str, envelope: Envelope, is_silent: bool) -> Heard:
         """A server by its last sample, beside the hulls of the minutes; it can't be right if the last two miss them."""

@@ -18,7 +18,7 @@ from ..capture.recorder import begun_files
 from ..capture.watch import LOOK, State, read_state, since_boot
 from ..fault import NOT_SHOWN, REFUSED as INPUT_REFUSED, Fault
 from ..folder.answers import Settled, read_envelope, read_settled
-from ..folder.claim import GREATEST_DRIFT, Claim
+from ..folder.claim import Claim
 from ..folder.entry import NO_EVIDENCE, NOTHING_FITS, OF_LEAPS, REFUSED, UNSUPPORTED, YES, LeapList, Refusal
 from ..folder.files import CLAIM, Folder, data_named
 from ..folder.jobs import answer, run_all
@@ -195,7 +195,7 @@ def told_of(wanted: NowCall, claim: Claim, found: Latest, moment: Moment, kept: 
     few = replace(moment, since=end, servers=[Heard(server, server in silent) for server in own.servers])
     end, is_now = since(claim.false_max + 1)
     some = minutes(wanted, hearing, moment, end, silent) if is_now else few
-    return few if some.now is None else replace(few, pieces=some.pieces[-1:])
+    return few if some.now is None else replace(few, pieces=[] if some.beyond else some.pieces[-1:], beyond=some.beyond)
 
 
 def minutes(wanted: NowCall, hearing: Hearing, moment: Moment, end: int, silent: set[str]) -> Moment:
@@ -217,35 +217,23 @@ def minutes(wanted: NowCall, hearing: Hearing, moment: Moment, end: int, silent:
     if settled.answer == NOTHING_FITS:
         settled, own, capture = fitting(program, own, settled, capture, 2 * hearing.poll)
         before = "nothing fits with what was before"
-    fits = settled.answer != NOTHING_FITS
-    moment = replace(moment, moves=[move for move in said.moves if move.by > (own.last - span) * SECOND],
-                     before=before if fits else "")
-    if not fits and (loose := loosened(program, own, capture, 2 * hearing.poll)):
-        if (moving := pictured(wanted, moment, settled.answer, *loose, silent)).is_off:
-            return moving
-    return pictured(wanted, moment, settled.answer, own, capture, silent)
-
-
-def pictured(wanted: NowCall, moment: Moment, answer: str, own: Claim, capture: str, silent: set[str]) -> Moment:
-    """What minutes look like of which the program's answer is known."""
     keep(CLAIM, own.text)
-    step, fits = 1 + MINUTE * wanted.minutes // MOST_PIECES, answer != NOTHING_FITS
+    step, fits = 1 + span // MOST_PIECES, settled.answer != NOTHING_FITS
     words = ("envelope", CLAIM, capture, "--servers", "--least", "--step", str(step))
-    envelope = read_envelope(wanted.program.run(*words).text)
+    envelope = read_envelope(program.run(*words).text)
     leaps = look_up(wanted.leaps, own.first, own.last)
     against = next((OF_LEAPS[alert.kind] for alert in alerts_of(leaps, wanted.leaps)), "")
     if moment.ahead:
         against = f"the clock was set back: records up to {span_of_seconds(moment.ahead)} ahead of it"
     camps = () if fits else camps_at(envelope, len(envelope.hulls) - 1)
-    last = Hearing(wanted.program, own, Classic(capture), capture)
-    granted = claim_of(wanted).drift_ppb
+    last = Hearing(program, own, Classic(capture), capture)
     return replace(
         moment, begin=own.first, end=own.last, against=against,
         servers=[last.heard(server, envelope, server in silent) for server in own.servers],
-        verdict=UNSUPPORTED if answer == YES and against else answer,
+        verdict=UNSUPPORTED if settled.answer == YES and against else settled.answer,
         camps=[list(camp) for camp in camps] if len(camps) > 1 else [],
-        drift_ppb=own.drift_ppb if own.drift_ppb > granted else 0,
-        least_ns=envelope.least_ns if fits else None,
+        moves=[move for move in said.moves if move.by > (own.last - span) * SECOND], before=before if fits else "",
+        beyond=None if fits else hearing.beyond(silent), least_ns=envelope.least_ns if fits else None,
         pieces=[piece_of(envelope, k) for k in range(len(envelope.hulls))])
 
 
@@ -264,26 +252,6 @@ def fitting(program: Program, claim: Claim, settled: Settled, capture: str,
             own = replace(claim, from_=civil(claim.last - length // 2))
             return settle(program, own, CUT), own, CUT
     return settled, claim, capture
-
-
-def loosened(program: Program, claim: Claim, capture: str, least: float) -> tuple[Claim, str] | None:
-    """Of minutes that nothing fits the last ones, and a claim that grants twice the drift at which a course fits them:
-    if the clock moves by more than is granted, by the word of all groups that are heard, each of its own, but those
-    that may be wrong."""
-    whole, length = Classic(capture), claim.last - claim.first
-    while length // 2 >= 2 * least:
-        length //= 2
-    if not (own := ending(whole, claim, min(4 * length, claim.last - claim.first))):
-        return None
-    alone = [{settle(program, replace(own, servers=[claim.servers[k]], groups=[], false_max=0), CUT).answer
-              for k in group} for group in claim.grouped]
-    moved, heard = sum(NOTHING_FITS in one for one in alone), sum(one != {NO_EVIDENCE} for one in alone)
-    if moved < max(claim.false_max + 1, heard - claim.false_max) or not (own := ending(whole, claim, length)):
-        return None
-    drifts = (min(GREATEST_DRIFT, max(1000, claim.drift_ppb) << k) for k in range(1, 20))
-    drift = next((drift for drift in drifts
-                  if settle(program, replace(own, drift_ppb=drift), CUT).answer != NOTHING_FITS), None)
-    return (replace(own, drift_ppb=min(GREATEST_DRIFT, 2 * drift)), CUT) if drift else None
 
 
 def ending(whole: Classic, claim: Claim, length: int) -> Claim | None:

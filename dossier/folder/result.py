@@ -97,8 +97,8 @@ class Moment:
     moves: list[Move] = field(default_factory=list)
     before: Text = ""
     """Why what was recorded before in the minutes that were asked for is left out, but for moves."""
-    drift_ppb: int = 0
-    """If the clock moves by more than is granted: at how much at the most, by what is told of it."""
+    beyond: tuple[Ticks, Ticks] | None = None
+    """The error when it was asked last, in ticks, if nothing fits, and yet it is known to be beyond the bound."""
     least_ns: int | None = None
     against: str = ""
     """What takes a yes away, if anything does."""
@@ -114,9 +114,8 @@ class Moment:
     @property
     def now(self) -> tuple[int, int] | None:
         """The error at the end, in ticks, if it is seen: where nothing fits, what is granted isn't so."""
-        is_granted = self.verdict != NOTHING_FITS or self.drift_ppb
-        hull = self.pieces[-1].hull if self.pieces and is_granted else "unbounded"
-        return None if isinstance(hull, str) else hull
+        hull = self.pieces[-1].hull if self.pieces and self.verdict != NOTHING_FITS else "unbounded"
+        return self.beyond if isinstance(hull, str) else hull
 
     @property
     def off(self) -> bool | None:

@@ -258,8 +258,8 @@ def test_few_groups(place: Path) -> None:
 
 
 def test_runs_away(place: Path) -> None:
-    """A clock that moves faster than is granted, without an end: how far it is off is said by more drift, which is
-    named; where half of the servers move it is not."""
+    """A clock that moves faster than is granted, without an end: how far it is off is told by what was said last before
+    the last second, unless more servers say otherwise than may be wrong."""
     last, tick = int(time.time()) - 5, 1 << 32
     last -= last % 10
     for name, moving in (("clock", (1, 2, 3, 4)), ("servers", (3, 4)), ("but one", (1, 2, 4))):
@@ -268,15 +268,11 @@ def test_runs_away(place: Path) -> None:
                  for server in (1, 2, 3, 4) for far in [(second - last + 800) * tick // 1000 * (server in moving)]]
         written(capture_of(place / name / name_of(last - 900, "eth0"), *words))
         status, lines, _ = now(place / name, "--metrics", place / "m.prom")
-        found = re.search(r"nothing fits  moves by more than is granted: at ([0-9,]+) ppm at the most \S+ \.\. \S+ ms "
-                          r"of 5.000 ms  now \+(\S+) \.\. \+(\S+) ms  4 of 4 groups  the clock is off", lines[0])
-        off = [value for (key, *_), value in metrics_of(place / "m.prom").items() if key == "now_clock_off"]
+        found = {key: value for (key, *labels), value in metrics_of(place / "m.prom").items() if len(labels) == 1}
         is_told = len(moving) > 2
-        check(f"a clock that runs away: {name}", status=(status, 1), told=(bool(found), is_told),
-              off=(off, ["1"] * is_told))
-        if found:
-            rate, low, high = (float(each.replace(",", "")) for each in found.groups())
-            check("how far it is", rate=(1000 <= rate <= 4000, True), error=(low <= 800 <= high <= low + 100, True))
+        check(f"a clock that runs away: {name}", status=(status, 1), said=(lines[0].split("  ")[2:6], [
+            "nothing fits", *["now +789.999 .. +790.001 ms"] * is_told, "4 of 4 groups",
+            *["the clock is off"] * is_told]), off=(found.get("now_clock_off"), "1" if is_told else None))
 
 
 def test_wide(place: Path) -> None:

@@ -165,8 +165,7 @@ class Player:
         since, at = last - (moment.end - moment.begin + 1) * SECOND, {packet.stamp: packet.at for packet in seen}
         since = max([since, *(at[move.by] for move in moment.moves),  # (what holds since then, or now)
                      *(end for _, end in clock.breaks if moment.since and end <= last)])
-        for piece in [*moment.pieces[:-1:7], *moment.pieces[-1:]] if moment.now is not None or \
-                moment.verdict != "nothing fits" else ():
+        for piece in [*moment.pieces[:-1:7], *moment.pieces[-1:]] if moment.verdict != "nothing fits" else ():
             shown = clock.errors(piece.from_ * SECOND, piece.to * SECOND, since, last + 1)
             if shown and not isinstance(piece.hull, str):
                 low, high = (end * SECOND / TICKS for end in piece.hull)
@@ -174,6 +173,11 @@ class Player:
                     ends = f"{shown[0] / 1e6:.3f} .. {shown[1] / 1e6:.3f} ms"
                     yield f"the error was {ends} in {piece.from_} .. {piece.to}"
                     break
+        if moment.beyond:
+            low, high = (end * SECOND / TICKS for end in moment.beyond)
+            shown = clock.errors(-(1 << 62), 1 << 62, seen[-1].at - 60 * SECOND, seen[-1].at + 1)
+            if shown and (shown[1] < low - 2 or shown[0] > high + 2):
+                yield f"the error was {shown} when it was asked last"
         shown = clock.errors(moment.begin * SECOND, moment.end * SECOND, since, last + 1)
         if shown and moment.verdict == "yes" and max(-shown[0], shown[1]) > self.of.bound:
             yield f"a yes, and the error was {shown}"
