@@ -19,9 +19,7 @@ function nameOf(file) {
   return path.replace(/[\p{C}\p{Zl}\p{Zp}]/gu, (c) => `\\u{${c.codePointAt(0).toString(16)}}`);
 }
 
-function warn(text) {
-  Object.assign($("warning"), {textContent: text, hidden: !text});
-}
+const warn = (text) => Object.assign($("warning"), {textContent: text, hidden: !text});
 
 // ---- files
 
@@ -51,24 +49,21 @@ async function kindOf(file) {
 function questionsOf(files) {
   const folders = new Map(), questions = [];
   for (const file of files) {
-    const path = nameOf(file), at = path.lastIndexOf("/") + 1;
-    if (!folders.has(path.slice(0, at))) folders.set(path.slice(0, at), new Map());
-    folders.get(path.slice(0, at)).set(path.slice(at), file);
+    const path = nameOf(file), at = path.lastIndexOf("/") + 1, folder = path.slice(0, at);
+    folders.set(folder, (folders.get(folder) || new Map()).set(path.slice(at), file));
   }
   const captureIn = (folder) => {
     const inside = folders.get(folder) || new Map(), names = [...inside.keys()].filter((name) => CAPTURES.test(name));
-    const only = names.filter((name) => name !== "joined.pcap");
-    return inside.get("joined.pcap") || (only.length === 1 ? inside.get(only[0]) : null);
+    return inside.get(names.length === 1 ? names[0] : "joined.pcap");
   };
   for (const [folder, inside] of [...folders].sort(([one], [two]) => (one < two ? -1 : 1))) {
     const [claim, zero, certificate, refutation, report] = ["claim.json", "bound-0.claim.json", "certificate.json",
       "refutation.json", "report.txt"].map((name) => inside.get(name));
     const capture = captureIn(folder) || captureIn(folder.replace(/[^/]*\/$/, ""));
-    if (!claim || !capture) continue;
-    if (certificate) questions.push({claim, capture, answer: certificate});
+    const answer = certificate || refutation || report;
+    if (!claim || !capture || !answer) continue;
+    questions.push({claim, capture, answer});
     if (certificate && refutation && zero) questions.push({claim: zero, capture, answer: refutation, isZero: true});
-    if (!certificate && refutation) questions.push({claim, capture, answer: refutation});
-    if (!certificate && !refutation && report) questions.push({claim, capture, answer: report});
   }
   return questions;
 }
@@ -186,6 +181,7 @@ function timeOf(ticks) {
   const text = new Date(second * 1000).toISOString().slice(0, 19).replace("T", " ");
   return `${text}${part ? `.${String(part).padStart(3, "0")}` : ""} UTC`;
 }
+const parsed = (text) => { try { return JSON.parse(text); } catch { return null; } };
 const spelled = (time) => time.replace("T", " ").replace("Z", " UTC");
 
 // ---- the verdict in words
@@ -231,9 +227,7 @@ function premises({claim}) {
       them. You trust Coq and its extraction, js_of_ocaml, and this browser.`));
 }
 
-function within(claim) {
-  return `within ${inMs(claim.bound_ns)} of UTC from ${spelled(claim.from)} to ${spelled(claim.to)}`;
-}
+const within = (claim) => `within ${inMs(claim.bound_ns)} of UTC from ${spelled(claim.from)} to ${spelled(claim.to)}`;
 
 // A heading, a sentence, and what else is told.
 function wordsOf(result) {
@@ -259,21 +253,13 @@ function wordsOf(result) {
 }
 
 function refuted({status, claim, answer, isZero}) {
-  const {error, reading, "false": named} = JSON.parse(answer);
+  const {error, reading, "false": named} = parsed(answer);
   const off = `off by ${inMs(error / TICKS * 1e9)} at ${timeOf(reading)}`;
   const wrong = named.length ? ` The servers taken for wrong are ${named.map((k) => claim.servers[k]).join(", ")}.` : "";
   if (status) return `This capture doesn't show that the clock of ${claim.client} may have been ${off}.`;
   if (isZero) return `Some course of events fits the whole capture (one in which the clock was ${off}). So a yes about it isn't empty.`;
   return `In some course of events that fits the whole capture, the clock of ${claim.client} was ${off}, more than
     ${inMs(claim.bound_ns)}. So nothing in this capture can show the claim. The clock needn't have been off by so much.${wrong}`;
-}
-
-function parsed(text) {
-  try {
-    return JSON.parse(text);
-  } catch {
-    return null;
-  }
 }
 
 function pieceOf(answer, number, claim) {
@@ -340,7 +326,7 @@ document.ondragover = (event) => {
 document.ondragleave = () => document.body.classList.remove("over");
 document.ondrop = async (event) => {
   event.preventDefault();
-  document.body.classList.remove("over");
+  document.ondragleave();
   const items = [...event.dataTransfer.items].filter(({kind}) => kind === "file");
   try {
     take((await Promise.all(items.map(filesOf))).flat());

@@ -28,9 +28,7 @@ async function read(file) {
   return {file, bytes, sum: await sumOf(bytes)};
 }
 
-function textOf({bytes}) {
-  return bytes.length < 2 ** 25 ? new TextDecoder().decode(bytes) : "";
-}
+const textOf = ({bytes}) => bytes.length < 2 ** 25 ? new TextDecoder().decode(bytes) : "";
 
 onmessage = async ({data}) => {
   const sums = () => files.map((file) => file?.sum);

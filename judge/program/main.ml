@@ -12,24 +12,19 @@ exception Unreadable of string
 
 let block = 1 lsl 20
 
-(* The blocks of a file or a pipe, each but the last full. *)
-let blocks_of channel =
-  let rec filled bytes at =
-    let count = if at = block then 0 else input channel bytes at (block - at) in
-    if count = 0 then at else filled bytes (at + count) in
-  let rec more found size =
-    let bytes = Bytes.create block in
-    match filled bytes 0 with
-    | 0 -> found, size
-    | count -> more (bytes :: found) (size + count) in
-  more [] 0
+(* The blocks of a file or a pipe, each but the last full, and how many bytes they hold. *)
+let rec blocks_of channel found =
+  let bytes = Bytes.create block in
+  let rec filled at = match input channel bytes at (block - at) with 0 -> at | count -> filled (at + count) in
+  let count = filled 0 in
+  if count = block then blocks_of channel (bytes :: found)
+  else Array.of_list (List.rev (bytes :: found)), List.length found * block + count
 
 let read what path =
   try
     let channel = if path = "-" then stdin else open_in_bin path in
-    let found, size = blocks_of channel in
+    let blocks, size = blocks_of channel [] in
     if path <> "-" then close_in channel;
-    let blocks = Array.of_list (List.rev found) in
     let byte_at place =
       let place = Whole.to_int place in
       Whole.of_int (Char.code (Bytes.unsafe_get blocks.(place lsr 20) (place land (block - 1)))) in

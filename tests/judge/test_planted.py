@@ -116,12 +116,12 @@ BUGS: dict[str, Edit] = {
     "a server in two groups": ("Texts", " && differ l &&", " &&"),
     "33 entries": ("Texts", "if 32 <? long l then inr 4", "if Z.succ 32 <? long l then inr 4"),
     "a lie more than granted": ("Verdict", "is 0 <=? f", "is 0 <=? Z.succ f"),
-    "the greatest low end": ("Verdict", "if fst i <? e then", "if e <? fst i then"),
+    "the greatest low end": ("Verdict", "Some e => fst i <? e", "Some e => e <? fst i"),
     "a high end by the other exchange": ("Verdict", "moved_high c p q y", "moved_high c p q x"),
     "the last piece may end early": ("Verdict", "(k =? 0) || (p <? last c)", "k =? 0"),
     "each piece begins with the span": (
         "Verdict", "verdict_from (Z.succ k) (upto x) rest", "verdict_from (Z.succ k) p rest"),
-    "the least low mark": ("Marks", "Some (Z.max l low)", "Some (Z.min l low)"),
+    "the least low mark": ("Marks", "Z.max x (snd e)", "Z.min x (snd e)"),
     "one sweep of two": ("Marks", " && sweep (billion + P) (- P) (rev_append l []) None", ""),
     "a reading before the span": ("Marks", "(first c <=? at_reading r) && ", ""),
     "liars of too many groups": (
