@@ -43,7 +43,7 @@ let judged words =
   | _ -> Unjudged "three files, and --drift or not; --help says more"
 
 let () =
-  Gc.set { (Gc.get ()) with space_overhead = 50; minor_heap_size = 1 lsl 18 };
+  Gc.set { (Gc.get ()) with space_overhead = 40; minor_heap_size = 1 lsl 18 };
   set_binary_mode_in stdin true;
   let said =
     try judged (List.tl (Array.to_list Sys.argv)) with
