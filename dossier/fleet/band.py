@@ -46,8 +46,6 @@ def fields_of(moment: Moment) -> list[str]:
         said.append(moved(move))
     since = f"{moved(moment.moves[-1])}; since then " if moment.moves else ""
     since += f"{moment.before}; since then " if moment.before else ""
-    if moment.drift_ppb:
-        since += f"moves by more than is granted: at {moment.drift_ppb // 1000:,} ppm at the most "
     if not isinstance(hull, str):
         said.append(f"{since}{range_of(hull)} of {exact_ms(moment.bound_ns)} ms")
     elif since:
