@@ -8,7 +8,7 @@
 mod draft;
 mod files;
 
-ghost use Rattle.std.specs.Prelude.{List, Option, String};
+ghost use Rattle.std.specs.Prelude.{◌≡◌, List, Option, String};
 ghost use Rattle.std.specs.Process.{exit_status};
 ghost use Rattle.program.specs.Files.{MayOpen, unknown_files};
 ghost use Rattle.command_line.specs.Common.{Global};
@@ -21,7 +21,8 @@ use second_look::say;
 use std::alloc::AllocError;
 use std::env;
 use std::hash::{BuildHasher, BuildHasherDefault, FoldHasher, RandomState};
-use std::process::ExitCode;
+use std::io::Eprint;
+use std::process::{ExitCode, Termination};
 
 /// Runs the program on these words, as `words_of` gives them, over these files, with this hasher.
 fn run_on<Fs: Files, H: BuildHasher + Copy + Drop>(
@@ -58,6 +59,24 @@ fn run_on_host(rt: &HostRuntime) -> ExitCode
     }
 }
 
-fn main(rt: HostRuntime) -> ExitCode {
-    run_on_host(&rt)
+/// How this process ends: `main` may have no clause, but what it gives has to be so.
+#[derive(Drop)]
+struct Ended {
+    status: ExitCode,
+    ghost ends: { ∥ ((words : Option (List (String Global)))
+        × Ends words unknown_files (exit_status status)) ∥₁ },
+}
+
+impl Termination for Ended {
+    fn report<R: Eprint>(self, _rt: &R) -> ExitCode
+        ensures { result ≡ self.status }
+    {
+        self.status
+    }
+}
+
+fn main(rt: HostRuntime) -> Ended {
+    Ended {
+        status: run_on_host(&rt),
+    }
 }
