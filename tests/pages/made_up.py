@@ -16,7 +16,7 @@ EXCEPTIONS = {
     "command_line/src/words.rt": [
         ("error::ErrorKind::OutOfMemory => Err(AllocError),",
          "clap says it in words of its own"),
-        ("Err(_) => return Err(AllocError),", "nothing else is left of how std's `args` fails"),
+        ("Err(_) => Err(AllocError),", "nothing else is left of how std's `args` fails"),
     ],
     "program/src/about.rt": [
         ("Err(SumFault::Memory) => Err(AllocError),", "the reading of sums says it in a word of its own")],

@@ -115,11 +115,11 @@ def test_statement() -> None:
     lines = int(count.split()[0]) if status == 0 else 0
     check(f"THEOREM.md: {count}", status=(status, 0), said=(f": {count}." in text, True),
           short=(0 < lines <= 400, True))
-    status, printed, _ = run([ROOT / "docs/statement", "run"])
-    page = printed.decode()
-    lines = int(page.splitlines()[-1].split()[0]) if status == 0 else 0
-    check("docs/statement run", one_page=(0 < lines <= 100, True),
-          of_run=("ensures runs { Runs words.now" in page, True))
+    for name, clause in (("run", "ensures runs { Runs words.now"), ("status", "Ends (Some words) files 0")):
+        status, printed, _ = run([ROOT / "docs/statement", name])
+        page = printed.decode()
+        lines = int(page.splitlines()[-1].split()[0]) if status == 0 else 0
+        check(f"docs/statement {name}", one_page=(0 < lines <= 100, True), has=(clause in page, True))
 
 
 def test_columns() -> None:

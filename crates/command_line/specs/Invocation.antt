@@ -1,6 +1,6 @@
 -- What the words of a command line call for.
-use Rattle.std.specs.Prelude.{◌≡◌, ◌⊎◌, ◌||◌, ℕ, Bool, true, false, List, [], Option, Some, None, String, IfSome, is_some, option_map, unwrap_or, codes, string_bytes}
-use Rattle.command_line.specs.Common.{bytes_eq, digits_value, without_leading_plus, Global, time_of, Row, Text, first_of, found_of, one_of, rows_of, ArgMatches, Style, Human, Plain, Request, IsRefusal, is_human, Invocation, JudgedPaths, Judgement, Listed, Paths}
+use Rattle.std.specs.Prelude.{◌≡◌, ◌≤◌, ◌⊎◌, ◌||◌, ℕ, Bool, true, false, List, [], Option, Some, None, String, IfSome, is_some, option_map, unwrap_or, codes, string_bytes}
+use Rattle.command_line.specs.Common.{bytes_eq, digits_value, without_leading_plus, IsNumeral, Global, time_of, Row, Text, first_of, found_of, one_of, rows_of, ArgMatches, Style, Human, Plain, Request, IsRefusedBy, is_human, Invocation, JudgedPaths, Judgement, Listed, Paths}
 use Rattle.audit.specs.declared.question.Request.TheVariants as requests
 use Rattle.program.specs.declared.invocation.Invocation.TheVariants as calls
 use Rattle.program.specs.declared.invocation.Judgement.TheVariants as judgements
@@ -65,10 +65,19 @@ is_command name = bytes_eq name (codes "list") || bytes_eq name (codes "samples"
     || bytes_eq name (codes "find") || bytes_eq name (codes "refute")
     || bytes_eq name (codes "envelope")
 
--- Of another name nothing can be said, nor of a command that cuts pieces of no length.
-abbrev pub IsRefusable : Text → Type 0
-IsRefusable name =
-    (is_command name ≡ false) ⊎ ((name ≡ codes "find") ⊎ (name ≡ codes "envelope"))
+-- no number from 1 to 86400 is given for the length of a piece
+abbrev pub HasNoStep : List Row → Type 0
+HasNoStep rows = IfSome (one_of (codes "step") rows) (λ text.
+    IsNumeral 10 (without_leading_plus text) → 1 ≤ digits_value 10 (without_leading_plus text)
+    → digits_value 10 (without_leading_plus text) ≤ 86400 → ⊥)
+
+-- A command that cuts pieces is refused if it's given no length for them, and so is a name that is
+-- no command's.
+abbrev pub IsRefusable : Text → List Row → Text → Type 0
+IsRefusable name rows told =
+    ((is_command name ≡ false) × (told ≡ codes "no command\n"))
+    ⊎ (((name ≡ codes "find") ⊎ (name ≡ codes "envelope")) × HasNoStep rows
+    × (told ≡ codes "no step\n"))
 
 -- what a command without a second input asks
 abbrev pub IsRequest : Text → List Row → Request → Type 0
@@ -108,10 +117,10 @@ IsCalled name rows (calls.Judge judgement paths) = IsJudgement name rows judgeme
     × AreJudgedNamed (second_operand judgement) rows paths
 IsCalled name rows (calls.RefuseTime shown) =
     (name ≡ codes "at") × (time_given rows ≡ None) × IsShownTime rows shown
-IsCalled name rows (calls.Refuse text) = IsRefusable name
+IsCalled name rows (calls.Refuse text) = IsRefusable name rows (string_bytes text)
 IsCalled name rows (calls.Show text) = ⊥
 
 -- what the rows of a command line call for: those of its command
 abbrev pub IsCalledBy : Option (Text × List Row) → Invocation → Type 0
 IsCalledBy (Some found) invocation = IsCalled found.0 found.1 invocation
-IsCalledBy None invocation = IsRefusal invocation
+IsCalledBy None invocation = IsRefusedBy (codes "no command\n") invocation

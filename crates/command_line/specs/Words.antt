@@ -1,6 +1,6 @@
 -- What the words of a command line call for.
-use Rattle.std.specs.Prelude.{◌≡◌, ◌&&◌, ◌||◌, Bool, true, false, List, [], ◌∷◌, Option, String, if◌then◌else◌, nat_lt, codes, count_by, map, option_map, slice_get, string_bytes, take, unwrap_or}
-use Rattle.command_line.specs.Common.{option_map_or, bytes_eq, Global, IsAmong, Kinds, Row, Text, fault_of, subcommand_of, ErrorKind, DisplayHelp, DisplayVersion, IsRefusal, Invocation, Paths}
+use Rattle.std.specs.Prelude.{◌≡◌, ◌&&◌, ◌||◌, Bool, true, false, List, [], ◌∷◌, Option, None, Some, IfSome, String, if◌then◌else◌, nat_lt, codes, count_by, map, option_map, slice_get, string_bytes, take, unwrap_or}
+use Rattle.command_line.specs.Common.{option_map_or, bytes_eq, Global, IsAmong, Kinds, Row, Text, fault_of, subcommand_of, ErrorKind, DisplayHelp, DisplayVersion, IsRefusedBy, Invocation, Paths}
 use Rattle.command_table.specs.Commands.{ntpaudit}
 use Rattle.command_line.specs.Invocation.{IsCalledBy}
 use Rattle.program.specs.declared.invocation.Invocation.TheVariants as calls
@@ -25,22 +25,32 @@ is_twice names = nat_lt 1 (count_by (λ name. bytes_eq name (codes "-")) names)
 abbrev pub is_no_file : Text → Bool
 is_no_file path = bytes_eq path (codes "-") || bytes_eq path []
 
--- whether these paths can't go together, beside a second input of this path
-abbrev pub misuses : Paths → Text → Bool
-misuses paths second =
-    is_twice (string_bytes paths.claim ∷ string_bytes paths.capture ∷ second
-    ∷ unwrap_or (option_map string_bytes paths.sums) [] ∷ [])
-    || option_map_or (λ path. is_no_file (string_bytes path)) paths.output false
+abbrev pub twice_text : Text
+twice_text =
+    codes "error: standard input, -, can be one input alone: give each other by its file\n"
 
-abbrev pub is_misused : Invocation → Bool
-is_misused (calls.Ask request paths) = misuses paths []
-is_misused (calls.Judge judgement paths) = misuses paths.evidence (string_bytes paths.second)
-is_misused invocation = false
+abbrev pub no_file_text : Text
+no_file_text = codes "error: -o takes a file's path; standard output needs no -o\n"
+
+-- what is told of these paths, beside a second input of this path, if they can't go together: of
+-- two reasons the first
+abbrev pub misuse_of : Paths → Text → Option Text
+misuse_of paths second =
+    if is_twice (string_bytes paths.claim ∷ string_bytes paths.capture ∷ second
+    ∷ unwrap_or (option_map string_bytes paths.sums) [] ∷ [])
+    then Some twice_text
+    else (if option_map_or (λ path. is_no_file (string_bytes path)) paths.output false
+    then Some no_file_text else None)
+
+abbrev pub misuse_in : Invocation → Option Text
+misuse_in (calls.Ask request paths) = misuse_of paths []
+misuse_in (calls.Judge judgement paths) = misuse_of paths.evidence (string_bytes paths.second)
+misuse_in invocation = None
 
 -- What is called for, refused if its paths can't go together.
 pub record IsReadOnce (called invocation : Invocation) : Type 0 where
-  pub misused : is_misused called ≡ true → IsRefusal invocation
-  pub lawful : is_misused called ≡ false → invocation ≡ called
+  pub misused : IfSome (misuse_in called) (λ text. IsRefusedBy text invocation)
+  pub lawful : misuse_in called ≡ None → invocation ≡ called
 
 -- ---- the words
 

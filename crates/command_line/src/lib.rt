@@ -17,8 +17,9 @@
 
 mod advice;
 mod command;
+pub mod laws;
 mod misuse;
-mod run;
+pub mod run;
 mod words;
 
 pub use run::run_process;

@@ -1,6 +1,6 @@
 //! Paths that can't go together.
 
-ghost use Rattle.std.specs.Prelude.{◌≡◌, IfOk, false, is_some, map, string_bytes};
+ghost use Rattle.std.specs.Prelude.{◌≡◌, IfOk, false, map, option_map, string_bytes};
 ghost use Rattle.std.specs.Option.{option_map_or};
 ghost use Rattle.command_line.specs.Words as spec;
 ghost use Rattle.command_line.specs.Words.{IsReadOnce};
@@ -28,7 +28,7 @@ fn names_no_file(output: &Option<String>) -> bool
 
 /// Why these paths can't go together, beside a second input of this path.
 fn misuse_of(paths: &Paths, second: &str) -> Option<&'static str>
-    ensures { is_some result ≡ spec.misuses paths.now second.now }
+    ensures { option_map (λ text. text.now) result ≡ spec.misuse_of paths.now second.now }
 {
     let (claim, capture) = (paths.claim.as_str(), paths.capture.as_str());
     if is_twice(&[claim, capture, second, path_or_none(&paths.sums)]) {
@@ -42,7 +42,7 @@ fn misuse_of(paths: &Paths, second: &str) -> Option<&'static str>
 
 /// Why the paths of what is called for can't go together.
 fn misuse_in(invocation: &Invocation) -> Option<&'static str>
-    ensures { is_some result ≡ spec.is_misused invocation.now }
+    ensures { option_map (λ text. text.now) result ≡ spec.misuse_in invocation.now }
 {
     match invocation {
         Invocation::Ask(_, paths) => misuse_of(paths, ""),

@@ -1,8 +1,8 @@
 //! The program: from the words of a command line to its response, over any files and outputs.
 
-ghost use Rattle.std.specs.Prelude.{◌≡◌, Err};
+ghost use Rattle.std.specs.Prelude.{◌≡◌, Err, option_map};
 ghost use Rattle.command_line.specs.Common.{IsWritable, Concludes, conclusion_of, Memory, MayOpen, IsBare, world};
-ghost use Rattle.command_line.specs.Run.{Runs};
+ghost use Rattle.command_line.specs.Run.{Runs, RunsOn, RunsOnOutputs, words_in};
 
 use crate::words::read_words;
 use audit::Outputs;
@@ -29,7 +29,7 @@ fn out_of_memory<E: Sink>(err: &mut E) -> Response
 
 /// Does what the words of a command line call for. What is read of a capture is hashed by `hasher`,
 /// on which no answer depends.
-pub(crate) fn run<Fs: Files, S: Sink, E: Sink, H: BuildHasher + Copy + Drop>(
+pub fn run<Fs: Files, S: Sink, E: Sink, H: BuildHasher + Copy + Drop>(
     alloc: Global,
     words: &[String],
     files: &mut Fs,
@@ -49,6 +49,30 @@ pub(crate) fn run<Fs: Files, S: Sink, E: Sink, H: BuildHasher + Copy + Drop>(
     }
 }
 
+/// The same of the words of a process, which are none if one isn't UTF-8.
+fn run_if_read<Fs: Files, S: Sink, E: Sink, H: BuildHasher + Copy + Drop>(
+    alloc: Global,
+    words: &Option<Vec<String>>,
+    files: &mut Fs,
+    to: &mut Outputs<S, E>,
+    hasher: H,
+) -> Response
+    requires files { MayOpen (Fs.state files.old) }
+    requires out { IsWritable (S.state to.old.out) }
+    requires err { IsWritable (E.state to.old.err) }
+    ensures runs { RunsOn (option_map (λ given. given.items) words.now)
+        (world (Fs.state files.old) (S.state to.old.out) (E.state to.old.err))
+        (world (Fs.state files.new) (S.state to.new.out) (E.state to.new.err)) result }
+{
+    match words {
+        Some(words) => run(alloc, words.as_slice(), files, to, hasher),
+        None => match Invocation::refusal(alloc, "error: an operand isn't UTF-8\n") {
+            Ok(refusal) => respond(alloc, files, refusal, to, hasher),
+            Err(AllocError) => out_of_memory(&mut to.err),
+        },
+    }
+}
+
 /// What comes of the words of this process, as `words_of` gives them, on its standard output and
 /// standard error, over any files.
 pub fn run_process<Fs: Files, H: BuildHasher + Copy + Drop>(
@@ -58,18 +82,14 @@ pub fn run_process<Fs: Files, H: BuildHasher + Copy + Drop>(
     hasher: H,
 ) -> Response
     requires { MayOpen (Fs.state files.old) }
+    ensures { RunsOnOutputs (words_in words.now) (Fs.state files.old) (Fs.state files.new) result }
 {
-    let alloc = rt.alloc();
     let mut to = Outputs {
         out: WriteSink::new(rt.stdout()),
         err: WriteSink::new(rt.stderr()),
     };
     match words {
-        Ok(Some(words)) => run(alloc, words.as_slice(), files, &mut to, hasher),
-        Ok(None) => match Invocation::refusal(alloc, "error: an operand isn't UTF-8\n") {
-            Ok(refusal) => respond(alloc, files, refusal, &mut to, hasher),
-            Err(AllocError) => out_of_memory(&mut to.err),
-        },
+        Ok(words) => run_if_read(rt.alloc(), words, files, &mut to, hasher),
         Err(AllocError) => out_of_memory(&mut to.err),
     }
 }

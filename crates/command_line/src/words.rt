@@ -1,6 +1,7 @@
 //! The words of a command line, read.
 
-ghost use Rattle.std.specs.Prelude.{◌≡◌, ◌≢◌, IfOk};
+ghost use Rattle.std.specs.Prelude.{◌≡◌, ◌≢◌, IfOk, IsSomeAnd, MatchResult, None};
+ghost use Rattle.std.specs.Vec.Iter.{into_iter_items};
 ghost use Rattle.command_line.specs.Common.{kind_of, OutOfMemory};
 ghost use Rattle.command_line.specs.Words.{IsTold, Means};
 
@@ -11,7 +12,8 @@ use clap::{Error, error};
 use command_table::ntpaudit;
 use program::{Invocation, VERSION};
 use std::alloc::{AllocError, Global};
-use std::env;
+use std::env::Args;
+use std::io;
 use std::io::ErrorKind;
 
 /// What a refusal of the command line, or a call for help, asks for.
@@ -42,17 +44,16 @@ pub(crate) fn read_words(alloc: Global, words: &[String]) -> Result<Invocation, 
     }
 }
 
-/// The words of the process's command line, and none if one isn't UTF-8. The only error is that it
-/// is out of memory.
-pub fn words_of(rt: &HostRuntime) -> Result<Option<Vec<String>>, AllocError> {
-    let arguments = match env::args(rt) {
-        Ok(arguments) => arguments,
-        Err(error) if error.kind() == ErrorKind::InvalidData => return Ok(None),
-        Err(_) => return Err(AllocError),
-    };
-    let mut words = Vec::new(rt.alloc());
-    for word in arguments {
-        words.push(word)?;
+/// The words of a command line as the system gives them, and none if one isn't UTF-8. The only
+/// error is that it is out of memory.
+pub fn words_of(alloc: Global, given: io::Result<Args>) -> Result<Option<Vec<String>>, AllocError>
+    ensures { MatchResult given
+        (λ words. IfOk result (λ read. IsSomeAnd read (λ r. r.items ≡ into_iter_items words)))
+        (λ error. IfOk result (λ read. read ≡ None)) }
+{
+    match given {
+        Ok(words) => Ok(Some(words.collect(alloc)?)),
+        Err(error) if error.kind() == ErrorKind::InvalidData => Ok(None),
+        Err(_) => Err(AllocError),
     }
-    Ok(Some(words))
 }

@@ -1,7 +1,7 @@
 //! The host's files: what stands at their paths isn't known before it is read.
 
-ghost use Rattle.std.specs.Prelude.{◌≡◌};
-ghost use Rattle.program.specs.Files.{unknown};
+ghost use Rattle.std.specs.Prelude.{◌≡◌, option_map, string_bytes};
+ghost use Rattle.program.specs.Files.{unknown, unknown_files};
 
 use crate::draft::{SyncedFile, create, refused};
 use byte_stream::{ReadFeed, WriteSink};
@@ -10,12 +10,16 @@ use std::fs::File;
 use std::io::{Read, Stdin};
 use std::{fs, io};
 
-/// The host, how many files were opened, how many drafts have taken their place, and how often one
-/// couldn't be made or take it.
+/// The host, how many files were opened, and what has become of drafts: how many were made, the
+/// name of the last one, whether it's still there, how many have taken their place, and how often
+/// one couldn't be made or take it.
 #[derive(Drop)]
 pub(crate) struct Host<'a> {
     rt: &'a HostRuntime,
     opened: u64,
+    made: u64,
+    part: Option<String>,
+    is_there: bool,
     placed: u64,
     hindered: u64,
 }
@@ -23,15 +27,24 @@ pub(crate) struct Host<'a> {
 impl<'a> Host<'a> {
     /// The host's files, of which none was opened.
     pub(crate) fn new(rt: &'a HostRuntime) -> Host<'a>
-        ensures opened { (⟦<Host<'a> as Files>⟧.state result).opened ≡ 0 }
-        ensures drafts { (⟦<Host<'a> as Files>⟧.state result).drafts
-            ≡ record { placed = 0; hindered = 0; put = λ path. unknown } }
+        ensures { ⟦<Host<'a> as Files>⟧.state result ≡ unknown_files }
     {
         Host {
             rt,
             opened: 0,
+            made: 0,
+            part: None,
+            is_there: false,
             placed: 0,
             hindered: 0,
+        }
+    }
+
+    /// The name of the last draft that was made.
+    fn part_name(&self) -> &str {
+        match &self.part {
+            Some(part) => part.as_str(),
+            None => "",
         }
     }
 }
@@ -63,6 +76,9 @@ impl<'a> Files for Host<'a> {
       standing = λ path. unknown;
       opened = host.opened;
       drafts = record {
+        made = host.made;
+        last = option_map string_bytes host.part;
+        is_there = host.is_there;
         placed = host.placed;
         hindered = host.hindered;
         put = λ path. unknown;
@@ -83,11 +99,16 @@ impl<'a> Files for Host<'a> {
     fn create(
         &mut self,
         path: &str,
-        part: &str,
+        part: String,
         paths: &Paths,
     ) -> Result<WriteSink<SyncedFile>, Hindrance> {
-        match create(self.rt, path, part, paths) {
-            Ok(file) => Ok(WriteSink::new(file)),
+        match create(self.rt, path, part.as_str(), paths) {
+            Ok(file) => {
+                self.made += 1;
+                self.part = Some(part);
+                self.is_there = true;
+                Ok(WriteSink::new(file))
+            }
             Err(hindrance) => {
                 self.hindered += 1;
                 Err(hindrance)
@@ -95,22 +116,19 @@ impl<'a> Files for Host<'a> {
         }
     }
 
-    fn place(
-        &mut self,
-        _draft: WriteSink<SyncedFile>,
-        part: &str,
-        path: &str,
-    ) -> Result<(), Hindrance> {
-        if let Err(error) = fs::rename(self.rt, part, path) {
-            self.remove(part);
+    fn place(&mut self, draft: WriteSink<SyncedFile>, path: &str) -> Result<(), Hindrance> {
+        if let Err(error) = fs::rename(self.rt, self.part_name(), path) {
+            self.remove(draft);
             self.hindered += 1;
             return Err(refused(error));
         }
+        self.is_there = false;
         self.placed += 1;
         Ok(())
     }
 
-    fn remove(&mut self, part: &str) {
-        let _ = fs::remove_file(self.rt, part);
+    fn remove(&mut self, _draft: WriteSink<SyncedFile>) {
+        let _ = fs::remove_file(self.rt, self.part_name());
+        self.is_there = false;
     }
 }

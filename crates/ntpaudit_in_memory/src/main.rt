@@ -12,11 +12,11 @@ use command_line::{run_process, words_of};
 use program::{Place, STDIN, Table};
 use second_look::say;
 use std::alloc::AllocError;
-use std::fs;
 use std::fs::{File, Files};
 use std::hash::{BuildHasherDefault, FoldHasher};
 use std::io::{Read, Result};
 use std::process::ExitCode;
+use std::{env, fs};
 
 /// The status if the files can't be brought into memory, or onto the disk.
 const BROKEN: u8 = 70;
@@ -89,7 +89,7 @@ fn run_over(
 }
 
 fn main(rt: HostRuntime) -> ExitCode {
-    let words = words_of(&rt);
+    let words = words_of(rt.alloc(), env::args(&rt));
     let files = match &words {
         Ok(Some(words)) => files_named_by(&rt, words.as_slice()),
         _ => Ok(Vec::new(rt.alloc())),

@@ -1,7 +1,7 @@
 -- The answer to a question whose text for a program goes into a draft.
 use Rattle.std.specs.Prelude.{◌≡◌, ◌⊎◌, ◌==◌, ℕ, List, true, false, if◌then◌else◌, is_some, Option, Some, None, Result, Ok, Err, IfErr, IfOk, MatchResult}
 use Rattle.program.specs.Common.{FeedState, SinkState, Full, no_feed, Concludes, conclusion_of, Conclusion, Outcome, RunFault, Memory, Write, AskedData, RunsFor, RunsTwice, AreSummed, CountFaults, Feeds, IsUnjudgedFor, TakeAtMost, feed_of, feeds, InputBytesData}
-use Rattle.program.specs.Files.{DraftsState, IsEmpty, IsHindered, IsPlaced}
+use Rattle.program.specs.Files.{DraftsState, IsEmpty, IsHindered, IsPlaced, part_of, with_draft, without_draft}
 use Rattle.program.specs.Inputs.{SumNames, run_over, sums_of}
 use Rattle.program.specs.Invocation.{Asking, is_human}
 use Rattle.program.specs.Opening.{AreOpened, Places}
@@ -54,10 +54,10 @@ IsEnded (Ok outcome) path draft before after written =
     (IsPlaced path draft before after
     × (written.answer ≡ Ok outcome) × (written.hindrance ≡ None))
     ⊎ (IsHindered before after × TellsHindrance written)
-IsEnded (Err fault) path draft before after written = (after ≡ before)
+IsEnded (Err fault) path draft before after written = (after ≡ without_draft before)
     × (written.answer ≡ Err fault) × (written.hindrance ≡ hindrance_of fault draft.faults)
 
--- A draft was made, and the question answered into it.
+-- One draft was made, beside the file's path, and the question answered into it.
 pub record HasDraft (asked : AskedData) (feeds : Feeds) (path : List ℕ) (out out' : SinkState)
     (before after : DraftsState) (written : Written) : Type 0 where
   pub draft : SinkState
@@ -65,7 +65,7 @@ pub record HasDraft (asked : AskedData) (feeds : Feeds) (path : List ℕ) (out o
   pub drafted : Result Outcome RunFault
   pub is_empty : IsEmpty draft
   pub is_drafted : IsDrafted asked feeds draft draft_after out out' drafted
-  pub is_ended : IsEnded drafted path draft_after before after written
+  pub is_ended : IsEnded drafted path draft_after (with_draft (part_of path) before) after written
 
 -- No draft was made, for want of memory or since something hinders it. Nothing is written.
 pub record HasNoDraft (out out' : SinkState) (before after : DraftsState) (written : Written)

@@ -1,5 +1,5 @@
 -- What may be opened: which bytes stand at which path, as far as that is known.
-use Rattle.std.specs.Prelude.{◌≡◌, ◌+◌, ◌^◌, ◌<◌, ℕ, List, [], Option, Some, IfSome, IsTrue}
+use Rattle.std.specs.Prelude.{◌≡◌, ◌+◌, ◌++◌, ◌^◌, ◌<◌, ℕ, Bool, true, false, List, [], Option, None, Some, IfSome, IsTrue, codes}
 use Rattle.byte_stream.specs.State.{FeedState, SinkState}
 
 -- what is known of a path: nothing, that it can't be opened, or which bytes stand there
@@ -8,9 +8,13 @@ pub data Standing : Type 0 where
   missing : Standing
   holds : List ℕ → Standing
 
--- drafts at one moment: how many have taken their place, how often one couldn't be made or take it,
--- and what was put at each path
+-- drafts at one moment: how many were made, the name of the last one, and whether it is still
+-- there; how many have taken their place, how often one couldn't be made or take it, and what was
+-- put at each path
 pub record DraftsState : Type 0 where
+  pub made : ℕ
+  pub last : Option (List ℕ)
+  pub is_there : Bool
   pub placed : ℕ
   pub hindered : ℕ
   pub put : List ℕ → Standing
@@ -21,8 +25,37 @@ pub record FilesState : Type 0 where
   pub opened : ℕ
   pub drafts : DraftsState
 
--- A draft may be made, and take its place.
+-- files of which nothing is known, and none was opened or made
+abbrev pub unknown_files : FilesState
+unknown_files = record {
+  standing = λ path. unknown;
+  opened = 0;
+  drafts = record {
+    made = 0;
+    last = None;
+    is_there = false;
+    placed = 0;
+    hindered = 0;
+    put = λ path. unknown;
+  };
+}
+
+-- the name of the draft of a file with this path
+abbrev pub part_of : List ℕ → List ℕ
+part_of path = path ++ codes ".part"
+
+-- once a draft of this name was made
+abbrev pub with_draft : List ℕ → DraftsState → DraftsState
+with_draft name drafts = record drafts { made = drafts.made + 1; last = Some name; is_there = true }
+
+-- once it is removed
+abbrev pub without_draft : DraftsState → DraftsState
+without_draft drafts = record drafts { is_there = false }
+
+-- A draft may be made, and take its place: there is none.
 pub record MayDraft (drafts : DraftsState) : Type 0 where
+  pub none : drafts.is_there ≡ false
+  pub made : drafts.made + 1 < 2 ^ 64
   pub placed : drafts.placed + 1 < 2 ^ 64
   pub hindered : drafts.hindered + 1 < 2 ^ 64
 
@@ -59,15 +92,23 @@ pub record IsEmpty (draft : SinkState) : Type 0 where
   pub unfailed : draft.faults ≡ 0
   pub nothing : IfSome draft.contents (λ bytes. bytes ≡ [])
 
--- A draft has taken the place of this path, with all that its sink holds.
+-- No other draft was made, and the one that was isn't there any more.
+pub record IsOver (before after : DraftsState) : Type 0 where
+  pub made : after.made ≡ before.made
+  pub last : after.last ≡ before.last
+  pub gone : after.is_there ≡ false
+
+-- The draft has taken the place of this path, with all that its sink holds.
 pub record IsPlaced (path : List ℕ) (draft : SinkState) (before after : DraftsState)
     : Type 0 where
   pub bytes : HasBytesOf (after.put path) draft.contents
   pub counted : after.placed ≡ before.placed + 1
   pub unhindered : after.hindered ≡ before.hindered
+  pub over : IsOver before after
 
 -- Something hinders a draft from being made, or from taking its place.
 pub record IsHindered (before after : DraftsState) : Type 0 where
   pub counted : after.hindered ≡ before.hindered + 1
   pub unplaced : after.placed ≡ before.placed
   pub unput : after.put ≡ before.put
+  pub over : IsOver before after

@@ -1,5 +1,5 @@
 -- What a command line asks of files.
-use Rattle.std.specs.Prelude.{ℕ, Bool, true, false, List, [], Option, Some, None, codes, option_map, if◌then◌else◌, string_bytes, unwrap_or}
+use Rattle.std.specs.Prelude.{◌≡◌, ℕ, Bool, true, false, List, [], Option, Some, None, codes, option_map, if◌then◌else◌, string_bytes, unwrap_or}
 use Rattle.program.specs.Common.{Style, Plain, Input, Certificate, Refutation, check, AskedData, asked_of, refute, question_of, certificate_second, no_second, refutation_second, settle, Request}
 use Rattle.audit.specs.declared.question.Request.TheVariants as requests
 use Rattle.program.specs.About.{about_of, inputs_of}
@@ -79,7 +79,7 @@ abbrev pub judged_of : Judgement → JudgedPaths → Asking
 judged_of judgement paths = named (judging judgement paths.evidence.style) paths.evidence.style
     (judged_places (second_of judgement) paths)
 
--- a refusal
-abbrev pub IsRefusal : Invocation → Type 0
-IsRefusal (calls.Refuse text) = Unit {0}
-IsRefusal invocation = ⊥
+-- a refusal, with this text
+abbrev pub IsRefusedBy : List ℕ → Invocation → Type 0
+IsRefusedBy text (calls.Refuse told) = string_bytes told ≡ text
+IsRefusedBy text invocation = ⊥

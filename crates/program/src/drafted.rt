@@ -130,14 +130,14 @@ fn write_file<
         Ok(part) => part,
         Err(AllocError) => return unmade(RunFault::Memory),
     };
-    let mut sink = match files.create(path, part.as_str(), paths) {
+    let mut sink = match files.create(path, part, paths) {
         Ok(sink) => sink,
         Err(hindrance) => return hindered(hindrance),
     };
     let style = paths.style;
     let answer = draft(alloc, question, style, inputs, &mut sink, out, hasher);
     match answer {
-        Ok(_) => match files.place(sink, part.as_str(), path) {
+        Ok(_) => match files.place(sink, path) {
             Ok(()) => Written {
                 answer,
                 hindrance: None,
@@ -145,8 +145,8 @@ fn write_file<
             Err(hindrance) => hindered(hindrance),
         },
         Err(fault) => {
-            files.remove(part.as_str());
             let hindrance = hindrance_of(&fault, sink.faults());
+            files.remove(sink);
             Written { answer, hindrance }
         }
     }

@@ -1,7 +1,7 @@
 //! What is opened by a path, and what is put at one.
 
-ghost use Rattle.std.specs.Prelude.{◌≡◌, ◌+◌, ◌-◌, ◌^◌, ◌<◌, IfOk, IfErr};
-ghost use Rattle.program.specs.Files.{FilesState, IsEmpty, IsFeedOf, IsHindered, IsPlaced, MayBeMissing, MayDraft};
+ghost use Rattle.std.specs.Prelude.{◌≡◌, ◌+◌, ◌-◌, ◌^◌, ◌<◌, IfOk, IfErr, IsTrue, string_bytes};
+ghost use Rattle.program.specs.Files.{FilesState, IsEmpty, IsFeedOf, IsHindered, IsPlaced, MayBeMissing, MayDraft, with_draft, without_draft};
 
 use crate::hindrance::Hindrance;
 use crate::invocation::Paths;
@@ -40,26 +40,33 @@ pub trait Files {
         ensures kept { (state self.new).drafts ≡ (state self.old).drafts };
 
     /// Makes the draft `part` of a file, if this may take the place of `path` in a run with these
-    /// inputs.
-    fn create(&mut self, path: &str, part: &str, paths: &Paths) -> Result<Self::Draft, Hindrance>
+    /// inputs. There is at most one draft.
+    fn create(&mut self, path: &str, part: String, paths: &Paths) -> Result<Self::Draft, Hindrance>
         requires { MayDraft (state self.old).drafts }
         ensures empty { IfOk result (λ draft. IsEmpty (Self.Draft.state draft)) }
-        ensures made { IfOk result (λ draft.
-            (state self.new).drafts ≡ (state self.old).drafts) }
+        ensures made { IfOk result (λ draft. (state self.new).drafts
+            ≡ with_draft (string_bytes part) (state self.old).drafts) }
         ensures hindered { IfErr result (λ hindrance.
             IsHindered (state self.old).drafts (state self.new).drafts) }
+        ensures same { (state self.new).standing ≡ (state self.old).standing }
         ensures kept { (state self.new).opened ≡ (state self.old).opened };
 
-    /// Puts the draft `part` into its place, or removes it if that can't be done.
-    fn place(&mut self, draft: Self::Draft, part: &str, path: &str) -> Result<(), Hindrance>
-        requires { MayDraft (state self.old).drafts }
+    /// Puts the draft into its place, or removes it if that can't be done.
+    fn place(&mut self, draft: Self::Draft, path: &str) -> Result<(), Hindrance>
+        requires there { IsTrue (state self.old).drafts.is_there }
+        requires placed { (state self.old).drafts.placed + 1 < 2 ^ 64 }
+        requires hindered { (state self.old).drafts.hindered + 1 < 2 ^ 64 }
         ensures placed { IfOk result (λ done. IsPlaced path.now (Self.Draft.state draft)
             (state self.old).drafts (state self.new).drafts) }
         ensures hindered { IfErr result (λ hindrance.
             IsHindered (state self.old).drafts (state self.new).drafts) }
+        ensures same { (state self.new).standing ≡ (state self.old).standing }
         ensures kept { (state self.new).opened ≡ (state self.old).opened };
 
-    /// Removes a draft.
-    fn remove(&mut self, part: &str)
-        ensures { state self.new ≡ state self.old };
+    /// Removes the draft.
+    fn remove(&mut self, draft: Self::Draft)
+        requires { IsTrue (state self.old).drafts.is_there }
+        ensures { state self.new ≡ record (state self.old) {
+          drafts = without_draft (state self.old).drafts;
+        } };
 }

@@ -1,7 +1,7 @@
 //! What the words of a command line call for.
 
 ghost use Rattle.std.specs.Prelude.{◌≡◌, [], IfOk, option_map, string_bytes, unwrap_or};
-ghost use Rattle.program.specs.Invocation.{IsRefusal, listed_name, second_of};
+ghost use Rattle.program.specs.Invocation.{IsRefusedBy, listed_name, second_of};
 
 use audit::{Request, Style};
 use report::Input;
@@ -110,7 +110,7 @@ pub enum Invocation {
 impl Invocation {
     /// A command line that is refused with this text.
     pub fn refusal(alloc: Global, text: &str) -> Result<Invocation, AllocError>
-        ensures { IfOk result IsRefusal }
+        ensures { IfOk result (IsRefusedBy text.now) }
     {
         Ok(Invocation::Refuse(String::from_str(alloc, text)?))
     }

@@ -1,6 +1,6 @@
 //! Files in memory, for tests: all is known of them.
 
-ghost use Rattle.std.specs.Prelude.{◌≡◌};
+ghost use Rattle.std.specs.Prelude.{◌≡◌, None, false, option_map, string_bytes};
 ghost use Rattle.program.specs.Files.{missing};
 ghost use Rattle.program.specs.Table.{put_in, standing_in};
 
@@ -40,6 +40,9 @@ pub struct Table<'a> {
     places: &'a [Place<'a>],
     cut: Cut,
     opened: u64,
+    made: u64,
+    part: Option<String>,
+    is_there: bool,
     placed: u64,
     hindered: u64,
     last: Option<Put>,
@@ -52,7 +55,14 @@ impl<'a> Table<'a> {
         ensures { ⟦<Table<'a> as Files>⟧.state result ≡ record {
           standing = λ path. standing_in path places.now;
           opened = 0;
-          drafts = record { placed = 0; hindered = 0; put = λ path. missing };
+          drafts = record {
+            made = 0;
+            last = None;
+            is_there = false;
+            placed = 0;
+            hindered = 0;
+            put = λ path. missing;
+          };
         } }
     {
         Table {
@@ -60,6 +70,9 @@ impl<'a> Table<'a> {
             places,
             cut,
             opened: 0,
+            made: 0,
+            part: None,
+            is_there: false,
             placed: 0,
             hindered: 0,
             last: None,
@@ -83,6 +96,9 @@ impl<'a> Files for Table<'a> {
       standing = λ path. standing_in path table.places.now;
       opened = table.opened;
       drafts = record {
+        made = table.made;
+        last = option_map string_bytes table.part;
+        is_there = table.is_there;
         placed = table.placed;
         hindered = table.hindered;
         put = λ path. put_in path table.last;
@@ -100,9 +116,14 @@ impl<'a> Files for Table<'a> {
         Err(OpenFault)
     }
 
-    fn create(&mut self, _path: &str, _part: &str, _paths: &Paths) -> Result<TestSink, Hindrance> {
+    fn create(&mut self, _path: &str, part: String, _paths: &Paths) -> Result<TestSink, Hindrance> {
         match TestSink::new(self.alloc, ROOM, ROOM, None, false) {
-            Ok(sink) => Ok(sink),
+            Ok(sink) => {
+                self.made += 1;
+                self.part = Some(part);
+                self.is_there = true;
+                Ok(sink)
+            }
             Err(_) => {
                 self.hindered += 1;
                 Err(Hindrance::of(Obstacle::Refused))
@@ -110,7 +131,8 @@ impl<'a> Files for Table<'a> {
         }
     }
 
-    fn place(&mut self, draft: TestSink, _part: &str, path: &str) -> Result<(), Hindrance> {
+    fn place(&mut self, draft: TestSink, path: &str) -> Result<(), Hindrance> {
+        self.is_there = false;
         match String::from_str(self.alloc, path) {
             Ok(path) => {
                 self.placed += 1;
@@ -124,5 +146,7 @@ impl<'a> Files for Table<'a> {
         }
     }
 
-    fn remove(&mut self, _part: &str) {}
+    fn remove(&mut self, _draft: TestSink) {
+        self.is_there = false;
+    }
 }

@@ -4,7 +4,7 @@
 //! Behind a run, as `run_on` of `ntpaudit/src/main.rt` has it:
 //!
 //! ```text
-//! let response = run_process(rt, &words_of(rt), &mut Host::new(rt), hasher);
+//! let response = run_process(rt, words, files, hasher);
 //! say(rt, &response);
 //! ```
 

@@ -1,9 +1,9 @@
 //! What is read of one operand or option.
 
-ghost use Rattle.std.specs.Prelude.{◌≡◌, IfOk, IfSome, Some, codes, option_map, string_bytes};
+ghost use Rattle.std.specs.Prelude.{◌≡◌, IfNone, IfOk, IfSome, Some, codes, option_map, string_bytes};
 ghost use Rattle.command_line.specs.Common.{first_of, is_human};
 ghost use Rattle.command_line.specs.Invocation as spec;
-ghost use Rattle.command_line.specs.Invocation.{IsFlag, found_rows, step_given};
+ghost use Rattle.command_line.specs.Invocation.{HasNoStep, IsFlag, found_rows, step_given};
 
 use audit::{Step, Style};
 use clap::ArgMatches;
@@ -62,7 +62,9 @@ pub(crate) fn style(words: &ArgMatches) -> Style
 
 /// The length of a piece that is asked for.
 pub(crate) fn step_of(words: &ArgMatches) -> Option<Step>
-    ensures { IfSome result (λ step. step_given (found_rows words.now) ≡ Some step.seconds) }
+    ensures some { IfSome result (λ step.
+        step_given (found_rows words.now) ≡ Some step.seconds) }
+    ensures none { IfNone result (HasNoStep (found_rows words.now)) }
 {
     let seconds = words.get_one::<u32>("step")?;
     Step::new(seconds)
