@@ -1,8 +1,8 @@
 -- What the text of a certificate of either form says.
 --
 -- A text is read as a certificate of pieces. Only where its top has another shape than that is it
--- read as one by covers, and where that finds the same, it is refused as one of pieces. So each text
--- that the one reader takes or refuses for what lies below its top keeps its answer.
+-- read as one by covers, and where that finds the same, it is refused as one of pieces. So each
+-- text that the one reader takes or refuses for what lies below its top keeps its answer.
 use Rattle.std.specs.Prelude.{◌≡◌, ◌⊎◌, ℕ, ◌≤◌, List, length, Result, Ok, Err, MatchResult}
 use Rattle.certificate.specs.Certificate.{CertificateData, max_pieces}
 use Rattle.certificate.specs.Certificate.{data_of as certificate_data}

@@ -39,7 +39,8 @@ from_reach n d w (pos (suc k)) ceiling less =
 from_reach n d w _ ceiling less = omega (arith, ints)
 
 below_either : (z a b : ℤ) → z ≤ℤ int_max a b → (z ≤ℤ a) ⊎ (z ≤ℤ b)
-below_either z a b h = by_lt_z a b (λ less. inr (omega (arith, ints, clamps))) (λ more. inl (omega (arith, ints, clamps)))
+below_either z a b h =
+    by_lt_z a b (λ less. inr (omega (arith, ints, clamps))) (λ more. inl (omega (arith, ints, clamps)))
 
 below_most : (z a b : ℤ) → (z ≤ℤ a) ⊎ (z ≤ℤ b) → z ≤ℤ int_max a b
 below_most z a b (inl h) = omega (arith, ints, clamps)

@@ -91,7 +91,8 @@ module _ (claim : ClaimData) (xs : List Exchange) where
   passes_if pair none = by_test (tested pair)
       (λ apart. absurd (none (found_conflict claim xs pair _ _ refl refl apart))) (λ is. is)
 
-  none_found : (k : ℕ) (pairs : List (ℕ × ℕ)) → All (IsConflict claim xs) pairs → no_conflict_from claim xs k pairs ≡ None
+  none_found : (k : ℕ) (pairs : List (ℕ × ℕ)) → All (IsConflict claim xs) pairs
+      → no_conflict_from claim xs k pairs ≡ None
   none_found k [] all = refl
   none_found k (pair ∷ pairs) all =
       cond-true (tested pair) (no_conflict_from claim xs (k + 1) pairs) (Some k)
@@ -190,7 +191,8 @@ all_in : (groups : List ℕ) (is_in : ℕ → Bool)
 all_in [] is_in within = refl
 all_in (group ∷ groups) is_in within =
     and_from (is_in group) (list_all is_in groups)
-    (within group (ap (λ b. b || list_any (λ g. g == group) groups) (let same : (group == group) ≡ true = grind (arith, nat_tests) in same)))
+    (within group (ap (λ b. b || list_any (λ g. g == group) groups)
+    (let same : (group == group) ≡ true = grind (arith, nat_tests) in same)))
     (all_in groups is_in (λ k named. within k (either_passes (group == k) (list_any (λ g. g == k) groups) named)))
 
 holds_case : (cases : List CaseData) (is_in : ℕ → Bool)
@@ -326,7 +328,8 @@ module _ (claim : ClaimData) (xs : List Exchange) (certificate : CoverCertificat
       unfolding verdict_of
       is_that Yes is = all_conflicts Yes is.conflicts
           (some_cases certificate.cases is.some_case
-          ∙ ap (λ o. said_of_case o (cond test Unanswered (said_of_piece (case_faults claim xs 0 certificate.cases)))) is.fit
+          ∙ ap (λ o. said_of_case o (cond test Unanswered (said_of_piece (case_faults claim xs 0 certificate.cases))))
+          is.fit
           ∙ ap (λ b. cond b Unanswered (said_of_piece (case_faults claim xs 0 certificate.cases))) (no_set is.answered)
           ∙ ap said_of_piece (none_fails laws claim xs 0 certificate.cases
           (λ c case at. All-slice_get (CaseHolds claim xs) certificate.cases c case is.each at)))
@@ -344,11 +347,13 @@ module _ (claim : ClaimData) (xs : List Exchange) (certificate : CoverCertificat
               ap (λ o. said_of_case o (cond test Unanswered (said_of_piece (case_faults claim xs 0 (case ∷ cases))))) e
       is_that Unanswered is = all_conflicts Unanswered is.0
           (some_cases certificate.cases is.1
-          ∙ ap (λ o. said_of_case o (cond test Unanswered (said_of_piece (case_faults claim xs 0 certificate.cases)))) is.2
+          ∙ ap (λ o. said_of_case o (cond test Unanswered (said_of_piece (case_faults claim xs 0 certificate.cases))))
+          is.2
           ∙ ap (λ b. cond b Unanswered (said_of_piece (case_faults claim xs 0 certificate.cases)))
           (some_unanswered is.3.0 is.3.1))
       is_that (BadPiece k piece why) is = all_conflicts (BadPiece k piece why) is.0
           (some_cases certificate.cases is.1
-          ∙ ap (λ o. said_of_case o (cond test Unanswered (said_of_piece (case_faults claim xs 0 certificate.cases)))) is.2
+          ∙ ap (λ o. said_of_case o (cond test Unanswered (said_of_piece (case_faults claim xs 0 certificate.cases))))
+          is.2
           ∙ ap (λ b. cond b Unanswered (said_of_piece (case_faults claim xs 0 certificate.cases))) (no_set is.3)
           ∙ ap said_of_piece is.4)

@@ -16,8 +16,9 @@ abbrev pub MayRiseBy : ClaimData → ℤ → ℤ → ℤ → Type 0
 MayRiseBy claim from to ticks = ((ticks -ℤ pos 1) *ℤ pos (billion + claim.drift_ppb))
     <ℤ pos (claim.drift_ppb * unsigned_abs (ahead from to))
 
--- The error may be this at a reading of the stretch, by a low mark: it isn't below the mark, but for
--- what it may have fallen by since, up to the stretch's end, or has yet to rise by from its begin.
+-- The error may be this at a reading of the stretch, by a low mark: it isn't below the mark, but
+-- for what it may have fallen by since, up to the stretch's end, or has yet to rise by from its
+-- begin.
 abbrev pub LowLeavesRoom : ClaimData → Stretch → Mark → ℤ → Type 0
 LowLeavesRoom claim stretch mark error =
     MayFallBy claim mark.place stretch.end (mark.error -ℤ error)
@@ -31,8 +32,8 @@ HighLeavesRoom claim stretch mark error =
     ⊎ MayFallBy claim stretch.begin mark.place (error -ℤ mark.error)
 
 -- Entries admit an error, in ticks, over a stretch of readings, if the groups that are left out are
--- wrong: these are among at most `false_max` wrong ones, and each entry of another group leaves room
--- for the error, by the low mark of the one exchange and the high mark of the other.
+-- wrong: these are among at most `false_max` wrong ones, and each entry of another group leaves
+-- room for the error, by the low mark of the one exchange and the high mark of the other.
 pub record Admit (claim : ClaimData) (xs : List Exchange) (out : ℕ → Bool) (stretch : Stretch)
     (entries : List (ℕ × ℕ)) (error : ℤ) : Type 0 where
   pub is_wrong : ℕ → Bool
@@ -64,8 +65,8 @@ pub record BoundsAt (claim : ClaimData) (xs : List Exchange) (cases : List CaseD
   pub none_beyond : (e : ℤ) → Admit claim xs (names case) stretch piece.entries e
       → pos (unsigned_abs e) ≤ℤ claim.bound
 
--- Each pair that the certificate names is a conflict. And at each reading of the span, whichever few
--- groups are wrong, if they have an end of each conflict the error is within the bound.
+-- Each pair that the certificate names is a conflict. And at each reading of the span, whichever
+-- few groups are wrong, if they have an end of each conflict the error is within the bound.
 pub record BoundSpan (claim : ClaimData) (xs : List Exchange) (certificate : CoverCertificateData)
     : Type 0 where
   pub conflicts : All (IsConflict claim xs) certificate.conflicts

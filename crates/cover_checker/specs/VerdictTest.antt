@@ -1,5 +1,5 @@
--- The verdict on a certificate by covers as tests, one after another. What each says as a fact stands
--- in specs/Verdict.
+-- The verdict on a certificate by covers as tests, one after another. What each says as a fact
+-- stands in specs/Verdict.
 use Rattle.std.specs.Prelude.{ℕ, zero, suc, ◌+◌, ◌==◌, Bool, true, false, not, ◌&&◌, ◌||◌, nat_le, if◌then◌else◌, List, [], ◌∷◌, length, Option, None, Some, slice_get}
 use Rattle.cover_checker.specs.Common.{list_any, list_all, are_compatible, is_possible, CaseData, ClaimData, CoverCertificateData, Exchange, group_of, high_mark, low_mark, size_of}
 use Rattle.cover_checker.specs.Case.{cases_why}
