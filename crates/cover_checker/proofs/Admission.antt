@@ -28,12 +28,12 @@ as_natural : (a n : ℕ) → pos a <ℤ pos n → a < n
 as_natural a n h = omega (arith, ints)
 
 -- what is no more than a ratio rounded up is less than one more than the ratio
-in_reach : (n d w : ℕ) (z : ℤ) → 0 < d → IsCeiling n d w → z ≤ℤ pos w → ((z -ℤ pos 1) *ℤ pos d) <ℤ pos n
+pub in_reach : (n d w : ℕ) (z : ℤ) → 0 < d → IsCeiling n d w → z ≤ℤ pos w → ((z -ℤ pos 1) *ℤ pos d) <ℤ pos n
 in_reach n d w (pos (suc k)) some ceiling most = grind (arith, ints, ceiling.least k, one_less)
 in_reach n d w _ some ceiling most = omega (arith, ints)
 
 -- and what is less than that is no more
-from_reach : (n d w : ℕ) (z : ℤ) → IsCeiling n d w → ((z -ℤ pos 1) *ℤ pos d) <ℤ pos n → z ≤ℤ pos w
+pub from_reach : (n d w : ℕ) (z : ℤ) → IsCeiling n d w → ((z -ℤ pos 1) *ℤ pos d) <ℤ pos n → z ≤ℤ pos w
 from_reach n d w (pos (suc k)) ceiling less =
     grind (arith, ints, nat_tests, as_natural, one_less, ⊎_elim, mul-le-mul_right, cases_lt)
 from_reach n d w _ ceiling less = omega (arith, ints)
@@ -46,7 +46,7 @@ below_most : (z a b : ℤ) → (z ≤ℤ a) ⊎ (z ≤ℤ b) → z ≤ℤ int_ma
 below_most z a b (inl h) = omega (arith, ints, clamps)
 below_most z a b (inr h) = omega (arith, ints, clamps)
 
-size_within : (e b : ℤ) → neg_ℤ b ≤ℤ e → e ≤ℤ b → pos (unsigned_abs e) ≤ℤ b
+pub size_within : (e b : ℤ) → neg_ℤ b ≤ℤ e → e ≤ℤ b → pos (unsigned_abs e) ≤ℤ b
 size_within e b above below = omega (arith, ints)
 
 -- ---- one mark

@@ -5,7 +5,7 @@ mod Stretches
 mod Named
 mod Pieces
 mod Theorem
-mod Admission
+pub mod Admission
 mod Acceptance
 mod Verdicts
 mod VerdictTest

@@ -32,5 +32,5 @@ mod table;
 mod verdict;
 
 pub use exchange::exchange_named;
-pub use interval::{high_over, low_over};
+pub use interval::{high_over, low_over, missed_by};
 pub use verdict::{CaseWhy, CoverVerdict, PieceWhy, check_covers};
