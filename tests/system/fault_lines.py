@@ -4,10 +4,11 @@ import re
 
 from tests.support import ROOT
 
-TABLES = {"capture": "Fault lines", "claim": "Claims", "certificate": "Certificates", "refutation": "Refutations"}
-"""The section that has the numbers and words of an input's faults."""
+TABLES = {"capture": ["Fault lines"], "claim": ["Claims"], "certificate": ["Certificates", "Certificates by covers"],
+          "refutation": ["Refutations"]}
+"""The sections that have the numbers and words of an input's faults."""
 
-VARYING = re.compile(r"\b(PLACE|CODE|INPUT|K|N)\b")
+VARYING = re.compile(r"\b(PLACE|CODE|INPUT|K|N|P)\b")
 """What stands in a line for what varies."""
 
 
@@ -19,8 +20,10 @@ def fault_lines() -> list[str]:
     for row in re.findall(r"^\| (`.*?) \|", sections["Fault lines"], flags=re.M):
         for line in re.findall("`([^`]+)`", row):
             what, numbered, _ = line.partition(" N WORD")
-            numbers = re.findall(r"^\| (\d) \| (.*?) \|", sections[TABLES[what]], flags=re.M) if numbered else []
-            found += [f"{what} {number} {word}" for number, word in numbers] or [line]
+            rows = [row for table in (TABLES[what] if numbered else [])
+                    for row in re.findall(r"^\| ([\d, ]+) \| (.*?) \|", sections[table], flags=re.M)]
+            found += [f"{what} {number} {word}" for numbers, words in rows
+                      for number, word in zip(numbers.split(", "), words.split(", "), strict=True)] or [line]
     return list(dict.fromkeys(found))
 
 

@@ -35,7 +35,7 @@ ADDRESSES = ("host", "192.0.2", "192.0.2.256", "192.0.2.010", "2001:db8::1", "")
 LIMITS = {"false_max": 31, "bound_ns": 10**15, "drift_ppb": 500_000_000, "reading_ns": 10**9}
 
 ELSEWHERE = ("capture 8 too-many", "exchanges over 1000000", "memory", "certificate 4 too-many-entries piece K",
-             "certificate 5 too-many-pieces")
+             "certificate 5 too-many-pieces", "certificate 9 too-many-entries piece P", "certificate 7 too-many-pieces")
 """Fault lines that no transcript has room for: test_refused_memory.py or a test below has them."""
 
 NEVER = ("had a fault before", "read it again from its beginning")
@@ -143,12 +143,14 @@ def test_long_inputs(folder: Path) -> None:
         "sh", "-c", 'ulimit -v 40000; exec "$0" "$@"')
     piece: dict[str, object] = {"entries": [[0, 0]], "upto": 0}
     of_many = {"entries": [[0, k] for k in range(33)], "upto": 0}
-    for what, made, line, wrong in (
-            ("an entry", [of_many], "4 too-many-entries piece 0", "has over 32 entries in that piece"),
-            ("a piece", [piece] * 100_001, "5 too-many-pieces", "has over 100000 pieces")):
-        second.write_text(json.dumps({"pieces": made}))
-        check_told(f"{what} too many of a certificate", ["check", CLAIM, CAPTURE, second],
-                   (2, f"certificate {line}", f"{second}: {wrong}", anew))
+    for what, made, number, by_covers, line, wrong in (
+            ("an entry", [of_many], 4, 9, "too-many-entries piece 0", "has over 32 entries in that piece"),
+            ("a piece", [piece] * 100_001, 5, 7, "too-many-pieces", "has over 100000 pieces")):
+        for fault, text in ((number, {"pieces": made}),
+                            (by_covers, {"conflicts": [], "cases": [{"groups": [], "pieces": made}]})):
+            second.write_text(json.dumps(text))
+            check_told(f"{what} too many of a certificate, fault {fault}", ["check", CLAIM, CAPTURE, second],
+                       (2, f"certificate {fault} {line}", f"{second}: {wrong}", anew))
     check_told("a file beyond its greatest size", ["find", CLAIM, CAPTURE, "-o", folder / "answer"], (
         4, "device output after 0", f"{folder}/answer: can't be written: the disk is full, or a limit is reached",
         "make room, and call again"), "sh", "-c", 'trap "" XFSZ; ulimit -f 0; exec "$0" "$@"')

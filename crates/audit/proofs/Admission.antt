@@ -1,6 +1,6 @@
 -- The errors that the entries of an accepted piece admit: there are some, and none is beyond the bound.
 use Rattle.std.proofs.Common.{rules}
-use Rattle.audit.proofs.Common.{◌≡◌, ℕ, suc, ◌-◌, ◌*◌, ◌<◌, ◌≤◌, ℤ, pos, neg_ℤ, ◌+ℤ◌, ◌-ℤ◌, ◌*ℤ◌, ◌≤ℤ◌, ◌<ℤ◌, unsigned_abs, Bool, true, false, cond, ◌&&◌, ⊎_elim, List, length, Option, Some, None, count_by, refl, sym, ap, ◌∙◌, subst, arith, IsSomeAnd, ◌↔◌, slice_get, slice_index, list_any, option_map, mul-le-mul_right, cases_lt, cond-true, cond-false, and_parts, and_from, nat_tests, ints, slice_get-map, slice_get_read, IsCeiling, ClaimData, Exchange, Sample, Stretch, samples_of, by_test, MayChangeBy, Admit, ◌==◌}
+use Rattle.audit.proofs.Common.{◌≡◌, ℕ, ◌-◌, ◌*◌, ◌<◌, ◌≤◌, ℤ, pos, ◌+ℤ◌, ◌-ℤ◌, ◌*ℤ◌, ◌≤ℤ◌, ◌<ℤ◌, unsigned_abs, Bool, true, false, cond, ◌&&◌, List, length, Option, Some, None, count_by, refl, sym, ap, ◌∙◌, subst, arith, IsSomeAnd, ◌↔◌, slice_get, slice_index, list_any, option_map, cond-true, cond-false, and_parts, and_from, nat_tests, ints, slice_get-map, slice_get_read, IsCeiling, ClaimData, Exchange, Sample, Stretch, samples_of, by_test, MayChangeBy, Admit, ◌==◌}
 use Rattle.std.proofs.lemmas.List.Folds.{Any-from_list_any}
 use Rattle.std.proofs.lemmas.List.Sums.{sum_by-le-sum_by}
 use Rattle.std.proofs.lemmas.Map.Keys.{any_passes_from_place}
@@ -16,6 +16,7 @@ use Rattle.span_cover.specs.declared.part.Part.{Part}
 use Rattle.checker.specs.Acceptance.{IsSaidBy, ShowBound}
 use Rattle.checker.proofs.Separation.{passes, group_passes, counted, held_ends, held_test, meet_leaves_it_out}
 use Rattle.checker.proofs.PieceFit.{all_numbers}
+use Rattle.cover_checker.proofs.Admission.{from_reach, in_reach, size_within}
 use Rattle.audit.proofs.RecordFrames.{mapped}
 
 -- ---- lists
@@ -25,33 +26,13 @@ some_with : {A : Type 0} (P : A → Type 0) (o : Option A) → IsSomeAnd o P →
 some_with P None h = absurd h
 some_with P (Some x) h = (x, refl, h)
 
--- ---- ratios
-
-one_less : (k d : ℕ) → ((pos (suc k) -ℤ pos 1) *ℤ pos d) ≡ pos (k * d)
-one_less k d = grind (arith, ints)
-
-as_natural : (a n : ℕ) → pos a <ℤ pos n → a < n
-as_natural a n h = omega (arith, ints)
-
--- what is no more than a ratio rounded up is less than one more than the ratio
-in_reach : (n d w : ℕ) (z : ℤ) → 0 < d → IsCeiling n d w → z ≤ℤ pos w → ((z -ℤ pos 1) *ℤ pos d) <ℤ pos n
-in_reach n d w (pos (suc k)) some ceiling most = grind (arith, ints, ceiling.least k, one_less)
-in_reach n d w _ some ceiling most = omega (arith, ints)
-
--- and what is less than that is no more
-from_reach : (n d w : ℕ) (z : ℤ) → IsCeiling n d w → ((z -ℤ pos 1) *ℤ pos d) <ℤ pos n → z ≤ℤ pos w
-from_reach n d w (pos (suc k)) ceiling less =
-    grind (arith, ints, nat_tests, as_natural, one_less, ⊎_elim, mul-le-mul_right, cases_lt)
-from_reach n d w _ ceiling less = omega (arith, ints)
+-- ---- ends
 
 low_over : (l e : ℤ) (w : ℕ) → ((l -ℤ pos w) ≤ℤ e) ↔ ((l -ℤ e) ≤ℤ pos w)
 low_over l e w = (λ h. omega (arith, ints), λ h. omega (arith, ints))
 
 high_over : (e l : ℤ) (w : ℕ) → (e ≤ℤ (l +ℤ pos w)) ↔ ((e -ℤ l) ≤ℤ pos w)
 high_over e l w = (λ h. omega (arith, ints), λ h. omega (arith, ints))
-
-size_within : (e b : ℤ) → neg_ℤ b ≤ℤ e → e ≤ℤ b → pos (unsigned_abs e) ≤ℤ b
-size_within e b above below = omega (arith, ints)
 
 -- ---- one entry
 

@@ -82,6 +82,8 @@ pub use Rattle.audit.specs.CaptureInput.{collection_read, pair_run_fault_of}
 unfoldable pub use Rattle.audit.specs.CaptureInput.{capture_read}
 pub use Rattle.audit.specs.Captured.{CapturedFrame, IsCaptureOf, IsLawfulFrame, frame_of, record_bytes}
 pub use Rattle.audit.specs.Check.{ArePiecesTraced, HasVerdict, HasVerdictYes, IsTracedTo, check, outcome_of, verdict_on}
+pub use Rattle.audit.specs.Common.{AnyData, AnyVerdict, ByCovers, CoverCertificateData, CoverVerdict, IsCoverVerdictOn}
+pub use Rattle.audit.specs.Common.{OfPieces, any_data, by_covers, of_pieces}
 pub use Rattle.audit.specs.Check.{IsEnoughFor}
 pub use Rattle.audit.specs.Claimed.{IsClaimText, IsTimeAt, IsWithinLimits, numbers_value}
 pub use Rattle.audit.specs.Contested.{CourseContests, HasCourseBeyond, IsBeyondNanoseconds, AreRead, ReadingLaw}

@@ -28,7 +28,7 @@ module _ {T : Type 0} (said : T → SecondData) (one : (t u : T) → said t ≡ 
   read_is (Ok u) is = ap Ok (one u t cc)
   read_is (Err fault) is = absurd cc
 
-  said_is : (read : List ℕ → Result T RunFault) (known : Option (List ℕ)) →
+  pub said_is : (read : List ℕ → Result T RunFault) (known : Option (List ℕ)) →
       IfSome (option_map (λ s. result_map_both said (λ fault. fault) (read s)) known) (λ r. r ≡ Ok (said t)) →
       IfSome known (λ s. read s ≡ Ok t)
   said_is read None is = tt

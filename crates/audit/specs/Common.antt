@@ -1,6 +1,7 @@
 -- What the definitions and contracts of this crate name of others.
 pub use Rattle.audit_text.specs.Answer.{evidence_answer, found_answer, open_answer, refutation_answer, shown_answer}
 pub use Rattle.audit_text.specs.CheckReport.{about_told, check_text}
+pub use Rattle.audit_text.specs.CoverLines.{covers_text}
 pub use Rattle.envelope_text.specs.Envelope.{envelope_text}
 pub use Rattle.audit_text.specs.Nothing.{nothing_text}
 pub use Rattle.audit_text.specs.Parts.{parts_text}
@@ -8,6 +9,8 @@ pub use Rattle.audit_text.specs.Refutation.{no_refutation_text, refuted_text}
 pub use Rattle.audit_text.specs.Samples.{samples_text}
 pub use Rattle.audit_text.specs.Settlement.{conflicts_text, evidence_text, open_text}
 pub use Rattle.audit_text.specs.declared.check_report.Findings.{Findings}
+pub use Rattle.audit_text.specs.declared.verdict_line.AnyVerdict.{AnyVerdict}
+pub use Rattle.audit_text.specs.declared.verdict_line.AnyVerdict.TheVariants.{OfPieces, ByCovers}
 pub use Rattle.envelope_text.specs.declared.envelope.EnvelopeOptions.{EnvelopeOptions}
 pub use Rattle.envelope_text.specs.declared.least_line.LeastLine.{LeastLine}
 pub use Rattle.envelope_text.specs.declared.least_line.LeastLine.TheVariants.{Holds, NoneHolds, NotAsked}
@@ -38,6 +41,16 @@ pub use Rattle.claim_file.specs.Claim.{ClaimData, IsLawful, data_of, group_count
 pub use Rattle.claim_file.specs.Group.{IsInGroup}
 pub use Rattle.claim_file.specs.Reading.{claim_of}
 pub use Rattle.claim_file.specs.Time.{IsTime}
+pub use Rattle.cover_certificate.specs.AnyReading.{AnyData, IsFewOfAny, any_data, by_covers, of_pieces}
+pub use Rattle.cover_certificate.specs.CoverCertificate.{CoverCertificateData, piece_count}
+pub use Rattle.cover_checker.specs.Acceptance.{IsAccepted as IsAcceptedByCovers}
+pub use Rattle.cover_checker.specs.Admission.{BoundSpan}
+pub use Rattle.cover_checker.specs.NamedFit.{FitsNamed}
+pub use Rattle.cover_checker.specs.Traceability.{IsNamed, IsTraceableByCovers}
+pub use Rattle.cover_checker.specs.Traceability.{IsTraceable as IsTraceableToAll, IsVerdictOn as IsCoverVerdictOn}
+pub use Rattle.cover_checker.specs.Verdict.{IsVerdict as IsCoverVerdict}
+unfoldable pub use Rattle.cover_checker.specs.VerdictTest.{verdict_of as cover_verdict_of}
+pub use Rattle.cover_checker.specs.declared.verdict.CoverVerdict.{CoverVerdict}
 pub use Rattle.era_unfold.specs.Nanoseconds.{nanoseconds_per_second}
 pub use Rattle.era_unfold.specs.Ratio.{IsCeiling, IsFloor, ceiling_of, floor_of}
 pub use Rattle.era_unfold.specs.Stamp.{IsUnfolded, unfolded}

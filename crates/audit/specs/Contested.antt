@@ -4,6 +4,7 @@ use Rattle.audit.specs.Common.{IsBytes, nanoseconds_per_second, ticks_per_second
 use Rattle.audit.specs.Evidence.{EvidenceData, IsEvidenceOf}
 use Rattle.audit.specs.Exchanged.{IsExchangeIn, IsAmong}
 use Rattle.audit.specs.Headline.{AreSaid, IsShown, ShowsHeadline}
+use Rattle.audit.specs.HeadlineByCovers.{IsShownByCovers, ShowsHeadlineByCovers}
 
 -- the clock's error, when it is observed, is more than a bound in nanoseconds to one side
 abbrev pub IsBeyondNanoseconds : Course → ℕ → Type 0
@@ -59,6 +60,11 @@ abbrev pub NeverBoth : Type 0
 NeverBoth = (claim_bytes capture_bytes : List ℕ) → IsShown claim_bytes capture_bytes
     → ¬ (IsContestedShown claim_bytes capture_bytes)
 
+-- none are both shown by covers and contested
+abbrev pub NeverBothByCovers : Type 0
+NeverBothByCovers = (claim_bytes capture_bytes : List ℕ)
+    → IsShownByCovers claim_bytes capture_bytes → ¬ (IsContestedShown claim_bytes capture_bytes)
+
 -- what is within the bound in ticks of a claim that was read, is within its bound in nanoseconds
 abbrev pub GivesNanoseconds : Type 0
 GivesNanoseconds = (bytes : List ℕ) (claim : ClaimData) (course : Course)
@@ -81,4 +87,5 @@ ReadingLaw = (claim capture : List ℕ) (e : EvidenceData) → IsBytes capture
 pub record BytesLaws : Type 0 where
   pub nanoseconds : GivesNanoseconds
   pub headline : ShowsHeadline
+  pub by_covers : ShowsHeadlineByCovers
   pub contested : CourseContests

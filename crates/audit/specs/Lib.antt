@@ -20,4 +20,5 @@ pub mod Exchanged
 pub mod Captured
 pub mod Claimed
 pub mod Headline
+pub mod HeadlineByCovers
 pub mod Contested

@@ -1,6 +1,6 @@
--- The second input of a question: none, a certificate or a refutation.
+-- The second input of a question: none, a certificate of either form or a refutation.
 use Rattle.std.specs.Prelude.{ℕ, List, Option, IfSome, Some, Result, IsOk, Ok}
-use Rattle.audit.specs.Common.{option_map, result_map_both, CertificateData, RefutationData, certificate_read, max_certificate, most_read, max_refutation, refutation_read, RunFault, Certificate, Refutation, TooBig, Device, Memory}
+use Rattle.audit.specs.Common.{option_map, result_map_both, AnyData, RefutationData, certificate_read, max_certificate, most_read, max_refutation, refutation_read, RunFault, Certificate, Refutation, TooBig, Device, Memory}
 use Rattle.report.specs.declared.fault.Input.TheVariants as inputs
 
 -- which second input a question has
@@ -12,7 +12,7 @@ pub data SecondKind : Type 0 where
 -- what a second input says
 pub data SecondData : Type 0 where
   nothing_said : SecondData
-  certificate_said : CertificateData → SecondData
+  certificate_said : AnyData → SecondData
   refutation_said : RefutationData → SecondData
 
 -- what the bytes of a second input say, as far as they are known

@@ -5,7 +5,8 @@
 ghost use Rattle.std.specs.Prelude.{◌≡◌, ℕ, ◌↔◌, ◌≢◌, ◌⊎◌, List, map, None, Some, Ok, AllPairs, slice_get};
 ghost use Rattle.audit.specs.Common.{IsBytes, Unit as TimeUnit, ClaimData, claim_of, Packet, ntp_port, packet_of, exchanges_of, refusal_of, Exchange, Endian, Format, Record, IsCapture};
 ghost use Rattle.audit.specs.Headline.{ShowsHeadline};
-ghost use Rattle.audit.specs.Contested.{BytesLaws, CourseContests, GivesNanoseconds, NeverBoth, ReadingLaw, RefutationContests};
+ghost use Rattle.audit.specs.HeadlineByCovers.{ShowsHeadlineByCovers};
+ghost use Rattle.audit.specs.Contested.{BytesLaws, CourseContests, GivesNanoseconds, NeverBoth, NeverBothByCovers, ReadingLaw, RefutationContests};
 ghost use Rattle.audit.specs.Claimed.{IsClaimText};
 ghost use Rattle.audit.specs.Exchanged.{FrameLaws, HoldsPacket, IsUsable, IsExchangeIn, IsAmong};
 ghost use Rattle.audit.specs.Captured.{CapturedFrame, IsCaptureOf, frame_of};
@@ -18,6 +19,9 @@ use checker::laws::{
 use claim_file::laws::{
     addresses_are_dotted, claims_are_lawful, nanoseconds_become_ticks, servers_are_in_their_groups,
     times_are_spelled,
+};
+use cover_checker::laws::{
+    accepted_covers_bound_the_span, capture_fits_what_is_named, covers_are_traceable,
 };
 use era_unfold::laws::{
     every_stamp_is_unfolded, ratios_are_rounded_as_little_as_can_be, unfolded_is_one_number,
@@ -165,6 +169,16 @@ pub fn yes_shows_the_headline()
     bounds_of_bytes_hold_in_nanoseconds();
 }
 
+/// The same if some certificate by covers is accepted.
+pub fn yes_by_covers_shows_its_headline()
+    ensures { ShowsHeadlineByCovers }
+{
+    what_is_read_is_said();
+    covers_are_traceable();
+    accepted_covers_bound_the_span();
+    bounds_of_bytes_hold_in_nanoseconds();
+}
+
 /// If a claim and a capture are read, and in some course of events that fits them the clock is off
 /// by more than the bound at a reading of the span, that is shown of their bytes, said in relations
 /// alone: of all exchanges in the frames, none of which is missing.
@@ -175,12 +189,13 @@ pub fn course_beyond_the_bound_contests_the_claim()
     what_is_read_is_said();
 }
 
-/// What these three tell of the bytes of a claim and of a capture.
+/// What these four tell of the bytes of a claim and of a capture.
 pub(crate) fn bytes_tell_what_they_show()
     ensures { BytesLaws }
 {
     bounds_of_bytes_hold_in_nanoseconds();
     yes_shows_the_headline();
+    yes_by_covers_shows_its_headline();
     course_beyond_the_bound_contests_the_claim();
 }
 
@@ -201,4 +216,13 @@ pub fn shown_claims_are_not_contested()
     texts_say_one_claim();
     captures_say_one_list_of_frames();
     capture_fits_each_piece();
+}
+
+/// Nor do what is shown by covers and what is contested.
+pub fn claims_shown_by_covers_are_not_contested()
+    ensures { NeverBothByCovers }
+{
+    texts_say_one_claim();
+    captures_say_one_list_of_frames();
+    capture_fits_what_is_named();
 }

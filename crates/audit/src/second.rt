@@ -1,11 +1,12 @@
-//! The second input of a question: none, a certificate or a refutation.
+//! The second input of a question: none, a certificate of either form or a refutation.
 
-ghost use Rattle.std.specs.Prelude.{◌≡◌, ◌≤◌, IfOk, IfErr, IfSome, vec_len};
-ghost use Rattle.audit.specs.Common.{CountsFault, TakesAtMost, FeedState, IsReadable, certificate_data, max_pieces, refutation_data, Reads, is_device, is_second, no_feed};
+ghost use Rattle.std.specs.Prelude.{◌≡◌, IfOk, IfErr, IfSome};
+ghost use Rattle.audit.specs.Common.{CountsFault, TakesAtMost, FeedState, IsReadable, IsFewOfAny, any_data, refutation_data, Reads, is_device, is_second, no_feed};
 ghost use Rattle.audit.specs.Second.{IsOfSecond, SecondData, SecondKind, most_second, second_read, no_second, certificate_second, refutation_second, nothing_said, certificate_said, refutation_said};
 
 use byte_stream::Feed;
-use certificate::{Certificate, Refutation};
+use certificate::Refutation;
+use cover_certificate::AnyCertificate;
 use report::{RunFault, read_certificate_from, read_refutation_from};
 use std::alloc::Global;
 
@@ -29,12 +30,12 @@ impl SecondInput for () {
     ghost IsLawful = { λ _. Unit {0} };
 }
 
-impl SecondInput for Certificate {
+impl SecondInput for AnyCertificate {
     ghost kind = { certificate_second };
 
-    ghost said = { λ certificate. certificate_said (certificate_data certificate) };
+    ghost said = { λ certificate. certificate_said (any_data certificate) };
 
-    ghost IsLawful = { λ certificate. vec_len certificate.pieces ≤ max_pieces };
+    ghost IsLawful = { λ certificate. IsFewOfAny (any_data certificate) };
 }
 
 impl SecondInput for Refutation {
@@ -71,10 +72,10 @@ impl SecondSource<()> for () {
     }
 }
 
-impl<T: Feed> SecondSource<Certificate> for T {
+impl<T: Feed> SecondSource<AnyCertificate> for T {
     ghost state = { T.state };
 
-    fn read_second(&mut self, alloc: Global) -> Result<Certificate, RunFault> {
+    fn read_second(&mut self, alloc: Global) -> Result<AnyCertificate, RunFault> {
         read_certificate_from(alloc, self)
     }
 }

@@ -19,7 +19,8 @@ pub use Rattle.sample_interval.specs.OnWire.{delay_from, delay_to, offset_from, 
 pub use Rattle.sample_interval.specs.Sample.{greatest_error, least_error, sample_of}
 pub use Rattle.sample_interval.specs.declared.kinds.Sample.{Sample}
 pub use mir.Syntax.{w128}
-unfoldable pub use Rattle.audit_text.specs.CheckReport.{check_text, verdict_line}
+unfoldable pub use Rattle.audit_text.specs.CheckReport.{check_text}
+unfoldable pub use Rattle.audit_text.specs.VerdictLine.{pieces_line}
 pub use Rattle.audit_text.specs.Parts.{hull_fields, part_columns, part_row}
 unfoldable pub use Rattle.audit_text.specs.Parts.{parts_text}
 pub use Rattle.audit_text.specs.RefutationLines.{liar_line}

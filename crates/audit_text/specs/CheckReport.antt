@@ -1,10 +1,10 @@
 -- The text of `check`: what is claimed, what the capture has, what is advised, and the verdict.
 use Rattle.std.specs.Prelude.{ℕ, nat_lt, if◌then◌else◌, Bool, true, false, Option, None, Some, List, [], ◌∷◌, ◌++◌, length, codes}
-use Rattle.audit_text.specs.Common.{FieldData, line_of, Word, Named, Second, Nanoseconds, Billionths, Address, Reference, Nothing, Style, Plain, ClaimData, Collection, Verdict, Yes, No, Why, Cut, BadSample, MixedServers, RepeatedServer, Contradiction, Exceeds, Uncovered}
-use Rattle.checker.specs.declared.verdict.Why.TheVariants.{Unbounded}
+use Rattle.audit_text.specs.Common.{FieldData, line_of, Word, Named, Second, Nanoseconds, Billionths, Address, Reference, Nothing, Style, Plain, ClaimData, Collection}
 use Rattle.audit_text.specs.Table.{word_for}
 use Rattle.audit_text.specs.Second.{second_of}
 use Rattle.audit_text.specs.CountsLine.{counts_line}
+use Rattle.audit_text.specs.VerdictLine.{verdict_line}
 use Rattle.audit_text.specs.declared.check_report.Findings.{Findings}
 
 -- how many groups there are, if one holds several servers
@@ -53,33 +53,17 @@ fits_line style None = []
 fits_line style (Some true) = line_of style (Word (codes "a course fits") ∷ [])
 fits_line style (Some false) = line_of style (Word (codes "no course fits: see settle") ∷ [])
 
--- the word for each reason
-abbrev pub why_word : Why → List ℕ
-why_word Cut = codes "cut"
-why_word BadSample = codes "bad-sample"
-why_word MixedServers = codes "mixed-servers"
-why_word RepeatedServer = codes "repeated-server"
-why_word Unbounded = codes "unbounded"
-why_word Contradiction = codes "contradiction"
-why_word Exceeds = codes "exceeds"
-why_word Uncovered = codes "uncovered"
-
--- the verdict
-unfoldable pub verdict_line : Style → Verdict → List ℕ
-verdict_line style Yes = line_of style (Word (codes "verdict yes") ∷ [])
-verdict_line style (No piece why) = line_of style (
-    Word (codes "verdict no") ∷ Named (codes "piece") piece ∷ Word (why_word why) ∷ [])
-
 -- what stands about the inputs of a run, for a person alone
 abbrev pub about_told : Style → List ℕ → List ℕ
 about_told Plain about = []
 about_told style about = about
 
--- the whole text
-unfoldable pub check_text : Style → ClaimData → Collection → Findings → List ℕ → List ℕ
-check_text style claim collection findings about =
+-- the whole text; what is told of a certificate by covers stands behind the number of its pieces
+unfoldable pub check_text :
+    Style → ClaimData → Collection → Findings → List ℕ → List ℕ → List ℕ
+check_text style claim collection findings covers about =
     client_line style claim findings.groups ++ span_line style claim ++
     counts_line collection.counts (length collection.exchanges) ++
     sources_advice style findings.sources ++ reference_advice style findings.reference ++
-    pieces_line style findings.pieces ++ fits_line style findings.fits ++
+    pieces_line style findings.pieces ++ covers ++ fits_line style findings.fits ++
     about_told style about ++ verdict_line style findings.verdict

@@ -3,12 +3,16 @@ pub use Rattle.certificate.specs.Certificate.{max_pieces}
 pub use Rattle.certificate.specs.Refutation.{RefutationData, data_of as refutation_data}
 pub use Rattle.checker.specs.Samples.{AreSamplesOf}
 pub use Rattle.checker.specs.declared.verdict.Verdict.{Verdict}
-pub use Rattle.checker.specs.declared.verdict.Verdict.TheVariants.{No, Yes}
 pub use Rattle.checker.specs.declared.verdict.Why.{Why}
 pub use Rattle.checker.specs.declared.verdict.Why.TheVariants.{BadSample, Contradiction, Cut, Exceeds, MixedServers}
 pub use Rattle.checker.specs.declared.verdict.Why.TheVariants.{RepeatedServer, Uncovered}
 pub use Rattle.claim_file.specs.Claim.{ClaimData, data_of, group_count, max_servers}
+pub use Rattle.cover_certificate.specs.CoverCertificate.{CaseData, CoverCertificateData, case_data}
+pub use Rattle.cover_certificate.specs.CoverCertificate.{data_of as covers_data}
+pub use Rattle.cover_checker.specs.Conflict.{names}
+pub use Rattle.cover_checker.specs.Interval.{missed_by}
 pub use Rattle.era_unfold.specs.Nanoseconds.{ticks_down}
+pub use Rattle.error_marks.specs.Mark.{high_mark, low_mark}
 pub use Rattle.feasibility.specs.Contradiction.{ShownConflict}
 pub use Rattle.feasibility.specs.PairMarks.{conflict_data}
 pub use Rattle.intersection.specs.declared.kinds.Hull.{Hull}

@@ -6,6 +6,8 @@ pub mod SampleLine
 pub mod CountsLine
 pub mod Samples
 pub mod Parts
+pub mod VerdictLine
+pub mod CoverLines
 pub mod CheckReport
 pub mod Nothing
 pub mod Refutation

@@ -3,12 +3,12 @@
 ghost use Rattle.std.specs.Prelude.{◌≡◌, ◌≤◌, ◌++◌, IfOk, length};
 ghost use Rattle.audit_text.specs.Common.{field_data, data_of, most_exchanges, compact_data};
 ghost use Rattle.audit_text.specs.CheckReport as spec;
-ghost use Rattle.audit_text.specs.CheckReport.{about_told, client_line, fits_line, groups_field, pieces_line, reference_advice, sources_advice, span_line, verdict_line, why_word};
+ghost use Rattle.audit_text.specs.CheckReport.{about_told, client_line, fits_line, groups_field, pieces_line, reference_advice, sources_advice, span_line};
 
 use crate::counts_line::add_counts;
 use crate::second::second_of;
 use crate::table::word_for;
-use checker::{Verdict, Why};
+use crate::verdict_line::{AnyVerdict, add_verdict};
 use claim_file::Claim;
 use line_writer::{Field, Style, add_line};
 use pairing::CompactCollection;
@@ -31,7 +31,7 @@ pub struct Findings {
     /// Whether any course of events fits the whole capture, if that is told.
     pub fits: Option<bool>,
     /// The verdict on the certificate.
-    pub verdict: Verdict,
+    pub verdict: AnyVerdict,
 }
 
 /// How many groups there are, if one holds several servers.
@@ -134,50 +134,26 @@ fn add_fits(text: &mut Vec<u8>, style: Style, fits: Option<bool>) -> Result<(), 
     }
 }
 
+/// Adds whole lines.
+fn add_lines(text: &mut Vec<u8>, lines: &[u8]) -> Result<(), AllocError>
+    ensures { IfOk result (λ _. text.new.items ≡ text.old.items ++ lines.now) }
+{
+    text.extend_from_slice(lines)
+}
+
 /// Adds what stands about the inputs of a run, for a person alone.
 pub fn add_about(text: &mut Vec<u8>, style: Style, about: &[u8]) -> Result<(), AllocError>
     ensures { IfOk result (λ _. text.new.items ≡ text.old.items ++ about_told style about.now) }
 {
     match style {
         Style::Plain => Ok(()),
-        _ => text.extend_from_slice(about),
+        _ => add_lines(text, about),
     }
 }
 
-/// The word for a reason.
-fn why_word(why: &Why) -> &'static str
-    ensures { result.now ≡ why_word why.now }
-{
-    match why {
-        Why::Cut => "cut",
-        Why::BadSample => "bad-sample",
-        Why::MixedServers => "mixed-servers",
-        Why::RepeatedServer => "repeated-server",
-        Why::Unbounded => "unbounded",
-        Why::Contradiction => "contradiction",
-        Why::Exceeds => "exceeds",
-        Why::Uncovered => "uncovered",
-    }
-}
-
-/// Adds the line of the verdict.
-#[tactic(auto, unfolding(crate::specs::CheckReport::verdict_line))]
-fn add_verdict(text: &mut Vec<u8>, style: Style, verdict: &Verdict) -> Result<(), AllocError>
-    ensures { IfOk result (λ _. text.new.items ≡
-        text.old.items ++ verdict_line style verdict.now) }
-{
-    match verdict {
-        Verdict::Yes => add_line(text, style, &[Field::Word("verdict yes")]),
-        Verdict::No { piece, why } => {
-            let piece = Field::Named("piece", u64::from(*piece));
-            let why = Field::Word(why_word(why));
-            add_line(text, style, &[Field::Word("verdict no"), piece, why])
-        }
-    }
-}
-
-/// The text of `check`: what is claimed, what became of the capture's records, what is advised, for
-/// a person whether any course fits and `about` the inputs, and the verdict on a certificate.
+/// The text of `check`: what is claimed, what became of the capture's records, what is advised,
+/// what is told of `covers`, for a person whether any course fits and `about` the inputs, and the
+/// verdict on a certificate.
 #[tactic(auto, unfolding(crate::specs::CheckReport::check_text))]
 pub fn check_text(
     alloc: Global,
@@ -185,11 +161,13 @@ pub fn check_text(
     claim: &Claim,
     held: &CompactCollection,
     findings: &Findings,
+    covers: &[u8],
     about: &[u8],
 ) -> Result<Vec<u8>, AllocError>
     requires few { length held.now.exchanges.items ≤ most_exchanges }
     ensures { IfOk result (λ text. text.items ≡
-        spec.check_text style (data_of claim.now) (compact_data held.now) findings.now about.now) }
+        spec.check_text style (data_of claim.now) (compact_data held.now) findings.now
+        covers.now about.now) }
 {
     let mut text = Vec::new(alloc);
     add_client(&mut text, style, claim, findings.groups)?;
@@ -198,6 +176,7 @@ pub fn check_text(
     add_sources_advice(&mut text, style, findings.sources)?;
     add_reference_advice(&mut text, style, findings.reference)?;
     add_pieces(&mut text, style, findings.pieces)?;
+    add_lines(&mut text, covers)?;
     add_fits(&mut text, style, findings.fits)?;
     add_about(&mut text, style, about)?;
     add_verdict(&mut text, style, &findings.verdict)?;

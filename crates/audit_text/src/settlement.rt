@@ -64,7 +64,7 @@ pub fn open_text(
 
 /// Adds the line of two exchanges that can't both be of true servers.
 #[tactic(auto, unfolding(crate::specs::Settlement::pair_line))]
-fn add_pair(
+pub(crate) fn add_pair(
     text: &mut Vec<u8>,
     style: Style,
     claim: &Claim,

@@ -7,3 +7,4 @@ pub mod PartsData
 pub mod CoverReading
 pub mod CoverParts
 pub mod CoverWriting
+pub mod AnyReading

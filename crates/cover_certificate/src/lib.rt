@@ -16,6 +16,7 @@
 
 #![tactic(auto)]
 
+mod any;
 mod case;
 mod cases;
 mod cover_certificate;
@@ -29,6 +30,7 @@ mod pieces_writing;
 mod reading;
 mod writing;
 
+pub use any::{AnyCertificate, AnyFault, read_any};
 pub use cover_certificate::{Case, CoverCertificate, MAX_CASES, MAX_CONFLICTS};
 pub use fault::CoverFault;
 pub use reading::read_covers;

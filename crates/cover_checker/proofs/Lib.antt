@@ -5,8 +5,10 @@ mod Stretches
 mod Named
 mod Pieces
 mod Theorem
+pub mod Admission
 mod Acceptance
 mod Verdicts
+mod VerdictTest
 mod CasesHeld
 mod Ends
 mod RoundedUp

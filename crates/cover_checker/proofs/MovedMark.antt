@@ -1,11 +1,12 @@
 -- A mark that is moved for a stretch, as the code computes it.
-use Rattle.std.proofs.Common.{FitsSigned, ap₂, of_z, to_z, ◌^◌}
+use Rattle.std.proofs.Common.{FitsSigned, ap₂, of_z, to_z, ◌<◌, ◌^◌}
 use Rattle.std.proofs.lemmas.Int.{fits_signed_from_abs}
 use Rattle.lemma_base.proofs.Int.{w128_keeps}
 use mir.Syntax.{w128}
 use Rattle.error_marks.specs.Range.{IsWithinRange}
 use Rattle.span_cover.specs.Piece.{IsPiece}
 use Rattle.cover_checker.proofs.Common.{◌≡◌, ℕ, ◌≤◌, ℤ, pos, ◌+ℤ◌, ◌-ℤ◌, ◌≤ℤ◌, unsigned_abs, refl, sym, subst, ap, ◌∙◌, arith, ints, clamps, int_max, Mark, Part, Stretch, ahead, fall, high_over, low_over, rise}
+use Rattle.cover_checker.specs.Interval.{missed_by}
 
 -- a number as 128 bits keep it
 abbrev kept : ℤ → ℤ
@@ -116,6 +117,48 @@ module _ (ppb : ℕ) (stretch : Stretch) (mark : Mark) (d f e r m : ℤ) (piece 
         ∙ ap₂ (λ a b. mark.error +ℤ int_max a b)
         (change_exact mark.place stretch.end e r (rise ppb) place_small end_small rises)
         (change_exact stretch.begin mark.place d f (fall ppb) begin_small place_small falls)
+
+-- ---- two marks
+
+module _ (ppb : ℕ) (low high : Mark) (d f e r m : ℤ) (low_range : IsWithinRange low) (high_range : IsWithinRange high)
+    (falls : IsComputed low.place high.place d f (fall ppb)) (rises : IsComputed high.place low.place e r (rise ppb))
+    (is : m ≡ int_max (kept f) (kept r)) where
+  fall_small : unsigned_abs f ≤ 2 ^ 75
+  fall_small = change_small low.place high.place d f (fall ppb) low_range.place high_range.place falls
+
+  rise_small : unsigned_abs r ≤ 2 ^ 75
+  rise_small = change_small high.place low.place e r (rise ppb) high_range.place low_range.place rises
+
+  pub least_fits : FitsSigned w128 (kept low.error -ℤ kept m)
+  least_fits = down_fits low.error f r m low_range.error fall_small rise_small is
+
+  size : unsigned_abs m ≤ 2 ^ 75
+  size = most_small low.error f r m low_range.error fall_small rise_small is
+
+  least : kept (kept low.error -ℤ kept m) ≡ low.error -ℤ m
+  least = let small = size in let range = low_range.error in
+      ap kept (down_is low.error f r m low_range.error fall_small rise_small is)
+      ∙ w128_keeps (low.error -ℤ m) (omega (arith, ints))
+
+  missed : kept (kept low.error -ℤ kept m) -ℤ kept high.error ≡ (low.error -ℤ m) -ℤ high.error
+  missed = let range = high_range.error in ap₂ ◌-ℤ◌ least (w128_keeps high.error (omega arith))
+
+  missed_small : unsigned_abs ((low.error -ℤ m) -ℤ high.error) < 2 ^ 127
+  missed_small = let small = size in let range = low_range.error in let other = high_range.error in
+      omega (arith, ints)
+
+  pub missed_fits : FitsSigned w128 (kept (kept low.error -ℤ kept m) -ℤ kept high.error)
+  missed_fits = subst (FitsSigned w128) (sym missed)
+      (fits_signed_from_abs w128 ((low.error -ℤ m) -ℤ high.error) missed_small)
+
+  pub missed_exact : kept (kept (kept low.error -ℤ kept m) -ℤ kept high.error) ≡ missed_by ppb low high
+  missed_exact =
+      ap kept missed
+      ∙ w128_keeps ((low.error -ℤ m) -ℤ high.error) missed_small
+      ∙ ap (λ n. (low.error -ℤ n) -ℤ high.error) is
+      ∙ ap₂ (λ a b. (low.error -ℤ int_max a b) -ℤ high.error)
+      (change_exact low.place high.place d f (fall ppb) low_range.place high_range.place falls)
+      (change_exact high.place low.place e r (rise ppb) high_range.place low_range.place rises)
 
 -- parts whose ends are equal
 pub same_part : (server : ℕ) {lo lo' hi hi' : ℤ} → lo ≡ lo' → hi ≡ hi' →

@@ -1,6 +1,6 @@
 -- What a course that fits the named exchanges keeps: the marks of those with a server that isn't
 -- false.
-use Rattle.cover_checker.proofs.Common.{◌≡◌, ℕ, ◌<◌, ◌≤◌, inl, inr, false, List, Some, length, refl, arith, slice_get, slice_get_within, All, by_test, ≤ℤ_trans_twice, ClaimData, IsLawful, Course, Exchange, IsLawfulExchange, Fits, IsClientMoment, Moment, FitsNamed, IsNamedMoment, IsPossible, KeepsHigh, KeepsLow, group_of, high_mark, low_mark, holds_false, reply_end, request_start}
+use Rattle.cover_checker.proofs.Common.{◌≡◌, ℕ, ◌<◌, ◌≤◌, inl, inr, false, List, Some, length, refl, arith, slice_get, slice_get_within, All, by_test, ≤ℤ_trans_twice, ClaimData, Course, Exchange, Fits, IsClientMoment, Moment, FitsNamed, IsNamedMoment, IsPossible, KeepsHigh, KeepsLow, group_of, high_mark, low_mark, holds_false, reply_end, request_start}
 use Rattle.feasibility.proofs.Covers.{server_is_true}
 use Rattle.feasibility.proofs.KeptMarks.{moments_in_order}
 use Rattle.feasibility.proofs.ServedExchange.{Times, AreServed, leaves_in_time, arrives_in_time, stamps_in_order, goes_on}
@@ -67,14 +67,12 @@ module _ {claim : ClaimData} {xs : List Exchange} {Named : ℕ → Type 0} {cour
         }
 
 -- a course that fits all exchanges fits those that are named
-module _ (claim : ClaimData) (xs : List Exchange) (Named : ℕ → Type 0) (course : Course) (lawful : IsLawful claim)
-    (each : All (IsLawfulExchange (length claim.servers)) xs) (fits : Fits claim xs course) where
+module _ (claim : ClaimData) (xs : List Exchange) (Named : ℕ → Type 0) (course : Course)
+    (rate : claim.drift_ppb ≤ 500000000) (listed : All (λ x. x.server < length claim.groups) xs)
+    (fits : Fits claim xs course) where
   client_moment : (m : Moment) → IsNamedMoment xs Named course m → IsClientMoment course (length xs) m
   client_moment m (inl is) = inl is
   client_moment m (inr (k, x, named, at, is)) = inr (k, slice_get_within xs k x at, is)
-
-  listed : All (λ x. x.server < length claim.groups) xs
-  listed k d below = let server = (each k d below).listed in let count = lawful.group_for_each in omega arith
 
   pub fits_named : FitsNamed claim xs Named course
   fits_named = record {
@@ -84,7 +82,7 @@ module _ (claim : ClaimData) (xs : List Exchange) (Named : ℕ → Type 0) (cour
       few = fits.few_false;
       in_wrong_group = λ k x named at false'. by_test (holds_false claim.groups course.is_false (group_of claim x))
           (λ holds. holds)
-          (λ none. absurd (let true' = server_is_true claim lawful.drift_in_range xs listed course fits k x at none in
+          (λ none. absurd (let true' = server_is_true claim rate xs listed course fits k x at none in
           cc));
     };
     leaves_after_stamp = λ k x named at. fits.leaves_after_stamp k x at;

@@ -4,6 +4,7 @@ use Rattle.certificate.specs.Refutation.{RefutationData}
 use Rattle.checker.proofs.Cover.{all_covered, piece_at}
 use Rattle.feasibility.specs.DriftRefutation.{IsRefutedWithDrift}
 use Rattle.feasibility.proofs.DriftCourse.{course as lowest, observed_beyond, observed_in_span, shown}
+use Rattle.feasibility.proofs.Covers.{listed_in_groups}
 use Rattle.cover_checker.proofs.Named.{fits_named}
 use Rattle.cover_checker.proofs.Pieces.{held_case, holds_end, within}
 use Rattle.cover_checker.proofs.Stretches.{HasCeilings}
@@ -53,7 +54,9 @@ module _ (ceilings : HasCeilings) (claim : ClaimData) (xs : List Exchange) (cert
   -- so it is in every course that fits all exchanges
   pub traceable : IsTraceable claim xs
   traceable course fits observed =
-      by_covers course (fits_named claim xs (IsNamed claim certificate course) course lawful each fits) observed
+      by_covers course
+      (fits_named claim xs (IsNamed claim certificate course) course lawful.drift_in_range
+      (listed_in_groups claim xs lawful each) fits) observed
 
   -- and so no refutation is accepted
   pub never_refuted : (r : RefutationData) → IsRefutedWithDrift claim xs r → ⊥

@@ -1,7 +1,6 @@
 -- A verdict is yes exactly if the certificate is accepted.
 use Rattle.std.specs.Prelude.{◌↔◌}
 use Rattle.cover_checker.proofs.Common.{◌≡◌, List, [], length, refl, sym, ◌∙◌, subst, arith, All-slice_get, CaseHolds, ClaimData, CoverCertificateData, Exchange, IsAccepted}
-use Rattle.feasibility.specs.Groups.{holds}
 use Rattle.cover_checker.proofs.Acceptance.{Laws, none_fails}
 use Rattle.cover_checker.specs.Verdict.{IsVerdict}
 use Rattle.cover_checker.specs.declared.verdict.CoverVerdict.{CoverVerdict}
@@ -20,8 +19,8 @@ module _ (laws : Laws) (claim : ClaimData) (xs : List Exchange) (certificate : C
       ap' : certificate.cases ≡ [] → length certificate.cases ≡ 0
       ap' e = rw e refl
   refuted (BadCase k why) is accepted = absurd (let e = sym is.1 ∙ accepted.fit in cc)
-  refuted (Unanswered groups) is accepted =
-      absurd (is.3.no_case (accepted.answered (holds groups) is.3.few is.3.ends))
+  refuted Unanswered is accepted =
+      let some = is.3 in absurd (some.1.no_case (accepted.answered some.0 some.1.few some.1.ends))
   refuted (BadPiece k piece why) is accepted =
       let none = none_fails laws claim xs 0 certificate.cases
       (λ c case at. All-slice_get (CaseHolds claim xs) certificate.cases c case accepted.each at) in

@@ -20,10 +20,9 @@ pub use Rattle.feasibility.specs.Contradiction.{IsImpossiblePair, Pair}
 pub use Rattle.feasibility.specs.Cover.{group_of, size_of}
 pub use Rattle.feasibility.specs.CoverSearch.{Covers, IsBusiest, IsSimple, degree, edge_of}
 pub use Rattle.feasibility.specs.DriftRefutation.{IsRefutedWithDrift}
-pub use Rattle.feasibility.specs.Groups.{holds}
+pub use Rattle.feasibility.specs.DriftTest.{are_compatible, is_possible}
 pub use Rattle.feasibility.specs.Keeping.{KeepsHigh, KeepsLow}
 pub use Rattle.feasibility.specs.Members.{LieWithin, has, passing}
-pub use Rattle.feasibility.specs.declared.groups.Groups.{Groups}
 pub use Rattle.intersection.specs.Hull.{IsHull}
 pub use Rattle.intersection.specs.declared.kinds.Hull.TheVariants.{Bounded}
 pub use Rattle.intersection.specs.declared.kinds.Interval.{Interval}
@@ -36,6 +35,6 @@ pub use Rattle.span_cover.specs.Piece.{IsPiece}
 pub use Rattle.span_cover.specs.declared.part.Part.{Part}
 pub use Rattle.span_cover.specs.declared.stretch.Stretch.{Stretch}
 pub use Rattle.std.specs.Int.{int_max}
-pub use Rattle.std.specs.List.{list_any}
+pub use Rattle.std.specs.List.{list_all, list_any}
 pub use Rattle.std.specs.Option.{option_map}
 pub use Rattle.std.specs.Ordering.{int_eq}

@@ -32,6 +32,13 @@ high_over ppb stretch mark =
     mark.error +ℤ int_max (rise ppb (ahead mark.place stretch.end))
     (fall ppb (ahead stretch.begin mark.place))
 
+-- by how much a low mark and a high mark miss each other: the least that the error can be at the high
+-- mark's place, by the low mark, less the high mark's
+abbrev pub missed_by : ℕ → Mark → Mark → ℤ
+missed_by ppb low high =
+    (low.error -ℤ int_max (fall ppb (ahead low.place high.place))
+    (rise ppb (ahead high.place low.place))) -ℤ high.error
+
 -- what two exchanges of a server say, the one by its low mark and the other by its high mark
 abbrev pub part_of : ClaimData → Stretch → Exchange → Exchange → Part
 part_of claim stretch x y = record {

@@ -6,5 +6,7 @@ pub mod Case
 pub mod Entry
 pub mod Acceptance
 pub mod Verdict
+pub mod VerdictTest
 pub mod NamedFit
 pub mod Traceability
+pub mod Admission

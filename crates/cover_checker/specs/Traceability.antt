@@ -4,6 +4,7 @@ use Rattle.cover_checker.specs.Common.{CaseData, ClaimData, Course, CoverCertifi
 use Rattle.cover_checker.specs.Acceptance.{IsAccepted}
 use Rattle.cover_checker.specs.NamedFit.{FitsNamed}
 use Rattle.cover_checker.specs.Verdict.{IsVerdict}
+use Rattle.cover_checker.specs.VerdictTest.{verdict_of}
 use Rattle.cover_checker.specs.declared.verdict.CoverVerdict.{CoverVerdict}
 use Rattle.cover_checker.specs.declared.verdict.CoverVerdict.TheVariants.{Yes}
 
@@ -53,6 +54,7 @@ IsTraceable claim xs = (course : Course) → Fits claim xs course
 pub record IsVerdictOn (claim : ClaimData) (xs : List Exchange) (certificate : CoverCertificateData)
     (verdict : CoverVerdict) : Type 0 where
   pub is : IsVerdict claim xs certificate verdict
+  pub exact : verdict ≡ verdict_of claim xs certificate
   pub accepted : (verdict ≡ Yes) ↔ IsAccepted claim xs certificate
   pub by_covers : verdict ≡ Yes → IsTraceableByCovers claim xs certificate
   pub yes : verdict ≡ Yes → IsTraceable claim xs

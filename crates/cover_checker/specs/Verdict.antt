@@ -1,7 +1,7 @@
 -- The verdict on a certificate by covers: the first test that fails.
 use Rattle.std.specs.Prelude.{◌≡◌, ℕ, ◌+◌, ◌-◌, ◌<◌, ℤ, pos, int_lt, ◌||◌, ◌&&◌, nat_lt, Bool, if◌then◌else◌, List, [], ◌∷◌, length, Option, None, Some, Result, Ok, Err, All}
 use Rattle.std.specs.List.{AllWithin, HoldsAt}
-use Rattle.cover_checker.specs.Common.{int_eq, option_map, hull_fault, piece_hull, size_of, holds, CaseData, ClaimData, CoverCertificateData, Cut, Exchange, Part, PieceData, Stretch, Uncovered}
+use Rattle.cover_checker.specs.Common.{int_eq, option_map, hull_fault, piece_hull, size_of, CaseData, ClaimData, CoverCertificateData, Cut, Exchange, Part, PieceData, Stretch, Uncovered}
 use Rattle.cover_checker.specs.Acceptance.{IsAccepted}
 use Rattle.cover_checker.specs.Case.{cases_why, first_of}
 use Rattle.cover_checker.specs.Conflict.{AreAnswered, IsConflict, IsUnanswered, names}
@@ -66,10 +66,10 @@ IsVerdict claim xs certificate NoCase =
 IsVerdict claim xs certificate (BadCase k why) =
     All (IsConflict claim xs) certificate.conflicts
     × (cases_why claim [] certificate.cases ≡ Some (k, why))
-IsVerdict claim xs certificate (Unanswered groups) =
+IsVerdict claim xs certificate Unanswered =
     All (IsConflict claim xs) certificate.conflicts × (0 < length certificate.cases)
     × (cases_why claim [] certificate.cases ≡ None)
-    × IsUnanswered claim xs certificate (holds groups)
+    × ((is_in : ℕ → Bool) × IsUnanswered claim xs certificate is_in)
 IsVerdict claim xs certificate (BadPiece k piece why) =
     All (IsConflict claim xs) certificate.conflicts × (0 < length certificate.cases)
     × (cases_why claim [] certificate.cases ≡ None) × AreAnswered claim xs certificate

@@ -6,7 +6,7 @@ ghost use Rattle.cover_checker.specs.Common.{IsLawful};
 use pairing::{Exchange, ToExchange};
 
 /// The exchange of this number, if there is one.
-pub(crate) fn exchange_named<X: ToExchange>(exchanges: &[X], number: u32) -> Option<Exchange>
+pub fn exchange_named<X: ToExchange>(exchanges: &[X], number: u32) -> Option<Exchange>
     ensures { result ≡ slice_get (map X.shown exchanges.now) number }
 {
     let number = number as usize;

@@ -70,6 +70,19 @@ pub fn high_over(drift_ppb: u32, stretch: Stretch, mark: Mark) -> i128
     mark.error + rise.max(fall)
 }
 
+/// By how many ticks a low mark and a high mark miss each other, rounded down.
+pub fn missed_by(drift_ppb: u32, low: Mark, high: Mark) -> i128
+    requires rate { IsRate drift_ppb }
+    requires low { IsWithinRange low }
+    requires high { IsWithinRange high }
+    ensures { result ≡ spec.missed_by drift_ppb low high }
+{
+    let fall = widen(drift_ppb, ahead(low.place, high.place));
+    let rise = rise(drift_ppb, ahead(high.place, low.place));
+    let least = low.error - fall.max(rise);
+    least - high.error
+}
+
 /// What two exchanges of a server say: the one by its low mark, the other by its high mark.
 pub(crate) fn part_of(claim: &Claim, stretch: Stretch, low: &Exchange, high: &Exchange) -> Part
     requires low { IsLawful (length claim.now.servers.items) low.now }

@@ -1,11 +1,13 @@
 //! What holds of accepted certificates by covers, and why. A law is a function that does nothing:
 //! its contract is the law, for every number.
 
-ghost use Rattle.std.specs.Prelude.{◌≡◌, ℕ, ◌≤◌, ℤ, pos, ◌*ℤ◌, ◌≤ℤ◌, List, length, All};
-ghost use Rattle.cover_checker.specs.Common.{ClaimData, CoverCertificateData, Exchange, IsInWindow, IsLawful, IsLawfulClaim, IsRate, IsRefutedWithDrift, KeepsHigh, KeepsLow, DriftsWithin, Mark, Moment, RefutationData, Stretch, error_of};
+ghost use Rattle.std.specs.Prelude.{◌≡◌, ℕ, ◌<◌, ◌≤◌, ℤ, pos, ◌*ℤ◌, ◌≤ℤ◌, List, length, All};
+ghost use Rattle.cover_checker.specs.Common.{ClaimData, Course, CoverCertificateData, Exchange, Fits, IsInWindow, IsLawful, IsLawfulClaim, IsRate, IsRefutedWithDrift, KeepsHigh, KeepsLow, DriftsWithin, Mark, Moment, RefutationData, Stretch, error_of};
 ghost use Rattle.cover_checker.specs.Acceptance.{IsAccepted};
+ghost use Rattle.cover_checker.specs.Admission.{BoundSpan};
 ghost use Rattle.cover_checker.specs.Interval.{low_over, high_over};
-ghost use Rattle.cover_checker.specs.Traceability.{IsTraceable, IsTraceableByCovers, IsVerdictOn};
+ghost use Rattle.cover_checker.specs.NamedFit.{FitsNamed};
+ghost use Rattle.cover_checker.specs.Traceability.{IsNamed, IsTraceable, IsTraceableByCovers, IsVerdictOn};
 ghost use Rattle.cover_checker.specs.Verdict.{IsVerdict};
 ghost use Rattle.cover_checker.specs.declared.verdict.CoverVerdict.{CoverVerdict};
 
@@ -48,6 +50,24 @@ pub fn covers_are_traceable()
 {
     ratios_are_rounded_as_little_as_can_be();
 }
+
+/// At each reading of the span, whichever few groups are wrong, an accepted certificate bounds the
+/// error by what the stamps say, in relations alone.
+pub fn accepted_covers_bound_the_span()
+    ensures { (claim : ClaimData) (xs : List Exchange) (certificate : CoverCertificateData) →
+        IsRate claim.drift_ppb → IsAccepted claim xs certificate →
+        BoundSpan claim xs certificate }
+{
+    ratios_are_rounded_as_little_as_can_be();
+}
+
+/// A course that fits all exchanges fits what a certificate names of them.
+pub fn capture_fits_what_is_named()
+    ensures { (claim : ClaimData) (xs : List Exchange) (certificate : CoverCertificateData)
+        (course : Course) → IsRate claim.drift_ppb →
+        All (λ x. x.server < length claim.groups) xs → Fits claim xs course →
+        FitsNamed claim xs (IsNamed claim certificate course) course }
+{}
 
 /// For one list of exchanges and one claim no certificate by covers is accepted if a refutation is,
 /// whether the clock drifts or not.

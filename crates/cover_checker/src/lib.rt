@@ -31,5 +31,6 @@ mod piece;
 mod table;
 mod verdict;
 
-pub use interval::{high_over, low_over};
+pub use exchange::exchange_named;
+pub use interval::{high_over, low_over, missed_by};
 pub use verdict::{CaseWhy, CoverVerdict, PieceWhy, check_covers};

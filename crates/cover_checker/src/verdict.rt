@@ -12,7 +12,6 @@ use crate::piece::first_bad_piece;
 use checker::Why;
 use claim_file::Claim;
 use cover_certificate::CoverCertificate;
-use feasibility::Groups;
 use intersection::laws::{every_list_has_a_hull, hull_is_one_answer};
 use pairing::ToExchange;
 
@@ -41,7 +40,7 @@ pub enum PieceWhy {
 
 /// What a certificate by covers shows of a claim: the first test that fails, in the order of the
 /// variants.
-#[derive(Clone, Copy)]
+#[derive(Clone, Copy, Debug, PartialEq, Eq)]
 pub enum CoverVerdict {
     /// The clock stayed within the bound, in every course of events that fits the exchanges.
     Yes,
@@ -52,9 +51,9 @@ pub enum CoverVerdict {
     NoCase,
     /// The case of this number names no groups that may be false.
     BadCase(u32, CaseWhy),
-    /// These groups, at most `false_max`, have an end of each conflict, and hold all groups of no
+    /// Some groups, at most `false_max`, have an end of each conflict, and hold all groups of no
     /// case.
-    Unanswered(Groups),
+    Unanswered,
     /// Of the case with the first number, the piece with the second; of `Uncovered`, how many
     /// pieces there are.
     BadPiece(u32, u32, PieceWhy),
@@ -107,8 +106,8 @@ fn first_failure<X: ToExchange>(
     if let Some((case, why)) = first_bad_case(claim, cases) {
         return CoverVerdict::BadCase(case, why);
     }
-    if let Some(groups) = unanswered(exchanges, claim, certificate) {
-        return CoverVerdict::Unanswered(groups);
+    if let Some(_) = unanswered(exchanges, claim, certificate) {
+        return CoverVerdict::Unanswered;
     }
     match first_bad_piece(exchanges, claim, cases) {
         Some((case, (piece, why))) => CoverVerdict::BadPiece(case, piece, why),

@@ -9,6 +9,7 @@ use crate::kind::{FileKind, is_object, kind_of};
 use crate::seen::Seen;
 use certificate::{CertificateFault, RefutationFault};
 use claim_file::ClaimFault;
+use cover_certificate::{AnyFault, CoverFault};
 use json_text::parse;
 use pcap_reader::CaptureFault;
 use report::RunFault;
@@ -27,10 +28,12 @@ pub fn look(
 {
     match fault {
         RunFault::Claim(ClaimFault::Json)
-        | RunFault::Certificate(CertificateFault::Json)
+        | RunFault::Certificate(
+            AnyFault::OfPieces(CertificateFault::Json) | AnyFault::ByCovers(CoverFault::Json),
+        )
         | RunFault::Refutation(RefutationFault::Json) => no_json(alloc, bytes, is_whole),
         RunFault::Claim(fault) => look_at_claim(alloc, fault, bytes),
-        RunFault::Certificate(CertificateFault::Top)
+        RunFault::Certificate(AnyFault::OfPieces(CertificateFault::Top))
         | RunFault::Refutation(RefutationFault::Shape) => another_json(alloc, bytes, is_whole),
         RunFault::Capture(CaptureFault::TornHeader) if bytes.is_empty() => {
             Seen::of_kind(alloc, FileKind::Empty)

@@ -7,6 +7,7 @@ use crate::claim_field::field_sentence;
 use crate::remedy::{self, SEE_LIMITS};
 use certificate::{CertificateFault, RefutationFault};
 use claim_file::ClaimFault;
+use cover_certificate::{AnyFault, CoverFault};
 use pcap_reader::CaptureFault;
 use report::{RunFault, SumsFault};
 
@@ -105,8 +106,8 @@ fn claim_sentence(fault: &ClaimFault) -> Sentence
     }
 }
 
-/// That of each fault of a certificate.
-fn certificate_sentence(fault: &CertificateFault) -> Sentence
+/// That of each fault of a certificate of pieces.
+fn pieces_sentence(fault: &CertificateFault) -> Sentence
     ensures { IsSentence result }
 {
     match fault {
@@ -118,6 +119,36 @@ fn certificate_sentence(fault: &CertificateFault) -> Sentence
         }
         CertificateFault::TooManyPieces => says("has over 100000 pieces", remedy::MAKE_ANEW),
         CertificateFault::Memory => no_memory(),
+    }
+}
+
+/// That of each fault of a certificate by covers.
+fn covers_sentence(fault: &CoverFault) -> Sentence
+    ensures { IsSentence result }
+{
+    match fault {
+        CoverFault::Json => says("isn't JSON", remedy::MAKE_ANEW),
+        CoverFault::Top => says("isn't a certificate", remedy::ORDER_OF_FILES),
+        CoverFault::TooManyConflicts => says("has over 528 conflicts", remedy::MAKE_ANEW),
+        CoverFault::Conflicts => says("has a conflict of another form", remedy::MAKE_ANEW),
+        CoverFault::TooManyCases => says("has over 64 cases", remedy::MAKE_ANEW),
+        CoverFault::CaseShape(_) => says("has another form in that case", remedy::MAKE_ANEW),
+        CoverFault::TooManyPieces => says("has over 100000 pieces", remedy::MAKE_ANEW),
+        CoverFault::Shape(_) => says("has another form in that piece", remedy::MAKE_ANEW),
+        CoverFault::TooManyEntries(_) => {
+            says("has over 32 entries in that piece", remedy::MAKE_ANEW)
+        }
+        CoverFault::Memory => no_memory(),
+    }
+}
+
+/// That of each fault of a certificate of either form.
+fn certificate_sentence(fault: &AnyFault) -> Sentence
+    ensures { IsSentence result }
+{
+    match fault {
+        AnyFault::OfPieces(fault) => pieces_sentence(fault),
+        AnyFault::ByCovers(fault) => covers_sentence(fault),
     }
 }
 

@@ -1,5 +1,6 @@
 -- What the proofs of this crate name from elsewhere.
 pub use Rattle.std.proofs.Common.{Bool, Err, IsOk, IsTrue, List, Ok, Option, Result, [], append_assoc, arith, codes}
+pub use Rattle.std.proofs.Common.{ap, inl}
 pub use Rattle.std.proofs.Common.{false, if◌then◌else◌, inr, length, length-append, refl, rules, subst, suc, sym, take}
 pub use Rattle.std.proofs.Common.{true, zero, ℕ, ◌%◌, ◌++◌, ◌+◌, ◌-◌, ◌/◌, ◌<◌, ◌==◌, ◌^◌, ◌∙◌, ◌∷◌, ◌≡◌, ◌≤◌, ◌⊎◌}
 pub use Rattle.std.proofs.KnownBytes.{Appends-kept, Appends-nil, Appends-trans}
@@ -11,6 +12,8 @@ pub use Rattle.std.specs.List.{concat}
 pub use Rattle.std.specs.Prelude.{IfSome, is_err}
 pub use Rattle.std.specs.Str.{IsAscii, IsUtf8}
 pub use Rattle.byte_stream.specs.State.{FeedState, SinkState}
+pub use Rattle.cover_certificate.specs.AnyReading.{AnyData, IsMemory, any_data}
+pub use Rattle.cover_certificate.specs.declared.any.AnyFault.{AnyFault}
 pub use Rattle.report.specs.Closing.{Closes, IsPut, IsRefusal}
 pub use Rattle.report.specs.Fault.{certificate_run_fault_of, claim_run_fault_of, refutation_run_fault_of}
 pub use Rattle.report.specs.FaultText.{fault_fields, fault_text}

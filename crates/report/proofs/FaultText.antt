@@ -10,6 +10,8 @@ use Rattle.std.specs.Prelude.{nat_lt}
 use Rattle.pcap_reader.specs.declared.fault.CaptureFault.TheVariants as captures
 use Rattle.claim_file.specs.declared.fault.ClaimFault.TheVariants as claims
 use Rattle.certificate.specs.declared.fault.CertificateFault.TheVariants as certificates
+use Rattle.cover_certificate.specs.declared.any.AnyFault.TheVariants.{OfPieces, ByCovers}
+use Rattle.cover_certificate.specs.declared.fault.CoverFault.TheVariants as covers
 use Rattle.certificate.specs.declared.refutation_fault.RefutationFault.TheVariants as refutations
 use Rattle.report.specs.declared.fault.Input.TheVariants.{Claim}
 use Rattle.report.specs.declared.fault.RunFault.TheVariants as faults
@@ -72,7 +74,8 @@ faults_are_plain : (fault : RunFault) →
     × (rest_text Plain (fault_fields fault) ≡ codes " " ++ fault_text fault)
 faults_are_plain (faults.Capture captures.Magic) = (refl, refl)
 faults_are_plain (faults.Claim claims.Json) = (refl, refl)
-faults_are_plain (faults.Certificate certificates.Json) = (refl, refl)
+faults_are_plain (faults.Certificate (OfPieces certificates.Json)) = (refl, refl)
+faults_are_plain (faults.Certificate (ByCovers covers.Json)) = (refl, refl)
 faults_are_plain (faults.Refutation refutations.Json) = (refl, refl)
 faults_are_plain (faults.TooBig Claim) = (refl, refl)
 faults_are_plain (faults.Device Claim) = (refl, refl)

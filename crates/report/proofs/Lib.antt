@@ -5,4 +5,5 @@ pub mod PartedText
 pub mod FaultText
 pub mod InputIntake
 pub mod Reading
+mod CertificateFaults
 pub mod LinelessRefusal

@@ -2,9 +2,6 @@
 pub use Rattle.byte_stream.specs.Fault.{CountsFault}
 pub use Rattle.byte_stream.specs.Intake.{TakesAtMost}
 pub use Rattle.byte_stream.specs.State.{FeedState, IsReadable, IsWritable, SinkState}
-pub use Rattle.certificate.specs.Certificate.{CertificateData, max_pieces}
-pub use Rattle.certificate.specs.Fault.{Answers, number_of as certificate_number}
-pub use Rattle.certificate.specs.Reading.{certificate_of}
 pub use Rattle.certificate.specs.Refutation.{RefutationData, data_of}
 pub use Rattle.certificate.specs.RefutationFault.{number_of as refutation_number}
 pub use Rattle.certificate.specs.RefutationReading.{refutation_of}
@@ -14,6 +11,9 @@ pub use Rattle.claim_file.specs.Claim.{ClaimData, IsLawful}
 pub use Rattle.claim_file.specs.Fault.{number_of as claim_number}
 pub use Rattle.claim_file.specs.Reading.{claim_of}
 pub use Rattle.claim_file.specs.declared.fault.ClaimFault.{ClaimFault}
+pub use Rattle.cover_certificate.specs.AnyReading.{AnyData, Answers, IsFewOfAny, any_data, any_of, number_of as certificate_number}
+pub use Rattle.cover_certificate.specs.declared.any.AnyFault.{AnyFault}
+pub use Rattle.cover_certificate.specs.declared.fault.CoverFault.{CoverFault}
 pub use Rattle.line_writer.specs.Field.{FieldData, Named, Nothing, Number, Word, field_data, fields_text, most_of}
 pub use Rattle.line_writer.specs.Field.{room_of}
 pub use Rattle.line_writer.specs.declared.field.Style.TheVariants.{Plain}

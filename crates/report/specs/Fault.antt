@@ -1,10 +1,12 @@
 -- The faults of a run: their numbers, and which of them a fault of the capture is.
 use Rattle.std.specs.Prelude.{ℕ}
-use Rattle.report.specs.Common.{CaptureFault, ClaimFault, CertificateFault, RefutationFault}
+use Rattle.report.specs.Common.{AnyFault, CaptureFault, ClaimFault, RefutationFault}
 use Rattle.pcap_reader.specs.declared.fault.CaptureFault.TheVariants as captures
 use Rattle.claim_file.specs.declared.fault.ClaimFault.TheVariants as claims
 use Rattle.certificate.specs.declared.fault.CertificateFault.TheVariants as certificates
 use Rattle.certificate.specs.declared.refutation_fault.RefutationFault.TheVariants as refutations
+use Rattle.cover_certificate.specs.declared.any.AnyFault.TheVariants.{OfPieces, ByCovers}
+use Rattle.cover_certificate.specs.declared.fault.CoverFault.TheVariants as covers
 use Rattle.report.specs.declared.fault.Input.TheVariants as inputs
 use Rattle.report.specs.declared.fault.RunFault.{RunFault}
 use Rattle.report.specs.declared.fault.RunFault.TheVariants.{Capture, Claim, Certificate, Refutation, Exchanges, Pieces, TooBig, Device, Write, Memory, Sums}
@@ -35,8 +37,9 @@ claim_run_fault_of claims.Memory = Memory
 claim_run_fault_of fault = Claim fault
 
 -- what a run answers whose certificate has this fault
-abbrev pub certificate_run_fault_of : CertificateFault → RunFault
-certificate_run_fault_of certificates.Memory = Memory
+abbrev pub certificate_run_fault_of : AnyFault → RunFault
+certificate_run_fault_of (OfPieces certificates.Memory) = Memory
+certificate_run_fault_of (ByCovers covers.Memory) = Memory
 certificate_run_fault_of fault = Certificate fault
 
 -- what a run answers whose refutation has this fault

@@ -1,9 +1,11 @@
 -- The line of a run's fault, without its line feed.
 use Rattle.std.specs.Prelude.{ℕ, List, [], ◌∷◌, codes}
-use Rattle.report.specs.Common.{FieldData, fields_text, Word, Named, Number, Nothing, Plain, number_of as capture_number, CaptureFault, TornHeader, Magic, Version, Link, TornRecord, TooLong, BadFraction, TooMany, Read, Memory, Failed, claim_number, ClaimFault, certificate_number, CertificateFault, refutation_number, RefutationFault}
+use Rattle.report.specs.Common.{FieldData, fields_text, Word, Named, Number, Nothing, Plain, number_of as capture_number, CaptureFault, TornHeader, Magic, Version, Link, TornRecord, TooLong, BadFraction, TooMany, Read, Memory, Failed, claim_number, ClaimFault, certificate_number, AnyFault, CertificateFault, CoverFault, refutation_number, RefutationFault}
 use Rattle.claim_file.specs.declared.fault.ClaimFault.TheVariants as claims
 use Rattle.certificate.specs.declared.fault.CertificateFault.TheVariants as certificates
 use Rattle.certificate.specs.declared.refutation_fault.RefutationFault.TheVariants as refutations
+use Rattle.cover_certificate.specs.declared.any.AnyFault.TheVariants.{OfPieces, ByCovers}
+use Rattle.cover_certificate.specs.declared.fault.CoverFault.TheVariants as covers
 use Rattle.report.specs.declared.fault.Input.TheVariants as inputs
 use Rattle.report.specs.declared.fault.Input.{Input}
 use Rattle.report.specs.declared.fault.RunFault.{RunFault}
@@ -36,16 +38,35 @@ claim_said claims.RepeatedServer = Word (codes "repeated-server") ∷ Nothing �
 claim_said claims.Memory = Word (codes "memory") ∷ Nothing ∷ []
 claim_said claims.Groups = Word (codes "groups") ∷ Nothing ∷ []
 
--- of a certificate: its word, and the number of a piece whose fault it is
-abbrev pub certificate_said : CertificateFault → List FieldData
-certificate_said certificates.Json = Word (codes "json") ∷ Nothing ∷ []
-certificate_said certificates.Top = Word (codes "top") ∷ Nothing ∷ []
-certificate_said (certificates.Shape piece) =
+-- of a certificate of pieces: its word, and the number of a piece whose fault it is
+abbrev pub pieces_said : CertificateFault → List FieldData
+pieces_said certificates.Json = Word (codes "json") ∷ Nothing ∷ []
+pieces_said certificates.Top = Word (codes "top") ∷ Nothing ∷ []
+pieces_said (certificates.Shape piece) =
     Word (codes "shape") ∷ Named (codes "piece") piece ∷ []
-certificate_said (certificates.TooManyEntries piece) =
+pieces_said (certificates.TooManyEntries piece) =
     Word (codes "too-many-entries") ∷ Named (codes "piece") piece ∷ []
-certificate_said certificates.TooManyPieces = Word (codes "too-many-pieces") ∷ Nothing ∷ []
-certificate_said certificates.Memory = Word (codes "memory") ∷ Nothing ∷ []
+pieces_said certificates.TooManyPieces = Word (codes "too-many-pieces") ∷ Nothing ∷ []
+pieces_said certificates.Memory = Word (codes "memory") ∷ Nothing ∷ []
+
+-- of one by covers: its word, and the number of a case or of a piece whose fault it is
+abbrev pub covers_said : CoverFault → List FieldData
+covers_said covers.Json = Word (codes "json") ∷ Nothing ∷ []
+covers_said covers.Top = Word (codes "top") ∷ Nothing ∷ []
+covers_said covers.TooManyConflicts = Word (codes "too-many-conflicts") ∷ Nothing ∷ []
+covers_said covers.Conflicts = Word (codes "conflicts") ∷ Nothing ∷ []
+covers_said covers.TooManyCases = Word (codes "too-many-cases") ∷ Nothing ∷ []
+covers_said (covers.CaseShape case) = Word (codes "case") ∷ Number case ∷ []
+covers_said covers.TooManyPieces = Word (codes "too-many-pieces") ∷ Nothing ∷ []
+covers_said (covers.Shape piece) = Word (codes "shape") ∷ Named (codes "piece") piece ∷ []
+covers_said (covers.TooManyEntries piece) =
+    Word (codes "too-many-entries") ∷ Named (codes "piece") piece ∷ []
+covers_said covers.Memory = Word (codes "memory") ∷ Nothing ∷ []
+
+-- of a certificate of either form
+abbrev pub certificate_said : AnyFault → List FieldData
+certificate_said (OfPieces fault) = pieces_said fault
+certificate_said (ByCovers fault) = covers_said fault
 
 -- of a refutation: its word
 abbrev pub refutation_said : RefutationFault → List FieldData

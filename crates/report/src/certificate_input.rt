@@ -1,8 +1,7 @@
-//! The reading of a certificate.
+//! The reading of a certificate of either form.
 
-ghost use Rattle.std.specs.Prelude.{◌≤◌, IfOk, IfErr, IfSome, vec_len};
-ghost use Rattle.report.specs.Common.{CountsFault, TakesAtMost, IsReadable, max_pieces, Answers, certificate_of};
-ghost use Rattle.certificate.specs.Certificate.{data_of};
+ghost use Rattle.std.specs.Prelude.{IfOk, IfErr, IfSome};
+ghost use Rattle.report.specs.Common.{CountsFault, TakesAtMost, IsReadable, Answers, IsFewOfAny, any_data, any_of};
 ghost use Rattle.report.specs.CertificateInput.{IsOfCertificate, certificate_read, max_certificate};
 ghost use Rattle.report.specs.Input.{most_read};
 ghost use Rattle.report.specs.Reading.{Reads};
@@ -11,7 +10,7 @@ ghost use Rattle.report.specs.Reports.{is_second, is_device};
 use crate::fault::{Input, RunFault};
 use crate::input::read_input;
 use byte_stream::Feed;
-use certificate::{Certificate, CertificateFault, read_certificate};
+use cover_certificate::{AnyCertificate, AnyFault, read_any};
 use std::alloc::Global;
 
 /// The greatest length of a certificate, in bytes.
@@ -21,11 +20,14 @@ pub const MAX_CERTIFICATE: u64 = 134_217_728;
 ///
 /// `TooBig` comes if there are more, `Certificate` if they aren't a certificate, `Device` if the
 /// feed failed.
-pub fn read_certificate_from<T: Feed>(alloc: Global, feed: &mut T) -> Result<Certificate, RunFault>
+pub fn read_certificate_from<T: Feed>(
+    alloc: Global,
+    feed: &mut T,
+) -> Result<AnyCertificate, RunFault>
     requires { IsReadable (T.state feed.old) }
     ensures known { IfSome (T.state feed.old).remaining (λ bytes.
-        Reads data_of (certificate_read bytes) result) }
-    ensures few { IfOk result (λ certificate. vec_len certificate.pieces ≤ max_pieces) }
+        Reads any_data (certificate_read bytes) result) }
+    ensures few { IfOk result (λ certificate. IsFewOfAny (any_data certificate)) }
     ensures fault { IfErr result IsOfCertificate }
     ensures counts_fault { CountsFault (is_device is_second result)
         (T.state feed.old).faults (T.state feed.new).faults }
@@ -46,11 +48,11 @@ pub fn read_certificate_from<T: Feed>(alloc: Global, feed: &mut T) -> Result<Cer
 /// The text is cut to a byte before it goes. If a large block is freed as it is, the C library puts
 /// every later block up to that size on its heap, and there the lists that grow side by side while
 /// a capture is read leave their earlier room behind.
-fn read_certificate_in(alloc: Global, mut text: Vec<u8>) -> Result<Certificate, CertificateFault>
-    ensures exact { Answers result data_of (certificate_of text.items) }
-    ensures few { IfOk result (λ certificate. vec_len certificate.pieces ≤ max_pieces) }
+fn read_certificate_in(alloc: Global, mut text: Vec<u8>) -> Result<AnyCertificate, AnyFault>
+    ensures exact { Answers result (any_of text.items) }
+    ensures few { IfOk result (λ certificate. IsFewOfAny (any_data certificate)) }
 {
-    let read = read_certificate(alloc, text.as_slice());
+    let read = read_any(alloc, text.as_slice());
     text.truncate(1);
     text.shrink_to_fit();
     read

@@ -6,6 +6,7 @@ ghost use Rattle.report.specs.Fault.{number_of, run_fault_of, claim_run_fault_of
 
 use certificate::{CertificateFault, RefutationFault};
 use claim_file::ClaimFault;
+use cover_certificate::{AnyFault, CoverFault};
 use pcap_reader::CaptureFault;
 use std::alloc::AllocError;
 use thiserror::Error;
@@ -60,7 +61,7 @@ pub enum RunFault {
     Claim(ClaimFault),
     /// The certificate is refused.
     #[error("the certificate is refused: {0}")]
-    Certificate(CertificateFault),
+    Certificate(AnyFault),
     /// The refutation is refused.
     #[error("the refutation is refused: {0}")]
     Refutation(RefutationFault),
@@ -131,13 +132,19 @@ impl From<ClaimFault> for RunFault {
     }
 }
 
-impl From<CertificateFault> for RunFault {
+impl From<AnyFault> for RunFault {
     ghost from_gives = { λ fault e. e ≡ certificate_run_fault_of fault };
 
-    fn from(fault: CertificateFault) -> RunFault {
+    fn from(fault: AnyFault) -> RunFault {
         match fault {
-            CertificateFault::Memory => RunFault::Memory,
-            fault => RunFault::Certificate(fault),
+            AnyFault::OfPieces(of_pieces) => match of_pieces {
+                CertificateFault::Memory => RunFault::Memory,
+                _ => RunFault::Certificate(fault),
+            },
+            AnyFault::ByCovers(by_covers) => match by_covers {
+                CoverFault::Memory => RunFault::Memory,
+                _ => RunFault::Certificate(fault),
+            },
         }
     }
 }

@@ -4,11 +4,12 @@ ghost use Rattle.std.specs.Prelude.{◌≡◌, ◌+◌, ◌≤◌, ◌++◌, [],
 ghost use Rattle.line_writer.specs.declared.line.TheConstants.{CAPACITY};
 ghost use Rattle.report.specs.Common.{Plain, Word, field_data, fields_text, most_of, room_of};
 ghost use Rattle.report.specs.FaultText as spec;
-ghost use Rattle.report.specs.FaultText.{capture_said, claim_said, certificate_said, fault_text, refutation_said, refused};
+ghost use Rattle.report.specs.FaultText.{capture_said, claim_said, certificate_said, covers_said, fault_text, pieces_said, refutation_said, refused};
 
 use crate::fault::{Input, RunFault, SumsFault};
 use certificate::{CertificateFault, RefutationFault};
 use claim_file::ClaimFault;
+use cover_certificate::{AnyFault, CoverFault};
 use line_writer::{Field, Line, Style, put_fields};
 use pcap_reader::CaptureFault;
 use std::alloc::{AllocError, Global};
@@ -17,7 +18,7 @@ use std::str;
 /// The word for a capture's fault, and the place of the record whose fault it is.
 fn capture_words(fault: &CaptureFault) -> (&'static str, Field<'static>)
     ensures said { (Word result.0.now ∷ field_data result.1 ∷ []) ≡ capture_said fault.now }
-    ensures room { length result.0.now + most_of (field_data result.1) ≤ 66 }
+    ensures room { length result.0.now + most_of (field_data result.1) ≤ 70 }
 {
     match fault {
         CaptureFault::TornHeader => ("torn-header", Field::Nothing),
@@ -37,7 +38,7 @@ fn capture_words(fault: &CaptureFault) -> (&'static str, Field<'static>)
 /// The word for a claim's fault, and the code of the field whose fault it is.
 fn claim_words(fault: &ClaimFault) -> (&'static str, Field<'static>)
     ensures said { (Word result.0.now ∷ field_data result.1 ∷ []) ≡ claim_said fault.now }
-    ensures room { length result.0.now + most_of (field_data result.1) ≤ 66 }
+    ensures room { length result.0.now + most_of (field_data result.1) ≤ 70 }
 {
     match fault {
         ClaimFault::Json => ("json", Field::Nothing),
@@ -51,10 +52,10 @@ fn claim_words(fault: &ClaimFault) -> (&'static str, Field<'static>)
     }
 }
 
-/// The word for a certificate's fault, and the number of the piece whose fault it is.
-fn certificate_words(fault: &CertificateFault) -> (&'static str, Field<'static>)
-    ensures said { (Word result.0.now ∷ field_data result.1 ∷ []) ≡ certificate_said fault.now }
-    ensures room { length result.0.now + most_of (field_data result.1) ≤ 66 }
+/// The word for a fault of a certificate of pieces, and the number of the piece whose fault it is.
+fn pieces_words(fault: &CertificateFault) -> (&'static str, Field<'static>)
+    ensures said { (Word result.0.now ∷ field_data result.1 ∷ []) ≡ pieces_said fault.now }
+    ensures room { length result.0.now + most_of (field_data result.1) ≤ 70 }
 {
     match fault {
         CertificateFault::Json => ("json", Field::Nothing),
@@ -68,10 +69,42 @@ fn certificate_words(fault: &CertificateFault) -> (&'static str, Field<'static>)
     }
 }
 
+/// That of one by covers, and the number of the case or of the piece.
+fn covers_words(fault: &CoverFault) -> (&'static str, Field<'static>)
+    ensures said { (Word result.0.now ∷ field_data result.1 ∷ []) ≡ covers_said fault.now }
+    ensures room { length result.0.now + most_of (field_data result.1) ≤ 70 }
+{
+    match fault {
+        CoverFault::Json => ("json", Field::Nothing),
+        CoverFault::Top => ("top", Field::Nothing),
+        CoverFault::TooManyConflicts => ("too-many-conflicts", Field::Nothing),
+        CoverFault::Conflicts => ("conflicts", Field::Nothing),
+        CoverFault::TooManyCases => ("too-many-cases", Field::Nothing),
+        CoverFault::CaseShape(case) => ("case", Field::Number(u64::from(*case))),
+        CoverFault::TooManyPieces => ("too-many-pieces", Field::Nothing),
+        CoverFault::Shape(piece) => ("shape", Field::Named("piece", u64::from(*piece))),
+        CoverFault::TooManyEntries(piece) => {
+            ("too-many-entries", Field::Named("piece", u64::from(*piece)))
+        }
+        CoverFault::Memory => ("memory", Field::Nothing),
+    }
+}
+
+/// That of a certificate of either form.
+fn certificate_words(fault: &AnyFault) -> (&'static str, Field<'static>)
+    ensures said { (Word result.0.now ∷ field_data result.1 ∷ []) ≡ certificate_said fault.now }
+    ensures room { length result.0.now + most_of (field_data result.1) ≤ 70 }
+{
+    match fault {
+        AnyFault::OfPieces(fault) => pieces_words(fault),
+        AnyFault::ByCovers(fault) => covers_words(fault),
+    }
+}
+
 /// The word for a refutation's fault.
 fn refutation_words(fault: &RefutationFault) -> (&'static str, Field<'static>)
     ensures said { (Word result.0.now ∷ field_data result.1 ∷ []) ≡ refutation_said fault.now }
-    ensures room { length result.0.now + most_of (field_data result.1) ≤ 66 }
+    ensures room { length result.0.now + most_of (field_data result.1) ≤ 70 }
 {
     match fault {
         RefutationFault::Json => ("json", Field::Nothing),
@@ -105,7 +138,7 @@ fn word_of(input: &Input) -> Field<'static>
 /// Writes the line of an input that is refused: which one, its fault's number and word, and where.
 fn put_refused(line: &mut Line, input: Input, number: u8, words: (&'static str, Field<'static>))
     requires room { length line.old + 200 ≤ CAPACITY }
-    requires words { length words.0.now + most_of (field_data words.1) ≤ 66 }
+    requires words { length words.0.now + most_of (field_data words.1) ≤ 70 }
     ensures { line.new ≡ fields_text Plain
         (refused input number (Word words.entry.0.now ∷ field_data words.entry.1 ∷ []))
         ++ line.old }

@@ -1,5 +1,5 @@
 -- What the definitions and contracts of this crate name of others.
-pub use Rattle.audit.specs.Check.{IsDenied, IsTracedByPieces, IsTracedTo, check}
+pub use Rattle.audit.specs.Check.{IsDenied, IsShownAs, IsTracedByPieces, IsTracedTo, check}
 pub use Rattle.audit.specs.Contested.{IsContestedShown}
 pub use Rattle.audit.specs.Finding.{ShowsFinding}
 pub use Rattle.audit.specs.Headline.{IsShown}

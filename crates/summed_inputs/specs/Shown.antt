@@ -1,13 +1,13 @@
 -- What an exit status shows of bytes, question by question, whatever is told about the inputs.
 use Rattle.std.specs.Prelude.{ℕ, List, Bool, Some}
-use Rattle.summed_inputs.specs.Common.{CertificateData, IsTracedByPieces, IsTracedTo, IsContestedShown, IsShown, GiveRefutation, IsContestedOf, IsShownFrom}
+use Rattle.summed_inputs.specs.Common.{CertificateData, IsTracedByPieces, IsTracedTo, IsContestedShown, IsShown, IsShownAs, GiveRefutation, IsContestedOf, IsShownFrom}
 
 -- The theorem behind a yes of `check`, of the bytes of claim, certificate and capture: for all
--- exchanges of the capture, for those that each piece names, and in relations alone.
+-- exchanges of the capture, for those that the certificate names, and in relations alone.
 pub record IsProven (claim certificate capture : List ℕ) : Type 0 where
   pub whole : IsTracedTo claim capture
   pub by_pieces : IsTracedByPieces claim certificate capture
-  pub in_relations : IsShown claim capture
+  pub in_relations : IsShownAs (Some certificate) claim capture
 
 -- The refutation stands, and that a course breaks the claim is shown in relations alone.
 pub record IsDisproven (drift : Bool) (claim refutation capture : List ℕ) : Type 0 where

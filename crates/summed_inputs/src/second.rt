@@ -10,7 +10,8 @@ use crate::named_feed::NamedFeed;
 use crate::sums::digest_for;
 use audit::{SecondInput, SecondSource};
 use byte_stream::Feed;
-use certificate::{Certificate, Refutation};
+use certificate::Refutation;
+use cover_certificate::AnyCertificate;
 use report::{Input, RunFault};
 use std::alloc::Global;
 use sum_file::Sum;
@@ -36,8 +37,8 @@ impl SummedInput for () {
     }
 }
 
-impl SummedInput for Certificate {
-    fn read_from<F: Feed>(alloc: Global, feed: &mut F) -> Result<Certificate, RunFault> {
+impl SummedInput for AnyCertificate {
+    fn read_from<F: Feed>(alloc: Global, feed: &mut F) -> Result<AnyCertificate, RunFault> {
         feed.read_second(alloc)
     }
 }
@@ -103,7 +104,7 @@ impl SummedSource<()> for () {
     }
 }
 
-impl<T: NamedFeed> SummedSource<Certificate> for T {
+impl<T: NamedFeed> SummedSource<AnyCertificate> for T {
     type Digest = [u8; 32];
 
     ghost named = { T.named };

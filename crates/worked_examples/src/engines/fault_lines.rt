@@ -6,20 +6,24 @@ use RunFault::{
 };
 use certificate::{CertificateFault, RefutationFault};
 use claim_file::ClaimFault;
+use cover_certificate::{AnyFault, CoverFault};
 use pcap_reader::CaptureFault;
 use report::{Input, RunFault, SumsFault, fault_line, status};
 
 /// Each fault, and what its line says after the program's name.
-const LINES: [(RunFault, &str); 10] = table! {
+const LINES: [(RunFault, &str); 12] = table! {
     Capture(CaptureFault::BadFraction(1_048_640_000_008)),
         "capture 7 bad-fraction at 1048640000008";
     Capture(CaptureFault::Read), "capture 9 read";
     Capture(CaptureFault::Memory), "capture 10 memory";
     Capture(CaptureFault::Failed), "capture 11 failed";
     Claim(ClaimFault::Memory), "claim 7 memory";
-    Certificate(CertificateFault::TooManyEntries(99_999)),
+    Certificate(AnyFault::OfPieces(CertificateFault::TooManyEntries(99_999))),
         "certificate 4 too-many-entries piece 99999";
-    Certificate(CertificateFault::Memory), "certificate 6 memory";
+    Certificate(AnyFault::OfPieces(CertificateFault::Memory)), "certificate 6 memory";
+    Certificate(AnyFault::ByCovers(CoverFault::TooManyConflicts)),
+        "certificate 3 too-many-conflicts";
+    Certificate(AnyFault::ByCovers(CoverFault::CaseShape(63))), "certificate 6 case 63";
     Refutation(RefutationFault::Memory), "refutation 3 memory";
     TooBig(Input::Capture), "too-big capture";
     Write(u64::MAX), "device output after 18446744073709551615";

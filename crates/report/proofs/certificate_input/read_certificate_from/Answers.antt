@@ -1,20 +1,19 @@
-use Rattle.report.proofs.Common.{arith, certificate_run_fault_of, or_fault}
-use Rattle.certificate.specs.Certificate.{data_of}
+use Rattle.report.proofs.Common.{any_data}
 use Rattle.report.proofs.Reading.{input_is_read, input_refused, input_unread}
+use Rattle.report.proofs.CertificateFaults.{told}
 use Rattle.report.proofs.certificate_input.read_certificate_from.Goals as goal
 
 pub returns-in-Err-clause-known : goal.returns-in-Err-clause-known
 returns-in-Err-clause-known g c =
-    input_unread data_of _ _ _ _ _ c.in-Err.fault c.in-Err.ensures.fault c.in-Err.ensures.whole
+    input_unread any_data _ _ _ _ _ c.in-Err.fault c.in-Err.ensures.fault c.in-Err.ensures.whole
 
 pub returns-in-Ok-read_certificate_in-clause-known : goal.returns-in-Ok-read_certificate_in-clause-known
 returns-in-Ok-read_certificate_in-clause-known g c =
-    input_is_read data_of _ _ _ _ _ _ c.in-Ok-read_certificate_in.certificate c.in-Ok.ensures.whole
+    input_is_read any_data _ _ _ _ _ _ c.in-Ok-read_certificate_in.certificate c.in-Ok.ensures.whole
     c.in-Ok-read_certificate_in.ensures.exact
 
 -- a certificate's refusal is the run's
 pub returns-in-Err-read_certificate_in-clause-known : goal.returns-in-Err-read_certificate_in-clause-known
 returns-in-Err-read_certificate_in-clause-known g c =
-    rw c.from.ensures (input_refused data_of _ _ _ _ _ _ _ c.in-Ok.ensures.whole
-    (let exact = c.in-Err-read_certificate_in.ensures.exact in
-    grind (arith, or_fault, certificate_run_fault_of, exact)))
+    rw c.from.ensures (input_refused any_data _ _ _ _ _ _ _ c.in-Ok.ensures.whole
+    (told c.in-Err-read_certificate_in.fault _ c.in-Err-read_certificate_in.ensures.exact))

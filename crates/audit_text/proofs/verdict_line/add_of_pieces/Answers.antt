@@ -1,8 +1,8 @@
-use Rattle.audit_text.proofs.Common.{◌≡◌, ◌++◌, [], ◌∷◌, codes, sym, IfOk, line_of, Word, Named, verdict_line}
-use Rattle.audit_text.proofs.check_report.add_verdict.Goals as goal
+use Rattle.audit_text.proofs.Common.{◌≡◌, ◌++◌, [], ◌∷◌, codes, sym, IfOk, line_of, Word, Named, pieces_line}
+use Rattle.audit_text.proofs.verdict_line.add_of_pieces.Goals as goal
 
 pub returns-in-No : goal.returns-in-No
-unfolding verdict_line
+unfolding pieces_line
 returns-in-No c =
     let told : IfOk c.add_line-in-No.result (λ _. c.add_line-in-No.new.text.items ≡
     c.args.text.now.items ++ line_of c.args.style (
