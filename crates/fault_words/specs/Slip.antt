@@ -1,4 +1,4 @@
--- Numbers of a claim that look like a slip of the pen. Nothing is refused for them.
+-- What looks like a slip of the pen in a claim. Nothing is refused for it.
 use Rattle.std.specs.Prelude.{ℕ, ◌+◌, ◌*◌, List, [], ◌∷◌, ◌++◌, codes, Bool, ◌&&◌, ◌||◌, Option, None, Some, if◌then◌else◌, nat_le, nat_lt}
 use Rattle.std.specs.List.{list_any}
 use Rattle.line_writer.specs.Date.{time_text}
@@ -77,10 +77,15 @@ span_line name numbers None = []
 span_line name numbers (Some recorded) = line_if (is_outside numbers.begin numbers.end recorded)
     name (span_words numbers recorded)
 
--- what looks like a slip of the pen in a claim of this name
-abbrev pub slips : List ℕ → ClaimNumbers → Option Recorded → List ℕ
-slips name numbers recorded =
-    line_if (nat_lt numbers.bound_ns 1000) name bound_words
+-- what is said of a claim that has a name twice
+abbrev pub twice_words : List ℕ
+twice_words = codes "has a name twice; its last value counts"
+
+-- what looks like a slip of the pen in a claim of this file
+abbrev pub slips : List ℕ → Bool → ClaimNumbers → Option Recorded → List ℕ
+slips name name_stands_twice numbers recorded =
+    line_if name_stands_twice name twice_words
+    ++ line_if (nat_lt numbers.bound_ns 1000) name bound_words
     ++ line_if (nat_lt numbers.drift_ppb 1000) name drift_words
     ++ line_if (is_small_allowance numbers.reading_ns) name reading_words
     ++ line_if (nat_le numbers.groups numbers.false_max) name false_words

@@ -46,5 +46,5 @@ pub use record_times::look_at_times;
 pub use remedy::STANDARD_INPUT;
 pub use seen::Seen;
 pub use sentence::{Sentence, sentence_of};
-pub use slip::{ClaimNumbers, Recorded, slips};
+pub use slip::{ClaimNumbers, Recorded, has_name_twice, slips};
 pub use subject::{Names, input_of};

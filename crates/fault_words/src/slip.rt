@@ -1,6 +1,9 @@
-//! Numbers of a claim that look like a slip of the pen. Nothing is refused for them.
+//! What looks like a slip of the pen in a claim. Nothing is refused for it.
 
-ghost use Rattle.std.specs.Prelude.{◌≡◌, ◌+◌, ◌++◌, ◌*◌, ◌<◌, ◌≤◌, IfOk, OnOk, length};
+ghost use Rattle.std.specs.Prelude.{◌≡◌, ◌+◌, ◌++◌, ◌*◌, ◌<◌, ◌≤◌, IfOk, OnOk, IfSome, IsSomeAnd, length};
+ghost use Rattle.std.specs.Bool.{MatchBool};
+ghost use Rattle.json.specs.Json.{document};
+ghost use Rattle.json.specs.Strict.{HasUniqueKeys};
 ghost use Rattle.claim_file.specs.Claim.{group_count};
 ghost use Rattle.line_writer.specs.Date.{time_text};
 ghost use Rattle.line_writer.specs.declared.line.TheConstants.{CAPACITY};
@@ -8,6 +11,7 @@ ghost use Rattle.fault_words.specs.Slip as spec;
 
 use claim_file::{Claim, group_count};
 use era_unfold::TICKS_PER_SECOND;
+use json::{Error, Scratch, Value};
 use line_writer::{Field, Line, Style, put_fields};
 use std::alloc::{AllocError, Global};
 
@@ -53,6 +57,20 @@ impl ClaimNumbers {
             begin: second_at(claim.first),
             end: second_at(claim.last),
         }
+    }
+}
+
+/// Whether an object of a JSON text has a name twice, so that its last value counts. A text that is
+/// none has no name.
+pub fn has_name_twice(alloc: Global, text: &str) -> Result<bool, AllocError>
+    ensures exact { IfOk result (λ twice. MatchBool twice
+        (IsSomeAnd (document text.now) (λ json. ¬ HasUniqueKeys json))
+        (IfSome (document text.now) HasUniqueKeys)) }
+{
+    match Value::parse_strict(alloc, text, &mut Scratch::new(alloc)) {
+        Ok(_) | Err(Error::Invalid | Error::TooLong) => Ok(false),
+        Err(Error::DuplicateKey) => Ok(true),
+        Err(Error::OutOfMemory) => Err(AllocError),
     }
 }
 
@@ -165,19 +183,21 @@ fn add_span_line(
     }
 }
 
-/// What looks like a slip of the pen in a claim of this name, a line for each: a bound below 1,000
-/// ns, a drift below 1,000 ppb, an allowance below 1,000 ns that isn't 0, as many false groups as
-/// there are, a span outside the capture.
+/// What looks like a slip of the pen in a claim of this file, a line for each: a name that stands
+/// twice, a bound below 1,000 ns, a drift below 1,000 ppb, an allowance below 1,000 ns that isn't 0,
+/// as many false groups as there are, a span outside the capture.
 pub fn slips(
     alloc: Global,
     name: &str,
+    name_stands_twice: bool,
     numbers: &ClaimNumbers,
     recorded: &Option<Recorded>,
 ) -> Result<Vec<u8>, AllocError>
     ensures says { IfOk result (λ text.
-        text.items ≡ spec.slips name.now numbers.now recorded.now) }
+        text.items ≡ spec.slips name.now name_stands_twice numbers.now recorded.now) }
 {
     let mut text = Vec::new(alloc);
+    add_line_if(&mut text, name_stands_twice, name, b"has a name twice; its last value counts")?;
     let small_bound = b"\"bound_ns\" is below 1000, which are 0.001 ms; 5 ms are 5000000";
     add_line_if(&mut text, numbers.bound_ns < 1000, name, small_bound)?;
     let small_drift = b"\"drift_ppb\" is below 1000, which are 1 ppm; 100 ppm are 100000";

@@ -5,15 +5,16 @@
 
 use crate::second_look::{open_regular, path_of, shown_name};
 use byte_stream::ReadFeed;
-use fault_words::{ClaimNumbers, Names, Recorded, look_at_times, slips};
-use report::read_claim_from;
-use std::alloc::{AllocError, Global};
+use claim_file::read_claim;
+use fault_words::{ClaimNumbers, Names, Recorded, has_name_twice, look_at_times, slips};
+use report::{Input, MAX_CLAIM, read_input};
+use std::alloc::AllocError;
 
-/// The numbers of the claim of this path, if it is one.
-fn numbers_at(rt: &HostRuntime, path: &str) -> Option<ClaimNumbers> {
+/// The text of the claim of this path, if it can be read.
+fn text_at(rt: &HostRuntime, path: &str) -> Option<String> {
     let mut feed = ReadFeed::new(open_regular(rt, path)?);
-    let claim = read_claim_from(rt.alloc(), &mut feed).ok()?;
-    Some(ClaimNumbers::of(&claim))
+    let bytes = read_input(rt.alloc(), &mut feed, Input::Claim, MAX_CLAIM).ok()?;
+    String::from_utf8(bytes).ok()
 }
 
 /// When the capture of this path was recorded, if it has a record.
@@ -24,10 +25,14 @@ fn times_at(rt: &HostRuntime, path: &str) -> Option<Recorded> {
 /// What looks like a slip of the pen in the claim of this name, and nothing if there is none.
 pub(crate) fn warnings(rt: &HostRuntime, names: &Names<'_>) -> Result<Vec<u8>, AllocError> {
     let alloc = rt.alloc();
-    let Some(numbers) = numbers_at(rt, path_of(names.claim)) else {
+    let Some(text) = text_at(rt, path_of(names.claim)) else {
+        return Ok(Vec::new(alloc));
+    };
+    let Ok(claim) = read_claim(alloc, text.as_bytes()) else {
         return Ok(Vec::new(alloc));
     };
     let recorded = times_at(rt, path_of(names.capture));
     let name = shown_name(alloc, names.claim)?;
-    slips(alloc, name.as_str(), &numbers, &recorded)
+    let stands_twice = has_name_twice(alloc, text.as_str())?;
+    slips(alloc, name.as_str(), stands_twice, &ClaimNumbers::of(&claim), &recorded)
 }
