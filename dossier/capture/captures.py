@@ -12,7 +12,7 @@ from collections.abc import Callable, Iterator
 from contextlib import suppress
 from functools import partial
 from hashlib import sha256
-from itertools import chain, islice
+from itertools import chain, islice, pairwise
 from statistics import median_low
 from typing import NamedTuple
 
@@ -40,6 +40,8 @@ MOST_BYTES = 1 << 31
 """Of a capture that isn't thinned out."""
 NEXT, MOST_FALLS = 160, 1000
 """Records that are next to others, for each server; and how often the times of a capture may fall back for that."""
+MINUTE = 60 << 32
+"""In ticks."""
 NEAREST = 15
 """Replies at either end of a capture, by whose median it is known when it was made."""
 BLOCKS, EACH = 64, 32
@@ -92,8 +94,8 @@ def audited(copies: dict[str, str], program: Program | None = None) -> Audited:
 
 def times_of(captures: dict[str, Classic], program: Program) -> Times | None:
     """When captures begin and end by what servers say at their ends, in the median, however far in they are heard, or
-    of its requests in others. One of which none is heard follows the one before it by name. None if none is heard in
-    any, or if they can't be joined."""
+    of its requests in others. One of which none is heard follows the one before it by name. None if that is the order
+    of their records' times, too, if none is heard in any, or if they can't be joined."""
     first = next(iter(captures.values()))
     if any(not capture.is_one or capture.kind != first.kind for capture in captures.values()):
         return None
@@ -102,16 +104,25 @@ def times_of(captures: dict[str, Classic], program: Program) -> Times | None:
         for side in (0, 1):
             if (name, side) not in said and (not side or (name, 0) in said) and len(capture.extent.stamps) > AT_ENDS:
                 said |= heard_at([(name, side)], MANY, captures, program)
-    if not said:
+    silent, names = [name for name in captures if (name, 1) not in said], sorted(captures, key=by_number)
+    if not said or silent and do_follow([captures[name] for name in names],
+                                        [said[name, 0][0] for name in names if (name, 0) in said]):
         return None
-    said |= answered_elsewhere([name for name in captures if (name, 1) not in said], captures, program)
+    said |= answered_elsewhere(silent, captures, program)
     ends = {name: sorted([median_low(said[name, 0][:NEAREST]), median_low(said[name, 1][-NEAREST:])])
             for name in captures if (name, 0) in said and (name, 1) in said}
     found, last = dict[str, tuple[int, int]](), 0
-    for name in sorted(captures, key=by_number):
+    for name in names:
         begin, last = ends.get(name, (last, last))
         found[name] = begin, last
     return found
+
+
+def do_follow(captures: list[Classic], times: list[int]) -> bool:
+    """Whether each capture begins behind the end of the one before it, and servers' times don't fall by a minute."""
+    stamps = [capture.extent.stamps for capture in captures if capture.extent.stamps]
+    return all(one[-1] <= other[0] for one, other in pairwise(stamps)) and \
+        all(one <= other + MINUTE for one, other in pairwise(times))
 
 
 def heard_at(ends: list[tuple[str, int]], most: int, captures: dict[str, Classic],

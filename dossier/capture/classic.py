@@ -17,7 +17,7 @@ from typing import NamedTuple
 from ..fault import fault
 from ..folder.files import BLOCK, mapped
 from ..folder.placing import Copy
-from ..units import SECOND
+from ..units import SECOND, inward
 
 MAGICS = {bytes.fromhex(magic): form for magic, form in (
     ("d4c3b2a1", ("<", 10**6)), ("a1b2c3d4", (">", 10**6)), ("4d3cb2a1", ("<", 10**9)), ("a1b23c4d", (">", 10**9)))}
@@ -270,3 +270,16 @@ def runs_of(capture: Classic, spans: list[tuple[int, int]]) -> list[Runs]:
         if left < 0:
             raise fault("the times of the capture go back and forth between days too often")
     return found if end == capture.size else [[[HEADER, capture.size]] for _ in spans]
+
+
+def records_in(whole: Classic, gap: tuple[int, int], is_between: bool) -> Iterator[bytes]:
+    """The records of a capture whose times lie in a gap, and those between the records with the times of its ends, but
+    for what may be answered by the latter."""
+    first, last = (second * whole.unit for second in inward(*gap))
+    ends = [time // SECOND << 32 | time % SECOND * whole.unit // SECOND for time in gap]
+    inside, stamps = range(0), whole.extent.stamps
+    if is_between and ends[0] in stamps and ends[1] in stamps[(at := stamps.index(ends[0])):]:
+        inside = range(at + 1, stamps.index(ends[1], at))
+    for number, (time, begin, end) in enumerate(whole.rows()):
+        if first <= time <= last or number in inside and not last < time <= gap[1] * whole.unit // SECOND:
+            yield whole.data[begin:end]

@@ -1,10 +1,10 @@
 """How one claim is settled: the program's calls, in order, and the files that they leave in the current folder."""
-from collections.abc import Callable, Iterator
+from collections.abc import Callable
 from contextlib import suppress
 from itertools import chain
 
 from ..capture.captures import Audited, cut
-from ..capture.classic import HEADER, Classic, write
+from ..capture.classic import HEADER, Classic, records_in, write
 from ..capture.recording import Recording, read_recording
 from ..capture.traffic import read_traffic
 from ..fault import MISSING, Fault, fault
@@ -16,7 +16,6 @@ from ..folder.files import sum_of, sum_of_file
 from ..folder.placing import keep, make_private, move
 from ..folder.program import Program
 from ..records import replace
-from ..units import SECOND, inward
 from .apart import SEVERAL, Seen, outermost, seen_apart, wrong_in
 from .breaks import ANY, SOME
 from .gaps import gaps_of, inner_gaps, longest_of, told_of
@@ -220,19 +219,6 @@ class Settling:
                 if self.judged(*self.contested(name)).endswith(b"refuted yes\n"):
                     return self.earlier
         return self.keep(files.REFUTATION, text)
-
-
-def records_in(whole: Classic, gap: Gap, is_between: bool) -> Iterator[bytes]:
-    """The records of a capture whose times lie in a gap, and those between the records with the times of its ends, but
-    for what may be answered by the latter."""
-    first, last = (second * whole.unit for second in inward(*gap))
-    ends = [time // SECOND << 32 | time % SECOND * whole.unit // SECOND for time in gap]
-    inside, stamps = range(0), whole.extent.stamps
-    if is_between and ends[0] in stamps and ends[1] in stamps[(at := stamps.index(ends[0])):]:
-        inside = range(at + 1, stamps.index(ends[1], at))
-    for number, (time, begin, end) in enumerate(whole.rows()):
-        if first <= time <= last or number in inside and not last < time <= gap[1] * whole.unit // SECOND:
-            yield whole.data[begin:end]
 
 
 def do_many_miss(recording: Recording, servers: int) -> bool:

@@ -55,6 +55,17 @@ def test_asked_elsewhere(place: Path) -> None:
     check("asked elsewhere", line=(dossier("audit", folder)[1].split()[0], b"yes"))
 
 
+def test_replies_alone(_: Path) -> None:
+    """What was recorded while no server was heard: replies, whose requests weren't, are something."""
+    from dossier.folder.entry import Silence
+    from dossier.verdict.alerts import silent
+    for requests, replies, words in rows((0, 0, "nothing of this client was recorded"),
+                                         (3, 0, "nobody answered, of 3 requests"),
+                                         (0, 7, "no reply was of use, of 7 to 0 requests")):
+        said = silent(Silence(0, 600 * SECOND, requests, replies))
+        check(f"{requests} requests, {replies} replies", said=(said.endswith(f": {words}."), True))
+
+
 def test_displaced(place: Path) -> None:
     """A capture whose requests another has too, by other stamps: each command that audits says so."""
     folder = folder_of(place, "displaced", *VLAN)
