@@ -175,9 +175,9 @@ class Player:
                     break
         if moment.beyond:
             low, high = (end * SECOND / TICKS for end in moment.beyond)
-            shown = clock.errors(-(1 << 62), 1 << 62, seen[-1].at - 60 * SECOND, seen[-1].at + 1)
-            if shown and (shown[1] < low - 2 or shown[0] > high + 2):
-                yield f"the error was {shown} when it was asked last"
+            errors = list(map(clock.error, range(seen[-1].at - 60 * SECOND, seen[-1].at + 1, SECOND)))
+            if not any(error is not None and low - 2 <= error <= high + 2 for error in errors):
+                yield f"the error was {errors[-1]} when it was asked last"
         shown = clock.errors(moment.begin * SECOND, moment.end * SECOND, since, last + 1)
         if shown and moment.verdict == "yes" and max(-shown[0], shown[1]) > self.of.bound:
             yield f"a yes, and the error was {shown}"
