@@ -247,21 +247,16 @@ def fitting(program: Program, claim: Claim, settled: Settled, capture: str,
     """Of minutes that nothing fits the last ones, if a course fits twice as many: what ended their fit lies as far
     before them as they are long. Else they stay as they are."""
     whole, length = Classic(capture), claim.last - claim.first
-    while (length := length // 2) >= 2 * least and (own := ending(whole, claim, length)):
-        if settle(program, own, CUT).answer != NOTHING_FITS:
+    times = [stamp >> 32 for stamp in whole.extent.stamps]
+    while (length := length // 2) >= 2 * least:
+        own = replace(claim, from_=civil(claim.last - length))
+        first = next((k + 1 for k in range(len(times) - 1, -1, -1) if times[k] < own.first), 0)
+        if first == len(times):
+            break
+        if settle(program, own, cut(whole, first, len(times), CUT)).answer != NOTHING_FITS:
             own = replace(claim, from_=civil(claim.last - length // 2))
             return settle(program, own, CUT), own, CUT
     return settled, claim, capture
-
-
-def ending(whole: Classic, claim: Claim, length: int) -> Claim | None:
-    """A claim of the last seconds of another's, of which a private file has the records; None if there are none."""
-    own, times = replace(claim, from_=civil(claim.last - length)), [stamp >> 32 for stamp in whole.extent.stamps]
-    first = next((k + 1 for k in range(len(times) - 1, -1, -1) if times[k] < own.first), 0)
-    if first == len(times):
-        return None
-    cut(whole, first, len(times), CUT)
-    return own
 
 
 def cut(whole: Classic, first: int, end: int, path: str) -> str:
