@@ -18,6 +18,7 @@ EXCEPTIONS = {
          "clap says it in words of its own"),
         ("Err(_) => Err(AllocError),", "nothing else is left of how std's `args` fails"),
     ],
+    "fault_words/src/slip.rt": [("Err(Error::OutOfMemory) => Err(AllocError),", "json says it in a word of its own")],
     "program/src/about.rt": [
         ("Err(SumFault::Memory) => Err(AllocError),", "the reading of sums says it in a word of its own")],
     "report/src/output.rt": [("RunFault::Device(_) | RunFault::Memory => {", "what was told is handed on")],
