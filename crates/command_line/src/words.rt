@@ -44,6 +44,17 @@ pub(crate) fn read_words(alloc: Global, words: &[String]) -> Result<Invocation, 
     }
 }
 
+/// All of these words. Each asks for memory as it comes: one that is refused is told.
+fn all_of(alloc: Global, given: Args) -> Result<Vec<String>, AllocError>
+    ensures { IfOk result (λ words. words.items ≡ into_iter_items given) }
+{
+    let mut words = Vec::new(alloc);
+    for word in given {
+        words.push(word)?;
+    }
+    Ok(words)
+}
+
 /// The words of a command line as the system gives them, and none if one isn't UTF-8. The only
 /// error is that it is out of memory.
 pub fn words_of(alloc: Global, given: io::Result<Args>) -> Result<Option<Vec<String>>, AllocError>
@@ -52,7 +63,7 @@ pub fn words_of(alloc: Global, given: io::Result<Args>) -> Result<Option<Vec<Str
         (λ error. IfOk result (λ read. read ≡ None)) }
 {
     match given {
-        Ok(words) => Ok(Some(words.collect(alloc)?)),
+        Ok(words) => Ok(Some(all_of(alloc, words)?)),
         Err(error) if error.kind() == ErrorKind::InvalidData => Ok(None),
         Err(_) => Err(AllocError),
     }

@@ -1,0 +1,7 @@
+use Rattle.std.proofs.Common.{◌≡◌, ◌++◌}
+use Rattle.std.specs.Vec.Iter.{into_iter_items}
+use Rattle.command_line.proofs.words.all_of.Given as goal
+
+-- what came, and what is to come, are all
+abbrev pub invariant-loop-word : goal.invariant-loop-word
+invariant-loop-word l = l.words.items ++ into_iter_items l.word-iterator ≡ into_iter_items l.fn.given
