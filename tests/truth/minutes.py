@@ -175,7 +175,7 @@ class Player:
                     break
         if moment.beyond:
             low, high = (end * SECOND / TICKS for end in moment.beyond)
-            errors = list(map(clock.error, range(seen[-1].at - 60 * SECOND, seen[-1].at + 1, SECOND)))
+            errors = list(map(clock.error, range(seen[-1].at - 60 * SECOND, seen[-1].at + 1, SECOND // 10)))
             if not any(error is not None and low - 2 <= error <= high + 2 for error in errors):
                 yield f"the error was {errors[-1]} when it was asked last"
         shown = clock.errors(moment.begin * SECOND, moment.end * SECOND, since, last + 1)
