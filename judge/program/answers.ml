@@ -90,10 +90,13 @@ let in_words parse claim capture text =
 
 (* ---- any of them *)
 
+let has name = function
+  | Some (Members members) -> List.mem_assoc (Json.byte_list name) members
+  | _ -> false
+
 (* A refutation has no such name, and fewer bytes. *)
 let is_certificate third = function
-  | Some (Members members) ->
-    List.exists (fun name -> List.mem_assoc (Json.byte_list name) members) ["pieces"; "cases"]
+  | Some (Members _) as value -> has "pieces" value
   | _ -> Whole.ltb (Whole.of_int most_refutation) third.size
 
 let said ~drift claim capture third =
@@ -107,5 +110,6 @@ let said ~drift claim capture third =
     let most = Whole.of_int 134_217_728 in
     let value = if Whole.ltb most third.size then None else Json.parse third in
     let parse bytes = if bytes == third then value else Json.parse bytes in
-    if is_certificate third value then told verdict_line (check parse claim capture third)
+    if has "cases" value then Unjudged "answer by covers, which this judge doesn't know"
+    else if is_certificate third value then told verdict_line (check parse claim capture third)
     else told refuted_line (refute parse drift claim capture third)

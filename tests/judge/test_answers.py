@@ -36,7 +36,10 @@ class Judged(Trial):
         return self.heard
 
     def compare(self, label: str, *drift: str) -> None:
-        """Of what both refuse, one of the two lines with which `check` and `refute` do."""
+        """Of what both refuse, one of the two lines with which `check` and `refute` do. The judge knows no covers."""
+        if b'"cases"' in self.third.read_bytes():
+            self.wrong += [f"{label}: judged, though by covers"] * (self.says(*drift)[0] != 2)
+            return
         super().compare(label, *drift)
         if self.heard[0] == 2:
             line = self.heard[2].removeprefix(b"ntpaudit-judge: ")

@@ -126,6 +126,21 @@ def test_chromium(folder: Path) -> None:
 
 
 @needs("chromium")
+def test_many_servers(folder: Path) -> None:
+    """As many servers as a claim's bytes hold end no stack."""
+    claim, path = json.loads(YES[0].read_text()), folder / "claim.json"
+    claim.pop("groups", None)
+    with browser.chromium() as page:
+        for server, number in (("", 21_000), ("192.0.2.1", 5_000)):
+            path.write_text(json.dumps({**claim, "servers": [server] * number}, separators=(",", ":")))
+            page.open(url())
+            choose(page, (path, *YES[1:]))
+            page.run("document.getElementById('judge').click()")
+            check(f"{number} servers", verdict=(verdicts(page), ["Not judged"]),
+                  line=(line(page), judged_by_program((path, *YES[1:]))))
+
+
+@needs("chromium")
 def test_dropped(folder: Path) -> None:
     """Files, and folders as an audit leaves them."""
     strange = folder / "<img src=x onerror=alert(1)>\u202epacp.exe"
