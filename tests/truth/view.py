@@ -121,7 +121,9 @@ class View:
         before = max((one for one in self.packets if one.is_reply and one.stamp < when[0]), key=lambda one: one.stamp,
                      default=None)
         behind = next((one for one in self.packets if one.is_reply and one.stamp > when[1]), None)
-        own = {one for one in self.packets if before and behind and before.at < one.at < behind.at
+        if not before or not behind or when[0] - before.stamp > 2 * SECOND or behind.stamp - when[1] > 2 * SECOND:
+            return set()  # (it begins or ends with the span)
+        own = {one for one in self.packets if before.at < one.at < behind.at
                and self.span[0] - MARGIN <= one.stamp <= self.span[1] + MARGIN}
         return own if not any(one.is_reply for one in own) else set()
 
