@@ -420,14 +420,14 @@ def run_draft(given: argparse.Namespace, program: Program) -> int:
     from .folder.placing import write_named
     from .premise.leap import read_list
     from .schema import json_text
-    from .verdict.draft import Wanted, claim_text, draft, of_leaps
+    from .verdict.draft import DraftCall, claim_text, draft, of_leaps
     found = correction_of(given)
     proposed, leaps = found.drift_ppb if found else given.oscillator_ppb, read_list(None)
     drift_ppb = proposed if given.drift_ppb is None else given.drift_ppb
 
     def work(*_: object) -> Written:
-        wanted = Wanted(given.client, given.day, drift_ppb, found is None and given.drift_ppb is None,
-                        reading_of(given), given.bound_ns)
+        wanted = DraftCall(given.client, given.day, drift_ppb, found is None and given.drift_ppb is None,
+                           reading_of(given), given.bound_ns)
         claim, remarks = draft(program, given.captures, wanted)
         if claim and found:
             remarks += found.sentences() + found.cautions(claim.first, claim.last)

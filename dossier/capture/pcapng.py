@@ -60,7 +60,7 @@ class Pcapng:
             at += length
 
     def interfaces(self) -> list[Interface]:
-        """All of its interfaces, of all sections."""
+        """All of its interfaces, of all sections: by these the unit is chosen in which it is rewritten."""
         found = (interface_of(order, body) for kind, order, body in self.blocks() if kind == INTERFACE)
         known = list(islice(found, MOST_INTERFACES + 1))
         if len(known) > MOST_INTERFACES:

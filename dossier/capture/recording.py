@@ -57,7 +57,7 @@ class Recording:
 
     def fall(self, moves: list[Move]) -> tuple[int, int, int] | None:
         """The first record whose time falls back, or the first of those by more than a second; if the clock moved,
-        the first of these that no move explains."""
+        the first of these that no move explains. Of it its number, the time before it, and its own."""
         far = [fall for fall in self.fallen if fall[1] - fall[2] > SECOND and not any(
             min(move.around) <= fall[1] and fall[2] <= max(move.around) for move in moves)]
         return next(iter(far if far or moves else self.fallen), None)

@@ -31,7 +31,7 @@ def whole(pieces: list[Piece]) -> Hull | None:
 
 
 def fields_of(moment: Moment) -> list[str]:
-    """The line, in parts that stay together."""
+    """The line of a moment, in parts that stay together where it is wrapped beside a band."""
     begin, end, recorder = civil(moment.begin), civil(moment.end), label(moment.recorder)
     said = [f"{begin} .. {end[11:] if begin[:10] == end[:10] else end}", moment.verdict]
     hull, few = whole(moment.pieces), f", {moment.needed} needed" if moment.heard < moment.needed else ""

@@ -39,7 +39,7 @@ References = dict[str, set[tuple[int, str]]]
 
 
 @dataclass(frozen=True)
-class Wanted:
+class DraftCall:
     """What the command line asks of a draft."""
 
     client: str | None
@@ -93,7 +93,7 @@ class Draft:
     def remark(self, *words: str) -> None:
         self.remarks.append(" ".join(words))
 
-    def claim(self, wanted: Wanted) -> Claim | None:
+    def claim(self, wanted: DraftCall) -> Claim | None:
         """The claim, or None if the capture has no client with a server that answered it."""
         seen = read_traffic(self.program, self.capture)
         client = self.choose(seen, wanted.client)
@@ -193,7 +193,7 @@ class Draft:
                     "rounded up." if wanted is None else asked)
         return round_up(envelope.least_ns) if wanted is None else wanted
 
-    def leave_to_a_person(self, claim: Claim, wanted: Wanted, reading: Allowance) -> None:
+    def leave_to_a_person(self, claim: Claim, wanted: DraftCall, reading: Allowance) -> None:
         """What only a person can answer for."""
         groups = count(len(claim.grouped), "group")
         if not wanted.is_oscillator:
@@ -217,7 +217,7 @@ def counted(counts: dict[str, int]) -> str:
     return ", ".join(f"{name} {counts[name]}" for name in names if counts.get(name))
 
 
-def draft(program: Program, captures: list[str], wanted: Wanted) -> tuple[Claim | None, list[str]]:
+def draft(program: Program, captures: list[str], wanted: DraftCall) -> tuple[Claim | None, list[str]]:
     """A claim for captures, which are joined if there are several; and remarks for a person."""
     copies = {f"{number}.pcap": path for number, path in enumerate(captures)}
     for copy, path in copies.items():
