@@ -197,7 +197,8 @@ pub fn slips(
         text.items ≡ spec.slips name.now name_stands_twice numbers.now recorded.now) }
 {
     let mut text = Vec::new(alloc);
-    add_line_if(&mut text, name_stands_twice, name, b"has a name twice; its last value counts")?;
+    let repeated = b"has a name twice; its last value counts";
+    add_line_if(&mut text, name_stands_twice, name, repeated)?;
     let small_bound = b"\"bound_ns\" is below 1000, which are 0.001 ms; 5 ms are 5000000";
     add_line_if(&mut text, numbers.bound_ns < 1000, name, small_bound)?;
     let small_drift = b"\"drift_ppb\" is below 1000, which are 1 ppm; 100 ppm are 100000";

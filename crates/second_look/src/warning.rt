@@ -34,5 +34,6 @@ pub(crate) fn warnings(rt: &HostRuntime, names: &Names<'_>) -> Result<Vec<u8>, A
     let recorded = times_at(rt, path_of(names.capture));
     let name = shown_name(alloc, names.claim)?;
     let stands_twice = has_name_twice(alloc, text.as_str())?;
-    slips(alloc, name.as_str(), stands_twice, &ClaimNumbers::of(&claim), &recorded)
+    let numbers = ClaimNumbers::of(&claim);
+    slips(alloc, name.as_str(), stands_twice, &numbers, &recorded)
 }
