@@ -20,7 +20,7 @@ class Keeping:
     """Says of each packet whether it is kept, by a clock that isn't set."""
 
     def __init__(self, clock: Callable[[], float]):
-        self.clock, self.asked, self.clients = clock, dict[bytes, None](), set[bytes]()
+        self.clock, self.asked, self.clients = clock, dict[bytes, None](), set[tuple[int, ...]]()
         """Whose requests are kept, if that is known."""
         self.any = ANY
         self.minute = self.hour = clock()
@@ -59,7 +59,7 @@ class Keeping:
         source, target = data[ip + 12 : ip + 16], data[ip + 16 : ip + 20]
         if mode != REQUEST or ports[2:] != NTP:
             return False
-        if self.clients and (source not in self.clients or target in self.clients):
+        if self.clients and (tuple(source) not in self.clients or tuple(target) in self.clients):
             return False
         back = target + source + ports[2:] + ports[:2]
         for stamp in (data[ntp + 40 : ntp + 48], data[ntp + 32 : ntp + 40]):  # (the latter in interleaved mode)

@@ -244,7 +244,7 @@ class Watch:
         except Fault as found:  # (what is recorded counts without it too)
             note(f"ntpaudit-dossier: no evidence of the recorder is left: {found.words}")
         ends = ends_of(self.wanted.claim, self.found.addresses if self.found else [])
-        self.keeping.clients = {bytes(number_of(client)) for client in ends[0]}
+        self.keeping.clients = set(map(number_of, ends[0]))
         words = [self.tool, "-i", self.wanted.interface, "-n", "-U", "-j", "host", "--time-stamp-precision=nano",
                  "-s", str(PACKET), "-B", BUFFER, "-w", "-", "--", filter_of(*ends)]
         self.header = self.rest = b""

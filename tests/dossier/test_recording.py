@@ -311,7 +311,7 @@ def test_kept() -> None:
         keeping.renew()
         return keeping.keeps(b"head" + data, 4, 4 + len(data), size)
     mine, server = "192.0.2.10", "192.0.2.1"
-    keeping.clients = {socket.inet_aton(mine)}
+    keeping.clients = {tuple(socket.inet_aton(mine))}
     asked = frame(mine, server, (5000, 123), 3, transmit=7)
     answer = frame(server, mine, (123, 5000), 4, origin=7)
     strange = frame(server, mine, (123, 5000), 4, origin=8)
