@@ -58,7 +58,9 @@ class Clock:
             if event.kind == FAST:
                 self.fast.append(event)
                 error += event.size
-                self.pieces.append(Stretch(event.begin, time, before, error))
+                ends = sorted({event.begin, min(max(event.begin, leap), time), time})
+                errors = [before + event.size * (end - event.begin) // (time - event.begin) for end in ends]
+                self.pieces += map(Stretch, ends, ends[1:], errors, errors[1:])
             else:
                 error += event.size
                 if abs(event.size) * BILLION > ppb * (time - event.begin):

@@ -205,7 +205,7 @@ def by_a_server(view: View, server: str, errors: Range) -> str:
 
 
 def no_sample(view: View, server: str) -> str:
-    own = any(one.server.address == server for one in counted(view.of))
+    own = any(one.server.address == server for one in view.counting)
     return unless(view.is_mistaken or not own, "it has one")
 
 
@@ -338,11 +338,12 @@ def never_announced(view: View, number: int) -> str:
 
 
 def no_leap(view: View, when: When, *_: Any) -> str:
-    return unless(not when.first <= LEAP <= when.last, "there was one")
+    """That none was: it is shown as the second before it, once more."""
+    return unless(not when.first <= LEAP <= when.last + SECOND, "there was one")
 
 
 def has_leap(view: View, day: str, when: When, *_: Any) -> str:
-    return unless(when.first <= LEAP <= when.last and day == LEAP_DAY, "there was none")
+    return unless(no_leap(view, when) and day == LEAP_DAY, "there was none")
 
 
 def read_forms() -> list[tuple[str, Form]]:

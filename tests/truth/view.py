@@ -7,7 +7,7 @@ from tests.truth.clock import BILLION, SECOND, Jump, Stretch
 from tests.truth.files import Logs
 from tests.truth.forms import When
 from tests.truth.history import CLIENT, LEAP, History, civil
-from tests.truth.network import OFF, RIGHT, TICKS, Packet
+from tests.truth.network import OFF, RIGHT, TICKS, Exchange, Packet
 from tests.truth.sight import MARGIN, counted, unseen, wrong_groups
 
 Range = tuple[int, int]
@@ -79,12 +79,12 @@ class View:
         is_fast = rate and any(abs(event.size) * 10**6 // (event.end - event.begin) + self.of.ppb // 1000 >= rate
                                for event in fast)
         if not jumps and not is_fast:
-            return self.unless_many(f"the clock was stepped {self.steps}; fast {fast}")
-        assert before is not None and after is not None
-        return "" if said[0] <= after - before <= said[1] else self.unless_many(f"by {(after - before) / 10**6} ms")
-
-    def unless_many(self, wrong: str) -> str:
-        return "" if self.too_many_wrong else wrong
+            wrong = f"the clock was stepped {self.steps}; fast {fast}"
+        else:
+            assert before is not None and after is not None
+            wrong = "" if said[0] <= after - before <= said[1] else f"by {(after - before) / 10**6} ms"
+        near = [one for one in self.of.exchanges if begin <= one.sent_at <= end]
+        return "" if len(wrong_groups(self.of, counted(self.of) + near)) > self.of.false_max else wrong
 
     @cached_property
     def packets(self) -> list[Packet]:
@@ -187,6 +187,15 @@ class View:
         """The error with which the clock showed a reading of the span for the last time."""
         found = max(self.clock.shown(*self.span), key=lambda piece: piece.end, default=None)
         return found.high if found else None
+
+    @cached_property
+    def counting(self) -> list[Exchange]:
+        """The exchanges that count: where a verdict presumes moves, those between two of them, as the span was shown."""
+        if self.verdict == "nothing fits":
+            return counted(self.of)
+        at = min((piece.begin for piece in self.clock.shown(*self.span)), default=0)
+        return [one for one in counted(self.of) if not any(
+            begin < max(one.came_at, at) and min(one.sent_at, at) < end for begin, end in self.moving)]
 
     @property
     def steps(self) -> str:
