@@ -469,7 +469,7 @@ class Entry:
 
     @property
     def ends_off(self) -> bool:
-        return self.is_off and self.parts[-1].beyond[-1].to == self.parts[-1].to
+        return self.is_off and self.parts[-1].beyond[-1].to == self.claim.last
 
     @property
     def is_void(self) -> bool:
