@@ -203,11 +203,9 @@ class Parting:
         return Move(before.last, behind.first, *size, rate, False, max(0, until), max(0, since))
 
     def round(self, side: Side, place: int) -> int:
-        """The record of a stretch from which on each group was asked once more (-1), or by which each had answered (0);
-        of one that was silent there for long none."""
-        pairs = side.recording.by_address
-        found = [sorted(own)[place][0 if place else 1] for group in self.claim.grouped
-                 if (own := [one for k in group for one in pairs.get(self.claim.servers[k], [])])]
+        """The record of a stretch from which on each server was asked once more (-1), or by which each had answered
+        (0); of one that was silent there for long none."""
+        found = [sorted(own)[place][0 if place else 1] for own in side.recording.by_address.values()]
         end = max(found) if place else min(found)
         near = [record for record in found if abs(end - record) <= ROUND * len(self.claim.servers)]
         return min(near) if place else max(near)
