@@ -176,7 +176,7 @@ class Parting:
 
     def move(self, number: int) -> Move | None:
         """A step, if the hulls of both sides are apart wherever in this time it came, and no drift does that; or else a
-        movement. None if the error may have stayed as it was."""
+        movement. None if the error may have stayed as it was, or grew by more than what lies between the records."""
         before, behind = self.sides[number : number + 2]
         earliest, latest = self.earliest(before), self.latest(behind)
         if earliest is None or latest is None:
@@ -187,7 +187,7 @@ class Parting:
         around = self.hull(before, last, last + more), self.hull(behind, first - more, first + 1)
         near = self.hull(before, last, last + 1), self.hull(behind, first, first + 1)
         size, wide = change(*near), change(*around)
-        if size is None or size[0] <= 0 <= size[1]:
+        if size is None or size[0] <= 0 <= size[1] or down(size[0]) > behind.first - before.last:
             self.are_whole = False
             return None
         are_apart = wide is not None and not wide[0] <= 0 <= wide[1]
