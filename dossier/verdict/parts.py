@@ -9,7 +9,6 @@ a reading only later than that, by the most error that its own exchanges let be,
 from bisect import bisect_left, bisect_right
 from collections.abc import Callable, Iterable, Iterator
 from itertools import groupby, pairwise
-from operator import sub
 from typing import NamedTuple
 
 from ..capture.classic import Extent
@@ -23,7 +22,7 @@ from ..records import replace
 from ..units import LAST_SECOND, SECOND, TICKS, bound_ticks, ceil_div, civil
 from .apart import SEVERAL, Time, are_in, conflicts_in, needed, outermost, pieces_of, search_of
 from .breaks import SOME, Break, Search
-from .gaps import gaps_of, inner_gaps, told_of
+from .gaps import SILENCE, gaps_of, inner_gaps, told_of
 
 ALONE = "alone.claim.json"
 """A private file: a claim of some servers, or of some time."""
@@ -271,12 +270,13 @@ class Parting:
             yield first, last
 
     def left_out(self) -> Iterator[Gap]:
-        """From when to when what is left out was recorded, and as far beside it as some record is from the next."""
+        """From when to when what is left out was recorded, and as far beside it as some answer is from the next."""
+        heard = [side.recording.times for side in self.sides]
+        more = max([SILENCE, *(after - before for times in heard for before, after in pairwise(times))])
         for first, end in (0, self.first), (self.end, self.search.number):
             if first < end:
                 whole = self.search.whole
                 times = whole.nanoseconds(whole.extent.stamps[max(0, first - 1) : end + 1])
-                more = max(map(sub, times[1:], times), default=0)
                 yield min(times) - more, max(times) + more
 
     def doubts(self, side: Side, first: int, last: int, step: int) -> list[Gap]:
