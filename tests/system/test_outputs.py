@@ -21,7 +21,6 @@ PROGRAM = program()
 BYTES = CAPTURE.read_bytes()
 OLD = b"what stood there\n"
 NO_OUTPUT = 4, b"", b"ntpaudit: device output after 0\n"
-TORN = 2, b"", b"ntpaudit: capture 1 torn-header\n"
 NOBODY = 65534
 
 

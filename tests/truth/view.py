@@ -252,11 +252,6 @@ class View:
                   and when[0] <= one.asked and one.answered <= when[1]]
         return len(set(servers)) == len(servers) and all(said[0] <= error <= said[1] for error in errors)
 
-    def parts_of(self, jump: Jump) -> int:
-        """On how many sides of a jump a reading of the span was shown."""
-        return sum(self.clock.errors(*self.span, *ends) is not None
-                   for ends in ((-(1 << 62), jump.begin), (jump.end, 1 << 62)))
-
     @property
     def is_void(self) -> bool:
         """Whether figures are the program's alone, since it is said that a premise fails."""
@@ -332,7 +327,3 @@ def clock_time(time: int) -> str:
 
 def ms(found: Range) -> str:
     return f"{found[0] / 10**6:,.3f} to {found[1] / 10**6:,.3f} ms"
-
-
-def seconds(when: int) -> int:
-    return when // SECOND
