@@ -273,8 +273,6 @@ def test_crates() -> None:
         check(f"ARCHITECTURE.md: the size of {crate}", off=(off, []))
     stands_on = dict(re.findall(r"^(\w+)[^:\n]*:(.*)$", (ROOT / "crates.txt").read_text("utf-8"), flags=re.M))
     check("crates.txt has a line for each crate", seen=(sorted(stands_on), sorted(there)))
-    said = f"Here there are {len(there)}," in (ROOT / "docs/DECISIONS.md").read_text("utf-8")
-    check(f"DECISIONS.md says that there are {len(there)} crates", there=(said, True))
     others = {name for names in stands_on.values() for name in names.split()} - there
     named = set(CODE.findall((ROOT / "README.md").read_text("utf-8")))
     check("README.md names the toolchain's crates", missing=(sorted(others - named), []))
