@@ -36,7 +36,7 @@ MANY = 1_000_000
 MOST_AT_ONCE = 1 << 26
 """Bytes of a capture that is unpacked with others by one call."""
 NO_ZSTD = "is packed by zstd, which isn't installed to unpack it"
-MOST_BYTES = 1 << 31
+MOST_UNTHINNED = 1 << 31
 """Of a capture that isn't thinned out."""
 NEXT, MOST_FALLS = 160, 1000
 """Records that are next to others, for each server; and how often the times of a capture may fall back for that."""
@@ -173,7 +173,7 @@ def thinned(whole: Audited, claim: Claim, program: Program) -> Audited:
     than the program takes, or great ones: what comes from afar can't make a day too big. The program's own listing says
     which are its requests, and which answer one, some at a time; these are kept as they were recorded."""
     capture = Classic(whole.path, whole.extent)
-    if len(capture.extent.stamps) < classic.MOST_RECORDS and capture.size < MOST_BYTES:
+    if len(capture.extent.stamps) < classic.MOST_RECORDS and capture.size < MOST_UNTHINNED:
         return whole
     client, servers = re.escape(claim.client), "|".join(map(re.escape, claim.servers))
     request = re.compile(rf"(?m)^(\d+) \S+ ({client}:\d+) ((?:{servers}):\d+) \S+ m3 (?:\S+ ){{8}}(\S+) (\S+)".encode())

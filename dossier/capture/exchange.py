@@ -13,7 +13,7 @@ MINUTE, HOUR = 60, 3600
 MOST_ASKED = 1 << 17
 """Requests whose answers are known by."""
 IPV4, TAGGED, UDP, NTP = b"\x08\x00", b"\x81\x00", 17, b"\0\x7b"
-REQUEST, REPLY, SHORTEST = 3, 4, 48
+REQUEST, REPLY, LEAST_PAYLOAD = 3, 4, 48
 
 
 class Keeping:
@@ -51,7 +51,7 @@ class Keeping:
         if end < ip + 20 or data[ip - 2 : ip] != IPV4 or data[ip + 9] != UDP:
             return False
         udp = ip + 4 * (data[ip] & 15)
-        if end < udp + 8 + SHORTEST:
+        if end < udp + 8 + LEAST_PAYLOAD:
             return False
         mode, ports, ntp = data[udp + 8] & 7, data[udp : udp + 4], udp + 8
         if mode == REPLY and ports[:2] == NTP:

@@ -17,7 +17,7 @@ from ..fault import fault
 from ..folder.files import Folder
 from .classic import HEAD, HEADER, MAGICS, MOST_CAPTURED
 
-LONGEST, HOUR = HEAD + MOST_CAPTURED, 3600
+MOST_LENGTH, HOUR = HEAD + MOST_CAPTURED, 3600
 FIRST = 1 << 20
 """Bytes that are read of the end at first; and then twice as many each time."""
 MOST_PLACES = 1 << 19
@@ -42,7 +42,8 @@ class Heads:
     def meeting(self, data: bytes) -> int | None:
         """Where all ways that begin in the longest record's stretch have come together; None if they don't, or if too
         many places would have to be looked at."""
-        ways = [match.start() for match in self.pattern.finditer(data, 0, LONGEST + HEAD) if match.start() < LONGEST]
+        starts = (match.start() for match in self.pattern.finditer(data, 0, MOST_LENGTH + HEAD))
+        ways = [start for start in starts if start < MOST_LENGTH]
         heapify(ways)
         while ways and self.left > 0:
             self.left -= 1
@@ -110,7 +111,7 @@ class Growing:
     def hours(self) -> set[int]:
         """The hours since 1970 in which the times of its records lie, as far as these can be told apart."""
         found, data, at = set[int](), b"", HEADER
-        while len(data) < LONGEST and (block := self.folder.part(self.name, at, at + FIRST)):
+        while len(data) < MOST_LENGTH and (block := self.folder.part(self.name, at, at + FIRST)):
             data, at, end = data + block, at + len(block), 0
             for second, _, end in self.heads.walk(data, 0):
                 found.add(second // HOUR)

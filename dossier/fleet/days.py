@@ -16,7 +16,7 @@ from ..folder.claim import Claim
 from ..folder.entry import DISPUTED, NOT_VERIFIED, REFUSED, WORST_FIRST, Entry, LeapList, Made, Record, read_record
 from ..folder.files import AUDIT, CLAIM, SIGNATURE, Folder, absolute
 from ..folder.registry import Known
-from ..folder.result import MISSING, MOST_DAYS, NOT_COUNTED, Told, Year
+from ..folder.result import MISSING, MOST_FOLDERS, NOT_COUNTED, Told, Year
 from ..folder.table import Table
 from ..premise.leap import record_by
 from ..records import replace
@@ -81,14 +81,14 @@ def year_of(wanted: YearCall, machine: str, names: list[str]) -> Year:
     with Folder(machine) as folder:
         twice = [name for name, number in Counter(names).items() if number > 1]
         days = sorted(set(names)) or [name for name in folder.names() if folder.is_folder(name)]
-        found = [one for name in days[:MOST_DAYS] for one in found_in(wanted, folder, name)]
-    left = days[MOST_DAYS:]
+        found = [one for name in days[:MOST_FOLDERS] for one in found_in(wanted, folder, name)]
+    left = days[MOST_FOLDERS:]
     claims = {same(one.claim): one.claim for one in found if one.claim}
     common = max(claims, key=Counter(same(one.claim) for one in found if one.claim).__getitem__, default="")
     begin, end = seconds_of(f"{wanted.year}-01-01T00:00:00Z"), seconds_of(f"{wanted.year}-12-31T00:00:00Z") + DAY
     today = wanted.at // DAY * DAY
     kept, beside, others = dict[str, Told](), dict[str, Told](), [f"{name} is named twice" for name in twice]
-    others += [f"{plain(name)}: {len(left)} folders from it on are more than {MOST_DAYS}" for name in left[:1]]
+    others += [f"{plain(name)}: {len(left)} folders from it on are more than {MOST_FOLDERS}" for name in left[:1]]
     for one in sorted(found, key=lambda one: [*WORST_FIRST, one.told.verdict].index(one.told.verdict)):
         told, first = one.told, seconds_of(f"{one.told.date}T00:00:00Z") if one.told.date else begin
         if not begin <= first < min(end, today):

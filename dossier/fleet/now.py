@@ -42,7 +42,7 @@ MINUTE, HOUR = 60, 60
 MARGIN = 128
 """Seconds before the minutes that are named whose records speak about them too."""
 MOST_PIECES = 10_000
-LIMIT = 60
+MOST_SECONDS = 60
 """Seconds for the minutes of a recorder, and for each hour of them."""
 SINCE, CUT = "since.pcap", "last.pcap"
 """Private files: parts of what was recorded."""
@@ -117,9 +117,8 @@ def moments(wanted: NowCall) -> list[Moment]:
     side: none holds up the others, or blinds them."""
     told = {moment.recorder: moment for moment in answer(lambda *_: recorders(wanted), list[Moment])}
     jobs = min(len(told), len(os.sched_getaffinity(0)))
-    found = []
-    for recorder, result in run_all(list(told), partial(look, wanted), Moment, LIMIT * ceil_div(wanted.minutes, HOUR),
-                                    jobs):
+    found, most = [], MOST_SECONDS * ceil_div(wanted.minutes, HOUR)
+    for recorder, result in run_all(list(told), partial(look, wanted), Moment, most, jobs):
         found.append(replace(told[recorder], verdict=REFUSED, bad=[plain(result.line)])
                      if isinstance(result, Refusal) else result)
     return sorted(found, key=lambda moment: moment.badness)

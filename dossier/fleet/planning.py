@@ -15,7 +15,7 @@ from .days import is_day
 from .signature import signed_in
 from .statements import days_of, folders_above
 
-MOST_DAYS = 1_000_000
+MOST_DAYS_AT_ONCE = 1_000_000
 """Days that are verified at once."""
 
 
@@ -87,8 +87,8 @@ def days_beside(path: str, machines: list[str], seconds: int) -> list[str] | Ref
                               if is_day(name) and folder.is_folder(name)]
             except Fault:
                 found.append(place)
-            if len(found) > MOST_DAYS:
-                raise fault(f"more than {MOST_DAYS:,} days are in the folder")
+            if len(found) > MOST_DAYS_AT_ONCE:
+                raise fault(f"more than {MOST_DAYS_AT_ONCE:,} days are in the folder")
         return found
     return run_one(path, work, list[str], seconds)
 

@@ -17,7 +17,7 @@ from ..fault import DEVICE, Fault, fault
 from .files import (BLOCK, FILE, HOME, MOST_OF_A_CAPTURE, OF_A_FILE, Folder, folder_at, held, kind_of, own, parent_of,
                     read_named)
 
-MOST_ALIKE = 1000
+MOST_NAMESAKES = 1000
 """Files of a recorder that would have one name."""
 END = signal.SIGUSR1
 """What ends the process of a folder, but not while it is undisturbed: a signal for which Python has no handler, which
@@ -260,12 +260,12 @@ class Begun:
 
     def __init__(self, place: int, name: str, header: bytes):
         self.place, self.size, flags = place, 0, os.O_WRONLY | os.O_CREAT | os.O_EXCL | os.O_NOFOLLOW | os.O_CLOEXEC
-        for self.name in (name, *(f"{name}{number}" for number in range(1, MOST_ALIKE))):
+        for self.name in (name, *(f"{name}{number}" for number in range(1, MOST_NAMESAKES))):
             with suppress(FileExistsError):
                 self.file = os.open(self.name, flags, 0o666, dir_fd=place)
                 break
         else:
-            raise fault(f"{name} stands there {MOST_ALIKE:,} times", DEVICE)
+            raise fault(f"{name} stands there {MOST_NAMESAKES:,} times", DEVICE)
         try:
             self.take(header)
         except OSError:

@@ -10,7 +10,7 @@ from .entry import NOTHING_FITS, WORST_FIRST, YES, Day, Made, Move, Piece, side_
 
 MISSING, NOT_COUNTED = "missing", "not counted"
 """There is no folder of a day; there is one, and it isn't counted."""
-MOST_DAYS = 4000
+MOST_FOLDERS = 4000
 """Folders of a machine that are looked at."""
 
 
@@ -171,7 +171,7 @@ class Year:
     """Each day of the year that has ended, in order."""
     claim: Claim | None = None
     """That of most days, whose span doesn't matter."""
-    others: Annotated[list[Text], length(0, 2 * MOST_DAYS)] = field(default_factory=list)
+    others: Annotated[list[Text], length(0, 2 * MOST_FOLDERS)] = field(default_factory=list)
     programs: list[Made] = field(default_factory=list)
     captures: list[Sum] = field(default_factory=list)
     """Sums of its days' captures."""

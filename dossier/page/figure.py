@@ -28,7 +28,7 @@ from .templates import minus, text_of
 WIDTH, HEIGHT, TOP, STRIP, FOOT = 10_000, 300, 10, 12, 40
 """The inner picture's width in its own units; heights in pixels."""
 
-LEAST = 6
+LEAST_STROKE = 6
 """Pixels of a stroke at least, so that a short interval is seen."""
 
 COLOURS, DASHES = 8, 4
@@ -169,7 +169,7 @@ def strokes(cells: list[Cell], y: Height) -> list[str]:
             elif top < 0 and bottom > HEIGHT:
                 wide.append(f"M{at} 0v{HEIGHT}")
             else:
-                short = max(0.0, (LEAST - bottom + top) / 2)
+                short = max(0.0, (LEAST_STROKE - bottom + top) / 2)
                 plain.append(f"M{at} {min(bottom + short, HEIGHT):.1f}V{max(top - short, 0):.1f}")
         for strokes_, kind in ((wide, " wide"), (plain, is_dense)):
             if strokes_:

@@ -15,7 +15,7 @@ from .templates import put
 
 LIST = "pages.sums"
 """The sums of what a call left, as `sha256sum` has them."""
-LONGEST = 200
+MOST_OF_A_NAME = 200
 ESCAPED = re.compile(rb"[^A-Za-z0-9._/-]|^\.|^index$")
 LINE = re.compile(r"([0-9a-f]{64})  ([A-Za-z0-9._+=-]+)")
 
@@ -25,7 +25,7 @@ def page_of(path: str) -> str:
     digits of what isn't a letter, a digit, or one of `._-`. One that is too long ends with a part of its sum."""
     name = ESCAPED.sub(lambda found: b"=%02X" % found[0][0] + found[0][1:], os.fsencode(os.path.normpath(path)))
     words = name.decode().replace("/", "+")
-    return words if len(words) <= LONGEST else f"{words[:LONGEST - 34]}=={sum_of(name)[:32]}"
+    return words if len(words) <= MOST_OF_A_NAME else f"{words[:MOST_OF_A_NAME - 34]}=={sum_of(name)[:32]}"
 
 
 class Split:

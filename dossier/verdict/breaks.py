@@ -11,7 +11,7 @@ from typing import NamedTuple
 from ..capture.classic import HEADER, Classic, Extent, write
 from ..capture.recording import Samples, read_recording
 from ..folder.answers import read_settled
-from ..folder.claim import GREATEST_BOUND, Claim
+from ..folder.claim import MOST_BOUND, Claim
 from ..folder.entry import FEW
 from ..folder.placing import ROOM, keep
 from ..folder.program import Program
@@ -47,7 +47,7 @@ class Search:
         self.begins = array("Q", (begin for _, begin, _ in self.whole.rows()))
         self.number = len(self.begins)
         self.begins.append(self.whole.extent.end)
-        self.left, self.any = list[int](), replace(claim, bound_ns=GREATEST_BOUND).text
+        self.left, self.any = list[int](), replace(claim, bound_ns=MOST_BOUND).text
         keep(ANY, self.any)
         samples, self.other = Samples(), array("I", range(self.number))
         """The record of the reply to a request, and of the request that a reply is to."""
@@ -81,7 +81,7 @@ class Search:
     def is_one(self, wide: Break, claim: Claim) -> bool:
         """Whether the records of a break, its ends among them, fall into two stretches by a claim, and each exchange of
         theirs into one of the two."""
-        keep(ANY, replace(claim, bound_ns=GREATEST_BOUND).text)
+        keep(ANY, replace(claim, bound_ns=MOST_BOUND).text)
         left = self.from_left(wide.after, wide.by + 1)
         self.cut(wide.after, wide.by + 1, SOME)
         requests = [wide.after + request for own in read_recording(self.program, ANY, SOME).by_address.values()

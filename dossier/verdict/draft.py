@@ -26,8 +26,6 @@ from .parts import Parting
 from .sentences import moved
 
 MOST_SERVERS = 32
-LONGEST = "86400"
-"""Seconds of an envelope's pieces at the most."""
 NO_BOUND = 1_000_000_000
 """Nanoseconds that stand in a draft for which no bound is known."""
 UNKNOWN = "00000000"
@@ -182,7 +180,7 @@ class Draft:
         if read_settled(self.program.run("settle", CLAIM, self.capture).text).answer == NOTHING_FITS:
             self.remark(self.why_nothing_fits(claim), "bound_ns:", asked)
             return without
-        envelope = read_envelope(self.program.run("envelope", CLAIM, self.capture, "--least", "--step", LONGEST).text)
+        envelope = read_envelope(self.program.run("envelope", CLAIM, self.capture, "--least", "--step", str(DAY)).text)
         if envelope.least_ns is None:
             begin, hull = envelope.begins[envelope.worst], envelope.hulls[envelope.worst]
             why = f"the piece from {civil(begin)} is {hull}" if isinstance(hull, str) else \

@@ -14,12 +14,12 @@ from typing import NamedTuple
 from ..capture.classic import Extent
 from ..capture.recording import Recording, read_recording
 from ..folder.answers import Envelope, read_envelope, read_settled
-from ..folder.claim import GREATEST_DRIFT, Claim
+from ..folder.claim import MOST_DRIFT, Claim
 from ..folder.entry import FEW, NOTHING_FITS, YES, Beyond, Gap, Hull, Move, Stretch, side_of
 from ..folder.placing import keep
 from ..folder.program import Program
 from ..records import replace
-from ..units import LAST_SECOND, SECOND, TICKS, bound_ticks, ceil_div, civil
+from ..units import DAY, LAST_SECOND, SECOND, TICKS, bound_ticks, ceil_div, civil
 from .apart import SEVERAL, Time, are_in, conflicts_in, needed, outermost, pieces_of, search_of
 from .breaks import SOME, Break, Search
 from .gaps import SILENCE, gaps_of, inner_gaps, told_of
@@ -28,7 +28,7 @@ ALONE = "alone.claim.json"
 """A private file: a claim of some servers, or of some time."""
 ENOUGH = 8
 """Exchanges of a group that a stretch has to have, of more groups than may be wrong."""
-MOST_PARTS, LONGEST = 100, 86_400
+MOST_PARTS = 100
 ROUND = 8
 """Records for each server, of two for an exchange, in which each that isn't silent is asked and answers."""
 COARSE = 1000
@@ -148,7 +148,7 @@ class Parting:
         if key not in self.hulls:
             first, last = (min(max(0, time), LAST_SECOND) for time in (first, last))
             claim = self.named(replace(self.claim, from_=civil(first), to=civil(last)))
-            step = str(min(LONGEST, max(1, last - first)))
+            step = str(min(DAY, max(1, last - first)))
             hulls = read_envelope(self.program.run("envelope", claim, side.path, "--step", step).text).hulls
             self.hulls[key] = "empty" if "empty" in hulls else outermost(hulls)
         return self.hulls[key]
@@ -195,7 +195,7 @@ class Parting:
         until, since = (0, 0) if is_doubted or isinstance(around[0], str) or isinstance(around[1], str) else (
             (earliest + down(around[1][0])) // SECOND - 2, ceil_div(latest + up(around[0][1]), SECOND) + 2)
         rate = down(min(abs(size[0]), abs(size[1]))) * SECOND // longest
-        if wide is not None and are_apart and (rate > GREATEST_DRIFT or behind.first < before.last):
+        if wide is not None and are_apart and (rate > MOST_DRIFT or behind.first < before.last):
             return Move(before.last, behind.first, *wide, 0, True, max(0, until), max(0, since))
         self.hidden = max([self.hidden, *(up(hull[1] - hull[0]) for hull in near if not isinstance(hull, str))])
         rate = max(rate, self.claim.drift_ppb)
@@ -350,7 +350,7 @@ def at_leaps(leaps: Iterable[int], first: int, last: int, times: list[int],
     """The readings that the clock may have shown with an error of a second more, or twice: from a leap second until a
     server was heard again."""
     for end in leaps:
-        if first - LONGEST <= end <= last + LONGEST:
+        if first - DAY <= end <= last + DAY:
             hull = hull_at(end)
             low, high = (0, 0) if isinstance(hull, str) else (down(hull[0]), up(hull[1]))
             begin, after = (end - 2) * SECOND + low, bisect_right(times, (end + 1) * SECOND + high)

@@ -14,7 +14,7 @@ from ..text import plain
 
 NAME, JUDGE = "ntpaudit-recheck", "ntpaudit-judge"
 COUNTS = "one", "two", "three"
-MOST = 1000
+MOST_OF_A_LINE = 1000
 """Bytes that one may say of an answer: it says a line."""
 
 
@@ -38,11 +38,11 @@ class Other(NamedTuple):
 
         def take(block: bytes) -> None:
             said.extend(block)
-            if len(said) > MOST:
+            if len(said) > MOST_OF_A_LINE:
                 raise fault(f"the {self.name} says more of {answer} than a line")
         status, error = stream([self.path, claim, capture, answer, "--drift"], take)
         if status not in (0, 1):
-            why = plain((lines_of(error) or [f"status {status}, and no line"])[0][:MOST])
+            why = plain((lines_of(error) or [f"status {status}, and no line"])[0][:MOST_OF_A_LINE])
             raise fault(f"the {self.name} doesn't judge {answer} ({why})")
         return status, plain(said.decode("utf-8", "replace").removesuffix("\n"))
 

@@ -10,7 +10,7 @@ from ..capture.traffic import read_traffic
 from ..fault import MISSING, Fault, fault
 from ..folder import files
 from ..folder.answers import read_counts, read_envelope, read_settled
-from ..folder.claim import GREATEST_BOUND, Part
+from ..folder.claim import MOST_BOUND, Part
 from ..folder.entry import NO_EVIDENCE, NOTHING_FITS, REFUTED, YES, Entry, Gap, Silence
 from ..folder.files import sum_of, sum_of_file
 from ..folder.placing import keep, make_private, move
@@ -27,7 +27,7 @@ MOST_LINES = 1_000_000
 """Of an envelope: a line for each piece and for each server in it."""
 AROUND = "around.pcap"
 """A private file: what was recorded in the span, beside it, and next to that."""
-MOST_MORE = 3
+MOST_ADDED = 3
 """Groups, more than the claim grants, that are taken for wrong where nothing fits."""
 MANY_PIECES = 10_000
 """The envelope has pieces of 1, 4, 16, .. s, the least with which it has no more than these."""
@@ -110,7 +110,7 @@ class Settling:
         """With how many wrong groups, fewer than half, a course of events fits, or it is known how the clock moved, and
         where it breaks then; 0 if with none."""
         claim = self.part.claim
-        for most in range(claim.false_max + 1, min(claim.false_max + MOST_MORE, (len(claim.grouped) - 1) // 2) + 1):
+        for most in range(claim.false_max + 1, min(claim.false_max + MOST_ADDED, (len(claim.grouped) - 1) // 2) + 1):
             more = replace(claim, false_max=most)
             found = Parting(self.program, more, self.capture, self.extent, parting.leaps, True)
             if found.moves or not found.search.left:
@@ -130,7 +130,7 @@ class Settling:
     def broken(self, texts: Texts, around_to: Callable[[str], bool], leaps: list[int]) -> Parting | None:
         """Where the capture breaks, with what was recorded next to it, if no course of events fits that."""
         capture, extent = (AROUND, None) if around_to(AROUND) else (self.capture, self.extent)
-        keep(ANY, replace(self.part.claim, bound_ns=GREATEST_BOUND).text)
+        keep(ANY, replace(self.part.claim, bound_ns=MOST_BOUND).text)
         is_broken = read_settled(texts.settled if capture == self.capture else self.call("settle", ANY, capture)
                                  ).answer == NOTHING_FITS
         return Parting(self.program, self.part.claim, capture, extent, leaps) if is_broken else None
@@ -197,7 +197,7 @@ class Settling:
             return Texts(text, self.keep(files.REPORT, said))
         texts = Texts(text, self.keep(files.REPORT, text))
         if answer == NOTHING_FITS:
-            granted = {"drift_ppb": more_drift(self.part.claim), "bound_ns": GREATEST_BOUND}
+            granted = {"drift_ppb": more_drift(self.part.claim), "bound_ns": MOST_BOUND}
             return texts._replace(other=self.settled(files.CLAIM_OF_DRIFT, **granted))
         return texts
 

@@ -646,8 +646,10 @@ UNITS = ROOT / "systemd"
 RECORDER = "ntpaudit-record@.service"
 
 
-def started_by(unit: str) -> Any:
-    return re.findall(r"^ExecStart=-?(.*)$", (UNITS / unit).read_text(), flags=re.M)
+def started_by(unit: str, state: Path) -> list[str]:
+    """The words of what a unit begins, whose failure is the unit's."""
+    command, = re.findall(r"^ExecStart=([^-].*)$", (UNITS / unit).read_text().replace("\\\n", ""), flags=re.M)
+    return shlex.split(command.replace("%S", str(state)).replace("%I", "lo").replace("%%", "%").replace("$$", "$"))
 
 
 def test_systemd_units(place: Path) -> None:
@@ -659,6 +661,8 @@ def test_systemd_units(place: Path) -> None:
     for name in names:
         text = (UNITS / name).read_text().replace("=ntpaudit-dossier ", f"={SCRIPT} ")
         (place / name.replace("@.", "@lo.")).write_text(text)
+    check("what each unit begins is its own", words=([started_by(name, place)[0] for name in names[:3]],
+                                                     ["ntpaudit-dossier", "sh", "ntpaudit-dossier"]))
     own = [place / name.replace("@.", "@lo.") for name in names]
     check("systemd-analyze verify", run=(run(["systemd-analyze", "verify", "--man=no", *own]), (0, b"", b"")))
     for unit in own[:3]:
@@ -668,14 +672,13 @@ def test_systemd_units(place: Path) -> None:
 
 def test_recorder(place: Path) -> None:
     """The recorder's command, called by hand: the names of its files are read by `day`."""
-    command, = started_by(RECORDER)
     check("the recorder's unit",
           claim=("ntpaudit/days\n" in re.findall(r"StateDirectory=.*\n", (UNITS / RECORDER).read_text())[0], True))
     if why := why_no_recording():
         skipped("the recorder's command", why)
         return
     (place / "ntpaudit" / "record").mkdir(parents=True)
-    words = shlex.split(command.replace("%S", str(place)).replace("%I", "lo").replace("%%", "%"))
+    words = started_by(RECORDER, place)
     words[0] = str(shutil.which(words[0], path=ROOT))
     until_it_listens(words, ENVIRONMENT)
     from dossier.fleet.day import recordings
@@ -691,18 +694,15 @@ def test_recorder(place: Path) -> None:
 
 
 def test_daily(place: Path) -> None:
-    """The commands of the daily unit, called by hand: folder, audit, page and metrics of a day."""
+    """What the daily unit begins, called by hand: folder, audit, page and metrics of a day."""
     state = place / "ntpaudit"
     state.mkdir()
     recorder, days, _ = recorded(state, range(-30, 30))
     environment = {**ENVIRONMENT, "XDG_STATE_HOME": str(place), "PATH": f"{ROOT}:{os.environ['PATH']}"}
-    commands = [command.replace("%S", str(place)).replace("%%", "%")
-                for command in started_by("ntpaudit-daily.service")]
-    check("the daily unit", commands=(len(commands), lambda count: count >= 4))
-    commands = [command.replace("day --from", "day --date 2001-09-09 --from") for command in commands]
-    for command in commands:
-        status, _, err = run(shlex.split(command), env=environment, cwd=days)
-        check(f"the daily command {command[:60]}", run=((status, err), (0, b"")))
+    *words, script = started_by("ntpaudit-daily.service", place)
+    script = script.replace("day --from", "day --date 2001-09-09 --from")
+    status, _, err = run([*words, script], env=environment, cwd=days)
+    check("the daily unit", run=((status, err), (0, b"")))
     check_page("the page of the daily unit", (state / "pages" / "index.html").read_text(),
                ["2001/index.html", "2001-09-09.html"])
     check_page("the year of the daily unit", (state / "pages" / "2001" / "index.html").read_text(),
@@ -711,3 +711,28 @@ def test_daily(place: Path) -> None:
             if name == "verdict" and value == "1"]
     check("the metrics of the daily unit", ones=(ones, [{"folder": "2001-09-09", "verdict": "yes"}]))
     check("the record of the daily unit", there=((state / "audits").exists(), True))
+
+
+def test_daily_failing(place: Path) -> None:
+    """Each step of the daily unit that fails stops no other, and the unit fails; a clock that isn't shown is none."""
+    (place / "bin").mkdir()
+    for day in range(1, 10):
+        (place / "days" / f"2001-09-0{day}").mkdir(parents=True)
+    runnable(place / "bin/ntpaudit-dossier", f"""#!/bin/sh
+echo "$*" >>{place}/called
+case "$*" in *--clear*) ;; day*) [ "$FAILS" = day ] || printf '2001-09-0%s\\n' 1 2 3 4 5 6 7 8 9;; esac
+case "$*" in $FAILS*) exit "$STATUS";; esac
+""")
+    steps = ["day --from ../record --to .", "audit 2001-09-03", "page --split", "page --csv", "keep --years",
+             "day --from ../record --to . --clear 10"]
+    for number, fails in enumerate(("none", "audit", "page --split", "page --csv", "keep", "day*--clear", "day")):
+        for status in (1, 2, 4):
+            (place / "called").unlink(missing_ok=True)
+            ran = run(started_by("ntpaudit-daily.service", place), cwd=place / "days", env={
+                **ENVIRONMENT, "PATH": f"{place}/bin:{os.environ['PATH']}", "FAILS": fails, "STATUS": str(status)})
+            called = (place / "called").read_text().splitlines()
+            wanted = steps if fails != "day" else [steps[0], steps[4], steps[5]]
+            is_one = fails != "none" and (status > 1 or fails == "day")
+            check(f"the daily unit if {fails} ends with {status}", status=(ran[0], int(is_one)),
+                  called=([line.startswith(step) for line, step in zip(called, wanted)], [True] * len(wanted)),
+                  count=(len(called), len(wanted)))

@@ -309,8 +309,15 @@ def test_named_outputs(place: Path) -> None:
     out = reader.communicate()[0]
     check("-o to a FIFO", status=(status, 0), whole=(out.endswith(b"</html>\n"), True),
           there=(stat.S_ISFIFO(fifo.lstat().st_mode), True))
-    status, _, err = dossier("page", "-o", fifo, folder)
-    check("-o to a FIFO that nobody reads", status=(status, 4), said=(b"nobody reads fifo" in err, True))
+    chrony = DATA / "client/chrony.conf"
+    calls = [subprocess.Popen([str(SCRIPT), *map(str, words)], env=ENVIRONMENT, stdout=subprocess.DEVNULL,
+                              stderr=subprocess.PIPE)
+             for words in (["page", "-o", fifo, folder], ["audit", "--metrics", fifo, folder],
+                           ["draft", "--chrony", chrony, "--evidence", fifo, folder / "f.pcap"])]
+    for name, call in zip(("page -o", "audit --metrics", "draft --evidence"), calls):
+        err = call.communicate(timeout=SECONDS)[1]
+        check(f"{name} to a FIFO that nobody reads", status=(call.returncode, 4),
+              said=(b"nobody reads fifo" in err, True))
     if os.geteuid():
         skipped("-o to a device", "it takes root to make one")
         return
@@ -318,9 +325,8 @@ def test_named_outputs(place: Path) -> None:
     os.mknod(null, stat.S_IFCHR | 0o666, os.makedev(1, 3))
     check("-o to a device", status=(dossier("page", "-o", null, folder)[0], 0),
           there=(stat.S_ISCHR(null.lstat().st_mode), True))
-    client = DATA / "client/chrony.conf"
     check("--evidence to a device",
-          status=(dossier("draft", "--chrony", client, "--evidence", null, folder / "f.pcap")[0], 0),
+          status=(dossier("draft", "--chrony", chrony, "--evidence", null, folder / "f.pcap")[0], 0),
           there=(stat.S_ISCHR(null.lstat().st_mode), True))
 
 

@@ -3,6 +3,7 @@ on none that comes after it.
 """
 import ast
 import dataclasses
+import re
 from collections.abc import Callable, Iterator
 from pathlib import Path
 from typing import Any
@@ -72,6 +73,24 @@ def test_modules() -> None:
             seen |= {name} & allowed
         check(f"what {path.name} calls", wrong=(sorted(set(wrong)), []), packages=(list(packages_of(path, tree)), []))
     check("what is watched is called", never=(OPENING & seen, lambda found: len(found) > 5))
+
+
+def test_calls() -> None:
+    """ARCHITECTURE.md has a line for each module that isn't everybody's, and each calls those behind it."""
+    text = (ROOT / "ARCHITECTURE.md").read_text("utf-8").split("Of the dossier: ")[1].split("\n## ")[0]
+    paths = {path.stem: path for path in files_in(ROOT / "dossier", "**/*.py")
+             if path.parent.name != "folder" and path.stem != "__init__"}
+    modules = {name: {word for node in ast.walk(ast.parse(path.read_text("utf-8"))) if isinstance(node, ast.ImportFrom)
+                      for word in ((node.module or "").split(".")[-1], *(alias.name for alias in node.names))}
+               for name, path in paths.items()}
+    called, wrong = set[str](), []
+    for callers, names in re.findall(r"([\w, ]+): ([\w, ]+)(?:;|$)", re.sub(r"^- ", "", text, flags=re.M), flags=re.M):
+        for caller in callers.split(", "):
+            wrong += [f"{caller} {name}" for name in names.split(", ") if name not in modules[caller.strip()]]
+        called |= set(names.split(", "))
+    everybodys = {"fault", "records", "schema", "text", "units", "command_line"}
+    check("ARCHITECTURE.md: who calls a module", wrong=(wrong, []),
+          missing=(sorted(set(modules) - everybodys - called), []))
 
 
 def kind_by(module: Any) -> Any:

@@ -594,7 +594,7 @@ def test_bad_files(place: Path) -> None:
 LIMITED = """import sys
 sys.path.insert(0, sys.argv.pop(1))
 from dossier.fleet import now
-now.LIMIT = 4
+now.MOST_SECONDS = 4
 from dossier.command_line import main
 sys.exit(main(sys.argv[1:]))
 """
@@ -631,14 +631,14 @@ def test_all_of_a_recorder(place: Path) -> None:
         path.write_bytes(whole.read_bytes()[:24] + b"".join(
             sorted(records, key=lambda record: struct.unpack_from("<II", record))))
         written(path)
-    before, left = latest.MOST, ROOM.left
+    before, left = latest.MOST_READ, ROOM.left
     try:
-        latest.MOST, ROOM.left = each + 2_000_000, 1 << 30
+        latest.MOST_READ, ROOM.left = each + 2_000_000, 1 << 30
         with chdir(place), Folder(str(place / "rec")) as folder:
             found = latest.latest(folder, list(begun_files(folder)), [], 9000, begin + 8000, [])
             kept = Path(found.path).stat().st_size
     finally:
-        latest.MOST, ROOM.left = before, left
+        latest.MOST_READ, ROOM.left = before, left
     check("all files of a recorder", last=(found.last, begin + 7999),
           kept=(each + 500_000 < kept <= each + 2_000_000, True))
 

@@ -205,14 +205,14 @@ def test_flood(place: Path) -> None:
     spoilt = first[:4] + b"\xff\xff\xff\xff" + first[8:]
     (damaged / "f.pcap").write_bytes(whole[:24] + first + b"".join(rest[:99]) + spoilt + b"".join(rest[99:]))
     kept, captures.MANY, classic.MOST_RECORDS = (captures.MANY, classic.MOST_RECORDS), 16, 60
-    most = captures.MOST_BYTES
+    most = captures.MOST_UNTHINNED
     try:
         found = dict(jobs.run_all([str(flooded), str(plain)], wanted_of(place), Audited, 600))
         refused = jobs.run_one(str(damaged), wanted_of(place), Audited)
-        classic.MOST_RECORDS, captures.MOST_BYTES = kept[1], 5000
+        classic.MOST_RECORDS, captures.MOST_UNTHINNED = kept[1], 5000
         found |= jobs.run_all([str(great)], wanted_of(place), Audited, 600)
     finally:
-        captures.MANY, classic.MOST_RECORDS, captures.MOST_BYTES = *kept, most
+        captures.MANY, classic.MOST_RECORDS, captures.MOST_UNTHINNED = *kept, most
     check("a flood of great packets",
           same=((great / "joined.pcap").read_bytes(), (flooded / "joined.pcap").read_bytes()))
     check("a flood that is damaged", status=(refused.status, 2),

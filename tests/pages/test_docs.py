@@ -147,7 +147,7 @@ LIMITS = {
     "README.md": 910, "SECURITY.md": 150, "docs/STABILITY.md": 440, "docs/PROMISES.md": 1640,
     "docs/THEOREM.md": 3330, "docs/DEFINITIONS.md": 4310, "docs/DECISIONS.md": 1630, "docs/FORMATS.md": 3710,
     "docs/GUIDE.md": 2570, "docs/REFUSALS.md": 920, "docs/DOSSIER.md docs/AUDITING.md": 3130, "docs/FLEET.md": 1410,
-    "docs/BOUND.md": 560, "docs/RATTLE.md": 990, "second/README.md": 240, "ARCHITECTURE.md CONTRIBUTING.md": 2920,
+    "docs/BOUND.md": 560, "docs/RATTLE.md": 990, "second/README.md": 240, "ARCHITECTURE.md CONTRIBUTING.md": 3190,
     "CHANGELOG.md": 600, "bench/README.md": 630, "data/README.md": 600,
 }
 
@@ -273,8 +273,6 @@ def test_crates() -> None:
         check(f"ARCHITECTURE.md: the size of {crate}", off=(off, []))
     stands_on = dict(re.findall(r"^(\w+)[^:\n]*:(.*)$", (ROOT / "crates.txt").read_text("utf-8"), flags=re.M))
     check("crates.txt has a line for each crate", seen=(sorted(stands_on), sorted(there)))
-    said = f"Here there are {len(there)}," in (ROOT / "docs/DECISIONS.md").read_text("utf-8")
-    check(f"DECISIONS.md says that there are {len(there)} crates", there=(said, True))
     others = {name for names in stands_on.values() for name in names.split()} - there
     named = set(CODE.findall((ROOT / "README.md").read_text("utf-8")))
     check("README.md names the toolchain's crates", missing=(sorted(others - named), []))

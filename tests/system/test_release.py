@@ -8,7 +8,8 @@ from tests.support import ROOT, Ran, check, run, runnable
 ABOUT = "crates/program/src/about.rt"
 PLACES = (ABOUT, "crates/program/specs/About.antt", "crates/worked_runs/src/runs.rt", "docs/ntpaudit-dossier.1",
           "docs/ntpaudit-judge.1", "docs/ntpaudit-recheck.1", "tests/dossier/test_stable.py")
-MADE_UP = {"dist/renew": "echo made >dist/ntpaudit",
+KIT = "rattle-kit-99a logic 0123456789abcdef"
+MADE_UP = {"dist/renew": f"echo made >dist/ntpaudit; echo 'toolchain {KIT}' >dist/MANIFEST",
            "tests/renew": "mkdir data/older/99.1.0 && echo >data/older/99.1.0/it",
            "docs/sbom": "echo \"$@\"", "package": "echo package >\"ntpaudit_99.1.0${1-}\""}
 GIT = ("git", "-c", "user.name=ann", "-c", "user.email=ann@example.org")
@@ -22,7 +23,7 @@ def version() -> str:
 
 def clone(place: Path) -> Path:
     """A repository of one commit."""
-    for name in (*PLACES, "release", "CHANGELOG.md", "dossier/__init__.py"):
+    for name in (*PLACES, "release", "CHANGELOG.md", "README.md", "dossier/__init__.py"):
         (place / name).parent.mkdir(parents=True, exist_ok=True)
         shutil.copy(ROOT / name, place / name)
     for name, body in MADE_UP.items():
@@ -93,7 +94,9 @@ def test_made(folder: Path) -> None:
           old=(re.findall(rf"ntpaudit {re.escape(version())}\b", texts), []),
           new=(len(re.findall(r'ntpaudit 99\.1\.0|"99\.1\.0 \(|"99\.1\.0": \d+}', texts)), 9),
           files=(run(["git", "show", "--name-only", "--format=%s", "HEAD"], cwd=place)[1].decode().split("\n"),
-                 ["release: 99.1.0", "", *sorted([*PLACES, "data/older/99.1.0/it", "dist/ntpaudit"]), ""]))
+                 ["release: 99.1.0", "",
+                  *sorted([*PLACES, "README.md", "data/older/99.1.0/it", "dist/MANIFEST", "dist/ntpaudit"]), ""]),
+          kit=(f"\n    {KIT}\n" in (place / "README.md").read_text("utf-8"), True))
     made = place / "out/release"
     check("what is released", files=(sorted(path.name for path in made.iterdir()),
                                      ["SHA256SUMS", "ntpaudit.spdx.json", "ntpaudit_99.1.0", "ntpaudit_99.1.0--rpm"]),

@@ -13,26 +13,25 @@ from pathlib import Path
 from typing import Any, cast
 
 from tests.support import ROOT, check, nobody, program, run, skip
+from tests.second import claims
 from tests.second.commands import CAPTURE, CLAIM, TIME
 from tests.system import sentences
 from tests.system.fault_lines import fault_lines, is_like
 
 PROGRAM = program()
 
-FIELDS = {
-    "client": "an IPv4 address", "servers": "an array of 1 to 32 IPv4 addresses",
-    "false_max": "a whole number from 0 to 31", "from": "a time of UTC", "to": "a time of UTC",
-    "bound_ns": "a whole number from 0 to 10^15", "drift_ppb": "a whole number from 0 to 500000000",
-    "reading_ns": "a whole number from 0 to 10^9", "groups": "an array of arrays of server numbers"}
-"""The fields by rising code, each with what has to stand there."""
+KINDS = {"client": "an IPv4 address", "servers": "an array of 1 to 32 IPv4 addresses", "from": "a time of UTC",
+         "to": "a time of UTC", "groups": "an array of arrays of server numbers",
+         **{name: f"a whole number from 0 to {re.sub('^1(0{9,})$', lambda ten: f'10^{len(ten[1])}', str(most))}"
+            for name, most in claims.MOST.items()}}
+"""What has to stand in each field."""
 
-GOOD: dict[str, object] = {"client": "192.0.2.10", "servers": ["192.0.2.1", "192.0.2.2"], "false_max": 0, "from": TIME,
-                           "to": TIME, "bound_ns": 10**6, "drift_ppb": 0, "reading_ns": 0, "groups": [[0], [1]]}
+GOOD: dict[str, object] = {"client": "192.0.2.10", "servers": ["192.0.2.1", "192.0.2.2"], "from": TIME, "to": TIME,
+                           "groups": [[0], [1]], **dict.fromkeys(claims.MOST, 0), "bound_ns": 10**6}
 
 TIMES = ("", "2001-09-09", "2001-09-09T01:46:40", "2001-09-09T01:46:40+00:00", "2001-09-09 01:46:40Z",
          "2001-02-29T00:00:00Z")
 ADDRESSES = ("host", "192.0.2", "192.0.2.256", "192.0.2.010", "2001:db8::1", "")
-LIMITS = {"false_max": 31, "bound_ns": 10**15, "drift_ppb": 500_000_000, "reading_ns": 10**9}
 
 ELSEWHERE = ("capture 8 too-many", "exchanges over 1000000", "memory", "certificate 4 too-many-entries piece K",
              "certificate 5 too-many-pieces", "certificate 9 too-many-entries piece P", "certificate 7 too-many-pieces")
@@ -66,9 +65,9 @@ def wrong_kinds(name: str) -> list[object]:
 
 def faulty_fields() -> Iterator[Faulty]:
     """Claims that lack a field, or have another kind in it."""
-    for code, name in enumerate(FIELDS, 1):
+    for code, name in enumerate(claims.Claim.__annotations__, 1):
         line = f"claim 2 field field {code}"
-        if name != "groups":
+        if name in claims.Claim.__required_keys__:
             yield {key: value for key, value in GOOD.items() if key != name}, line, name, "is missing"
         for value in wrong_kinds(name):
             yield {**GOOD, name: value}, line, name, f"; it is {stands(value)}"
@@ -76,7 +75,7 @@ def faulty_fields() -> Iterator[Faulty]:
 
 def faulty_values() -> Iterator[Faulty]:
     """Claims with a value of the right kind that may not stand there."""
-    for name, most in LIMITS.items():
+    for name, most in claims.MOST.items():
         for number in (most + 1, 2**64 - 1):
             yield {**GOOD, name: number}, "claim 5 range", name, f"; it is {number}"
     for name in ("from", "to"):
@@ -101,13 +100,16 @@ def test_claims(folder: Path) -> None:
         status, _, error = run([PROGRAM, "settle", file, CAPTURE, "--human"])
         plain = run([PROGRAM, "settle", file, CAPTURE])
         first, wrong, remedy, *more = [*error.decode().splitlines(), "", "", ""]
-        begin = f'  {file}: "{name}" ' + ("" if end == "is missing" else f"has to be {FIELDS[name]}")
+        begin = f'  {file}: "{name}" ' + ("" if end == "is missing" else f"has to be {KINDS[name]}")
         check(f"{line} of {name}, {end}", status=(status, 2), line=(first, f"ntpaudit: {line}"),
               plain=(plain, (2, b"", f"ntpaudit: {line}\n".encode())), begin=(wrong[:len(begin)], begin),
               end=(wrong[-len(end):], end), more=(any(more), False),
               remedy=(remedy[:2] == "  " and len(remedy) > 2, True))
         seen += 1
     check("as many faults as there should be", seen=(seen, lambda count: count > 100))
+    for name, most in claims.MOST.items():
+        file.write_text(json.dumps({**GOOD, name: most}))
+        check(f"a claim whose {name} is {most}", error=(run([PROGRAM, "settle", file, CAPTURE])[2], b""))
 
 
 # ---- other faults, and where words mustn't matter

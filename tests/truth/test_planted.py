@@ -34,7 +34,7 @@ PLANTS = [
     ("a server apart that was right for a time", "verdict/apart.py", "{*always} - search.met", "{*always}"),
     ("figures where no course fits", "folder/entry.py", "return self.verdict == NOTHING_FITS and not self.moves",
      "return False"),
-    ("a leap second that no record shows", "verdict/parts.py", "if first - LONGEST <= end <= last + LONGEST:",
+    ("a leap second that no record shows", "verdict/parts.py", "if first - DAY <= end <= last + DAY:",
      "if False:"),
     ("off at the end, if it ever was", "folder/entry.py", "def ends_off(self) -> bool:",
      "def ends_off(self) -> bool:\n        return any(part.beyond for part in self.parts)\n"),
