@@ -23,14 +23,14 @@ from ..folder.files import BLOCK, JOINED, MOST_OF_A_CAPTURE, mapped, own, size_o
 from ..folder.jobs import find_tool, stream
 from ..folder.placing import ROOM, Copy, cut_off, keep, move
 from ..folder.program import Program
-from ..units import SECOND
+from ..units import DAY, SECOND, ceil_div, day_of
 from . import classic, pcapng
 from .classic import (AT_ENDS, HEADER, Classic, Extent, Runs, Times, do_rise, join, new_header, runs_of, write)
 from .recording import closing_of
 
 GZIP, ZSTD = bytes.fromhex("1f8b"), bytes.fromhex("28b52ffd")
-MARGIN = 3600
-"""Seconds beside a span whose records speak about it too."""
+MARGIN, HALVES = 3600, ("01-01", "07-01")
+"""Seconds beside a span whose records speak about it too; and the days on which half-years begin."""
 MANY = 1_000_000
 """Records that are listed at once."""
 MOST_AT_ONCE = 1 << 26
@@ -328,11 +328,20 @@ def unzstd(name: str, copy: str, take: Callable[[bytes], None]) -> bool:
     return True
 
 
-def cut(path: str, parts: list[Part], extent: Extent | None, margin: int = MARGIN) -> Iterator[Callable[[str], bool]]:
-    """Of each part a way to write what was recorded in its span, and in so many seconds beside it, to a file; False if
-    that is all there is, and nothing is written."""
+def near(claim: Claim) -> tuple[int, int]:
+    """Between which Unix seconds records speak about a span: not across the end of a half-year, where a leap second may
+    be, unless the span itself comes so far."""
+    first, last, far = claim.first, claim.last, claim.bound_ns // SECOND + 3
+    ends = [end for end in (first // DAY * DAY, ceil_div(last, DAY) * DAY) if day_of(end)[5:] in HALVES]
+    return (max([first - MARGIN, *(end + far for end in ends if end + far <= first)]),
+            min([last + MARGIN, *(end - far for end in ends if last <= end - far)]))
+
+
+def cut(path: str, parts: list[Part], extent: Extent | None) -> Iterator[Callable[[str], bool]]:
+    """Of each part a way to write what was recorded in its span, and near it, to a file; False if that is all there is,
+    and nothing is written."""
     whole = Classic(path, extent)
-    spans = [(part.claim.first - margin, part.claim.last + margin) for part in parts]
+    spans = [near(part.claim) for part in parts]
     if extent and extent.stamps and len(spans) == 1:
         first, last = whole.nanoseconds([min(extent.stamps), max(extent.stamps)])
         if spans[0][0] * SECOND <= first and last <= spans[0][1] * SECOND:
@@ -346,7 +355,7 @@ def around(whole: Classic, falls: list[int], part: Part) -> Callable[[str], bool
     """A way to write what `cut` writes of a part, the records that were made next to any of it, before and after, and
     some of all others; False if there are no more: a clock that shows other hours may have come to them in between."""
     stamps, more, each = whole.extent.stamps, NEXT * len(part.claim.servers), EACH * len(part.claim.servers)
-    first, last = ((second << 32) for second in (max(0, part.claim.first - MARGIN), part.claim.last + MARGIN))
+    first, last = (max(0, second) << 32 for second in near(part.claim))
     found, runs, begin = 0, list[list[int]](), 0
     for end in [*falls, len(stamps)]:
         own = [bisect_left(stamps, first, begin, end), bisect_right(stamps, last, begin, end)]

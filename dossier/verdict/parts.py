@@ -171,11 +171,12 @@ class Parting:
         found = [self.move(number) if self.is_seen(number) else None for number in range(len(self.breaks))]
         moves = [move for move in found if move]
         are_apart = all(one.is_step or other.is_step or one.by <= other.after for one, other in pairwise(moves))
-        return moves if len(moves) == len(found) and are_apart else []
+        explain = all(down(one.low) <= one.by - one.after for one in moves)  # (their records' times)
+        return moves if len(moves) == len(found) and are_apart and explain else []
 
     def move(self, number: int) -> Move | None:
         """A step, if the hulls of both sides are apart wherever in this time it came, and no drift does that; or else a
-        movement. None if the error may have stayed as it was, or grew by more than what lies between the records."""
+        movement. None if the error may have stayed as it was."""
         before, behind = self.sides[number : number + 2]
         earliest, latest = self.earliest(before), self.latest(behind)
         if earliest is None or latest is None:
@@ -186,7 +187,7 @@ class Parting:
         around = self.hull(before, last, last + more), self.hull(behind, first - more, first + 1)
         near = self.hull(before, last, last + 1), self.hull(behind, first, first + 1)
         size, wide = change(*near), change(*around)
-        if size is None or size[0] <= 0 <= size[1] or down(size[0]) > behind.first - before.last:
+        if size is None or size[0] <= 0 <= size[1]:
             self.are_whole = False
             return None
         are_apart = wide is not None and not wide[0] <= 0 <= wide[1]

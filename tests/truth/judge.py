@@ -7,7 +7,7 @@ from typing import Any
 from tests.truth.clock import SECOND
 from tests.truth.forms import Form, When, form_of
 from tests.truth.history import LEAP, civil
-from tests.truth.sight import MARGIN, counted
+from tests.truth.sight import MARGIN, near
 from tests.truth.view import Range, View, clock_time
 
 LEAP_DAY = civil(LEAP - SECOND)[:10]
@@ -223,8 +223,8 @@ def unheard(view: View, when: When, *_: int) -> str:
 
 
 def outside(view: View, *_: Any) -> str:
-    stamps = [packet.stamp for packet in view.packets
-              if view.span[0] - MARGIN <= packet.stamp <= view.span[1] + MARGIN]  # (these count)
+    first, last = near(view.of)
+    stamps = [packet.stamp for packet in view.packets if first <= packet.stamp <= last]  # (these count)
     is_inside = stamps and stamps[0] <= view.span[0] and view.span[1] <= stamps[-1]
     return unless(not is_inside or view.entry.get("moves"), "what counts holds it")
 

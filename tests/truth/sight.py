@@ -7,12 +7,14 @@ each high one, with some groups of servers left out.
 from collections.abc import Iterable
 from itertools import combinations
 
-from tests.truth.clock import BILLION
-from tests.truth.history import History
+from tests.truth.clock import BILLION, SECOND
+from tests.truth.history import DAY, LEAP, History
 from tests.truth.network import Exchange
 
-MARGIN = 3600 * 10**9
+MARGIN = 3600 * SECOND
 """Nanoseconds beside a span in which records count."""
+HALVES = 20_089 * DAY, 20_270 * DAY, 20_454 * DAY, LEAP
+"""Where the half-years from 2025 to 2026 begin."""
 
 
 def go_together(exchanges: Iterable[Exchange], ppb: int) -> bool:
@@ -43,9 +45,17 @@ def do_fit(history: History, exchanges: list[Exchange]) -> bool:
                for out in combinations(groups, history.false_max))
 
 
+def near(history: History) -> tuple[int, int]:
+    """Between which readings records count: an hour beside the span, but not across where a leap second may be."""
+    first, last, far = history.first, history.last, (history.bound // SECOND + 3) * SECOND
+    ends = [end for end in HALVES if end + far <= first or last <= end - far]
+    return (max([first - MARGIN, *(end + far for end in ends if end < first)]),
+            min([last + MARGIN, *(end - far for end in ends if last < end)]))
+
+
 def counted(history: History) -> list[Exchange]:
-    """The exchanges whose records lie in the span or an hour beside it; all of them if none does."""
-    first, last = history.first - MARGIN, history.last + MARGIN
+    """The exchanges whose records count; all of them if none does."""
+    first, last = near(history)
     return [one for one in history.exchanges if first <= one.asked <= last and first <= one.answered <= last] \
         or history.exchanges
 

@@ -16,9 +16,10 @@ log of ntpdate has a step, or the log one that was back over the span, or anothe
 recording begins, or ends; fast movement looks like a wrong server, or a wrong server like that; what is beside a step
 alone doesn't count; it is stepped just behind the begin, or moves past a leap second, which is next to the end."""
 
-ONCE_UNSAID = 4022, 4023, 4046, 4130
+ONCE_UNSAID = 4022, 4023, 4046, 4130, 30044
 """Seeds of others. A step isn't told where the clock's moves aren't known, nor on which side the clock was; nor a wrong
-server whose samples meet the hull, or that one of two is wrong."""
+server whose samples meet the hull, or that one of two is wrong; nor a yes that a leap second half an hour later takes
+away."""
 
 
 def some(seeds: range, place: Path) -> list[Judged]:

@@ -8,7 +8,7 @@ from tests.truth.files import Logs
 from tests.truth.forms import When
 from tests.truth.history import CLIENT, LEAP, History, civil
 from tests.truth.network import OFF, RIGHT, TICKS, Exchange, Packet
-from tests.truth.sight import MARGIN, counted, unseen, wrong_groups
+from tests.truth.sight import counted, near, unseen, wrong_groups
 
 Range = tuple[int, int]
 
@@ -123,8 +123,8 @@ class View:
         behind = next((one for one in self.packets if one.is_reply and one.stamp > when[1]), None)
         if not before or not behind or when[0] - before.stamp > 2 * SECOND or behind.stamp - when[1] > 2 * SECOND:
             return set()  # (it begins or ends with the span)
-        own = {one for one in self.packets if before.at < one.at < behind.at
-               and self.span[0] - MARGIN <= one.stamp <= self.span[1] + MARGIN}
+        first, last = near(self.of)
+        own = {one for one in self.packets if before.at < one.at < behind.at and first <= one.stamp <= last}
         return own if not any(one.is_reply for one in own) else set()
 
     def is_answered(self, request: Packet) -> bool:
@@ -190,7 +190,7 @@ class View:
 
     @cached_property
     def counting(self) -> list[Exchange]:
-        """The exchanges that count: where a verdict presumes moves, those between two of them, as the span was shown."""
+        """The exchanges that count: where a verdict presumes moves, those between two, as the span was shown."""
         if self.verdict == "nothing fits":
             return counted(self.of)
         at = min((piece.begin for piece in self.clock.shown(*self.span)), default=0)
