@@ -224,6 +224,7 @@ OPTIONS = [
 
 
 def parser() -> Parser:
+    """The reader of the words of each command, with its help."""
     top = Parser(prog="ntpaudit-dossier", description=ABOUT, formatter_class=argparse.RawDescriptionHelpFormatter,
                  allow_abbrev=False)
     top.add_argument("--version", action="store_true", help="print the versions of dossier and program")
@@ -250,9 +251,9 @@ def main(words: list[str]) -> int:
         status = run(parsed(words))
         sys.stdout.flush()
         return status
-    except Fault as found:
-        say(found.line)
-        return found.status
+    except Fault as error:
+        say(error.line)
+        return error.status
     except OSError as error:
         sys.stdout = io.StringIO()
         say(f"ntpaudit-dossier: the output can't be written ({error.strerror})")
@@ -296,6 +297,7 @@ def say(line: str) -> None:
 
 
 def run(given: argparse.Namespace) -> int:
+    """Does what the words call for, and gives the status."""
     if given.command in ("audit", "page", "verify", "sign", "keep"):
         return run_on_folders(given, [tidy(folder) for folder in given.folders])
     if given.command == "year":
@@ -327,6 +329,7 @@ def run(given: argparse.Namespace) -> int:
 
 
 def run_now(given: argparse.Namespace, program: Program) -> int:
+    """`now`: the last minutes of what recorders are writing."""
     from .fleet.now import NowCall, follow, show_now
     from .premise.leap import read_list
     wanted = NowCall(given.source, given.claim, given.minutes, read_list(given.leap_seconds), program)
@@ -336,6 +339,7 @@ def run_now(given: argparse.Namespace, program: Program) -> int:
 
 
 def run_year(given: argparse.Namespace, folders: list[str]) -> int:
+    """`year`: a calendar of machines, and statements to sign."""
     from .fleet.days import YearCall
     from .fleet.signature import Signers
     from .page.years import Pages, write_year
@@ -348,6 +352,7 @@ def run_year(given: argparse.Namespace, folders: list[str]) -> int:
 
 
 def run_on_folders(given: argparse.Namespace, folders: list[str]) -> int:
+    """The commands on folders: each by its module of fleet, or by page."""
     if given.command == "page" and given.split and given.output:
         raise fault("--split takes no --output: it writes into a folder", USAGE)
     known = Known(state_of(given.state), writes=given.command != "page" or given.verify)
@@ -399,15 +404,16 @@ def correction_of(given: argparse.Namespace) -> "Correction | None":
     from .premise.tracking import read_tracking
     if (given.tracking and not given.chrony) or (given.evidence and not (given.chrony or given.ntpd)):
         raise fault("--tracking takes --chrony, and --evidence takes --chrony or --ntpd", USAGE)
-    found = configuration(given.chrony, given.ntpd)
-    if found is None:
+    client = configuration(given.chrony, given.ntpd)
+    if client is None:
         return None
     logs = {os.path.basename(path): piped_or_named(path, MOST_OF_A_TEXT) for path in given.tracking or ()}
-    log = read_tracking(logs, found.step_s, now()) if logs else None
-    return correction(given.oscillator_ppb, found, log, now())
+    log = read_tracking(logs, client.step_s, now()) if logs else None
+    return correction(given.oscillator_ppb, client, log, now())
 
 
 def reading_of(given: argparse.Namespace) -> "Proposal":
+    """How a draft comes to its `reading_ns`, by what is named or stands beside the captures."""
     from .capture.recorder import recorders_of
     from .premise.allowance import measured, named, proposed
     from .premise.measurement import read_measurement
@@ -417,20 +423,21 @@ def reading_of(given: argparse.Namespace) -> "Proposal":
 
 
 def run_draft(given: argparse.Namespace, program: Program) -> int:
+    """`draft`: a claim of captures on the output, and what has to be looked at in it on standard error."""
     from .folder.placing import write_named
     from .premise.leap import read_list
     from .schema import json_text
     from .verdict.draft import DraftCall, claim_text, draft, of_leaps
-    found = correction_of(given)
-    proposed, leaps = found.drift_ppb if found else given.oscillator_ppb, read_list(None)
+    drift = correction_of(given)
+    proposed, leaps = drift.drift_ppb if drift else given.oscillator_ppb, read_list(None)
     drift_ppb = proposed if given.drift_ppb is None else given.drift_ppb
 
     def work(*_: object) -> Written:
-        wanted = DraftCall(given.client, given.day, drift_ppb, found is None and given.drift_ppb is None,
+        wanted = DraftCall(given.client, given.day, drift_ppb, drift is None and given.drift_ppb is None,
                            reading_of(given), given.bound_ns)
         claim, remarks = draft(program, given.captures, wanted)
-        if claim and found:
-            remarks += found.sentences() + found.cautions(claim.first, claim.last)
+        if claim and drift:
+            remarks += drift.sentences() + drift.cautions(claim.first, claim.last)
         if claim:
             remarks += of_leaps(claim, leaps)
         return Written(claim_text(claim) if claim else "", remarks)
@@ -439,7 +446,7 @@ def run_draft(given: argparse.Namespace, program: Program) -> int:
         say(remark)
     if not drafted.text:
         return 1
-    if found and given.evidence:
-        write_named(given.evidence, json_text(found))
+    if drift and given.evidence:
+        write_named(given.evidence, json_text(drift))
     sys.stdout.write(drafted.text)
     return 0

@@ -61,13 +61,14 @@ class Pcapng:
 
     def interfaces(self) -> list[Interface]:
         """All of its interfaces, of all sections: by these the unit is chosen in which it is rewritten."""
-        found = (interface_of(order, body) for kind, order, body in self.blocks() if kind == INTERFACE)
-        known = list(islice(found, MOST_INTERFACES + 1))
+        every = (interface_of(order, body) for kind, order, body in self.blocks() if kind == INTERFACE)
+        known = list(islice(every, MOST_INTERFACES + 1))
         if len(known) > MOST_INTERFACES:
             raise fault(f"{self.name} has more than {MOST_INTERFACES:,} interfaces, so it is damaged")
         return known
 
     def packets(self) -> Iterator[Packet]:
+        """Its packets, with their interfaces."""
         known: list[Interface] = []
         for kind, order, body in self.blocks():
             if kind == SECTION:
@@ -123,6 +124,7 @@ def convert(name: str, data: Mapped, path: str) -> int | None:
 
 
 def records(capture: Pcapng, unit: int, link: int) -> Iterator[bytes]:
+    """The records of a classic capture of them."""
     yield new_header(unit, (2, 4, link))
     for packet in capture.packets():
         seconds, part = divmod(packet.time * unit // packet.interface.resolution, unit)

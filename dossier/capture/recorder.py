@@ -48,6 +48,7 @@ class Recorder:
             self.since <= f"{match[2]}:{match[3]}:{match[4]}Z"
 
     def sentence(self) -> str:
+        """What a person is told of it."""
         return (f"{self.tool} recorded {self.interface} ({', '.join(self.addresses) or 'without an address'}) on "
                 f"{self.machine}, since {self.since} under {self.kernel}, with the kernel's own stamps.")
 
@@ -58,8 +59,8 @@ def ends_of(path: str | None, clients: list[str]) -> tuple[list[str], list[str]]
         if path is not None:
             claim: Claim = read_typed(os.path.basename(path), Claim, data_named(path))
             return [claim.client], claim.servers
-    except Fault as found:
-        note(found.line)
+    except Fault as error:
+        note(error.line)
     return clients, []
 
 
@@ -75,12 +76,14 @@ def filter_of(clients: list[str], servers: list[str]) -> str:
 
 
 def recorder(tool: str, interface: str) -> Recorder:
+    """What an interface is recorded by here, and now."""
     system = os.uname()
     return Recorder("recorder", interface, "host", version_of(tool), f"{system.sysname} {system.release}",
                     plain(system.nodename), addresses_of(interface), now())
 
 
 def addresses_of(interface: str) -> list[str]:
+    """The addresses that an interface has now."""
     tool = find_tool("ip", "ip isn't installed (iproute2), which knows the interface's addresses")
     status, text = told([tool, "-4", "-o", "addr", "show", "dev", interface])
     if status:
@@ -93,15 +96,15 @@ def version_of(tool: str) -> str:
     return plain(", ".join(told([tool, "--version"])[1].splitlines()[:2]))
 
 
-def keep(path: str, found: Recorder) -> None:
+def keep(path: str, recorder: Recorder) -> None:
     """Leaves it in a folder, if it isn't there, and has evidence.json name it. Another recorder may do so as well."""
-    name = f"{found.interface}{ENDING}"
+    name = f"{recorder.interface}{ENDING}"
     for _ in range(TRIES):
         with Folder(path) as folder:
             told = evidence(folder)
             made, reading = dict[str, Iterable[bytes]](), told.get("reading", "")
-            if not is_as(read_recorder(folder, name), found):
-                made[name] = [json_text(found)]
+            if not is_as(read_recorder(folder, name), recorder):
+                made[name] = [json_text(recorder)]
             if name not in named_in(reading):
                 made[EVIDENCE] = [json_text({**told, "reading": f"{reading} {name}".strip()})]
             if not made:
@@ -110,16 +113,16 @@ def keep(path: str, found: Recorder) -> None:
     raise fault(f"{name} and {EVIDENCE} don't stay as they are written")
 
 
-def is_as(old: Recorder | None, found: Recorder) -> bool:
+def is_as(old: Recorder | None, new: Recorder) -> bool:
     """Whether nothing has changed since."""
-    return old is not None and old == replace(found, since=old.since) and old.since <= found.since
+    return old is not None and old == replace(new, since=old.since) and old.since <= new.since
 
 
 def read_recorder(folder: Folder, name: str) -> Recorder | None:
     """What a file of a folder says, if it is of this form."""
     try:
-        found: Recorder = read_typed(name, Recorder, folder.data(name))
-        return found
+        recorder: Recorder = read_typed(name, Recorder, folder.data(name))
+        return recorder
     except Fault:
         return None
 
@@ -149,12 +152,13 @@ def begun_files(folder: Folder) -> Iterator[Written]:
 
 def recorders_of(captures: list[str]) -> list[Recorder] | None:
     """By what captures were recorded, as the evidence beside each says; None if it doesn't of one of them."""
-    found = [recorder_of(*os.path.split(capture)) for capture in captures]
-    known = [one for number, one in enumerate(found) if one and one not in found[:number]]
-    return None if None in found else known
+    every = [recorder_of(*os.path.split(capture)) for capture in captures]
+    known = [one for number, one in enumerate(every) if one and one not in every[:number]]
+    return None if None in every else known
 
 
 def recorder_of(path: str, name: str) -> Recorder | None:
+    """By what a capture was recorded, if the evidence beside it says so."""
     try:
         with Folder(path) as folder:
             named = named_in(evidence(folder).get("reading", ""))

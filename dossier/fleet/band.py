@@ -178,22 +178,23 @@ class Band:
         self.hulls: dict[str, dict[int, Piece]] = {}
         """Of each recorder the pieces of the last hour, by the Unix second in which they end."""
 
-    def add(self, found: list[Moment]) -> None:
-        for moment in found:
+    def add(self, moments: list[Moment]) -> None:
+        for moment in moments:
             own = self.hulls.setdefault(moment.recorder, {})
             own.update({piece.to: piece for piece in moment.pieces})
             for second in [second for second in own if second <= moment.end - HOUR]:
                 del own[second]
 
-    def show(self, found: list[Moment], columns: int) -> None:
+    def show(self, moments: list[Moment], columns: int) -> None:
+        """Shows the moments of all recorders, in place of those that are shown."""
         if not self.is_shown:
-            for moment in found:
+            for moment in moments:
                 print(line_of(moment), flush=True)
             return
-        self.add(found)
+        self.add(moments)
         width = min(max(NARROW, columns - 1), WIDE)
-        lines = [line for moment in found for line in self.head(moment, width)]
-        lines += self.band(found[0], width)
+        lines = [line for moment in moments for line in self.head(moment, width)]
+        lines += self.band(moments[0], width)
         print(f"{UP.format(self.drawn) if self.drawn else ''}{CLEAR}" + "\n".join(lines), flush=True)
         self.drawn = len(lines)
 
@@ -208,6 +209,7 @@ class Band:
         return [f"{colour}{line}{PLAIN}" for line in lines] if self.has_colour else lines
 
     def band(self, moment: Moment, width: int) -> list[str]:
+        """The lines of the band of one recorder: the hull over an hour, and the bound."""
         bound, end = bound_ticks(moment.bound_ns), moment.end
         places = width - LEFT
         columns = [self.cell(moment.recorder, end - HOUR + HOUR * k // places, end - HOUR + HOUR * (k + 1) // places)

@@ -50,6 +50,7 @@ class Hearing:
         """In which so many groups are asked that a step is seen."""
 
     def take(self, block: bytes) -> None:
+        """Takes lines of `samples`."""
         for line in block[: closing_of(block)].decode("ascii").splitlines():
             fields = line.split(" ")
             request, reply = map(int, fields[2:4])
@@ -79,6 +80,7 @@ class Hearing:
         self.errors[server], self.last = error, max(self.last, reply)
 
     def is_silent(self, server: str) -> bool:
+        """Whether a server wasn't heard for longer than it mostly takes."""
         if server not in self.times:
             return True
         age = self.gone[-1] - self.times[server][-1]

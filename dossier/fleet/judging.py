@@ -48,6 +48,7 @@ class Judging:
         self.folder, self.program, self.leaps = folder, program, leaps
 
     def judged(self, record: Record) -> Judged:
+        """The first difference, or none, and the capture by which the answers were judged; `Other` if they can't be."""
         if record.refusal or record.options.days or len(record.entries) != 1:
             raise Other
         entry, = record.entries
@@ -124,12 +125,13 @@ class Judging:
         of fewer captures."""
         try:
             return self.program.run(*words, sums=sums).text
-        except Fault as found:
-            if found.status == REFUSED and found.line.endswith("sums differ capture") and words[2] == JOINED:
+        except Fault as error:
+            if error.status == REFUSED and error.line.endswith("sums differ capture") and words[2] == JOINED:
                 raise Other from None
             raise
 
     def is_refuted(self, entry: Entry, capture: str) -> bool:
+        """Whether the program says that the refutation stands."""
         claim = CLAIM if entry.answer == REFUTED else CLAIM_OF_0
         stands: Refutation = read_typed(REFUTATION, Refutation, own_data(REFUTATION))
         return stands == entry.refutation and \

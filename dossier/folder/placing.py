@@ -32,6 +32,7 @@ def unwritable(name: str, error: OSError) -> Fault:
 
 
 def write(file: int, data: bytes) -> None:
+    """Writes all of it, however little is taken at once."""
     while data:
         data = data[os.write(file, data) :]
 
@@ -67,6 +68,7 @@ class Copy:
         return self
 
     def take(self, block: bytes) -> None:
+        """Writes a block; one of zeros is left out."""
         self.size += len(block)
         try:
             if not block.lstrip(b"\0"):
@@ -274,6 +276,7 @@ class Begun:
             raise
 
     def take(self, records: bytes) -> None:
+        """Writes whole records."""
         try:
             write(self.file, records)
         except OSError:

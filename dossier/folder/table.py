@@ -10,6 +10,7 @@ class Table:
         self.grow()
 
     def grow(self) -> None:
+        """Makes room for twice as many."""
         old = zip(self.keys, self.numbers)
         self.size = 2 * self.size or 1 << 10
         self.keys, self.numbers, self.used = array("Q", bytes(8 * self.size)), array("I", bytes(4 * self.size)), 0
@@ -38,7 +39,7 @@ class Table:
 
     def first(self, key: int, number: int) -> int:
         """The number that came with a key first: this one, if none did."""
-        found = self.get(key)
-        if found is None:
+        known = self.get(key)
+        if known is None:
             self.put(key, number)
-        return number if found is None else found
+        return number if known is None else known

@@ -13,7 +13,7 @@ from tests.truth.test_histories import ONCE_UNSAID, ONCE_UNTRUE
 
 PLANTS = [
     ("a yes by the stretch that was recorded last, whatever another one may have shown", "verdict/parts.py",
-     "found = [side for number, side in enumerate(self.sides) if self.may_show(number)]", "found = self.sides[-1:]"),
+     "sides = [side for number, side in enumerate(self.sides) if self.may_show(number)]", "sides = self.sides[-1:]"),
     ("the size of a step forgotten", "verdict/sentences.py", "by {range_ms(move.low, move.high)}",
      "by {range_ms(move.low // 2, move.high // 2)}"),
     ("the times of a step sorted", "verdict/sentences.py", "move.after // SECOND, -(-move.by // SECOND)",
@@ -41,8 +41,8 @@ PLANTS = [
     ("a side for the other", "verdict/sentences.py", "'ahead of' if hull[0] > 0 else 'behind'",
      "'ahead of' if hull[0] <= 0 else 'behind'"),
     ("a leap second's day for the next", "premise/premises.py", "civil(end - 1)[:10]", "civil(end)[:10]"),
-    ("a server that may be wrong for one that has to be", "verdict/apart.py", "set.intersection(*found)",
-     "set.union(*found)"),
+    ("a server that may be wrong for one that has to be", "verdict/apart.py", "set.intersection(*sets)",
+     "set.union(*sets)"),
     ("a packet that was recorded twice for two", "capture/twice.py",
      "if whole.extent and not is_ambiguous(program, whole.path):", "if True:"),
     ("files put in order by their records' times", "capture/captures.py",
