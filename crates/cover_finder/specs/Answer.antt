@@ -1,0 +1,39 @@
+-- What settles a claim, if certificates of either form are looked for.
+use Rattle.std.specs.Prelude.{◌≡◌, ◌⊎◌, List, Result, IfOk, IfErr}
+use Rattle.cover_finder.specs.Common.{certificate_data, ClaimData, CoverCertificateData, Exchange, FindFault, HasTooManyPieces, IsFitted, IsSettledAs, Memory, NoneOfFewIsAccepted, SettledData, TooManyPieces, samples_of, settled_data}
+use Rattle.cover_finder.specs.Search.{IsCarriedBy}
+use Rattle.cover_finder.specs.declared.answer.Answer.{Answer}
+use Rattle.cover_finder.specs.declared.answer.Answer.TheVariants as the
+
+-- an answer without covers, or a certificate by covers
+pub data AnswerData : Type 0 where
+  of_finder : SettledData → AnswerData
+  shown_by_covers : CoverCertificateData → AnswerData
+
+-- what a value of the program says
+abbrev pub answer_data : Answer → AnswerData
+answer_data (the.OfFinder settled) = of_finder (settled_data settled)
+answer_data (the.ShownByCovers certificate) = shown_by_covers (certificate_data certificate)
+
+module _ (claim : ClaimData) (xs : List Exchange) where
+  -- At each reading a course is observed that fits, and no certificate of pieces is accepted that
+  -- may be written.
+  pub record IsBeyondPieces : Type 0 where
+    pub courses : IsFitted claim xs
+    pub none_accepted : NoneOfFewIsAccepted (samples_of xs claim) claim
+
+  -- The certificate by covers shows the claim, and no certificate of pieces does. Courses fit, so
+  -- that it says something of some course.
+  pub record IsShownByCoversAlone (certificate : CoverCertificateData) : Type 0 where
+    pub carried : IsCarriedBy claim xs certificate
+    pub beyond : IsBeyondPieces
+
+  abbrev pub IsAnsweredAs : AnswerData → Type 0
+  IsAnsweredAs (of_finder settled) = IsSettledAs claim xs settled
+  IsAnsweredAs (shown_by_covers certificate) = IsShownByCoversAlone certificate
+
+  -- what a search for what settles a claim answers
+  pub record Answers (result : Result Answer FindFault) : Type 0 where
+    pub answered : IfOk result (λ found. IsAnsweredAs (answer_data found))
+    pub refused : IfErr result (λ fault.
+        (fault ≡ Memory) ⊎ ((fault ≡ TooManyPieces) × HasTooManyPieces claim xs))

@@ -1,0 +1,60 @@
+//! What settles a claim, by a certificate of either form.
+
+ghost use Rattle.std.specs.Prelude.{◌≤◌, length, map, All, IsTrue};
+ghost use Rattle.cover_finder.specs.Answer.{Answers, IsBeyondPieces};
+ghost use Rattle.cover_finder.specs.Common.{claim_data, IsLawful, Settles};
+
+use crate::search::find_covers;
+use claim_file::Claim;
+use cover_certificate::CoverCertificate;
+use finder::{FindFault, Settled};
+use pairing::ToExchange;
+use std::alloc::Global;
+
+/// One of six answers to a claim, with what proves it.
+#[derive(Drop)]
+pub enum Answer {
+    /// What settles it without covers, or that this leaves it open.
+    OfFinder(Settled),
+    /// The claim is shown by covers, and by no certificate of pieces.
+    ShownByCovers(CoverCertificate),
+}
+
+/// Whether a course fits, and neither a certificate of pieces nor a refutation was found.
+fn is_open<X: ToExchange>(
+    exchanges: &[X],
+    claim: &Claim,
+    settled: &Result<Settled, FindFault>,
+) -> bool
+    requires { Settles (claim_data claim.now) (map X.shown exchanges.now) settled.now }
+    ensures { IsTrue result → IsBeyondPieces (claim_data claim.now) (map X.shown exchanges.now) }
+{
+    matches!(
+        settled,
+        Ok(Settled::Open { .. }) | Err(FindFault::TooManyPieces)
+    )
+}
+
+/// Settles a claim as [`finder::settle`] does, or by covers where that leaves it open, or would
+/// have too many pieces.
+///
+/// There are at most 1,000,000 exchanges. `TooManyPieces` comes if neither form has few enough
+/// pieces and no refutation is found, and `Memory` if none is left.
+pub fn settle<X: ToExchange>(
+    alloc: Global,
+    exchanges: &[X],
+    claim: &Claim,
+) -> Result<Answer, FindFault>
+    requires exchanges { All (IsLawful (length claim.now.servers.items))
+        (map X.shown exchanges.now) }
+    requires few { length exchanges.now ≤ 1_000_000 }
+    ensures { Answers (claim_data claim.now) (map X.shown exchanges.now) result }
+{
+    let settled = finder::settle(alloc, exchanges, claim);
+    if is_open(exchanges, claim, &settled)
+        && let Some(certificate) = find_covers(alloc, exchanges, claim)?
+    {
+        return Ok(Answer::ShownByCovers(certificate));
+    }
+    Ok(Answer::OfFinder(settled?))
+}

@@ -1,0 +1,132 @@
+//! The search for a certificate by covers.
+
+ghost use Rattle.std.specs.Prelude.{◌≡◌, ◌≤◌, length, map, All, IfOk, IsTrue};
+ghost use Rattle.cover_finder.specs.Common.{claim_data, certificate_data, conflicts_data, IsConflictTable, IsFew, IsLawful};
+ghost use Rattle.cover_finder.specs.Search.{Finds};
+
+use crate::reach::longest_pieces;
+use crate::table::{Table, tables_of};
+use arrayvec::ArrayVec;
+use certificate::MAX_PIECES;
+use claim_file::Claim;
+use cover_certificate::{Case, CoverCertificate, MAX_CASES, MAX_CONFLICTS};
+use cover_checker::{CoverVerdict, check_covers};
+use feasibility::{Conflicts, Groups, conflicts_of, first_contradictions};
+use pairing::ToExchange;
+use std::alloc::{AllocError, Global};
+
+/// The numbers of these groups.
+fn numbers_of(out: Groups) -> ArrayVec<u8, 32> {
+    let mut numbers = ArrayVec::new();
+    for group in 0..32u8 {
+        if out.contains(group) {
+            numbers.push(group);
+        }
+    }
+    numbers
+}
+
+/// The exchanges of all conflicts.
+fn pairs_of<X: ToExchange>(
+    alloc: Global,
+    exchanges: &[X],
+    claim: &Claim,
+    conflicts: &Conflicts,
+) -> Result<Vec<(u32, u32)>, AllocError>
+    requires exchanges { All (IsLawful (length claim.now.servers.items))
+        (map X.shown exchanges.now) }
+    requires groups { (conflicts_data conflicts.now).groups ≡ length claim.now.groups.items }
+    requires table { IsConflictTable (claim_data claim.now) (map X.shown exchanges.now)
+        (conflicts_data conflicts.now).is_broken (conflicts_data conflicts.now).is_edge }
+{
+    let found = first_contradictions(alloc, exchanges, claim, conflicts)?;
+    let mut pairs = Vec::new(alloc);
+    for conflict in found.as_slice() {
+        let pair = conflict.pair;
+        if let Ok(low) = u32::try_from(pair.low)
+            && let Ok(high) = u32::try_from(pair.high)
+        {
+            pairs.push((low, high))?;
+        }
+    }
+    Ok(pairs)
+}
+
+/// A case for each cover, with the longest pieces, if they are few enough in all.
+fn cases_of(
+    alloc: Global,
+    tables: &[Table],
+    claim: &Claim,
+    covers: &[Groups],
+) -> Result<Option<Vec<Case>>, AllocError> {
+    let mut cases = Vec::new(alloc);
+    let mut left = MAX_PIECES;
+    for out in covers {
+        let Some(pieces) = longest_pieces(alloc, tables, claim, *out, left)? else {
+            return Ok(None);
+        };
+        left = left.saturating_sub(pieces.len());
+        cases.push(Case {
+            groups: numbers_of(*out),
+            pieces,
+        })?;
+    }
+    Ok(Some(cases))
+}
+
+/// Whether a certificate has few enough of each.
+fn is_few(certificate: &CoverCertificate) -> bool
+    ensures { IsTrue result → IsFew (certificate_data certificate.now) }
+{
+    let mut left = MAX_PIECES;
+    for case in certificate.cases.as_slice() {
+        if left < case.pieces.len() {
+            return false;
+        }
+        left -= case.pieces.len();
+    }
+    certificate.conflicts.len() <= MAX_CONFLICTS && certificate.cases.len() <= MAX_CASES
+}
+
+/// The certificate, if the checker accepts it.
+fn if_accepted<X: ToExchange>(
+    exchanges: &[X],
+    claim: &Claim,
+    certificate: CoverCertificate,
+) -> Option<CoverCertificate>
+    requires exchanges { All (IsLawful (length claim.now.servers.items))
+        (map X.shown exchanges.now) }
+    ensures { Finds (claim_data claim.now) (map X.shown exchanges.now) result }
+{
+    if !is_few(&certificate) {
+        return None;
+    }
+    match check_covers(exchanges, claim, &certificate) {
+        CoverVerdict::Yes => Some(certificate),
+        _ => None,
+    }
+}
+
+/// Looks for a certificate by covers. It names all conflicts, its cases are the minimal covers, and
+/// each case's pieces are as long as the bound allows. What is found is accepted.
+///
+/// There are at most 1,000,000 exchanges. The one error is that no memory is left.
+pub fn find_covers<X: ToExchange>(
+    alloc: Global,
+    exchanges: &[X],
+    claim: &Claim,
+) -> Result<Option<CoverCertificate>, AllocError>
+    requires exchanges { All (IsLawful (length claim.now.servers.items))
+        (map X.shown exchanges.now) }
+    requires few { length exchanges.now ≤ 1_000_000 }
+    ensures { IfOk result (Finds (claim_data claim.now) (map X.shown exchanges.now)) }
+{
+    let conflicts = conflicts_of(alloc, exchanges, claim)?;
+    let covers = conflicts.covers(claim.false_max);
+    let tables = tables_of(alloc, exchanges, claim)?;
+    let Some(cases) = cases_of(alloc, tables.as_slice(), claim, covers.as_slice())? else {
+        return Ok(None);
+    };
+    let conflicts = pairs_of(alloc, exchanges, claim, &conflicts)?;
+    Ok(if_accepted(exchanges, claim, CoverCertificate { conflicts, cases }))
+}
