@@ -80,9 +80,6 @@ def test_bad_recordings(place: Path) -> None:
     check("a day with bad files", status=(status, 2), path=(out, f"{days}/2001-09-09\n".encode()),
           named=([f"{name} is {what}" in err.decode() for name, what in zip(names[1:3], ("too big", "a FIFO"))],
                  [True] * 2), files=(sorted(kept_in(days / "2001-09-09")), ["claim.json", names[0], names[3]]))
-    text = (ROOT / "systemd" / "ntpaudit-daily.service").read_text()
-    steps = [line for line in text.splitlines() if line.startswith("ExecStart=")]
-    check("no step of the daily unit stops another", steps=([line[10] for line in steps], ["-"] * len(steps)))
 
 
 def of_processor() -> float:
