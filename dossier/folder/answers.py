@@ -32,12 +32,14 @@ class Settled(NamedTuple):
     tick: int = 0
     hull: Hull | None = None
     heard: int = 0
+    by_covers: bool = False
+    """The certificate is one by covers: none of pieces shows the claim, so their least bound isn't the clock's."""
 
 
 def read_settled(text: bytes) -> Settled:
     """What `settle` printed."""
-    if text.startswith(b'{"pieces"'):
-        return Settled(YES)
+    if text.startswith((b'{"pieces"', b'{"cases"')):
+        return Settled(YES, by_covers=text.startswith(b'{"cases"'))
     if text.startswith(b"{"):
         return Settled(REFUTED, refutation=read_typed(REFUTATION, Refutation, text))
     *lines, last = [line.split() for line in text.decode("ascii").splitlines()]

@@ -95,7 +95,7 @@ def judge(part: Part, recording: Recording, beside: Beside, texts: Texts, step: 
         verdict=NO_EVIDENCE if isinstance(reason, Elsewhere) else settled.answer,
         claim=claim,
         envelope_step=step,
-        least_ns=None if settled.answer == NOTHING_FITS else envelope.least_ns,
+        least_ns=None if settled.by_covers or settled.answer == NOTHING_FITS else envelope.least_ns,
         worst=piece_of(envelope, envelope.worst),
         counts=recording.counts,
         servers=servers,

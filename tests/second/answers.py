@@ -127,9 +127,9 @@ def find(evidence: Evidence, *words: object) -> Answer:
 
 
 def settle(evidence: Evidence) -> Answer:
-    """One of five answers, where a refutation may be another one."""
+    """One of six answers, where a refutation may be another one, and entries by covers too."""
     lines = settlement.settle(evidence.claim, evidence.samples, evidence.records)
-    return int(settlement.kind_of(lines[0].encode()) != "shown"), lines
+    return int(not settlement.kind_of(lines[0].encode()).startswith("shown")), lines
 
 
 def fewest(evidence: Evidence) -> Answer:

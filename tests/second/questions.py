@@ -8,9 +8,9 @@ from pathlib import Path
 from typing import NamedTuple
 
 from tests.support import Ran, run, short
-from tests.second import answers, marks, pieces, rechecked, rules, settlement
+from tests.second import answers, by_covers, marks, pieces, rechecked, rules, settlement
 from tests.second.answers import Evidence
-from tests.second.claims import Claim, Piece, Refutation, changed
+from tests.second.claims import ByCovers, Claim, Piece, Refutation, changed
 from tests.second.columns import TICKS, counted
 from tests.second.commands import plain_commands
 from tests.second.marks import Conflicts
@@ -150,7 +150,7 @@ def settle_case(question: Question) -> Iterator[Case]:
     ran = question.call("settle")
     kind = kind_of(ran)
     yield f"settle: {kind}", settle_wrong(question, ran, kind)
-    if kind == "shown":
+    if kind.startswith("shown"):
         yield "check of what settle printed", unaccepted(question, ran[1])
     if kind == "refuted":
         judged = question.call("refute", "/dev/stdin", "--drift", given=ran[1])
@@ -169,13 +169,38 @@ def settle_wrong(question: Question, ran: Ran, kind: str) -> str:
     if kind == "refuted":
         is_right = ran[0] == 1 and ran[2] == b"" and rechecked.stands_with_drift(claim, samples, json.loads(ran[1]))
         return "" if is_right else f"{short(ran)}, which doesn't stand"
+    if kind == "shown by covers":
+        return covers_wrong(question, ran)
     if kind not in ("open", "over"):
         return kind
     _, stop = question.ends(claim["bound_ns"], lambda _: kind == "open")
     if stop is None:
         return f"{kind}, and there is a certificate"
     wrong = differs(ran, 2, [], OVER) if stop.is_over else differs(ran, 1, [settlement.open_line(stop)])
-    return wrong or refutable(question, stop)
+    return wrong or refutable(question, stop) or carried(question)
+
+
+def found_by_covers(question: Question) -> ByCovers | None:
+    bound = rules.bound_of(question.claim)
+    return by_covers.Search(question.claim, question.samples, question.conflicts).find(bound).certificate
+
+
+def carried(question: Question) -> str:
+    """What is wrong where a claim stays open: that the reading has a certificate by covers."""
+    is_found = len(question.covers) <= COVERS and found_by_covers(question)
+    return f"it isn't shown, and by {len(question.covers)} covers it is" if is_found else ""
+
+
+def covers_wrong(question: Question, ran: Ran) -> str:
+    """What is wrong with a certificate by covers: that one of pieces would do, or that the reading's has other conflicts,
+    groups or ends; of several exchanges that say the same either may stand."""
+    found, wanted = json.loads(ran[1]), found_by_covers(question)
+    if ran[0] or ran[2] or question.ends(question.claim["bound_ns"])[1] is None:
+        return f"{short(ran)}, and a certificate of pieces would do"
+    of_it, of_reading = ([form["conflicts"], *([case["groups"], [piece["upto"] for piece in case["pieces"]]]
+                         for case in sorted(form["cases"], key=lambda case: case["groups"]))]
+                         for form in (found, wanted or {"conflicts": [], "cases": []}))
+    return "" if of_it == of_reading else f"{of_it} by covers, and not {of_reading}"
 
 
 def refutable(question: Question, stop: Stop) -> str:

@@ -33,6 +33,7 @@ pub use Rattle.feasibility.specs.DriftSettlement.{SettlesWithDrift}
 unfoldable pub use Rattle.era_unfold.specs.Nanoseconds.{ticks_down, ticks_up}
 unfoldable pub use Rattle.era_unfold.specs.Window.{window_high, window_low}
 pub use Rattle.finder.specs.Answer.{Finds}
+pub use Rattle.cover_finder.specs.Answer.{IsAnsweredAs}
 pub use Rattle.finder.specs.Settlement.{IsSettledAs}
 pub use Rattle.ntp_packet.specs.Header.{header_of}
 unfoldable pub use Rattle.ntp_packet.specs.Header.{root_distance_of}
@@ -68,7 +69,7 @@ pub use Rattle.audit.specs.Common.{IsAgainst, IsBytes, IsCapture, IsCeiling, IsD
 pub use Rattle.audit.specs.Common.{IsInWindow, IsLawful, IsMadeFor, IsNearestRefutation, IsRefuted, IsTime, IsUnfolded}
 pub use Rattle.audit.specs.Common.{IsUnwritten, IsVerdictOn, LeastCarried, No, NoneIsRefuted, Outcome, Packet}
 pub use Rattle.audit.specs.Common.{PairFault, PieceData, Plain, Publishes, Reads, Ready, Record, RefutationData, Report}
-pub use Rattle.audit.specs.Common.{RunFault, RunState, Runs, SameRequest, Sample, SettledData, Settles, SharesRequests}
+pub use Rattle.audit.specs.Common.{AnswerData, RunFault, RunState, Runs, SameRequest, Sample, SettledData, Settles, SharesRequests, answer_data}
 pub use Rattle.audit.specs.Common.{SinkState, SomeCourse, Stretch, Style, TakesAtMost, TooBig, Unit, Verdict, Yes}
 pub use Rattle.audit.specs.Common.{about_told, array, capture_of, certificate_data, certificate_read, claim_of}
 pub use Rattle.audit.specs.Common.{claim_read, compact_data, count_of, error_of, exchanges_of, flat_map, get, is_device}
@@ -81,8 +82,8 @@ pub use Rattle.audit.specs.Common.{ticks_per_second, transmit_of, unsigned, whol
 pub use Rattle.audit.specs.CaptureInput.{collection_read, pair_run_fault_of}
 unfoldable pub use Rattle.audit.specs.CaptureInput.{capture_read}
 pub use Rattle.audit.specs.Captured.{CapturedFrame, IsCaptureOf, IsLawfulFrame, frame_of, record_bytes}
-pub use Rattle.audit.specs.Check.{ArePiecesTraced, HasVerdict, HasVerdictYes, IsTracedTo, check, outcome_of, verdict_on}
-pub use Rattle.audit.specs.Common.{AnyData, AnyVerdict, ByCovers, CoverCertificateData, CoverVerdict, IsCoverVerdictOn}
+pub use Rattle.audit.specs.Check.{AreCoversTraced, ArePiecesTraced, HasVerdict, HasVerdictYes, IsTracedTo, IsYesByCovers, check, outcome_of, verdict_on}
+pub use Rattle.audit.specs.Common.{AnyData, AnyVerdict, ByCovers, CoverCertificateData, CoverVerdict, IsAcceptedByCovers, IsCoverVerdictOn}
 pub use Rattle.audit.specs.Common.{OfPieces, any_data, by_covers, of_pieces}
 pub use Rattle.audit.specs.Check.{IsEnoughFor}
 pub use Rattle.audit.specs.Claimed.{IsClaimText, IsTimeAt, IsWithinLimits, numbers_value}
@@ -97,6 +98,7 @@ pub use Rattle.audit.specs.Find.{IsSearchOf, find_run_fault_of, found_outcome, f
 pub use Rattle.audit.specs.Finding.{IsFindingFrom, IsFindingOf, IsSettlementFrom, IsSettlementOf, ShowsFinding}
 pub use Rattle.audit.specs.Headline.{Admit, MayChangeBy}
 pub use Rattle.audit.specs.Least.{IsLeastBoundOf, least_line_of}
+pub use Rattle.audit.specs.HeadlineByCovers.{IsShownByCovers}
 pub use Rattle.audit.specs.Question.{AreInputsOf, AskedData, Finding, QuestionData, ShowsOf, for_a_program, no_finding}
 pub use Rattle.audit.specs.Refute.{GiveRefutation, IsContestedOf, IsSettledFor, IsUncontestedOf, refute}
 pub use Rattle.audit.specs.Refute.{refuted_outcome}
@@ -104,5 +106,5 @@ pub use Rattle.audit.specs.Report.{InputsData, IsOfMaking, IsUnfound, Tells, inp
 pub use Rattle.audit.specs.Report.{run_report, TellsOf}
 pub use Rattle.audit.specs.Second.{HasSecond, SecondData, SecondKind, certificate_said, certificate_second, most_second}
 pub use Rattle.audit.specs.Second.{no_second, nothing_said, refutation_said, refutation_second, second_read}
-pub use Rattle.audit.specs.Settle.{IsSettledBy, IsSettledFrom, IsSettledOf, IsShownOf, is_on_least, names_least}
+pub use Rattle.audit.specs.Settle.{IsAnswerFrom, IsAnswerOf, IsSettledBy, IsSettledFrom, IsSettledOf, IsShownByCoversOf, IsShownOf, is_on_least, names_least}
 pub use Rattle.audit.specs.Settle.{report_of, settled_outcome, text_for, settle_report}

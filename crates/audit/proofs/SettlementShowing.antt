@@ -1,12 +1,13 @@
 -- What a settled claim shows.
 use Rattle.std.proofs.Common.{rules}
-use Rattle.audit.proofs.Common.{All, evidence_data, exchange_shown, ◌≡◌, ℕ, ◌<◌, ◌⊎◌, ⊎_elim, List, length, map, get_or, Err, subst, AllPairs, get_or-map, length-map, slice_get_within, CertificateData, SameRequest, IsVerdictOn, FindFault, SettledData, HasTooManyPieces, IsSettledAs, verdict_on, EvidenceData, samples_in, IsSettlementOf, IsSettledOf}
+use Rattle.audit.proofs.Common.{All, evidence_data, exchange_shown, ◌≡◌, ℕ, ◌<◌, ◌⊎◌, ⊎_elim, List, length, map, get_or, Err, subst, AllPairs, get_or-map, length-map, slice_get_within, AnswerData, CertificateData, CoverCertificateData, SameRequest, IsAcceptedByCovers, IsAnswerOf, IsAnsweredAs, IsVerdictOn, IsYesByCovers, FindFault, SettledData, HasTooManyPieces, IsSettledAs, verdict_on, EvidenceData, samples_in, IsSettlementOf, IsSettledOf}
 use Rattle.audit.specs.declared.evidence.Evidence.{Evidence}
 use Rattle.audit.proofs.SettlementText.{enough_with}
 use Rattle.audit.proofs.Showing.{memory_unfound}
 use Rattle.feasibility.specs.PairMarks.{conflict_data}
 use Rattle.feasibility.specs.declared.shown_conflicts.Conflict.{Conflict}
 use Rattle.finder.specs.declared.fault.FindFault.TheVariants as finds
+use Rattle.cover_finder.specs.Answer as answers
 use Rattle.finder.specs.Settlement as settles
 
 module _ (e : EvidenceData) (agree : AllPairs SameRequest e.collection.exchanges)
@@ -16,6 +17,13 @@ module _ (e : EvidenceData) (agree : AllPairs SameRequest e.collection.exchanges
   settled_of (settles.shown certificate) h = let is = traced certificate in search (rules, is.yes, is.by_pieces)
   settled_of (settles.refuted refutation) h = search rules
   settled_of settled h = h
+
+  pub answer_of : ((certificate : CoverCertificateData) →
+      IsAcceptedByCovers e.claim e.collection.exchanges certificate → IsYesByCovers certificate e) →
+      (answer : AnswerData) → IsAnsweredAs e.claim e.collection.exchanges answer → IsAnswerOf e answer
+  answer_of traced_by (answers.of_finder settled) h = settled_of settled h
+  answer_of traced_by (answers.shown_by_covers certificate) h =
+      record { yes = traced_by certificate h.carried.accepted; alone = h; agree = agree }
 
 -- why nothing is known shows what it says
 pub fault_found : (e : EvidenceData) (fault : FindFault)

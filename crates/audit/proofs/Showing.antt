@@ -1,7 +1,8 @@
 -- What an outcome shows, from the bytes of the inputs.
 use Rattle.std.proofs.lemmas.Grind.{common_steps}
 use Rattle.std.proofs.Common.{rules}
-use Rattle.audit.proofs.Common.{IfOk-weaker, ap, CertificateData, ◌⊎◌, ◌≡◌, ℕ, true, List, Option, Some, None, Result, Ok, Err, refl, sym, inl, inr, IfSome, IfOk, option_map, MatchResult, FeedState, SinkState, SettledData, FindFault, find_run_fault_of, Outcome, RunFault, Style, IsMadeFor, Publishes, Ready, Report, refused, whole_text, ArePiecesTraced, HasVerdictYes, IsTracedTo, EvidenceData, GiveEvidence, IsEvidenceOf, OfClaimAndCapture, AreInputsOf, Finding, QuestionData, no_finding, SecondData, SecondKind, InputsData, IsOfMaking, IsUnfound, IsFindingFrom, IsFindingOf, IsSettlementFrom, IsSettlementOf, ShowsFinding, IsSettledFrom, IsSettledOf, IsShownOf, IfSome_then, result_map_both, BytesLaws, TellsOf, arith, ints, nat_tests}
+use Rattle.audit.proofs.Common.{IfOk-weaker, ap, AnswerData, AreCoversTraced, CertificateData, CoverCertificateData, IsAnswerFrom, IsAnswerOf, IsBytes, IsShownByCovers, IsShownByCoversOf, IsYesByCovers, ◌⊎◌, ◌≡◌, ℕ, true, List, Option, Some, None, Result, Ok, Err, refl, sym, inl, inr, IfSome, IfOk, option_map, MatchResult, FeedState, SinkState, SettledData, FindFault, find_run_fault_of, Outcome, RunFault, Style, IsMadeFor, Publishes, Ready, Report, refused, whole_text, ArePiecesTraced, HasVerdictYes, IsTracedTo, EvidenceData, GiveEvidence, IsEvidenceOf, OfClaimAndCapture, AreInputsOf, Finding, QuestionData, no_finding, SecondData, SecondKind, InputsData, IsOfMaking, IsUnfound, IsFindingFrom, IsFindingOf, IsSettlementFrom, IsSettlementOf, ShowsFinding, IsSettledFrom, IsSettledOf, IsShownOf, IfSome_then, result_map_both, BytesLaws, TellsOf, arith, ints, nat_tests}
+use Rattle.cover_finder.specs.Answer as answers
 use Rattle.finder.specs.Settlement as settles
 use Rattle.finder.specs.declared.fault.FindFault.TheVariants as finds
 use Rattle.report.specs.declared.fault.RunFault.TheVariants as faults
@@ -63,12 +64,37 @@ module _ (laws : BytesLaws) (b f : List ℕ) (e : EvidenceData) (is : IsEvidence
         (h.by_pieces e.collection.exchanges k piece course refl stands fits observed);
   }
 
+-- the same by covers
+module _ (laws : BytesLaws) (b f : List ℕ) (e : EvidenceData) (is : IsEvidenceOf b f e)
+    (certificate : CoverCertificateData) (h : IsYesByCovers certificate e) where
+  pub covers_traced_to : IsTracedTo b f
+  covers_traced_to = record {
+    claim = e.claim;
+    collection = e.collection;
+    claim_is = is.claim_is;
+    collection_is = is.collection_is;
+    within = h.whole;
+    in_nanoseconds = λ course fits observed.
+        laws.nanoseconds b e.claim course is.claim_is (h.whole course fits observed);
+  }
+
+  pub covers_traced : AreCoversTraced certificate e
+  covers_traced = record {
+    accepted = h.accepted;
+    within = λ course fits observed.
+        laws.nanoseconds b e.claim course is.claim_is (h.named course fits observed);
+  }
+
+  pub covers_shown : IsBytes f → IsShownByCovers b f
+  covers_shown bytes =
+      laws.by_covers b f e.claim e.collection certificate bytes is.claim_is is.collection_is h.accepted
+
 module _ (laws : BytesLaws) (b f : List ℕ) (e : EvidenceData) (is : IsEvidenceOf b f e) where
   give_of : (P : EvidenceData → Type 0) → P e → GiveEvidence P b f
   give_of P holds = record { evidence = e; evidence_is = is; holds = holds }
 
   -- what settles the claim by this evidence settles it by these bytes
-  pub settled_from : (settled : SettledData) → IsSettledOf e settled → IsSettledFrom settled b f
+  settled_from : (settled : SettledData) → IsSettledOf e settled → IsSettledFrom settled b f
   settled_from (settles.shown certificate) h = record {
     evidence = give_of (IsShownOf certificate) h;
     whole = traced_to laws b f e is certificate h.yes;
@@ -80,8 +106,17 @@ module _ (laws : BytesLaws) (b f : List ℕ) (e : EvidenceData) (is : IsEvidence
       let shown = contests laws.contested true refutation e h b f is in search rules
   settled_from settled h = give_of (λ evidence. IsSettledOf evidence settled) h
 
-  settlement_of : (settled : Result SettledData FindFault) → IsSettlementOf e settled → IsSettlementFrom settled b f
-  settlement_of (Ok settled) h = settled_from settled h
+  pub answer_from : (answer : AnswerData) → IsAnswerOf e answer → IsAnswerFrom answer b f
+  answer_from (answers.of_finder settled) h = settled_from settled h
+  answer_from (answers.shown_by_covers certificate) h = record {
+    evidence = give_of (IsShownByCoversOf certificate) h;
+    whole = covers_traced_to laws b f e is certificate h.yes;
+    in_relations = covers_shown laws b f e is certificate h.yes;
+    named = give_of (AreCoversTraced certificate) (covers_traced laws b f e is certificate h.yes);
+  }
+
+  settlement_of : (settled : Result AnswerData FindFault) → IsSettlementOf e settled → IsSettlementFrom settled b f
+  settlement_of (Ok answer) h = answer_from answer h
   settlement_of (Err fault) h = search rules
 
   finding_of : (finding : Finding) → IsFindingOf e finding → IsFindingFrom finding b f

@@ -4,7 +4,7 @@ use Rattle.audit.proofs.Common.{Bool, List, ℕ, Some, refl, sym, AnyData, Bytes
 use Rattle.checker.specs.declared.verdict.Verdict.TheVariants as verdicts
 use Rattle.cover_checker.specs.declared.verdict.CoverVerdict.TheVariants as covers
 use Rattle.line_writer.specs.declared.field.Style.TheVariants as styles
-use Rattle.audit.proofs.Showing.{memory_unfound, of_inputs, of_second, pieces_traced, said_is, traced_to}
+use Rattle.audit.proofs.Showing.{covers_shown, covers_traced, covers_traced_to, memory_unfound, of_inputs, of_second, pieces_traced, said_is, traced_to}
 use Rattle.audit.specs.Check.{AreNamedTraced, GiveSecond, IsNoOn, IsTracedFrom, IsYesOn, ShowsInRelations}
 
 -- that it is known whether any course fits is enough in any style
@@ -43,29 +43,16 @@ module _ (e : EvidenceData) where
   module _ (laws : BytesLaws) (b f : List ℕ) (is : IsEvidenceOf b f e) where
     whole : (certificate : AnyData) → IsYesOn certificate e → IsTracedTo b f
     whole (of_pieces certificate) h = traced_to laws b f e is certificate h
-    whole (by_covers certificate) h = record {
-      claim = e.claim;
-      collection = e.collection;
-      claim_is = is.claim_is;
-      collection_is = is.collection_is;
-      within = h.whole;
-      in_nanoseconds = λ course fits observed.
-          laws.nanoseconds b e.claim course is.claim_is (h.whole course fits observed);
-    }
+    whole (by_covers certificate) h = covers_traced_to laws b f e is certificate h
 
     named : (certificate : AnyData) → IsYesOn certificate e → AreNamedTraced certificate e
     named (of_pieces certificate) h = pieces_traced laws b f e is certificate h
-    named (by_covers certificate) h = record {
-      accepted = h.accepted;
-      within = λ course fits observed.
-          laws.nanoseconds b e.claim course is.claim_is (h.named course fits observed);
-    }
+    named (by_covers certificate) h = covers_traced laws b f e is certificate h
 
     in_relations : (certificate : AnyData) → IsYesOn certificate e → IsBytes f → ShowsInRelations certificate b f
     in_relations (of_pieces certificate) h bytes =
         laws.headline b f e.claim e.collection certificate bytes is.claim_is is.collection_is h.verdict_is
-    in_relations (by_covers certificate) h bytes =
-        laws.by_covers b f e.claim e.collection certificate bytes is.claim_is is.collection_is h.accepted
+    in_relations (by_covers certificate) h bytes = covers_shown laws b f e is certificate h bytes
 
   -- the bytes of any inputs that say the certificate and give the evidence show the same
   pub verdict_shown : (certificate : AnyData) (about : List ℕ) → BytesLaws → (outcome : Outcome) →

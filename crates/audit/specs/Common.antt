@@ -1,5 +1,5 @@
 -- What the definitions and contracts of this crate name of others.
-pub use Rattle.audit_text.specs.Answer.{evidence_answer, found_answer, open_answer, refutation_answer, shown_answer}
+pub use Rattle.audit_text.specs.Answer.{covers_answer, evidence_answer, found_answer, open_answer, refutation_answer, shown_answer}
 pub use Rattle.audit_text.specs.CheckReport.{about_told, check_text}
 pub use Rattle.audit_text.specs.CoverLines.{covers_text}
 pub use Rattle.envelope_text.specs.Envelope.{envelope_text}
@@ -43,6 +43,7 @@ pub use Rattle.claim_file.specs.Reading.{claim_of}
 pub use Rattle.claim_file.specs.Time.{IsTime}
 pub use Rattle.cover_certificate.specs.AnyReading.{AnyData, IsFewOfAny, any_data, by_covers, of_pieces}
 pub use Rattle.cover_certificate.specs.CoverCertificate.{CoverCertificateData, piece_count}
+pub use Rattle.cover_certificate.specs.CoverWriting.{covers_text as covers_json}
 pub use Rattle.cover_checker.specs.Acceptance.{IsAccepted as IsAcceptedByCovers}
 pub use Rattle.cover_checker.specs.Admission.{BoundSpan}
 pub use Rattle.cover_checker.specs.NamedFit.{FitsNamed}
@@ -51,6 +52,7 @@ pub use Rattle.cover_checker.specs.Traceability.{IsTraceable as IsTraceableToAll
 pub use Rattle.cover_checker.specs.Verdict.{IsVerdict as IsCoverVerdict}
 unfoldable pub use Rattle.cover_checker.specs.VerdictTest.{verdict_of as cover_verdict_of}
 pub use Rattle.cover_checker.specs.declared.verdict.CoverVerdict.{CoverVerdict}
+pub use Rattle.cover_finder.specs.Answer.{AnswerData, IsShownByCoversAlone, answer_data, of_finder, shown_by_covers}
 pub use Rattle.era_unfold.specs.Nanoseconds.{nanoseconds_per_second}
 pub use Rattle.era_unfold.specs.Ratio.{IsCeiling, IsFloor, ceiling_of, floor_of}
 pub use Rattle.era_unfold.specs.Stamp.{IsUnfolded, unfolded}

@@ -1,17 +1,17 @@
 -- What a finding shows of the evidence, and of the bytes that give it.
 use Rattle.std.specs.Prelude.{◌≡◌, ◌⊎◌, ℕ, List, Result, Ok, Err, IfSome}
-use Rattle.audit.specs.Common.{FeedState, SettlesFit, HasTooManyPieces, SettledData, FindFault, TooManyPieces}
+use Rattle.audit.specs.Common.{FeedState, SettlesFit, HasTooManyPieces, AnswerData, FindFault, TooManyPieces}
 use Rattle.finder.specs.declared.fault.FindFault.TheVariants.{Memory}
 use Rattle.audit.specs.Evidence.{EvidenceData, GiveEvidence, OfClaimAndCapture}
 use Rattle.audit.specs.Least.{IsLeastBoundOf}
 use Rattle.audit.specs.Question.{Finding}
-use Rattle.audit.specs.Settle.{IsSettledFrom, IsSettledOf}
+use Rattle.audit.specs.Settle.{IsAnswerFrom, IsAnswerOf}
 
 -- ---- what it shows of evidence
 
 -- what settles the claim; or a course fits, and there would be too many pieces
-abbrev pub IsSettlementOf : EvidenceData → Result SettledData FindFault → Type 0
-IsSettlementOf e (Ok settled) = IsSettledOf e settled
+abbrev pub IsSettlementOf : EvidenceData → Result AnswerData FindFault → Type 0
+IsSettlementOf e (Ok answer) = IsAnswerOf e answer
 IsSettlementOf e (Err TooManyPieces) = HasTooManyPieces e.claim e.collection.exchanges
 IsSettlementOf e (Err Memory) = Unit {0}
 
@@ -22,8 +22,8 @@ pub record IsFindingOf (e : EvidenceData) (finding : Finding) : Type 0 where
 
 -- ---- what it shows of bytes
 
-abbrev pub IsSettlementFrom : Result SettledData FindFault → List ℕ → List ℕ → Type 0
-IsSettlementFrom (Ok settled) claim capture = IsSettledFrom settled claim capture
+abbrev pub IsSettlementFrom : Result AnswerData FindFault → List ℕ → List ℕ → Type 0
+IsSettlementFrom (Ok answer) claim capture = IsAnswerFrom answer claim capture
 IsSettlementFrom (Err fault) claim capture =
     (fault ≡ Memory) ⊎ GiveEvidence (λ e. IsSettlementOf e (Err fault)) claim capture
 

@@ -1,7 +1,7 @@
 -- What a question is: the report that is made of a second input and evidence, and what its outcome
 -- shows of the bytes of the inputs. Each question stands in a module of its own.
 use Rattle.std.specs.Prelude.{◌≡◌, Bool, Option, None, Result, Ok, Err, IfSome}
-use Rattle.audit.specs.Common.{FeedState, SettledData, LeastCarried, FindFault, Style, Plain, claim_read, Report, Outcome, Yes, No}
+use Rattle.audit.specs.Common.{FeedState, AnswerData, LeastCarried, FindFault, Style, Plain, claim_read, Report, Outcome, Yes, No}
 use Rattle.finder.specs.declared.fault.FindFault.TheVariants.{Memory}
 use Rattle.audit.specs.CaptureInput.{capture_read}
 use Rattle.audit.specs.Evidence.{EvidenceData}
@@ -11,7 +11,7 @@ use Rattle.audit.specs.Second.{SecondData, SecondKind, second_read}
 -- the least bound that a certificate carries, and whether any course of events fits, if these were
 -- looked for. `specs/Finding` says what it shows.
 pub record Finding : Type 0 where
-  pub settled : Result SettledData FindFault
+  pub settled : Result AnswerData FindFault
   pub least : Option (Option LeastCarried)
   pub fits : Option Bool
 

@@ -1,13 +1,14 @@
 -- The report of `settle`, and what it shows: that the claim is shown, refuted, fitted by no course
--- or without evidence, or that it stays open. Which refutation and which least bound are found has
--- no definition of its own, so the report is one on what was found.
+-- or without evidence, or that it stays open. Which certificate by covers, which refutation and
+-- which least bound are found has no definition of its own, so the report is one on what was found.
 use Rattle.std.specs.Prelude.{◌≡◌, ℕ, Bool, true, false, List, length, AllPairs, ◌++◌, codes, Option, Some, None, IsSome, is_some, unwrap_or, option_map, ◌&&◌, not, if◌then◌else◌, Result, Ok, Err}
-use Rattle.audit.specs.Common.{IsBytes, FeedState, CertificateData, refutation_text, certificate_text, SettledData, settled_data, shown, refuted, fitted_by_none, no_evidence, left_open, IsFittedByNone, IsLeftOpen, IsShownBy, IsUnheard, LeastCarried, FindFault, SameRequest, Outcome, Yes, No, Report, refused, whole_text, Style, Plain, Human, evidence_answer, open_answer, refutation_answer, shown_answer, about_told, conflicts_text, evidence_text, open_text}
+use Rattle.audit.specs.Common.{AnyData, of_pieces, by_covers, AnswerData, answer_data, of_finder, shown_by_covers, CoverCertificateData, IsShownByCoversAlone, covers_answer, covers_json, IsBytes, FeedState, CertificateData, refutation_text, certificate_text, SettledData, shown, refuted, fitted_by_none, no_evidence, left_open, IsFittedByNone, IsLeftOpen, IsShownBy, IsUnheard, LeastCarried, FindFault, SameRequest, Outcome, Yes, No, Report, refused, whole_text, Style, Plain, Human, evidence_answer, open_answer, refutation_answer, shown_answer, about_told, conflicts_text, evidence_text, open_text}
 use Rattle.finder.specs.declared.fault.FindFault.TheVariants.{Memory}
-use Rattle.audit.specs.Check.{ArePiecesTraced, HasVerdictYes, IsTracedTo}
+use Rattle.audit.specs.Check.{AreCoversTraced, ArePiecesTraced, HasVerdictYes, IsTracedTo, IsYesByCovers}
 use Rattle.audit.specs.Evidence.{EvidenceData, GiveEvidence, OfClaimAndCapture}
 use Rattle.audit.specs.Find.{find_run_fault_of}
 use Rattle.audit.specs.Headline.{IsShown}
+use Rattle.audit.specs.HeadlineByCovers.{IsShownByCovers}
 use Rattle.audit.specs.Refute.{AreContested, IsContestedOf}
 use Rattle.audit.specs.Question.{Finding, QuestionData}
 use Rattle.audit.specs.declared.question.settle.Settlement.{Settlement}
@@ -34,51 +35,61 @@ settled_answer e least (no_evidence groups) =
 settled_answer e least (left_open begin end hull covers most) =
     open_answer e.claim begin end hull covers most least
 
+-- the same of a certificate by covers too
+abbrev pub program_text : EvidenceData → AnswerData → List ℕ
+program_text e (of_finder settled) = settled_text e settled
+program_text e (shown_by_covers certificate) = covers_json certificate ++ codes "\n"
+
+abbrev pub person_text : EvidenceData → Option ℕ → AnswerData → List ℕ
+person_text e least (of_finder settled) = settled_answer e least settled
+person_text e least (shown_by_covers certificate) =
+    covers_answer e.claim e.collection.exchanges certificate
+
 -- the answer is on the least bound
-abbrev pub names_least : SettledData → Bool
-names_least (shown certificate) = true
-names_least (left_open begin end hull covers most) = true
-names_least settled = false
+abbrev pub names_least : AnswerData → Bool
+names_least (of_finder (shown certificate)) = true
+names_least (of_finder (left_open begin end hull covers most)) = true
+names_least answer = false
 
 -- the whole text; there is none for a person if it names the least bound, and none was looked for
-abbrev pub text_for : Style → EvidenceData → Option (Option LeastCarried) → SettledData
+abbrev pub text_for : Style → EvidenceData → Option (Option LeastCarried) → AnswerData
     → Option (List ℕ)
-text_for Plain e found settled = Some (settled_text e settled)
-text_for style e found settled =
-    if names_least settled && not (is_some found) then None
-    else Some (settled_answer e (option_map (λ least. least.bound_ns) (unwrap_or found None))
-    settled)
+text_for Plain e found answer = Some (program_text e answer)
+text_for style e found answer =
+    if names_least answer && not (is_some found) then None
+    else Some (person_text e (option_map (λ least. least.bound_ns) (unwrap_or found None)) answer)
 
 -- a text in this style is on the least bound
-abbrev pub is_on_least : Style → SettledData → Bool
-is_on_least Plain settled = false
-is_on_least style settled = names_least settled
+abbrev pub is_on_least : Style → AnswerData → Bool
+is_on_least Plain answer = false
+is_on_least style answer = names_least answer
 
 -- What was found is enough for a text in this style.
 abbrev pub IsEnoughFor : Style → EvidenceData → Settlement → Type 0
-IsEnoughFor style e found = IsSome (text_for style e found.least (settled_data found.settled))
+IsEnoughFor style e found = IsSome (text_for style e found.least (answer_data found.answer))
 
 -- the outcome: yes if the claim is shown
-abbrev pub settled_outcome : SettledData → Outcome
-settled_outcome (shown certificate) = Yes
-settled_outcome settled = No
+abbrev pub settled_outcome : AnswerData → Outcome
+settled_outcome (of_finder (shown certificate)) = Yes
+settled_outcome (shown_by_covers certificate) = Yes
+settled_outcome answer = No
 
 -- the report on a text with what stands about the inputs, and on none
-abbrev pub report_of : SettledData → List ℕ → Option (List ℕ) → Report
-report_of settled about (Some text) = whole_text (text ++ about) (settled_outcome settled)
-report_of settled about None = refused (find_run_fault_of Memory)
+abbrev pub report_of : AnswerData → List ℕ → Option (List ℕ) → Report
+report_of answer about (Some text) = whole_text (text ++ about) (settled_outcome answer)
+report_of answer about None = refused (find_run_fault_of Memory)
 
 -- the report of `settle` on what settles the claim, or why it isn't known
 abbrev pub settle_report :
-    Style → List ℕ → Finding → EvidenceData → Result SettledData FindFault → Report
-settle_report style about finding e (Ok settled) =
-    report_of settled (about_told style about) (text_for style e finding.least settled)
+    Style → List ℕ → Finding → EvidenceData → Result AnswerData FindFault → Report
+settle_report style about finding e (Ok answer) =
+    report_of answer (about_told style about) (text_for style e finding.least answer)
 settle_report style about finding e (Err fault) = refused (find_run_fault_of fault)
 
 -- what the report is on
 abbrev pub finding_of : Settlement → Finding
 finding_of found =
-    record { settled = Ok (settled_data found.settled); least = found.least; fits = None }
+    record { settled = Ok (answer_data found.answer); least = found.least; fits = None }
 
 -- ---- what a finding shows of evidence
 
@@ -100,6 +111,18 @@ IsSettledOf e (no_evidence groups) = IsUnheard e.claim e.collection.exchanges gr
 IsSettledOf e (left_open begin end hull covers most) =
     IsLeftOpen e.claim e.collection.exchanges begin end hull covers most
 
+-- The certificate by covers shows the claim, and no certificate of pieces does: all that a yes of
+-- `check` says of it, and courses fit.
+pub record IsShownByCoversOf (certificate : CoverCertificateData) (e : EvidenceData)
+    : Type 0 where
+  pub yes : IsYesByCovers certificate e
+  pub alone : IsShownByCoversAlone e.claim e.collection.exchanges certificate
+  pub agree : AllPairs SameRequest e.collection.exchanges
+
+abbrev pub IsAnswerOf : EvidenceData → AnswerData → Type 0
+IsAnswerOf e (of_finder settled) = IsSettledOf e settled
+IsAnswerOf e (shown_by_covers certificate) = IsShownByCoversOf certificate e
+
 -- ---- what it shows of bytes
 
 -- The certificate shows the claim, and the clock is traced to UTC as at a yes of `check`: whole, in
@@ -118,11 +141,29 @@ IsSettledFrom (refuted refutation) claim capture =
     AreContested (GiveEvidence (IsContestedOf true refutation)) claim capture
 IsSettledFrom settled claim capture = GiveEvidence (λ e. IsSettledOf e settled) claim capture
 
+-- The same of a certificate by covers, by what it names.
+pub record IsShownByCoversFrom (certificate : CoverCertificateData) (claim capture : List ℕ)
+    : Type 0 where
+  pub evidence : GiveEvidence (IsShownByCoversOf certificate) claim capture
+  pub whole : IsTracedTo claim capture
+  pub in_relations : IsBytes capture → IsShownByCovers claim capture
+  pub named : GiveEvidence (AreCoversTraced certificate) claim capture
+
+-- of a certificate of either form
+abbrev pub IsShownFromAny : AnyData → List ℕ → List ℕ → Type 0
+IsShownFromAny (of_pieces certificate) = IsShownFrom certificate
+IsShownFromAny (by_covers certificate) = IsShownByCoversFrom certificate
+
+abbrev pub IsAnswerFrom : AnswerData → List ℕ → List ℕ → Type 0
+IsAnswerFrom (of_finder settled) claim capture = IsSettledFrom settled claim capture
+IsAnswerFrom (shown_by_covers certificate) claim capture =
+    IsShownByCoversFrom certificate claim capture
+
 -- what an outcome shows of them
 pub record IsSettledBy (outcome : Outcome) (claim capture : List ℕ) : Type 0 where
-  pub settled : SettledData
-  pub outcome_is : outcome ≡ settled_outcome settled
-  pub holds : IsSettledFrom settled claim capture
+  pub answer : AnswerData
+  pub outcome_is : outcome ≡ settled_outcome answer
+  pub holds : IsAnswerFrom answer claim capture
 
 -- the same of inputs, if their bytes are known
 abbrev pub IsSettled : Outcome → FeedState → FeedState → Type 0

@@ -1,7 +1,8 @@
 -- What `settle`, `find` and `refute` say to a person: one line a fact.
 use Rattle.std.specs.Prelude.{ℕ, ℤ, Option, Some, None, List, [], ◌∷◌, ◌++◌, codes, if◌then◌else◌, nat_lt}
-use Rattle.audit_text.specs.Common.{line_of, Word, Named, High, Human, RefutationData, ClaimData, Hull, Exchange}
+use Rattle.audit_text.specs.Common.{line_of, Word, Named, High, Human, RefutationData, ClaimData, CoverCertificateData, Hull, Exchange}
 use Rattle.audit_text.specs.BoundLines.{carried_line, claimed_line, wider_line}
+use Rattle.audit_text.specs.CoverLines.{covers_text}
 use Rattle.audit_text.specs.RefutationLines.{refutation_lines}
 use Rattle.audit_text.specs.Settlement.{evidence_text, open_text}
 use Rattle.audit_text.specs.SilentLines.{silent_lines}
@@ -15,6 +16,12 @@ unfoldable pub shown_answer : ClaimData → ℕ → Option ℕ → List ℕ
 shown_answer claim pieces least_ns =
     answer_line (codes "shown") ++ claimed_line claim.bound_ns ++
     line_of Human (Named (codes "pieces") pieces ∷ []) ++ carried_line least_ns
+
+-- a certificate by covers shows the claim: what catches wrong servers, and the cases
+unfoldable pub covers_answer : ClaimData → List Exchange → CoverCertificateData → List ℕ
+covers_answer claim xs certificate =
+    answer_line (codes "shown by covers") ++ claimed_line claim.bound_ns ++
+    covers_text Human claim xs certificate
 
 -- a certificate is found with pieces of so many seconds
 unfoldable pub found_answer : ClaimData → ℕ → ℕ → List ℕ

@@ -1,16 +1,18 @@
 //! What `settle`, `find` and `refute` say to a person.
 
-ghost use Rattle.std.specs.Prelude.{◌≡◌, ◌≤◌, ◌++◌, IfOk, length, map};
-ghost use Rattle.audit_text.specs.Common.{refutation_data, data_of, max_servers};
+ghost use Rattle.std.specs.Prelude.{◌≡◌, ◌≤◌, ◌++◌, All, IfOk, length, map};
+ghost use Rattle.audit_text.specs.Common.{covers_data, refutation_data, data_of, max_servers, IsLawful};
 ghost use Rattle.audit_text.specs.Answer as spec;
 ghost use Rattle.audit_text.specs.Answer.{answer_line, covers_line, most_line};
 
 use crate::bound_lines::{add_carried, add_claimed, add_wider};
+use crate::cover_lines::covers_text;
 use crate::refutation_lines::add_refutation;
 use crate::settlement::{evidence_text, open_text};
 use crate::silent_lines::add_silents;
 use certificate::Refutation;
 use claim_file::Claim;
+use cover_certificate::CoverCertificate;
 use intersection::kinds::Hull;
 use line_writer::{Field, Style, add_line};
 use pairing::ToExchange;
@@ -41,6 +43,27 @@ pub fn shown_answer(
     add_claimed(&mut text, claim.bound_ns)?;
     add_line(&mut text, Style::Human, &[Field::Named("pieces", pieces)])?;
     add_carried(&mut text, least_ns)?;
+    Ok(text)
+}
+
+/// The text of `settle` for a person if a certificate by covers shows the claim, and no other does:
+/// which exchanges catch wrong servers, and each case.
+#[tactic(auto, unfolding(crate::specs::Answer::covers_answer))]
+pub fn covers_answer<X: ToExchange>(
+    alloc: Global,
+    claim: &Claim,
+    exchanges: &[X],
+    certificate: &CoverCertificate,
+) -> Result<Vec<u8>, AllocError>
+    requires exchanges { All (IsLawful (length claim.now.servers.items))
+        (map X.shown exchanges.now) }
+    ensures { IfOk result (λ text. text.items ≡ spec.covers_answer (data_of claim.now)
+        (map X.shown exchanges.now) (covers_data certificate.now)) }
+{
+    let mut text = answer_text(alloc, "shown by covers")?;
+    add_claimed(&mut text, claim.bound_ns)?;
+    let covers = covers_text(alloc, Style::Human, claim, exchanges, certificate)?;
+    text.extend_from_slice(covers.as_slice())?;
     Ok(text)
 }
 

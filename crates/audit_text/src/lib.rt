@@ -41,7 +41,9 @@ mod silent_lines;
 mod table;
 mod verdict_line;
 
-pub use answer::{evidence_answer, found_answer, open_answer, refutation_answer, shown_answer};
+pub use answer::{
+    covers_answer, evidence_answer, found_answer, open_answer, refutation_answer, shown_answer,
+};
 pub use check_report::{Findings, add_about, check_text};
 pub use counts_line::write_counts_line;
 pub use cover_lines::covers_text;

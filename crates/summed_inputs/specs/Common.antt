@@ -1,5 +1,5 @@
 -- What the definitions and contracts of this crate name of others.
-pub use Rattle.audit.specs.Check.{IsDenied, IsShownAs, IsTracedByPieces, IsTracedTo, check}
+pub use Rattle.audit.specs.Check.{IsDenied, IsShownAs, IsTracedByPieces, IsTracedTo, ShowsInRelations, check}
 pub use Rattle.audit.specs.Contested.{IsContestedShown}
 pub use Rattle.audit.specs.Finding.{ShowsFinding}
 pub use Rattle.audit.specs.Headline.{IsShown}
@@ -8,12 +8,12 @@ pub use Rattle.audit.specs.Refute.{GiveRefutation, IsContestedOf, IsUncontestedO
 pub use Rattle.audit.specs.Report.{report_of_bytes}
 pub use Rattle.audit.specs.Run.{MayRun, ShowsAt}
 pub use Rattle.audit.specs.Second.{IsOfSecond, SecondKind, certificate_second, most_second, no_second, refutation_second, second_read}
-pub use Rattle.audit.specs.Settle.{IsSettledBy, IsShownFrom, settle}
+pub use Rattle.audit.specs.Settle.{IsSettledBy, IsShownFromAny, settle}
 pub use Rattle.byte_stream.specs.Bytes.{IsBytes}
 pub use Rattle.byte_stream.specs.Fault.{CountsFault}
 pub use Rattle.byte_stream.specs.Intake.{TakesAtMost}
 pub use Rattle.byte_stream.specs.State.{FeedState, IsReadable, IsWritable, SinkState}
-pub use Rattle.certificate.specs.Certificate.{CertificateData}
+pub use Rattle.cover_certificate.specs.AnyReading.{AnyData}
 pub use Rattle.report.specs.CertificateInput.{max_certificate}
 pub use Rattle.report.specs.ClaimInput.{max_claim}
 pub use Rattle.report.specs.Conclusion.{Answers, Concludes, conclusion_of}

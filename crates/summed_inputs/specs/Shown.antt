@@ -1,6 +1,6 @@
 -- What an exit status shows of bytes, question by question, whatever is told about the inputs.
 use Rattle.std.specs.Prelude.{ℕ, List, Bool, Some}
-use Rattle.summed_inputs.specs.Common.{CertificateData, IsTracedByPieces, IsTracedTo, IsContestedShown, IsShown, IsShownAs, GiveRefutation, IsContestedOf, IsShownFrom}
+use Rattle.summed_inputs.specs.Common.{AnyData, IsTracedByPieces, IsTracedTo, IsContestedShown, IsShownAs, GiveRefutation, IsContestedOf, IsShownFromAny, ShowsInRelations}
 
 -- The theorem behind a yes of `check`, of the bytes of claim, certificate and capture: for all
 -- exchanges of the capture, for those that the certificate names, and in relations alone.
@@ -14,8 +14,8 @@ pub record IsDisproven (drift : Bool) (claim refutation capture : List ℕ) : Ty
   pub stands : GiveRefutation (IsContestedOf drift) (Some refutation) claim capture
   pub in_relations : IsContestedShown claim capture
 
--- `settle` shows the claim by a certificate, and that in relations alone.
+-- `settle` shows the claim by a certificate of either form, and that in relations alone.
 pub record IsSettledShown (claim capture : List ℕ) : Type 0 where
-  pub certificate : CertificateData
-  pub shown : IsShownFrom certificate claim capture
-  pub in_relations : IsShown claim capture
+  pub certificate : AnyData
+  pub shown : IsShownFromAny certificate claim capture
+  pub in_relations : ShowsInRelations certificate claim capture

@@ -1,10 +1,10 @@
 //! What is made for `settle`.
 
 ghost use Rattle.std.specs.Prelude.{◌≡◌, Some, IfOk};
-ghost use Rattle.audit.specs.Common.{settled_data};
+ghost use Rattle.audit.specs.Common.{answer_data, settled_data};
 ghost use Rattle.audit.specs.Evidence.{IsLawfulEvidence, evidence_data};
 ghost use Rattle.audit.specs.Settle as spec;
-ghost use Rattle.audit.specs.Settle.{IsEnoughFor, IsSettledOf, finding_of, settled_outcome};
+ghost use Rattle.audit.specs.Settle.{IsAnswerOf, IsEnoughFor, IsSettledOf, finding_of, settled_outcome};
 
 use crate::evidence::Evidence;
 use crate::laws::bytes_tell_what_they_show;
@@ -13,12 +13,15 @@ use crate::question::Question;
 use crate::question::find::{run_fault_of, with_line_feed};
 use crate::whole_text::{publish_text, with_about};
 use audit_text::{
-    conflicts_text, evidence_answer, evidence_text, open_answer, open_text, refutation_answer,
-    shown_answer,
+    conflicts_text, covers_answer, evidence_answer, evidence_text, open_answer, open_text,
+    refutation_answer, shown_answer,
 };
 use byte_stream::Sink;
 use certificate::{write_certificate, write_refutation};
 use checker::laws::verdicts_are_traceable;
+use cover_certificate::write_covers;
+use cover_checker::laws::covers_are_traceable;
+use cover_finder::Answer;
 use finder::laws::samples_of_exchanges_keep_limits;
 use finder::{LeastCarried, Settled};
 use line_writer::Style;
@@ -36,25 +39,22 @@ pub struct Settle<'a> {
 #[derive(Drop)]
 pub struct Settlement {
     /// What settles the claim.
-    pub(crate) settled: Settled,
+    pub(crate) answer: Answer,
     /// The least bound, none if it wasn't looked for; in it none if no bound is carried.
     pub(crate) least: Option<Option<LeastCarried>>,
 }
 
 /// The outcome of a settled claim.
-fn outcome_of(settled: &Settled) -> Outcome
-    ensures { result ≡ settled_outcome (settled_data settled.now) }
+fn outcome_of(answer: &Answer) -> Outcome
+    ensures { result ≡ settled_outcome (answer_data answer.now) }
 {
-    match settled {
-        Settled::Shown(_) => Outcome::Yes,
-        Settled::Refuted(_)
-        | Settled::NothingFits(_)
-        | Settled::NoEvidence { .. }
-        | Settled::Open { .. } => Outcome::No,
+    match answer {
+        Answer::OfFinder(Settled::Shown(_)) | Answer::ShownByCovers(_) => Outcome::Yes,
+        Answer::OfFinder(_) => Outcome::No,
     }
 }
 
-/// The text for a program.
+/// The text for a program, if no covers are needed.
 #[tactic(auto, unfolding(crate::specs::Settle::settled_text))]
 fn settled_text(
     alloc: Global,
@@ -85,7 +85,21 @@ fn settled_text(
     }
 }
 
-/// The text for a person, on the least bound in nanoseconds that a certificate carries.
+/// The text for a program.
+fn program_text(alloc: Global, evidence: &Evidence, answer: &Answer) -> Result<Vec<u8>, AllocError>
+    requires evidence { IsLawfulEvidence evidence.now }
+    requires answer { IsAnswerOf (evidence_data evidence.now) (answer_data answer.now) }
+    ensures { IfOk result (λ text. text.items
+        ≡ spec.program_text (evidence_data evidence.now) (answer_data answer.now)) }
+{
+    match answer {
+        Answer::OfFinder(settled) => settled_text(alloc, evidence, settled),
+        Answer::ShownByCovers(certificate) => with_line_feed(write_covers(alloc, certificate)?),
+    }
+}
+
+/// The text for a person, if no covers are needed, on the least bound in nanoseconds that a
+/// certificate carries.
 #[tactic(auto, unfolding(crate::specs::Settle::settled_answer))]
 fn settled_answer(
     alloc: Global,
@@ -119,13 +133,41 @@ fn settled_answer(
     }
 }
 
+/// The text for a person.
+fn person_text(
+    alloc: Global,
+    evidence: &Evidence,
+    least: Option<u64>,
+    answer: &Answer,
+) -> Result<Vec<u8>, AllocError>
+    requires evidence { IsLawfulEvidence evidence.now }
+    requires answer { IsAnswerOf (evidence_data evidence.now) (answer_data answer.now) }
+    ensures { IfOk result (λ text. text.items
+        ≡ spec.person_text (evidence_data evidence.now) least (answer_data answer.now)) }
+{
+    match answer {
+        Answer::OfFinder(settled) => settled_answer(alloc, evidence, least, settled),
+        Answer::ShownByCovers(certificate) => {
+            covers_answer(
+                alloc,
+                &evidence.claim,
+                &evidence.held.exchanges,
+                certificate,
+            )
+        }
+    }
+}
+
 /// Whether a text in this style is on the least bound.
-fn is_on_least(style: Style, settled: &Settled) -> bool
-    ensures { result ≡ spec.is_on_least style (settled_data settled.now) }
+fn is_on_least(style: Style, answer: &Answer) -> bool
+    ensures { result ≡ spec.is_on_least style (answer_data answer.now) }
 {
     match style {
         Style::Plain => false,
-        _ => matches!(settled, Settled::Shown(_) | Settled::Open { .. }),
+        _ => matches!(
+            answer,
+            Answer::OfFinder(Settled::Shown(_) | Settled::Open { .. })
+        ),
     }
 }
 
@@ -138,16 +180,16 @@ fn text_for(
     found: &Settlement,
 ) -> Result<Vec<u8>, AllocError>
     requires evidence { IsLawfulEvidence evidence.now }
-    requires settled { IsSettledOf (evidence_data evidence.now) (settled_data found.now.settled) }
+    requires answer { IsAnswerOf (evidence_data evidence.now) (answer_data found.now.answer) }
     requires enough { IsEnoughFor style (evidence_data evidence.now) found.now }
     ensures { IfOk result (λ text. spec.text_for style (evidence_data evidence.now)
-        found.now.least (settled_data found.now.settled) ≡ Some text.items) }
+        found.now.least (answer_data found.now.answer) ≡ Some text.items) }
 {
     match style {
-        Style::Plain => settled_text(alloc, evidence, &found.settled),
+        Style::Plain => program_text(alloc, evidence, &found.answer),
         _ => {
             let least = found.least.unwrap_or(None).map(|least| least.bound_ns);
-            settled_answer(alloc, evidence, least, &found.settled)
+            person_text(alloc, evidence, least, &found.answer)
         }
     }
 }
@@ -173,9 +215,10 @@ impl<'a> Question for Settle<'a> {
     ) -> Result<Settlement, RunFault> {
         verdicts_are_traceable();
         samples_of_exchanges_keep_limits();
-        match finder::settle(alloc, &evidence.held.exchanges, &evidence.claim) {
-            Ok(settled) => match least_if(alloc, is_on_least(style, &settled), evidence) {
-                Ok(least) => Ok(Settlement { settled, least }),
+        covers_are_traceable();
+        match cover_finder::settle(alloc, &evidence.held.exchanges, &evidence.claim) {
+            Ok(answer) => match least_if(alloc, is_on_least(style, &answer), evidence) {
+                Ok(least) => Ok(Settlement { answer, least }),
                 Err(AllocError) => Err(RunFault::Memory),
             },
             Err(fault) => Err(run_fault_of(fault)),
@@ -194,6 +237,6 @@ impl<'a> Question for Settle<'a> {
         bytes_tell_what_they_show();
         let text = text_for(alloc, style, evidence, found);
         let text = with_about(text, style, self.about);
-        publish_text(out, text, outcome_of(&found.settled))
+        publish_text(out, text, outcome_of(&found.answer))
     }
 }

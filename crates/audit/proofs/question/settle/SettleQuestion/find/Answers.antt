@@ -1,17 +1,23 @@
-use Rattle.audit.proofs.Common.{Err, Finding, None, inr, refl, settled_data, evidence_data, samples_in, IsSettledOf, settle_report}
-use Rattle.audit.proofs.SettlementShowing.{fault_found, settled_of}
+use Rattle.audit.proofs.Common.{Err, Finding, None, inr, refl, answer_data, evidence_data, samples_in, IsAnswerOf, settle_report}
+use Rattle.audit.proofs.SettlementShowing.{answer_of, fault_found}
 use Rattle.audit.proofs.Showing.{unfound_as}
 use Rattle.audit.proofs.question.settle.SettleQuestion.find.Goals as goal
 
 pub returns-in-Ok-least_if-clause-found : goal.returns-in-Ok-least_if-clause-found
 returns-in-Ok-least_if-clause-found c =
     let e = evidence_data c.args.evidence.now in
-    let settled = settled_data c.in-Ok.settled in
+    let answer = answer_data c.in-Ok.answer in
     let settles = rw c.deref.ensures.value at c.in-Ok.ensures in
-    let holds : IsSettledOf e settled = settled_of e c.requires.evidence.exchanges.agree
+    let holds : IsAnswerOf e answer = answer_of e c.requires.evidence.exchanges.agree
     (λ certificate. c.verdicts_are_traceable.ensures e.claim (samples_in e) certificate c.requires.evidence.claim
     (c.samples_of_exchanges_keep_limits.ensures.of_claim e.claim e.collection.exchanges c.requires.evidence.claim
-    c.requires.evidence.exchanges.each)) settled settles.settled in
+    c.requires.evidence.exchanges.each)) (λ certificate accepted. record {
+      accepted = accepted;
+      whole = c.covers_are_traceable.ensures.all e.claim e.collection.exchanges certificate
+          c.requires.evidence.claim c.requires.evidence.exchanges.each accepted;
+      named = c.covers_are_traceable.ensures.named e.claim e.collection.exchanges certificate
+          c.requires.evidence.claim c.requires.evidence.exchanges.each accepted;
+    }) answer settles.answered in
     record { settled = holds; least = c.in-Ok-least_if.ensures.least; fits = tt }
 
 pub returns-in-Err-clause-fault : goal.returns-in-Err-clause-fault
