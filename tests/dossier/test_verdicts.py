@@ -9,7 +9,7 @@ import re
 from pathlib import Path
 from typing import Any
 
-from tests.support import DATA, check, run
+from tests.support import DATA, ROOT, check, run
 from tests.dossier.audits import PROGRAM, called, capture_of, check_page, dossier, folder_of, record_of, rows, table
 from tests.dossier.leaps import LATER, leap_list
 
@@ -220,6 +220,19 @@ def test_split_again(place: Path) -> None:
           line=((b"can't be written" in err, err.count(b"\n")), (True, 1)),
           others=([dossier("page", "--split", made, *words)[0] for words in (
               ("-o", place / "x", good), ("--json", good), (place / "missing",))], [5, 5, 2]))
+
+
+def test_by_covers(place: Path) -> None:
+    """Four servers, one of which creeps away: a certificate by covers is a yes, and has no least bound of others."""
+    (place / "creeping.pcap").write_bytes(run([ROOT / "tests/tools/creeping", "33"])[1])
+    folder = folder_of(place, "creeping", place / "creeping.pcap", **{
+        **CLAIM, "servers": [f"192.0.2.{k}" for k in (101, 102, 103, 104)], "from": "2023-11-14T22:13:20Z",
+        "to": "2023-11-14T22:47:28Z", "bound_ns": 9_600_000, "drift_ppb": 15_000})
+    status = dossier("audit", folder)[0]
+    entry, page = record_of(folder)["entries"][0], dossier("page", folder)[1].decode()
+    check("a yes by covers", status=(status, 0), verdict=(entry["verdict"], "yes"), least=(entry["least_ns"], None),
+          verified=(dossier("verify", folder)[0], 0), lesser=("lesser bound" in page, False),
+          judged=((folder / "report.txt").read_text().splitlines()[-2:], ["wrong 192.0.2.104", "verdict yes"]))
 
 
 def test_many_together(place: Path) -> None:

@@ -192,13 +192,13 @@ def carried(question: Question) -> str:
 
 
 def covers_wrong(question: Question, ran: Ran) -> str:
-    """What is wrong with a certificate by covers: that one of pieces would do, or that the reading's has other conflicts,
-    groups or ends; of several exchanges that say the same either may stand."""
+    """What is wrong with a certificate by covers: that one of pieces would do, or that the reading's has other
+    conflicts, groups or ends; of several exchanges that say the same either may stand."""
     found, wanted = json.loads(ran[1]), found_by_covers(question)
     if ran[0] or ran[2] or question.ends(question.claim["bound_ns"])[1] is None:
         return f"{short(ran)}, and a certificate of pieces would do"
-    of_it, of_reading = ([form["conflicts"], *([case["groups"], [piece["upto"] for piece in case["pieces"]]]
-                         for case in sorted(form["cases"], key=lambda case: case["groups"]))]
+    of_it, of_reading = ([form["conflicts"], *sorted([case["groups"], [piece["upto"] for piece in case["pieces"]]]
+                                                     for case in form["cases"])]
                          for form in (found, wanted or {"conflicts": [], "cases": []}))
     return "" if of_it == of_reading else f"{of_it} by covers, and not {of_reading}"
 
