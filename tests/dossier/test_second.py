@@ -16,7 +16,8 @@ RECHECK = ROOT / "second/recheck"
 FEW: dict[str, Any] = {"client": "192.0.2.10", "servers": [f"192.0.2.{k}" for k in (1, 2, 3)],
                        "false_max": 0, "from": "2001-09-09T01:46:40Z",
                        "to": "2001-09-09T01:47:44Z", "drift_ppb": 100_000, "reading_ns": 0}
-OPEN = {**FEW, "from": "2001-09-09T02:03:20Z", "to": "2001-09-09T02:03:20Z", "bound_ns": 119_000_000}
+# A course can be off by 0.2 ns more than this bound, which is less than a tick: so nothing shows it, nor refutes it.
+OPEN = {**FEW, "from": "2001-09-09T02:03:20Z", "to": "2001-09-09T02:03:20Z", "bound_ns": 118_988_100}
 AT, MS = 1_000_000_010, 4_294_967
 
 
@@ -26,7 +27,7 @@ def folders_of(place: Path) -> dict[str, Path]:
              "refuted": folder_of(place, "refuted", DATA / "chrony-ns.pcap", DATA / "chrony-ns.tight.claim.json")}
     for name, words, changes in (
             ("nothing fits", [f"1:0..9@{AT}", f"2:{-7 * MS}..{-6 * MS}@{AT}"], FEW),
-            ("no evidence", [f"1:0..9@{AT}"], {**FEW, "false_max": 1}), ("open", [f"1:0..{20 * MS}@{AT}"], OPEN)):
+            ("no evidence", [f"1:0..9@{AT}"], {**FEW, "false_max": 1}), ("open", [f"1:0..{20 * MS + 1}@{AT}"], OPEN)):
         found[name] = folder_of(place, name, capture_of(place / f"{name}.pcap", *words), **changes)
     return found
 
