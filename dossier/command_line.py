@@ -250,9 +250,9 @@ def main(words: list[str]) -> int:
         status = run(parsed(words))
         sys.stdout.flush()
         return status
-    except Fault as found:
-        say(found.line)
-        return found.status
+    except Fault as error:
+        say(error.line)
+        return error.status
     except OSError as error:
         sys.stdout = io.StringIO()
         say(f"ntpaudit-dossier: the output can't be written ({error.strerror})")
@@ -399,12 +399,12 @@ def correction_of(given: argparse.Namespace) -> "Correction | None":
     from .premise.tracking import read_tracking
     if (given.tracking and not given.chrony) or (given.evidence and not (given.chrony or given.ntpd)):
         raise fault("--tracking takes --chrony, and --evidence takes --chrony or --ntpd", USAGE)
-    found = configuration(given.chrony, given.ntpd)
-    if found is None:
+    client = configuration(given.chrony, given.ntpd)
+    if client is None:
         return None
     logs = {os.path.basename(path): piped_or_named(path, MOST_OF_A_TEXT) for path in given.tracking or ()}
-    log = read_tracking(logs, found.step_s, now()) if logs else None
-    return correction(given.oscillator_ppb, found, log, now())
+    log = read_tracking(logs, client.step_s, now()) if logs else None
+    return correction(given.oscillator_ppb, client, log, now())
 
 
 def reading_of(given: argparse.Namespace) -> "Proposal":
@@ -421,16 +421,16 @@ def run_draft(given: argparse.Namespace, program: Program) -> int:
     from .premise.leap import read_list
     from .schema import json_text
     from .verdict.draft import DraftCall, claim_text, draft, of_leaps
-    found = correction_of(given)
-    proposed, leaps = found.drift_ppb if found else given.oscillator_ppb, read_list(None)
+    drift = correction_of(given)
+    proposed, leaps = drift.drift_ppb if drift else given.oscillator_ppb, read_list(None)
     drift_ppb = proposed if given.drift_ppb is None else given.drift_ppb
 
     def work(*_: object) -> Written:
-        wanted = DraftCall(given.client, given.day, drift_ppb, found is None and given.drift_ppb is None,
+        wanted = DraftCall(given.client, given.day, drift_ppb, drift is None and given.drift_ppb is None,
                            reading_of(given), given.bound_ns)
         claim, remarks = draft(program, given.captures, wanted)
-        if claim and found:
-            remarks += found.sentences() + found.cautions(claim.first, claim.last)
+        if claim and drift:
+            remarks += drift.sentences() + drift.cautions(claim.first, claim.last)
         if claim:
             remarks += of_leaps(claim, leaps)
         return Written(claim_text(claim) if claim else "", remarks)
@@ -439,7 +439,7 @@ def run_draft(given: argparse.Namespace, program: Program) -> int:
         say(remark)
     if not drafted.text:
         return 1
-    if found and given.evidence:
-        write_named(given.evidence, json_text(found))
+    if drift and given.evidence:
+        write_named(given.evidence, json_text(drift))
     sys.stdout.write(drafted.text)
     return 0

@@ -38,7 +38,7 @@ def matching(pattern: str) -> Rule:
 
 
 def length(least: int, most: int) -> Rule:
-    return Rule(lambda found: least <= len(found) <= most, (("minItems", least), ("maxItems", most)))
+    return Rule(lambda value: least <= len(value) <= most, (("minItems", least), ("maxItems", most)))
 
 
 def is_text(text: str) -> bool:
@@ -86,10 +86,10 @@ Nanoseconds = Annotated[int, within(0, 10**25)]
 def parsed(data: bytes) -> Any:
     """What JSON says; a ValueError if it isn't UTF-8, names a field twice, or holds what is no number."""
     def once(pairs: list[tuple[str, Any]]) -> dict[str, Any]:
-        found = dict(pairs)
-        if len(found) < len(pairs):
+        members = dict(pairs)
+        if len(members) < len(pairs):
             raise Mangled("a name stands there twice")
-        return found
+        return members
 
     def never(word: str) -> NoReturn:
         raise Mangled(word)
@@ -149,9 +149,9 @@ def ruled(kind: Any, is_right: Callable[[Any], object] | None = None) -> Reader:
     reader = reader_of(kind) if get_origin(kind) else None
 
     def read(value: Any) -> Any:
-        found = reader(value) if reader else value
-        if (reader or type(value) in plain) and (is_right is None or is_right(found)):
-            return found
+        result = reader(value) if reader else value
+        if (reader or type(value) in plain) and (is_right is None or is_right(result)):
+            return result
         raise Mangled
     return read
 
@@ -159,14 +159,14 @@ def ruled(kind: Any, is_right: Callable[[Any], object] | None = None) -> Reader:
 def one_of(kinds: list[tuple[bool, Reader]]) -> Reader:
     """The first kind that a value has. Of one that may be left out it is said where the other kind isn't met."""
     def read(value: Any) -> Any:
-        found = Mangled()
+        why = Mangled()
         for is_none, reader in kinds:
             if (value is None) == is_none:
                 try:
                     return reader(value)
                 except Mangled as error:
-                    found = error
-        raise found if len(kinds) == 2 and any(is_none for is_none, _ in kinds) else Mangled()
+                    why = error
+        raise why if len(kinds) == 2 and any(is_none for is_none, _ in kinds) else Mangled()
     return read
 
 
@@ -190,13 +190,13 @@ def list_of(reader: Reader) -> Reader:
     def read(value: Any) -> Any:
         if type(value) is not list:
             raise Mangled
-        found: list[Any] = []
+        items: list[Any] = []
         try:
             for item in value:
-                found.append(reader(item))
+                items.append(reader(item))
         except Mangled as error:
-            raise Mangled(len(found), *error.args) from None
-        return found
+            raise Mangled(len(items), *error.args) from None
+        return items
     return read
 
 
@@ -212,13 +212,13 @@ def dict_of(of_key: Reader, of_item: Reader) -> Reader:
     def read(value: Any) -> Any:
         if type(value) is not dict:
             raise Mangled
-        found = {}
+        items = {}
         for key, item in value.items():
             try:
-                found[of_key(key)] = of_item(item)
+                items[of_key(key)] = of_item(item)
             except Mangled as error:
                 raise Mangled(key, *error.args) from None
-        return found
+        return items
     return read
 
 
@@ -240,18 +240,18 @@ def record_of(kind: Any) -> Reader:
         for name in needed:
             if name not in value:
                 raise Mangled(name)
-        found = {}
+        values = {}
         for name, item in value.items():
             try:
                 if name not in readers:
                     readers[name] = known[name][0], reader_of(known[name][1])
                 field, reader = readers[name]
-                found[field] = reader(item)
+                values[field] = reader(item)
             except Mangled as error:
                 raise Mangled(name, *error.args) from None
             except KeyError:
                 raise Mangled(name) from None
-        return kind(**found)
+        return kind(**values)
     return read
 
 
@@ -278,4 +278,4 @@ def first_difference(one: Any, other: Any, place: str = "") -> tuple[str, Any, A
         parts = [(str(number), a, b) for number, (a, b) in enumerate(zip(one, other))]
     else:
         return None if one == other and type(one) is type(other) else (place, one, other)
-    return next((found for name, a, b in parts if (found := first_difference(a, b, f"{place} {name}"))), None)
+    return next((difference for name, a, b in parts if (difference := first_difference(a, b, f"{place} {name}"))), None)

@@ -47,11 +47,12 @@ def audit_all(folders: list[str], wanted: AuditCall, jobs: int, seconds: int, me
     shown, worst, samples = Progress(len(folders)), 0, list[Sample]()
     jobs = max(1, min(jobs, len(folders)))
     try:
-        for path, found in run_all(folders, partial(audit, wanted), Audited, seconds, jobs, shown):
-            worst = summed(worst, found.status)
-            samples += of_verdict(path, REFUSED) if isinstance(found, Refusal) else found.metrics
+        for path, result in run_all(folders, partial(audit, wanted), Audited, seconds, jobs, shown):
+            worst = summed(worst, result.status)
+            samples += of_verdict(path, REFUSED) if isinstance(result, Refusal) else result.metrics
             shown.clear()
-            print("\n".join([refusal_of(path, found.line)] if isinstance(found, Refusal) else found.lines), flush=True)
+            lines = [refusal_of(path, result.line)] if isinstance(result, Refusal) else result.lines
+            print("\n".join(lines), flush=True)
     finally:
         shown.clear()
     if len(folders) > 1:
@@ -85,8 +86,8 @@ def audited_anew(wanted: AuditCall, path: str, old: Record | None) -> Audited:
         making = Making(folder, wanted.program, wanted.options, wanted.leaps, old or written_in(folder))
         try:
             record = making.record()
-        except Fault as found:
-            record = making.refused(found)
+        except Fault as error:
+            record = making.refused(error)
         text, stale = record_text(record), {*LEFT, *(old.outputs if old else ()), files.SIGNATURE}
         outputs: dict[str, Iterable[bytes]] = {name: blocks_of(name) for name in record.outputs}
         keep_ones_own(folder, record)

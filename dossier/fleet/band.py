@@ -178,22 +178,22 @@ class Band:
         self.hulls: dict[str, dict[int, Piece]] = {}
         """Of each recorder the pieces of the last hour, by the Unix second in which they end."""
 
-    def add(self, found: list[Moment]) -> None:
-        for moment in found:
+    def add(self, moments: list[Moment]) -> None:
+        for moment in moments:
             own = self.hulls.setdefault(moment.recorder, {})
             own.update({piece.to: piece for piece in moment.pieces})
             for second in [second for second in own if second <= moment.end - HOUR]:
                 del own[second]
 
-    def show(self, found: list[Moment], columns: int) -> None:
+    def show(self, moments: list[Moment], columns: int) -> None:
         if not self.is_shown:
-            for moment in found:
+            for moment in moments:
                 print(line_of(moment), flush=True)
             return
-        self.add(found)
+        self.add(moments)
         width = min(max(NARROW, columns - 1), WIDE)
-        lines = [line for moment in found for line in self.head(moment, width)]
-        lines += self.band(found[0], width)
+        lines = [line for moment in moments for line in self.head(moment, width)]
+        lines += self.band(moments[0], width)
         print(f"{UP.format(self.drawn) if self.drawn else ''}{CLEAR}" + "\n".join(lines), flush=True)
         self.drawn = len(lines)
 

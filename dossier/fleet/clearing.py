@@ -63,9 +63,9 @@ def sum_in(days: Folder, day: str, name: str) -> str:
         return days.sum(f"{day}/{name}")
     if not days.has(f"{day}/{name}.zst"):
         return ""
-    tool, found = find_tool("zstd", "zstd isn't installed to unpack captures"), hashlib.sha256()
+    tool, digest = find_tool("zstd", "zstd isn't installed to unpack captures"), hashlib.sha256()
     copy_of(days, f"{day}/{name}.zst", PACKED)
-    status, _ = stream([tool, "-dqc", "--", PACKED], found.update)
+    status, _ = stream([tool, "-dqc", "--", PACKED], digest.update)
     if status:
         raise fault(f"{day}/{name}.zst can't be unpacked")
-    return found.hexdigest()
+    return digest.hexdigest()

@@ -53,7 +53,7 @@ def recordings(folder: Folder) -> tuple[list[Recorded], list[Recorded]]:
     ahead = (int(time.time()) // DAY + 2) * DAY
     for before, behind, begun, name in begun_files(folder):
         recorders.setdefault((before, behind, begun >= ahead), []).append((begun, name))
-    found: tuple[list[Recorded], list[Recorded]] = [], []
+    past_and_ahead: tuple[list[Recorded], list[Recorded]] = [], []
     for (before, _, is_ahead), files in recorders.items():
         state = read_state(folder, before.removesuffix("-"))
         growing = state.files[-1:] if state and state.runs else []
@@ -62,8 +62,8 @@ def recordings(folder: Folder) -> tuple[list[Recorded], list[Recorded]]:
             written = folder.written(name)
             end = min(max(begin, written), after)  # (a copy may have been written at any time)
             grows = name in growing or after == FOREVER and time.time() < written + QUIET
-            found[is_ahead].append(Recorded(name, begin, end, grows))
-    return found
+            past_and_ahead[is_ahead].append(Recorded(name, begin, end, grows))
+    return past_and_ahead
 
 
 def make_days(source: str, target: str, date: str | None, seconds: int, clear_all_but: int | None = None) -> int:
@@ -101,9 +101,9 @@ def plan(source: str, target: str, date: str | None) -> Days:
     today = int(time.time()) // DAY
     with Folder(source) as recorder, Folder(target) as days:
         read_typed(CLAIM, Claim, days.data(CLAIM))
-        (found, ahead), made = recordings(recorder), [name for name in days.names() if is_time(f"{name}T00:00:00Z")]
+        (past, ahead), made = recordings(recorder), [name for name in days.names() if is_time(f"{name}T00:00:00Z")]
         faults = list[Fault]()
-        days_of = {one.name: days_shown(recorder, one.name, faults) for one in [*found, *ahead]}
+        days_of = {one.name: days_shown(recorder, one.name, faults) for one in [*past, *ahead]}
     shown = [(folder_of(day), name) for name, own in days_of.items() for day in own]
     later = [one.name for one in ahead if min(days_of[one.name], default=today + 1) > today]
     later += [name for name in made if day_named(name) > today]
@@ -117,9 +117,9 @@ def plan(source: str, target: str, date: str | None) -> Days:
     if date:
         return Days(notes, [folder_of(day_named(date))], shown, status=status)
     oldest = today - MOST_DAYS_BACK
-    first = max(min((recorded.begin // DAY + 1 for recorded in found), default=today), oldest)
+    first = max(min((recorded.begin // DAY + 1 for recorded in past), default=today), oldest)
     before = sorted(number for number in map(day_named, made) if number < today)
-    newest = max([*before, *(one.end // DAY for one in found)], default=today)
+    newest = max([*before, *(one.end // DAY for one in past)], default=today)
     if first < today and max(today - newest, first - max(before, default=first)) > MOST_DAYS_BACK:
         raise fault(f"more than {MOST_DAYS_BACK} days went by since the newest day or recording: is the clock right? "
                     "--date makes a day of them", USAGE)

@@ -32,7 +32,7 @@ NO_DAY = "its name is no day, and it has no audit.json"
 UNKNOWN = f"{AUDIT} was neither made nor verified here, or is of another {CLAIM}"
 
 
-class Found(NamedTuple):
+class DayFolder(NamedTuple):
     """What is known of a folder: the day of its claim's span, its record and entry, and the sums of its captures. What
     isn't counted has the day after which the folder is called, if that is one."""
 
@@ -66,14 +66,14 @@ def is_day(name: str) -> bool:
 def machines_of(folders: list[str], others: Collection[str] = ()) -> dict[str, list[str]]:
     """The machines whose days, or folders of days, are named, each with the names of days; none if all are meant. A
     day's folder is called after it, or is one of these others."""
-    found: dict[str, list[str]] = {}
+    machines: dict[str, list[str]] = {}
     for folder in folders:
         above, name = os.path.split(folder)
         if is_day(name) or folder in others:
-            found.setdefault(above or ".", []).append(name)
+            machines.setdefault(above or ".", []).append(name)
         else:
-            found.setdefault(folder, [])
-    return found
+            machines.setdefault(folder, [])
+    return machines
 
 
 def year_of(wanted: YearCall, machine: str, names: list[str]) -> Year:
@@ -81,15 +81,15 @@ def year_of(wanted: YearCall, machine: str, names: list[str]) -> Year:
     with Folder(machine) as folder:
         twice = [name for name, number in Counter(names).items() if number > 1]
         days = sorted(set(names)) or [name for name in folder.names() if folder.is_folder(name)]
-        found = [one for name in days[:MOST_FOLDERS] for one in found_in(wanted, folder, name)]
+        folders = [one for name in days[:MOST_FOLDERS] for one in day_folders(wanted, folder, name)]
     left = days[MOST_FOLDERS:]
-    claims = {same(one.claim): one.claim for one in found if one.claim}
-    common = max(claims, key=Counter(same(one.claim) for one in found if one.claim).__getitem__, default="")
+    claims = {same(one.claim): one.claim for one in folders if one.claim}
+    common = max(claims, key=Counter(same(one.claim) for one in folders if one.claim).__getitem__, default="")
     begin, end = seconds_of(f"{wanted.year}-01-01T00:00:00Z"), seconds_of(f"{wanted.year}-12-31T00:00:00Z") + DAY
     today = wanted.at // DAY * DAY
     kept, beside, others = dict[str, Told](), dict[str, Told](), [f"{name} is named twice" for name in twice]
     others += [f"{plain(name)}: {len(left)} folders from it on are more than {MOST_FOLDERS}" for name in left[:1]]
-    for one in sorted(found, key=lambda one: [*WORST_FIRST, one.told.verdict].index(one.told.verdict)):
+    for one in sorted(folders, key=lambda one: [*WORST_FIRST, one.told.verdict].index(one.told.verdict)):
         told, first = one.told, seconds_of(f"{one.told.date}T00:00:00Z") if one.told.date else begin
         if not begin <= first < min(end, today):
             others += [f"{told.folder}: {told.date} hasn't ended yet"] if first >= today else []
@@ -102,9 +102,9 @@ def year_of(wanted: YearCall, machine: str, names: list[str]) -> Year:
         else:
             kept[told.date] = told
     dates = [day_of(second) for second in range(begin, min(end, today), DAY)]
-    made = {one.made: None for one in found if one.made and one.told.date in kept}
+    made = {one.made: None for one in folders if one.made and one.told.date in kept}
     told_of_all = [kept.get(date) or beside.get(date) or Told(date, MISSING) for date in dates]
-    captures = {sum_ for one in found if kept.get(one.told.date) is one.told
+    captures = {sum_ for one in folders if kept.get(one.told.date) is one.told
                 for sum_ in few_of(one.captures, 366 * wanted.machines)}
     path = machine if machine.isprintable() else plain(machine)  # (a line feed would make a line of a file of sums)
     return Year(plain(machine), told_of_all, claims.get(common), sorted(others), list(made), sorted(captures),
@@ -141,8 +141,8 @@ def packed(year: Year) -> bytes:
 
 
 def unpacked(data: bytes) -> Year:
-    found: Year = typed(Year, json.loads(decompress(data)))
-    return found
+    year: Year = typed(Year, json.loads(decompress(data)))
+    return year
 
 
 def meet(met: dict[int, set[int]], one: int, other: int) -> None:
@@ -156,12 +156,12 @@ def same(claim: Claim) -> str:
     return repr({**vars(claim), "from_": "", "to": ""})
 
 
-def found_in(wanted: YearCall, folder: Folder, name: str) -> Iterator[Found]:
+def day_folders(wanted: YearCall, folder: Folder, name: str) -> Iterator[DayFolder]:
     """What is known of the days that a folder of one has: one, if it is as it should be."""
     named = name if is_day(name) else ""
     try:
         if not named and not folder.has(f"{name}/{AUDIT}"):
-            yield Found(Told("", NOT_COUNTED, plain(name), NO_DAY))
+            yield DayFolder(Told("", NOT_COUNTED, plain(name), NO_DAY))
             return
         written, by = read_record(folder.data(f"{name}/{AUDIT}")), wanted.signed.get(f"{folder.path}/{name}", "")
         record = wanted.known.shown(folder.sum(f"{name}/{AUDIT}"), written)
@@ -169,13 +169,13 @@ def found_in(wanted: YearCall, folder: Folder, name: str) -> Iterator[Found]:
             record, by = written, signer
         if record and not record.refusal and folder.sum(f"{name}/{CLAIM}") != record.inputs.get(CLAIM):
             record = None
-    except Fault as found:
-        yield Found(Told(named, NOT_COUNTED, plain(name), plain(found.words)))
+    except Fault as error:
+        yield DayFolder(Told(named, NOT_COUNTED, plain(name), plain(error.words)))
         return
     if record is None or record.refusal:
         verdict, why = (REFUSED, record.refusal.line) if record and record.refusal else (NOT_VERIFIED, UNKNOWN)
         told = Told(named, verdict, plain(name), plain(why), name=written.name, by=by if record else "")
-        yield Found(told if named else replace(told, verdict=NOT_COUNTED), made=record.program if record else None)
+        yield DayFolder(told if named else replace(told, verdict=NOT_COUNTED), made=record.program if record else None)
     else:
         dispute = plain(wanted.known.dispute(record))
         yield from (told_of(name, entry, record, by, dispute) for entry in record_by(wanted.leaps, record).entries)
@@ -187,21 +187,21 @@ def signer_of(signers: Signers, folder: Folder, name: str) -> str:
     if signers.given is None or not folder.has(f"{name}/{SIGNATURE}"):
         return ""
     with Folder(os.path.join(folder.path, name)) as day:
-        found = signers.signature_of(day)
+        signature = signers.signature_of(day)
         is_same = day.sum(AUDIT) == folder.sum(f"{name}/{AUDIT}")
-    is_its_own = found.signer == machine or found.signer.endswith(f"@{machine}")
-    return found.signer if found.state == GOOD and is_same and is_its_own else ""
+    is_its_own = signature.signer == machine or signature.signer.endswith(f"@{machine}")
+    return signature.signer if signature.state == GOOD and is_same and is_its_own else ""
 
 
-def told_of(name: str, entry: Entry, record: Record, by: str, dispute: str) -> Found:
+def told_of(name: str, entry: Entry, record: Record, by: str, dispute: str) -> DayFolder:
     """An entry, if it is of a whole day. What the second program disputes has no verdict."""
     claim, date = entry.claim, entry.claim.from_[:10]
     if claim.first % DAY or claim.last != claim.first + DAY:
         why = f"{claim.from_} to {claim.to} is no day"
-        return Found(Told(name if is_day(name) else "", NOT_COUNTED, plain(name), why), claim)
+        return DayFolder(Told(name if is_day(name) else "", NOT_COUNTED, plain(name), why), claim)
     told = Told(date, DISPUTED, plain(name), dispute, name=record.name, by=by) if dispute else \
         Told(date, entry.verdict, plain(name), reason(entry), entry.least_ns, known_error(entry), record.name, by)
-    return Found(told, claim, record.program, record.recordings)
+    return DayFolder(told, claim, record.program, record.recordings)
 
 
 def known_error(entry: Entry) -> int:

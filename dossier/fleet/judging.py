@@ -124,8 +124,8 @@ class Judging:
         of fewer captures."""
         try:
             return self.program.run(*words, sums=sums).text
-        except Fault as found:
-            if found.status == REFUSED and found.line.endswith("sums differ capture") and words[2] == JOINED:
+        except Fault as error:
+            if error.status == REFUSED and error.line.endswith("sums differ capture") and words[2] == JOINED:
                 raise Other from None
             raise
 

@@ -42,12 +42,12 @@ def keep_all(folders: list[str], years: int | None, force: bool, known: Known, s
         if words:
             note(f"ntpaudit-dossier: {words}")
             worst = USAGE
-    for path, found in run_all(folders, lambda path, _: keep(path, path in over, known), Said, seconds):
-        line = found.line if isinstance(found, Refusal) else found.lines[0]
+    for path, result in run_all(folders, lambda path, _: keep(path, path in over, known), Said, seconds):
+        line = result.line if isinstance(result, Refusal) else result.lines[0]
         if line == GONE:
             remove_folder(path)
         print(f"{label(path)}: {plain(line)}", flush=True)
-        worst = max(worst, found.status)
+        worst = max(worst, result.status)
     return worst
 
 
@@ -76,13 +76,13 @@ def over_of(lasts: dict[str, int], years: int, force: bool, known: Known) -> tup
                 "taken away (--force does)"
         return set(), words if over else ""
     known.note_call(now)
-    days, taken, found = max(1, (now - before) // DAY) if before else len(lasts), Counter[str](), set[str]()
+    days, taken, chosen = max(1, (now - before) // DAY) if before else len(lasts), Counter[str](), set[str]()
     for path in over:
         machine = os.path.dirname(path)
-        if len(found) < len(lasts) // TENTH and taken[machine] < days:
+        if len(chosen) < len(lasts) // TENTH and taken[machine] < days:
             taken[machine] += 1
-            found.add(path)
-    return found, ""
+            chosen.add(path)
+    return chosen, ""
 
 
 def keep(path: str, is_over: bool, known: Known) -> Said:
@@ -126,12 +126,12 @@ def pack_all(folder: Folder, names: list[str]) -> None:
 def pack(folder: Folder, name: str, number: int) -> str:
     """Packs a capture into a file of one's own, of which it is seen that it unpacks to the same."""
     tool = find_tool("zstd", "zstd isn't installed to pack captures")
-    own, path, found = f"{number}.pcap", f"{number}.zst", hashlib.sha256()
+    own, path, digest = f"{number}.pcap", f"{number}.zst", hashlib.sha256()
     sum_ = copy_of(folder, name, own)
     with Copy(path) as copy:
         status, _ = stream([tool, "-qc", "--", own], copy.take)
-    unpacked, _ = stream([tool, "-dqc", "--", path], found.update)
-    if status or unpacked or found.hexdigest() != sum_:
+    unpacked, _ = stream([tool, "-dqc", "--", path], digest.update)
+    if status or unpacked or digest.hexdigest() != sum_:
         raise fault(f"{name} can't be packed by zstd", DEVICE)
     return path
 

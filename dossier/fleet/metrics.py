@@ -101,10 +101,10 @@ def of_record(folder: str, record: Record) -> Iterator[Sample]:
 
 def metrics_text(samples: Iterable[Sample]) -> str:
     """The text of a file of metrics. Of two folders of one name the greater value counts: none hides a verdict."""
-    found: dict[str, dict[str, int]] = {name: {} for name in HELP}
+    figures: dict[str, dict[str, int]] = {name: {} for name in HELP}
     for name, labels, value in samples:
-        found[name][labels] = max(value, found[name].get(labels, value))
-    return "".join(line for name, values in found.items() if values for line in lines_of(name, values))
+        figures[name][labels] = max(value, figures[name].get(labels, value))
+    return "".join(line for name, values in figures.items() if values for line in lines_of(name, values))
 
 
 def lines_of(name: str, values: dict[str, int]) -> Iterator[str]:
@@ -120,7 +120,7 @@ def write_metrics(path: str, samples: Iterable[Sample]) -> int:
     takes nothing away from what was found."""
     try:
         write_named(path, metrics_text(samples).encode("utf-8", "backslashreplace"))
-    except Fault as found:
-        note(found.line)
-        return found.status
+    except Fault as error:
+        note(error.line)
+        return error.status
     return 0

@@ -62,31 +62,31 @@ class NowCall(NamedTuple):
 def show_now(wanted: NowCall, metrics: str | None) -> int:
     """Prints a line for each recorder, the worst first, and writes metrics. The status is 1 if any clock isn't shown,
     or a fault's."""
-    found = moments(wanted)
-    tell_bad(found)
-    for moment in found:
+    looks = moments(wanted)
+    tell_bad(looks)
+    for moment in looks:
         print(line_of(moment), flush=True)
-    return max(status_of(found), write_metrics(metrics, [one for each in found for one in metrics_of(each)])
+    return max(status_of(looks), write_metrics(metrics, [one for each in looks for one in metrics_of(each)])
                if metrics else 0)
 
 
-def tell_bad(found: list[Moment]) -> None:
-    for moment in found:
+def tell_bad(looks: list[Moment]) -> None:
+    for moment in looks:
         for line in moment.bad:
             note(line)
 
 
-def status_of(found: list[Moment]) -> int:
+def status_of(looks: list[Moment]) -> int:
     """1 if any clock isn't shown, else 2 if a file was refused."""
-    is_shown = all(moment.is_shown for moment in found)
-    return INPUT_REFUSED * any(moment.bad for moment in found) if is_shown else NOT_SHOWN
+    is_shown = all(moment.is_shown for moment in looks)
+    return INPUT_REFUSED * any(moment.bad for moment in looks) if is_shown else NOT_SHOWN
 
 
 def follow(wanted: NowCall, metrics: str | None, seconds: int, has_colour: bool) -> int:
     """Does so again and again until it is broken off: a line each time; on a terminal always the same lines, and below
     them a band of the last hour, of the worst recorder."""
     screen = Band(sys.stdout.isatty(), has_colour and not os.environ.get("NO_COLOR"))
-    looks, status = 0, 0
+    number, status = 0, 0
     try:
         if screen.is_shown:
             with suppress(Fault):
@@ -94,21 +94,21 @@ def follow(wanted: NowCall, metrics: str | None, seconds: int, has_colour: bool)
         while True:
             at = time.monotonic()
             try:
-                found = moments(wanted)
-                status = status_of(found)
-                tell_bad(found)
-                screen.show(found, shutil.get_terminal_size().columns)
+                looks = moments(wanted)
+                status = status_of(looks)
+                tell_bad(looks)
+                screen.show(looks, shutil.get_terminal_size().columns)
                 if metrics:
-                    write_metrics(metrics, [one for each in found for one in metrics_of(each)])
+                    write_metrics(metrics, [one for each in looks for one in metrics_of(each)])
             except Fault as wrong:
                 status = wrong.status
                 note(wrong.line)
-            looks += 1
+            number += 1
             time.sleep(max(0.0, at + seconds - time.monotonic()))
     except KeyboardInterrupt:
         if screen.is_shown:
             print()
-        print(f"ended after {looks} looks, the last with status {status}", flush=True)
+        print(f"ended after {number} looks, the last with status {status}", flush=True)
         return status
 
 
@@ -117,16 +117,16 @@ def moments(wanted: NowCall) -> list[Moment]:
     side: none holds up the others, or blinds them."""
     told = {moment.recorder: moment for moment in answer(lambda *_: recorders(wanted), list[Moment])}
     jobs = min(len(told), len(os.sched_getaffinity(0)))
-    found, most = [], MOST_SECONDS * ceil_div(wanted.minutes, HOUR)
+    looks, most = [], MOST_SECONDS * ceil_div(wanted.minutes, HOUR)
     for recorder, result in run_all(list(told), partial(look, wanted), Moment, most, jobs):
-        found.append(replace(told[recorder], verdict=REFUSED, bad=[plain(result.line)])
+        looks.append(replace(told[recorder], verdict=REFUSED, bad=[plain(result.line)])
                      if isinstance(result, Refusal) else result)
-    return sorted(found, key=lambda moment: moment.badness)
+    return sorted(looks, key=lambda moment: moment.badness)
 
 
 def claim_of(wanted: NowCall) -> Claim:
-    found: Claim = read_typed(os.path.basename(wanted.claim), Claim, data_named(wanted.claim))
-    return found
+    claim: Claim = read_typed(os.path.basename(wanted.claim), Claim, data_named(wanted.claim))
+    return claim
 
 
 def recorders(wanted: NowCall) -> list[Moment]:
@@ -147,35 +147,35 @@ def look(wanted: NowCall, recorder: str, _: int) -> Moment:
         state = read_state(folder, recorder)
         runs = state is not None and state.runs
         span = MINUTE * wanted.minutes
-        found = latest(folder, files, state.files if state and runs else [], span + MARGIN, end, bad)
+        newest = latest(folder, files, state.files if state and runs else [], span + MARGIN, end, bad)
     moment = Moment(recorder, end - span, end, NO_EVIDENCE, claim.bound_ns, len(claim.grouped),
-                    claim.needed, found.last, age_of(state, runs, found, now, end), found.ahead,
+                    claim.needed, newest.last, age_of(state, runs, newest, now, end), newest.ahead,
                     troubles=[] if state is None else state.troubles if runs else ["dead"],
                     lost=state.lost if state else 0, left_out=state.left_out if state else 0)
     kept = sys.maxsize if state is None else state.kept * runs
-    if found.last and kept:  # (what was recorded before a recorder that has nothing yet may be older than a boot)
-        moment = told_of(wanted, claim, found, moment, kept)
+    if newest.last and kept:  # (what was recorded before a recorder that has nothing yet may be older than a boot)
+        moment = told_of(wanted, claim, newest, moment, kept)
     return replace(moment, bad=list(map(plain, dict.fromkeys(bad))))
 
 
-def age_of(state: State | None, runs: bool, found: Latest, now: int, end: int) -> int | None:
+def age_of(state: State | None, runs: bool, newest: Latest, now: int, end: int) -> int | None:
     """Seconds since the last record was made: by the recorder's word, or by the machine's clock; the more of both if it
     doesn't run, since the machine may have been begun again."""
-    by_clock = max(0, end - found.last) if found.last else None
+    by_clock = max(0, end - newest.last) if newest.last else None
     if state and 0 < state.last <= now:
         return max(now - state.last, 0 if runs else by_clock or 0)
     return by_clock
 
 
-def told_of(wanted: NowCall, claim: Claim, found: Latest, moment: Moment, kept: int) -> Moment:
+def told_of(wanted: NowCall, claim: Claim, newest: Latest, moment: Moment, kept: int) -> Moment:
     """What the program says of the last minutes, of which there are records. The recorder that runs has kept so many.
     Fewer groups than it takes to see a step, but more than may be wrong, say how the clock is now, and no more."""
-    whole = Classic(found.path)
-    own = replace(claim, from_=civil(found.last), to=civil(found.last))
+    whole = Classic(newest.path)
+    own = replace(claim, from_=civil(newest.last), to=civil(newest.last))
     keep(CLAIM, own.text)
-    hearing = Hearing(wanted.program, own, whole, found.path)
+    hearing = Hearing(wanted.program, own, whole, newest.path)
     limit, begun = max(SILENT, 2 * hearing.poll), len(whole.extent.stamps) - kept
-    if max(moment.age or 0, moment.end - found.last) > limit:  # (its word may be another's)
+    if max(moment.age or 0, moment.end - newest.last) > limit:  # (its word may be another's)
         return moment
     silent = set(filter(hearing.is_silent, own.servers))
     heard = (server for server in own.servers if server not in silent and hearing.requests[server] >= begun)

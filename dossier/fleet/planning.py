@@ -43,12 +43,12 @@ def planned(folders: list[str], named: set[str], seconds: int) -> Plan:
     beside = {folder: days_beside(folder, machines[files.absolute(folder)], seconds)
               for folder in folders if files.absolute(folder) in machines}
     counted = named.union(map(files.absolute, stated))
-    for folder, found in beside.items():
-        if not isinstance(found, Refusal):
-            others = [day for day in found if files.absolute(day) not in counted]
+    for folder, result in beside.items():
+        if not isinstance(result, Refusal):
+            others = [day for day in result if files.absolute(day) not in counted]
             below[folder] += others
             counted.update(map(files.absolute, others))
-            found.clear()
+            result.clear()
     return Plan([each for folder in folders for each in (*below[folder], folder)], stated, beside)
 
 
@@ -69,8 +69,8 @@ def days_below(path: str, named: set[str], seconds: int) -> list[str]:
         with Folder(path) as folder:
             days = days_of(folder, named) if signed_in(folder) == files.YEAR else {}
             return [f"{name} {day}" for day, name in days.items() if is_there(day)]
-    found = run_one(path, work, list[str], seconds)
-    return [] if isinstance(found, Refusal) else found
+    result = run_one(path, work, list[str], seconds)
+    return [] if isinstance(result, Refusal) else result
 
 
 def days_beside(path: str, machines: list[str], seconds: int) -> list[str] | Refusal:
@@ -79,17 +79,17 @@ def days_beside(path: str, machines: list[str], seconds: int) -> list[str] | Ref
     def work(path: str, _: int) -> list[str]:
         with Folder(path) as folder:
             inner = {os.path.join(path, name) for name in folder.names() if folder.is_folder(name) and not is_day(name)}
-        found = list[str]()
+        places = list[str]()
         for place in sorted({files.absolute(place): place for place in (path, *inner, *machines)}.values()):
             try:
                 with Folder(place) as folder:
-                    found += [os.path.join(place, name) for name in folder.names()
+                    places += [os.path.join(place, name) for name in folder.names()
                               if is_day(name) and folder.is_folder(name)]
             except Fault:
-                found.append(place)
-            if len(found) > MOST_DAYS_AT_ONCE:
+                places.append(place)
+            if len(places) > MOST_DAYS_AT_ONCE:
                 raise fault(f"more than {MOST_DAYS_AT_ONCE:,} days are in the folder")
-        return found
+        return places
     return run_one(path, work, list[str], seconds)
 
 

@@ -46,8 +46,8 @@ class Signers:
     def __init__(self, path: str | None):
         try:
             self.given = data_named(path) if path is not None else None
-        except Fault as found:
-            raise found.of("the file of signers") from None
+        except Fault as error:
+            raise error.of("the file of signers") from None
 
     def signature_of(self, folder: Folder) -> Signature:
         """The signature of a folder, over the very bytes of audit.json that are read of it. It is looked at if there
@@ -68,15 +68,15 @@ class Signers:
         key = KEY.search(said)
         if status or not key:
             return Signature(UNFIT, at)
-        found = Signature(STRANGER, at, key=f"{key[1]} {key[2]}")
+        signature = Signature(STRANGER, at, key=f"{key[1]} {key[2]}")
         on = ["-O", f"verify-time={local(at)}"] if is_time(at) else []
         _, named, error = self.keygen("find-principals", *on, "-f", SIGNERS)
         for signer in named.splitlines():
             status, _, error = self.keygen("verify", *on, "-f", SIGNERS, "-I", signer, "-n", NAMESPACE)
             if not status:
-                return found._replace(state=GOOD, signer=signer)
+                return signature._replace(state=GOOD, signer=signer)
         lines = [line for line in error.splitlines() if line]
-        return found._replace(why=lines[0] if lines else "")
+        return signature._replace(why=lines[0] if lines else "")
 
     def keygen(self, *words: str) -> tuple[int, str, str]:
         tool = find_tool("ssh-keygen", NO_KEYGEN)
@@ -106,14 +106,14 @@ def local(time: str) -> str:
         return datetime.now().strftime("%Y%m%d%H%M%S")
 
 
-def in_words(found: Signature) -> str:
+def in_words(signature: Signature) -> str:
     """What a signature comes to."""
-    at = f" at {found.at}" if found.at else ""
+    at = f" at {signature.at}" if signature.at else ""
     by = {
         NONE: "nobody signed it",
         UNSEEN: f"signed{at}, it says; the signature wasn't looked at (--signers FILE does)",
-        GOOD: f"signed{at} by {found.signer}, with the key {found.key}",
+        GOOD: f"signed{at} by {signature.signer}, with the key {signature.key}",
         UNFIT: f"the signature doesn't fit: {SIGNATURE} isn't of this {AUDIT}, so one of them was changed",
-        STRANGER: f"signed{at} with a key that may not sign by the file of signers: {found.key}",
-    }[found.state]
-    return f"{by} ({found.why})" if found.why else by
+        STRANGER: f"signed{at} with a key that may not sign by the file of signers: {signature.key}",
+    }[signature.state]
+    return f"{by} ({signature.why})" if signature.why else by

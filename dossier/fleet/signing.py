@@ -33,9 +33,9 @@ def sign_all(folders: list[str], key: str, known: Known, seconds: int, leaps: Le
     """Signs each folder, and prints a line for each. The status is the worst. The key is asked for between two looks at
     a folder, by the process that has the terminal."""
     worst, key = 0, os.path.abspath(key)
-    for path, found in run_all(folders, partial(to_be_signed, known, leaps, signers), Written, seconds):
-        told: Written | Said | Refusal = found
-        if isinstance(found, Written) and (text := found.text.encode()):
+    for path, result in run_all(folders, partial(to_be_signed, known, leaps, signers), Written, seconds):
+        told: Written | Said | Refusal = result
+        if isinstance(result, Written) and (text := result.text.encode()):
             try:
                 told = run_one(path, partial(sign, known, leaps, text, signature_by(key, text)), Said, seconds)
             except Fault as refused:
@@ -66,11 +66,11 @@ def to_be_signed(known: Known, leaps: LeapList, signers: Signers, path: str, _: 
             return Written("", [f"{DISPUTED}: {words}"], NOT_SHOWN)
         if changed := change_of(folder, record):
             return Written("", [changed], NOT_SHOWN)
-        found = record_by(leaps, seen)
-        if found.verdicts != seen.verdicts:
+        signed = record_by(leaps, seen)
+        if signed.verdicts != seen.verdicts:
             raise fault("by your own list of leap seconds it says something else: name the list by which it was "
                         "verified (--leap-seconds)", USAGE)
-        return Written(record_text(replace(found, signed=now())).decode())
+        return Written(record_text(replace(signed, signed=now())).decode())
 
 
 def sign(known: Known, leaps: LeapList, signed: bytes, signature: bytes, path: str, _: int) -> Said:

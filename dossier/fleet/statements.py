@@ -118,9 +118,9 @@ def stated_of(year: Year, file: str, sums: bytes) -> Stated:
 
 def read_lines(data: bytes) -> list[Line]:
     """The lines of a file of days."""
-    found = [LINE.fullmatch(line) for line in data.decode("utf-8", "surrogateescape").splitlines()]
-    lines = [Line(*line.groups()) for line in found if line]
-    if len(lines) < len(found):
+    matches = [LINE.fullmatch(line) for line in data.decode("utf-8", "surrogateescape").splitlines()]
+    lines = [Line(*line.groups()) for line in matches if line]
+    if len(lines) < len(matches):
         raise fault("a file of days isn't one")
     if any(len(line.path) > MOST_OF_A_PATH for line in lines):
         raise fault(f"a file of days names a path of more than {MOST_OF_A_PATH:,} characters")
@@ -170,20 +170,21 @@ def difference(folder: Folder, known: Known, leaps: LeapList, signers: Signers =
 
 def compared(folder: Folder, known: Known, leaps: LeapList, signers: Signers) -> tuple[str, list[str]]:
     """The same, and the days that aren't shown."""
-    found = read_statements(folder.data(YEAR))
+    statements = read_statements(folder.data(YEAR))
     twins, years = Twins(), list[bytes]()
-    for stated in found.machines:
+    for stated in statements.machines:
         if sum_of(folder.data(stated.file)) != stated.sha256:
             return f"{label(stated.file)} isn't the file that {YEAR} names", []
         if wrong := has_one_machine(folder, stated):
             return wrong, []
-        year = year_stated(folder, stated, YearCall(found.year, known, leaps, seconds_of(found.made), signers))
+        wanted = YearCall(statements.year, known, leaps, seconds_of(statements.made), signers)
+        year = year_stated(folder, stated, wanted)
         if wrong := other_days(folder, stated, year):
             return wrong, []
         twins.add(year)
         years.append(packed(year))
     hidden = list[str]()
-    for number, (stated, data) in enumerate(zip(found.machines, years)):
+    for number, (stated, data) in enumerate(zip(statements.machines, years)):
         year = twins.of(number, unpacked(data))
         own = stated if year.days else replace(stated, days=0)
         if stated_of(year, stated.file, folder.data(stated.file)) != own:

@@ -71,22 +71,22 @@ class Verifier:
         in it. An audit that was refused is tried again: it is refused for the same reason, or that is a difference."""
         data = audit_json(folder)
         record, form = read_any(data), form_of(data)
-        if found := "" if record.refusal else change_of(folder, record):
-            return Verified(found, [], None)
+        if difference := "" if record.refusal else change_of(folder, record):
+            return Verified(difference, [], None)
         is_other = record.program.sha256 != self.program.made.sha256
         making = Making(folder, self.program, record.options, self.leaps, record)
         made = replace(making.record(earlier_of(folder, record) if is_other else None), signed=record.signed)
-        found = self.compared(folder, record, made, is_other, form < VERSION)
+        difference = self.compared(folder, record, made, is_other, form < VERSION)
         notes = ["by another build of the program than the audit's"] if is_other else []
         notes += sorted({reason(entry) for entry in made.entries if entry.verdict == UNSUPPORTED})
         notes += counted_once(made)
-        if not found:
+        if not difference:
             if form == VERSION:
                 self.known.add(sum_of(data), made)
             else:
                 notes.append(OLDER.format(form))
             notes += self.judged_twice(made, making.capture_of)
-        return Verified(found, notes, made)
+        return Verified(difference, notes, made)
 
     def judge(self, folder: Folder) -> Verified:
         """The same by the answers alone: each input and answer is held to its sum, and the program judges each answer.
@@ -95,11 +95,11 @@ class Verifier:
         try:
             if form_of(audit_json(folder)) < VERSION:
                 raise Other
-            found, capture = Judging(folder, self.program, self.leaps).judged(record)
+            difference, capture = Judging(folder, self.program, self.leaps).judged(record)
         except Other:
             return self.verify(folder)
-        if found:
-            return Verified(found, [], None)
+        if difference:
+            return Verified(difference, [], None)
         return Verified("", self.judged_twice(record, lambda _: capture), record, is_judged=True)
 
     def judged_twice(self, made: Record, capture_of: Callable[[Entry], str]) -> list[str]:
@@ -110,8 +110,8 @@ class Verifier:
         for entry in closed:
             try:
                 disputes += self.second.disputes(entry, capture_of(entry))
-            except Fault as found:
-                faults.append(found)
+            except Fault as error:
+                faults.append(error)
         if faults and not disputes:
             raise faults[0]
         if closed:
@@ -176,10 +176,10 @@ class Comparison:
 
     def __init__(self, path: str):
         self.opened = own(path)
-        self.at, self.line, self.found = 0, 1, ""
+        self.at, self.line, self.difference = 0, 1, ""
 
     def take(self, block: bytes) -> None:
-        if self.found:
+        if self.difference:
             return
         own = self.opened.read(len(block))
         if own == block:
@@ -188,13 +188,13 @@ class Comparison:
         k = next((k for k, (a, b) in enumerate(zip(block, own)) if a != b), min(len(block), len(own)))
         kept, made = (text[k : k + SHOWN].decode("ascii", "backslashreplace") for text in (block, own))
         line = self.line + block[:k].count(b"\n")
-        self.found = f"from byte {self.at + k} on (line {line}) it{in_words_of('', kept, made)}"
+        self.difference = f"from byte {self.at + k} on (line {line}) it{in_words_of('', kept, made)}"
 
     def end(self) -> str:
         """What was found; else there is more of one's own."""
         rest = self.opened.read(SHOWN).decode("ascii", "backslashreplace")
         self.opened.close()
-        return self.found or f"after {self.at} bytes it{in_words_of('', '', rest)}"
+        return self.difference or f"after {self.at} bytes it{in_words_of('', '', rest)}"
 
 
 def verify_all(folders: list[str], verifier: Verifier, signers: Signers, seconds: int, how: How = How()) -> int:
@@ -219,11 +219,11 @@ def verify_all(folders: list[str], verifier: Verifier, signers: Signers, seconds
         who = signers if is_signed else Signers(None)
         return verify(verifier, signers, who, path, named, how._replace(answers=how.answers and path not in drawn))
     for path, came in run_all([path for path in plan.every if not is_left(path)], work, Compared, seconds):
-        found = Compared(came.status, [came.line]) if isinstance(came, Refusal) else came
-        if how.answers and found.sum and found.is_same:
-            verifier.known.believed.add(bytes.fromhex(found.sum))
-        twins = seen.twins(path, found.claims, found.captures)
-        told.tell(path, found, [f"({words})" for words in twins], plan.stated)
+        result = Compared(came.status, [came.line]) if isinstance(came, Refusal) else came
+        if how.answers and result.sum and result.is_same:
+            verifier.known.believed.add(bytes.fromhex(result.sum))
+        twins = seen.twins(path, result.claims, result.captures)
+        told.tell(path, result, [f"({words})" for words in twins], plan.stated)
     if how.sample is not None:
         told.say(likelihoods(len(drawn), len(names)))
     if how.answers:
@@ -242,15 +242,15 @@ class Told:
     def say(self, line: str) -> None:
         print(plain(line), flush=True)
 
-    def tell(self, path: str, found: Compared, more: list[str], stated: dict[str, str]) -> None:
-        for line in [*found.lines, *more]:
+    def tell(self, path: str, result: Compared, more: list[str], stated: dict[str, str]) -> None:
+        for line in [*result.lines, *more]:
             print(f"{label(path)}: {plain(line)}", flush=True)
-        status = (0 if found.is_same else NOT_SHOWN) if self.as_signed else found.status
+        status = (0 if result.is_same else NOT_SHOWN) if self.as_signed else result.status
         self.worst = summed(self.worst, status)
-        if not found.is_same:
+        if not result.is_same:
             self.others.append(label(path))
-        self.of_years += found.hidden
-        if verdicts := {verdict for verdict in found.verdicts if verdict != YES}:
+        self.of_years += result.hidden
+        if verdicts := {verdict for verdict in result.verdicts if verdict != YES}:
             self.hidden[path in stated].append(f"{label(path)} {' and '.join(sorted(verdicts))}")
 
     def end(self) -> int:
@@ -294,14 +294,14 @@ def verify(verifier: Verifier, signers: Signers, who: Signers, path: str, named:
                 findings += filter(None, [differs])
                 lines = [*(findings or [year_words(verifier.known)]), *(f"({n})" for n in notes)]
                 return Compared(NOT_SHOWN if findings else 0, lines, not findings, hidden=hidden)
-            found = before(verifier, folder, how) if how.known else None
+            earlier = before(verifier, folder, how) if how.known else None
             difference, others, made, is_judged = \
-                found or (verifier.judge(folder) if how.answers else verifier.verify(folder))
+                earlier or (verifier.judge(folder) if how.answers else verifier.verify(folder))
             data = sum_of(audit_json(folder))
             if is_judged and not difference:
                 verifier.known.add_answers(data, verifier.program.made.sha256, now())
-    except Fault as found:
-        return Compared(found.status, [*findings, found.line, *(f"({note})" for note in notes)])
+    except Fault as error:
+        return Compared(error.status, [*findings, error.line, *(f"({note})" for note in notes)])
     findings += [difference] if difference else []
     if made and (words := verifier.known.dispute(made)):
         findings.insert(0, f"{DISPUTED}: {words}")

@@ -98,10 +98,10 @@ def read_envelope(text: bytes) -> Envelope:
     pieces = [dict(zip(PIECE, line.split())) for line in lines[width :: width + 1]]
     bound, least = closing["bound_ns"], closing.get("least_ns", {"bound": "none"})
     has_least = "none" not in (bound["bound"], least["bound"])
-    found = Envelope([int(piece["begin"]) for piece in pieces], [int(piece["end"]) for piece in pieces],
-                     [read_hull([piece["low"], piece.get("high", "")]) for piece in pieces], servers,
-                     int(least["bound"]) if has_least else None, int((least if has_least else bound)["piece"]))
-    return found if found.ends[-1] < SINCE + ERA // 2 else in_eras(found)
+    envelope = Envelope([int(piece["begin"]) for piece in pieces], [int(piece["end"]) for piece in pieces],
+                        [read_hull([piece["low"], piece.get("high", "")]) for piece in pieces], servers,
+                        int(least["bound"]) if has_least else None, int((least if has_least else bound)["piece"]))
+    return envelope if envelope.ends[-1] < SINCE + ERA // 2 else in_eras(envelope)
 
 
 def in_eras(one: Envelope) -> Envelope:

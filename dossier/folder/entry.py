@@ -495,9 +495,9 @@ class Refusal:
     what: Text = ""
 
 
-def refusal_by(found: Fault) -> Refusal:
+def refusal_by(error: Fault) -> Refusal:
     """A fault as JSON has it: a name in it may hold bytes that are no UTF-8."""
-    return Refusal(plain(found.line), found.status, plain(found.why), plain(found.what))
+    return Refusal(plain(error.line), error.status, plain(error.why), plain(error.what))
 
 
 @dataclass(frozen=True)
@@ -608,10 +608,10 @@ def record_text(record: Record) -> bytes:
 def read_record(data: bytes) -> Record:
     """The record that audit.json holds; a fault if it is none, or of another form."""
     try:
-        found: Any = parsed(data)
-        if isinstance(found, dict) and type(found.get("dossier")) is int and found["dossier"] != VERSION:
+        value: Any = parsed(data)
+        if isinstance(value, dict) and type(value.get("dossier")) is int and value["dossier"] != VERSION:
             raise fault("not audited", DEVICE)
-        record: Record = typed(Record, found)
+        record: Record = typed(Record, value)
         if max(record.made, record.signed) > now(SKEW):
             raise fault(f"{AUDIT} is dated in the future")
         return record

@@ -18,8 +18,8 @@ def evidence(folder: Folder) -> dict[str, str]:
     """Where the evidence for each premise is kept, as evidence.json says it, if there is one."""
     if not folder.has(EVIDENCE):
         return {}
-    found: dict[str, str] = read_typed(EVIDENCE, dict[PREMISES, Text], folder.data(EVIDENCE))
-    return found
+    texts: dict[str, str] = read_typed(EVIDENCE, dict[PREMISES, Text], folder.data(EVIDENCE))
+    return texts
 
 
 def named_in(text: str) -> list[str]:

@@ -133,7 +133,7 @@ def too_big(name: str, most: int) -> Fault:
 def read_once(place: int, file: str, name: str, take: Callable[[bytes], object], most: int,
               follow: int = os.O_NOFOLLOW) -> str:
     """Hands all bytes of a file on, a block at a time, and gives their SHA-256. A device isn't opened."""
-    found, size = hashlib.sha256(), 0
+    digest, size = hashlib.sha256(), 0
     try:
         has_kind(name, os.stat(file, dir_fd=place, follow_symlinks=not follow), most)
         with held(file, place, OF_A_FILE | follow) as opened:
@@ -142,11 +142,11 @@ def read_once(place: int, file: str, name: str, take: Callable[[bytes], object],
                 size += len(block)
                 if size > most:
                     raise too_big(name, most)
-                found.update(block)
+                digest.update(block)
                 take(block)
     except OSError as error:
         raise unreadable(name, error) from None
-    return found.hexdigest()
+    return digest.hexdigest()
 
 
 def kind_of(place: int, name: str) -> str:

@@ -76,10 +76,10 @@ def bounds_of(seconds: int, jobs: int, place: str = ".") -> Bounds:
 
 def find_tool(name: str, why: str) -> str:
     """The path of a program; a fault if it isn't there, with what it is for."""
-    found = shutil.which(name, path=ENVIRONMENT["PATH"]) if FOLDERS else None
-    if not found:
+    tool = shutil.which(name, path=ENVIRONMENT["PATH"]) if FOLDERS else None
+    if not tool:
         raise fault(why, MISSING)
-    return found
+    return tool
 
 
 def begun(words: Sequence[str], **how: object) -> subprocess.Popen[bytes]:
@@ -194,8 +194,8 @@ class Process(Generic[T]):
         ended_by = self.ended()
         with suppress(ValueError):
             (word, value), = parsed(bytes(self.data)).items()
-            found: T | Refusal = typed(Refusal if word == REFUSAL else self.kind, value)
-            return found
+            result: T | Refusal = typed(Refusal if word == REFUSAL else self.kind, value)
+            return result
         if time.monotonic() >= self.end or ended_by == signal.SIGXCPU:
             return refusal_by(fault(f"not done within {self.bounds.seconds} s (--limit)"))
         if len(self.data) > MOST_OF_A_RESULT:
@@ -210,19 +210,19 @@ class Process(Generic[T]):
             os.kill(self.process, END)
             self.end_of(os.WNOWAIT)
             os.killpg(self.process, signal.SIGKILL)
-        found = self.end_of()
-        if found:
+        end = self.end_of()
+        if end:
             shutil.rmtree(self.private, ignore_errors=True)
-        return found.si_status if found and found.si_code != os.CLD_EXITED else 0
+        return end.si_status if end and end.si_code != os.CLD_EXITED else 0
 
     def end_of(self, more: int = 0) -> os.waitid_result | None:
         """Waits for its end, but not for long."""
         until = time.monotonic() + GRACE
-        while not (found := os.waitid(os.P_PID, self.process, os.WEXITED | os.WNOHANG | more)):
+        while not (end := os.waitid(os.P_PID, self.process, os.WEXITED | os.WNOHANG | more)):
             if time.monotonic() >= until:
                 break
             time.sleep(0.001)
-        return found
+        return end
 
 
 def limit(parent: int, bounds: Bounds, copies: str) -> None:
@@ -260,8 +260,8 @@ def outcome(path: str, number: int, work: Work[T]) -> dict[str, Any]:
     """What comes of a folder, whatever goes wrong with it."""
     try:
         return {RESULT: said(work(path, number))}
-    except Fault as found:
-        refusal = found
+    except Fault as error:
+        refusal = error
     except MemoryError:
         refusal = fault("out of memory", MEMORY)
     except OSError as error:
@@ -310,16 +310,16 @@ def ready(live: dict[int, tuple[int, Process[T]]], shown: Progress | None) -> li
 
 def run_one(path: str, work: Work[T], kind: type[T], seconds: int = SECONDS) -> T | Refusal:
     """The result of one folder."""
-    (_, found), = run_all([path], work, kind, seconds)
-    return found
+    (_, result), = run_all([path], work, kind, seconds)
+    return result
 
 
 def answer(work: Work[T], kind: type[T]) -> T:
     """What comes of work on files that are named, in a process of its own."""
-    found = run_one("", work, kind)
-    if isinstance(found, Refusal):
-        raise Fault(found.line, found.status)
-    return found
+    result = run_one("", work, kind)
+    if isinstance(result, Refusal):
+        raise Fault(result.line, result.status)
+    return result
 
 
 # ---- private folders

@@ -20,10 +20,10 @@ NOT_COMPARED = {"dossier", "leap_seconds", "leap", "warnings", "reason", "moves"
 def form_of(data: bytes) -> int:
     """The form of audit.json that is told there; today's if none is."""
     try:
-        found = parsed(data)
+        value = parsed(data)
     except ValueError:
         return VERSION
-    form = found.get("dossier") if isinstance(found, dict) else None
+    form = value.get("dossier") if isinstance(value, dict) else None
     return form if type(form) is int else VERSION
 
 
@@ -34,11 +34,11 @@ def is_older(data: bytes) -> bool:
 def read_any(data: bytes) -> Record:
     """The record that audit.json holds in today's form or in an older one; a fault if it is none."""
     if is_older(data):
-        found = parsed(data)
-        for entry in found["entries"] if isinstance(found.get("entries"), list) else ():
+        value = parsed(data)
+        for entry in value["entries"] if isinstance(value.get("entries"), list) else ():
             if isinstance(entry, dict) and isinstance(entry.get("reason"), dict):
                 entry["reason"] = {"why": entry["reason"].get("why")}
-        data = json.dumps({**found, "dossier": VERSION}).encode()
+        data = json.dumps({**value, "dossier": VERSION}).encode()
     return read_record(data)
 
 

@@ -60,15 +60,15 @@ class Program(NamedTuple):
             raise in_words(fault_of(status, error), [self.path, *words])
 
 
-def in_words(found: Fault, called: list[str]) -> Fault:
+def in_words(refusal: Fault, called: list[str]) -> Fault:
     """The fault of a call with what the program says about it, if it says the same again. What took all memory isn't
     called again."""
-    if found.status != MEMORY:
+    if refusal.status != MEMORY:
         _, error = stream([*called, "--human"], lambda _: None)
         line, *words = lines_of(error) or [""]
-        if line == found.line and len(words) == 2 and all(said.startswith("  ") for said in words):
-            found.why, found.what = (plain(said.strip()[:MOST_OF_WORDS]) for said in words)
-    return found
+        if line == refusal.line and len(words) == 2 and all(said.startswith("  ") for said in words):
+            refusal.why, refusal.what = (plain(said.strip()[:MOST_OF_WORDS]) for said in words)
+    return refusal
 
 
 def fault_of(status: int, error: bytes) -> Fault:

@@ -107,9 +107,9 @@ class Known:
             self.renew()
         return self.shown(sum_, record)
 
-    def add(self, sum_: str, found: Record) -> None:
+    def add(self, sum_: str, record: Record) -> None:
         """Adds a line: what was found of an audit.json of this sum."""
-        line = f"{sum_} {found.program.sha256} {found.made} {found.seconds} {found.program.version}"
+        line = f"{sum_} {record.program.sha256} {record.made} {record.seconds} {record.program.version}"
         if not self.lines.of(sum_):
             self.append(self.journal, line)
             self.lines.more[sum_] = line
@@ -124,13 +124,13 @@ class Known:
         """What the second program said last of these answers. A dispute is about whatever is said of the question, so
         that another audit doesn't end it."""
         line = self.judgements.of(question_of(record))
-        found = Judgement(*line.split(" ", 4)) if line else None
-        return found if found and (found.dispute or found.answers == answers_of(record)) else None
+        judgement = Judgement(*line.split(" ", 4)) if line else None
+        return judgement if judgement and (judgement.dispute or judgement.answers == answers_of(record)) else None
 
     def dispute(self, record: Record) -> str:
         """What the second program disputes of a record; nothing if it doesn't, or wasn't asked."""
-        found = self.judgement(record)
-        return found.dispute if found else ""
+        judgement = self.judgement(record)
+        return judgement.dispute if judgement else ""
 
     def judge(self, record: Record, second: str, at: str, dispute: str) -> None:
         """Adds a line: what the second program, of this sum, said of a record."""

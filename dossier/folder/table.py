@@ -38,7 +38,7 @@ class Table:
 
     def first(self, key: int, number: int) -> int:
         """The number that came with a key first: this one, if none did."""
-        found = self.get(key)
-        if found is None:
+        known = self.get(key)
+        if known is None:
             self.put(key, number)
-        return number if found is None else found
+        return number if known is None else known

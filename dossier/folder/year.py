@@ -33,7 +33,7 @@ class Statements:
 
 
 def read_statements(data: bytes) -> Statements:
-    found: Statements = read_typed(YEAR, Statements, data)
-    if max(found.made, found.signed) > now(SKEW):
+    statements: Statements = read_typed(YEAR, Statements, data)
+    if max(statements.made, statements.signed) > now(SKEW):
         raise fault(f"{YEAR} is dated in the future")
-    return found
+    return statements

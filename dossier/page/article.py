@@ -120,11 +120,11 @@ def calls(record: Record, entry: Entry, packed: Collection[str]) -> list[list[st
     if capture != files.JOINED and record.capture in packed:
         packed, capture = f"{capture}.zst", f"../{capture.rpartition('/')[2]}"
         unpacks = [["zstd", "-d", packed, "-o", capture]]
-    found = [["settle", files.CLAIM, capture]]
-    found += [["check", files.CLAIM, capture, files.CERTIFICATE]] if entry.answer == YES else []
-    found += [["envelope", files.CLAIM, capture, "--servers", "--least", "--step", str(entry.envelope_step)]]
-    found += [["settle", files.CLAIM_OF_DRIFT, capture]] if entry.verdict == NOTHING_FITS else []
+    questions = [["settle", files.CLAIM, capture]]
+    questions += [["check", files.CLAIM, capture, files.CERTIFICATE]] if entry.answer == YES else []
+    questions += [["envelope", files.CLAIM, capture, "--servers", "--least", "--step", str(entry.envelope_step)]]
+    questions += [["settle", files.CLAIM_OF_DRIFT, capture]] if entry.verdict == NOTHING_FITS else []
     if entry.refutation:
         claim = files.CLAIM if entry.answer == REFUTED else files.CLAIM_OF_0
-        found.append(["refute", claim, capture, files.REFUTATION, "--drift"])
-    return [*unpacks, *(["ntpaudit", *call] for call in found)]
+        questions.append(["refute", claim, capture, files.REFUTATION, "--drift"])
+    return [*unpacks, *(["ntpaudit", *call] for call in questions)]

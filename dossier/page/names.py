@@ -23,7 +23,7 @@ LINE = re.compile(r"([0-9a-f]{64})  ([A-Za-z0-9._+=-]+)")
 def page_of(path: str) -> str:
     """What the page of a folder is called, without an ending: its path, with `+` between names, and `=` before the two
     digits of what isn't a letter, a digit, or one of `._-`. One that is too long ends with a part of its sum."""
-    name = ESCAPED.sub(lambda found: b"=%02X" % found[0][0] + found[0][1:], os.fsencode(os.path.normpath(path)))
+    name = ESCAPED.sub(lambda match: b"=%02X" % match[0][0] + match[0][1:], os.fsencode(os.path.normpath(path)))
     words = name.decode().replace("/", "+")
     return words if len(words) <= MOST_OF_A_NAME else f"{words[:MOST_OF_A_NAME - 34]}=={sum_of(name)[:32]}"
 

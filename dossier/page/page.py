@@ -103,8 +103,8 @@ class Looking(NamedTuple):
             with Folder(path) as folder:
                 signature = self.signers.signature_of(folder)
                 return self.look_in(path, folder, signature, number)
-        except Fault as found:
-            return self.refused(path, found, signature)
+        except Fault as error:
+            return self.refused(path, error, signature)
 
     def look_in(self, path: str, folder: Folder, signature: Signature, number: int) -> OnPage:
         data = audit_json(folder)
@@ -122,21 +122,21 @@ class Looking(NamedTuple):
         if words := self.known.dispute(record):
             row = row_without_verdict(path, DISPUTED, f"{words}.", DIFFER, signature)
             return self.short(path, row, "", signature)
-        record, judged, found = record_by(self.leaps, record), self.known.judgement(record), []
+        record, judged, sections = record_by(self.leaps, record), self.known.judgement(record), []
         for part, entry in enumerate(record.entries):
             name, said = name_of(number, part), ("", "")
             if self.has_articles:
                 said = article(path, folder, record, entry, signature, judged, name)
             row = row_of(path, entry, signature, judged)
-            found.append(Section(row, *said, record.program, sorted(record.recordings)))
-        return OnPage(found, list(of_record(path, record)), record.verdicts)
+            sections.append(Section(row, *said, record.program, sorted(record.recordings)))
+        return OnPage(sections, list(of_record(path, record)), record.verdicts)
 
-    def refused(self, path: str, found: Fault | Refusal, signature: Signature,
+    def refused(self, path: str, refusal: Fault | Refusal, signature: Signature,
                 metrics: Sequence[Sample] = ()) -> OnPage:
-        why, what = (f"{found.why}.", capital(found.what)) if found.why else remedy(found.line, path)
-        row = row_without_verdict(path, REFUSED, f"{found.line}. {why}", what, signature)
-        is_for_input = found.status == INPUT_REFUSED and not metrics
-        short = self.short(path, row, found.line, signature, metrics)
+        why, what = (f"{refusal.why}.", capital(refusal.what)) if refusal.why else remedy(refusal.line, path)
+        row = row_without_verdict(path, REFUSED, f"{refusal.line}. {why}", what, signature)
+        is_for_input = refusal.status == INPUT_REFUSED and not metrics
+        short = self.short(path, row, refusal.line, signature, metrics)
         return replace(short, status=INPUT_REFUSED if is_for_input else 0)
 
     def short(self, path: str, row: Row, line: str, signature: Signature, metrics: Sequence[Sample] = ()) -> OnPage:
@@ -150,13 +150,13 @@ def name_of(number: int, part: int) -> str:
     return f"a{number}-{part}" if part else f"a{number}"
 
 
-def mark_twins(found: list[Shown]) -> set[str]:
+def mark_twins(every: list[Shown]) -> set[str]:
     """Warns of a capture that is in several folders, which are given."""
     where: dict[str, list[Shown]] = {}
-    for one in found:
+    for one in every:
         for sum_ in one.section.captures:
             where.setdefault(sum_, []).append(one)
-    for one in found:
+    for one in every:
         for sum_ in one.section.captures:
             others = [other.row.machine for other in where[sum_]
                       if other.path != one.path and not are_neighbours(one.span, other.span)]
@@ -164,7 +164,7 @@ def mark_twins(found: list[Shown]) -> set[str]:
                 one.row.twice.append(f"{TWICE} {', '.join(others[:FEW])}{' ..' if others[FEW:] else ''}.")
         one.row.twice[:] = dict.fromkeys(one.row.twice)
         one.row.warnings[:0] = one.row.twice
-    return {one.path for one in found if one.row.twice}
+    return {one.path for one in every if one.row.twice}
 
 
 def write_page(folders: list[str], given: argparse.Namespace, known: Known, leaps: LeapList,
@@ -175,23 +175,23 @@ def write_page(folders: list[str], given: argparse.Namespace, known: Known, leap
     if looking.has_articles:
         parts()  # (which the processes of all folders have then, or none is begun)
     split = Split(given.split) if given.split else None
-    worst, has_audit, found, metrics = 0, False, list[Shown](), list[Sample]()
+    worst, has_audit, every, metrics = 0, False, list[Shown](), list[Sample]()
     for number, result in enumerate(looking.at(folders, given.limit)):
         worst, has_audit = max(worst, result.status), has_audit or bool(result.verdicts)
         metrics += result.metrics
         file = f"{page_of(folders[number])}.html" if split else ""
         shown = [Shown(section, name_of(number, part), file, folders[number])
                  for part, section in enumerate(result.sections)]
-        found += list(written(shown, given, split)) if split else shown
-    twins = mark_twins(found)
+        every += list(written(shown, given, split)) if split else shown
+    twins = mark_twins(every)
     if split:
         again = [number for number, path in enumerate(folders) if path in twins]
         for number, result in zip(again, looking.at([folders[number] for number in again], given.limit)):
-            own = [one for one in found if one.path == folders[number]]
+            own = [one for one in every if one.path == folders[number]]
             list(written([one._replace(section=replace(section, row=one.row))
                           for section, one in zip(result.sections, own)], given, split))
     years = years_of(folders, given, known, leaps) if split else []
-    data = text_of(worst_first(found), given, len(folders), years)
+    data = text_of(worst_first(every), given, len(folders), years)
     if split:
         split.put(data, INDEX)
         split.end()
@@ -210,7 +210,7 @@ def years_of(folders: list[str], given: argparse.Namespace, known: Known, leaps:
     from .years import Pages, write_year
     if not all(is_day(os.path.basename(folder)) for folder in folders):
         return []
-    found = []
+    years = []
     for year in sorted({os.path.basename(folder)[:4] for folder in folders}):
         pages = Pages(f"{given.title}, {year}", None, os.path.join(given.split, year))
         wanted = YearCall(int(year), known, leaps, int(time.time()), Signers(given.signers))
@@ -223,8 +223,8 @@ def years_of(folders: list[str], given: argparse.Namespace, known: Known, leaps:
                 continue
             else:
                 raise
-        found.append(year)
-    return found
+        years.append(year)
+    return years
 
 
 def written(own: list[Shown], given: argparse.Namespace, split: Split) -> Iterator[Shown]:
@@ -234,34 +234,34 @@ def written(own: list[Shown], given: argparse.Namespace, split: Split) -> Iterat
     return (one._replace(section=replace(one.section, head="", rest="")) for one in own)
 
 
-def text_of(found: list[Shown], given: argparse.Namespace, folders: int, years: Sequence[str]) -> bytes:
+def text_of(every: list[Shown], given: argparse.Namespace, folders: int, years: Sequence[str]) -> bytes:
     """What is asked for, of sections: the table as JSON or CSV, or a page that leads to these years."""
     if given.json:
-        return json_text([asdict(one.row) for one in found])
+        return json_text([asdict(one.row) for one in every])
     if given.csv:
-        return as_csv([one.row for one in found]).encode("utf-8", "backslashreplace")
-    return page(found, given.title, folders, given.signers is not None, years=years)
+        return as_csv([one.row for one in every]).encode("utf-8", "backslashreplace")
+    return page(every, given.title, folders, given.signers is not None, years=years)
 
 
-def worst_first(found: list[Shown]) -> list[Shown]:
+def worst_first(every: list[Shown]) -> list[Shown]:
     """The sections folder by folder, those of the worst folder first, and of two that are as bad in their own order."""
     badness: dict[str, tuple[int, int]] = {}
-    for row in (one.row for one in found):
+    for row in (one.row for one in every):
         badness[row.machine] = min(badness_of(row), badness.get(row.machine, badness_of(row)))
-    return sorted(found, key=lambda one: badness[one.row.machine])
+    return sorted(every, key=lambda one: badness[one.row.machine])
 
 
-def page(found: list[Shown], title: str, folders: int, is_looked_at: bool, above: str = "",
+def page(every: list[Shown], title: str, folders: int, is_looked_at: bool, above: str = "",
          years: Sequence[str] = ()) -> bytes:
     """A page of sections, which leads back to the one above it, if there is one, and to years. A column of the table
     that would be empty is left out."""
-    rows = [one.row for one in found]
+    rows = [one.row for one in every]
     counts = Counter(row.verdict for row in rows)
-    made = {one.section.made.sha256: one.section.made.version for one in found if one.section.made}
+    made = {one.section.made.sha256: one.section.made.version for one in every if one.section.made}
     has_days, has_figures = any(row.day for row in rows), any(row.bound_ns is not None for row in rows)
     has_signers = is_looked_at or any(row.signature != NONE for row in rows)
     return templates.page(
-        "page.html", len(rows), title=title, above=above, years=years, folders=count(folders, "folder"), found=found,
+        "page.html", len(rows), title=title, above=above, years=years, folders=count(folders, "folder"), audits=every,
         programs="; ".join(f"{version or 'ntpaudit'}, SHA-256 {sum_[:16]} and on" for sum_, version in made.items()),
         counts={verdict: counts[verdict] for verdict in MEANINGS if counts[verdict]}, meanings=MEANINGS, signed=SIGNED,
         has_days=has_days, has_figures=has_figures, has_signers=has_signers, is_looked_at=is_looked_at,

@@ -54,9 +54,9 @@ REMEDIES = [
 def remedy(line: str, folder: str = "FOLDER") -> tuple[str, str]:
     """Why there was this fault of a folder, and what to do: by the pattern that ends last, since a stranger's names
     stand before it, or in parentheses behind it."""
-    words, found = re.sub(r" \([^(]*\)$", "", line), (0, "", "See docs/REFUSALS.md.")
+    words, best = re.sub(r" \([^(]*\)$", "", line), (0, "", "See docs/REFUSALS.md.")
     for pattern, why, what in REMEDIES:
         seen = re.search(rf"(?s)ntpaudit(-dossier)?: .*({pattern})", words)
-        if seen and seen.end() > found[0]:
-            found = seen.end(), why, what.replace("FOLDER", shlex.quote(folder))
-    return found[1:]
+        if seen and seen.end() > best[0]:
+            best = seen.end(), why, what.replace("FOLDER", shlex.quote(folder))
+    return best[1:]

@@ -55,13 +55,13 @@ def templates() -> "Environment":
         from jinja2 import Environment, FileSystemLoader, StrictUndefined
     except ImportError:
         raise fault(NO_JINJA, MISSING) from None
-    found = Environment(loader=FileSystemLoader(PLACE), autoescape=True, undefined=StrictUndefined, trim_blocks=True,
-                        lstrip_blocks=True, auto_reload=False,
-                        finalize=lambda value: plain(value) if type(value) is str else value)
-    found.filters |= {"capital": capital, "count": count, "dashed": lambda verdict: verdict.replace(" ", "-"),
-                      "minus": minus, "ms": ns_ms, "up_ms": ns_up_ms, "low_ms": low_ms}
-    found.globals |= {"now": now, "policy": policy, "range_ms": range_ms, "sign": lambda verdict: SIGNS[verdict]}
-    return found
+    made = Environment(loader=FileSystemLoader(PLACE), autoescape=True, undefined=StrictUndefined, trim_blocks=True,
+                       lstrip_blocks=True, auto_reload=False,
+                       finalize=lambda value: plain(value) if type(value) is str else value)
+    made.filters |= {"capital": capital, "count": count, "dashed": lambda verdict: verdict.replace(" ", "-"),
+                     "minus": minus, "ms": ns_ms, "up_ms": ns_up_ms, "low_ms": low_ms}
+    made.globals |= {"now": now, "policy": policy, "range_ms": range_ms, "sign": lambda verdict: SIGNS[verdict]}
+    return made
 
 
 def put(data: bytes, file: str | None, split: str = "") -> None:

@@ -96,19 +96,19 @@ def days_among(folders: list[str], seconds: int) -> list[str]:
     """The folders that have an audit of their own, so that they are a day's and no machine's, whatever they are
     called."""
     def work(*_: object) -> list[str]:
-        found = list[str]()
+        paths = list[str]()
         for path in folders:
             with suppress(Fault), Folder(path) as folder:
-                found += [path] * folder.has(AUDIT)
-        return found
-    found = run_one("", work, list[str], seconds) if folders else []
-    return [] if isinstance(found, Refusal) else found
+                paths += [path] * folder.has(AUDIT)
+        return paths
+    result = run_one("", work, list[str], seconds) if folders else []
+    return [] if isinstance(result, Refusal) else result
 
 
 def write_year(folders: list[str], wanted: YearCall, pages: Pages, seconds: int, jobs: int) -> int:
     """Writes the year. The status is that of the worst machine that couldn't be looked at; 0 if all could."""
     others = days_among([folder for folder in folders if not is_day(os.path.basename(folder))], seconds)
-    names, worst, found = machines_of(folders, others), 0, list[bytes]()
+    names, worst, packs = machines_of(folders, others), 0, list[bytes]()
     split, twins = Split(pages.split) if pages.split else None, Twins()
     wanted = wanted._replace(machines=len(names))
     templates()
@@ -121,10 +121,10 @@ def write_year(folders: list[str], wanted: YearCall, pages: Pages, seconds: int,
             note(f"{machine}: {result.line}")
             continue
         twins.add(result)
-        found.append(packed(result))
-    if not found:
+        packs.append(packed(result))
+    if not packs:
         raise fault("none of these folders has a year")
-    years = (twins.of(number, unpacked(data)) for number, data in enumerate(found))
+    years = (twins.of(number, unpacked(data)) for number, data in enumerate(packs))
     if not split:
         articles = list(enumerate(years, 1))
         put(pages.page(pages.title, articles, [row_of(f"#m{number}", year) for number, year in articles]), pages.output)

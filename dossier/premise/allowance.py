@@ -28,9 +28,9 @@ def named(ns: int) -> Proposal:
     return lambda _: Allowance(ns, f"as named. {TABLE}, says for each kind of stamp whether it is enough.")
 
 
-def measured(found: Measurement) -> Proposal:
-    return lambda _: Allowance(found.reading_ns, f"{found.sentence()} That is of tcpdump's own stamps on that machine, "
-                               f"the line `host` of {TABLE}.")
+def measured(measurement: Measurement) -> Proposal:
+    return lambda _: Allowance(measurement.reading_ns, f"{measurement.sentence()} That is of tcpdump's own stamps on "
+                               f"that machine, the line `host` of {TABLE}.")
 
 
 def proposed(recorders: list[Recorder] | None) -> Proposal:

@@ -96,28 +96,28 @@ def is_json(data: bytes) -> bool:
 
 def all_of(kind: type[Kind], folder: Folder, names: list[str]) -> dict[str, Kind]:
     """What files of JSON hold, by their names, of those that are of a kind."""
-    found = dict[str, Kind]()
+    by_name = dict[str, Kind]()
     for name in names:
         with suppress(Fault):  # (it may be a text of some other form)
             if name.endswith(".json"):
-                found[name] = read_typed(name, kind, folder.data(name))
-    return found
+                by_name[name] = read_typed(name, kind, folder.data(name))
+    return by_name
 
 
-def against(found: Backing, claim: Claim, leap: Leap, moves: list[Move]) -> Iterator[Alert]:
+def against(evidence: Backing, claim: Claim, leap: Leap, moves: list[Move]) -> Iterator[Alert]:
     """What speaks against a claim."""
-    reading = max((measured.greatest_ns for measured in found.measured), default=0)
+    reading = max((measured.greatest_ns for measured in evidence.measured), default=0)
     if reading > claim.reading_ns:
         yield Figure("reading", reading)
-    drift = max((read.drift_ppb for read in found.read), default=0)
+    drift = max((read.drift_ppb for read in evidence.read), default=0)
     if drift > claim.drift_ppb:
         yield Figure("drift", drift)
-    for recorded in found.recorded:
+    for recorded in evidence.recorded:
         if claim.client not in recorded.addresses:
             yield OfServers("address", recorded.addresses[:1] or [claim.client])
-    for file, lines in found.unread.items():
+    for file, lines in evidence.unread.items():
         yield Unread("unread", lines, file if is_name(file) else "")
-    yield from logged(found.logs, claim, leap, moves)
+    yield from logged(evidence.logs, claim, leap, moves)
 
 
 def logged(logs: list[Tracking], claim: Claim, leap: Leap, moves: list[Move]) -> Iterator[Alert]:

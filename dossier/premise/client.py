@@ -105,38 +105,39 @@ def configuration(chrony: list[str] | None, ntpd: list[str] | None) -> Configura
     return read_ntpd(ntpd) if ntpd else None
 
 
-def in_words(found: Configuration) -> str:
+def in_words(settings: Configuration) -> str:
     """What is set, for the page and for a draft."""
-    names = ", ".join(found.files)
-    if found.client == NTPD:
-        steps = f"steps from {found.step_s} s on" if found.step_s else "no steps (tinker step 0)"
-        return f"{names}: ntpd slews by {found.slew_ppb:,} parts in 10^9 at the most; {steps}."
-    rate = "maxslewrate isn't set" if found.maxslewrate is None else f"maxslewrate {found.maxslewrate}"
+    names = ", ".join(settings.files)
+    if settings.client == NTPD:
+        steps = f"steps from {settings.step_s} s on" if settings.step_s else "no steps (tinker step 0)"
+        return f"{names}: ntpd slews by {settings.slew_ppb:,} parts in 10^9 at the most; {steps}."
+    rate = "maxslewrate isn't set" if settings.maxslewrate is None else f"maxslewrate {settings.maxslewrate}"
     rest = [f"{name} {value}" if value else f"no {name}" for name, value in
-            (("makestep", found.makestep), ("leapsecmode", found.leapsecmode), ("maxdrift", found.maxdrift),
-             ("hwtimestamp", found.hwtimestamp))]
-    return f"{names}: {rate}, so chronyd slews by {found.slew_ppb:,} parts in 10^9 at the most; {'; '.join(rest)}."
+            (("makestep", settings.makestep), ("leapsecmode", settings.leapsecmode), ("maxdrift", settings.maxdrift),
+             ("hwtimestamp", settings.hwtimestamp))]
+    return f"{names}: {rate}, so chronyd slews by {settings.slew_ppb:,} parts in 10^9 at the most; {'; '.join(rest)}."
 
 
-def cautions(found: Configuration) -> list[str]:
+def cautions(settings: Configuration) -> list[str]:
     """What a person has to look at."""
     said = []
-    if found.makestep:
-        limit = int(number_of("makestep", found.makestep.split(), 1))
+    if settings.makestep:
+        limit = int(number_of("makestep", settings.makestep.split(), 1))
         when = "at any time" if limit < 0 else f"in the first {limit} updates after its start"
-        said.append(f"makestep: chronyd steps the clock {when} if it is off by more than {found.step_s} s.")
-    elif found.step_s:
-        said.append(f"ntpd steps the clock if it is off by more than {found.step_s} s, or by what its option -x says.")
-    if found.step_s:
+        said.append(f"makestep: chronyd steps the clock {when} if it is off by more than {settings.step_s} s.")
+    elif settings.step_s:
+        said.append(f"ntpd steps the clock if it is off by more than {settings.step_s} s, or by what its option -x "
+                    "says.")
+    if settings.step_s:
         said.append("No drift covers a step: see in the client's messages that there was none.")
-    if found.client == CHRONY and not found.maxdrift:
+    if settings.client == CHRONY and not settings.maxdrift:
         said.append("maxdrift isn't set, so chronyd may set the frequency by up to 500,000 ppm, whatever the "
                     "oscillator does: `maxdrift 100` holds it to 100 ppm.")
-    if found.not_read:
-        said.append(f"The configuration takes in {found.not_read} besides, which wasn't read: name these files too, or "
-                    "what `chronyd -p` prints.")
-    if found.hwtimestamp:
+    if settings.not_read:
+        said.append(f"The configuration takes in {settings.not_read} besides, which wasn't read: name these files too, "
+                    "or what `chronyd -p` prints.")
+    if settings.hwtimestamp:
         said.append("hwtimestamp: the card stamps packets for chronyd. Record by the system's clock all the same.")
-    if found.leapsecmode and found.leapsecmode != "system":
-        said.append(f"leapsecmode {found.leapsecmode}: a leap second moves this clock for a while after it.")
+    if settings.leapsecmode and settings.leapsecmode != "system":
+        said.append(f"leapsecmode {settings.leapsecmode}: a leap second moves this clock for a while after it.")
     return said

@@ -46,10 +46,10 @@ class Correction:
         return [*of_log, *client.cautions(self.configuration)]
 
 
-def correction(oscillator_ppb: int, found: Configuration, log: Tracking | None, made: str) -> Correction:
+def correction(oscillator_ppb: int, settings: Configuration, log: Tracking | None, made: str) -> Correction:
     if log:  # (what it shows, is granted)
         oscillator_ppb = max(oscillator_ppb, tracking.greatest(log, 0, seconds_of(log.last))[0])
-    drift = oscillator_ppb + found.slew_ppb
+    drift = oscillator_ppb + settings.slew_ppb
     if drift > MOST_DRIFT:
         raise fault(f"a drift of {drift} by the configuration is more than a claim can grant")
-    return Correction("drift", oscillator_ppb, drift, found, log, made)
+    return Correction("drift", oscillator_ppb, drift, settings, log, made)

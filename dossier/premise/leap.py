@@ -34,17 +34,17 @@ def read_list(path: str | None) -> LeapList:
     """What a list says; or, if none is named and the system has none, why not. A list that is named has to be one."""
     try:
         return list_of(path or SYSTEM)
-    except Fault as found:
+    except Fault as error:
         if path is not None:
             raise
-        return LeapList(SYSTEM, fault=found.words)
+        return LeapList(SYSTEM, fault=error.words)
 
 
 def list_of(path: str) -> LeapList:
     try:
         data = data_named(path)
-    except Fault as found:
-        raise found.of("the list of leap seconds") from None
+    except Fault as error:
+        raise error.of("the list of leap seconds") from None
     try:
         good_until, seconds = parsed(data.decode("utf-8"))
         own = LeapList(path, "", hashlib.sha256(data).hexdigest(), good_until, seconds)

@@ -54,5 +54,5 @@ class Measurement:
 
 def read_measurement(path: str) -> Measurement:
     """What a file holds that the command line names."""
-    found: Measurement = read_typed(os.path.basename(path), Measurement, data_named(path))
-    return found
+    measurement: Measurement = read_typed(os.path.basename(path), Measurement, data_named(path))
+    return measurement

@@ -46,8 +46,8 @@ def measure(program: Program, packets: int, is_loaded: bool, output: str | None)
         tool, system = find_tool("tcpdump", "tcpdump isn't installed, which records the packets"), os.uname()
         make_link()
         earlier = sorted(sent_over(program, tool, packets, busy))
-        found = measurement(earlier, busy, version_of(tool), plain(system.nodename), plain(system.release), now())
-        return Written(json_text({**said(found), "reason": found.why}).decode(), found.lines())
+        result = measurement(earlier, busy, version_of(tool), plain(system.nodename), plain(system.release), now())
+        return Written(json_text({**said(result), "reason": result.why}).decode(), result.lines())
     measured = answer(work, Written)
     for line in measured.lines:
         print(line)
@@ -162,20 +162,20 @@ def end_of(recording: subprocess.Popen[bytes]) -> None:
 
 def recorded(program: Program, capture: str) -> dict[int, int]:
     """The time of each packet's record by the packet's number, as `list` has them."""
-    found: dict[int, int] = {}
+    times: dict[int, int] = {}
 
     def take(block: bytes) -> None:
         for words in (line.split() for line in block.splitlines() if not line.startswith(b"records ")):
             seconds, _, part = words[1].partition(b".")
-            found[int(words[15], 16)] = int(seconds + part.ljust(9, b"0"))
+            times[int(words[15], 16)] = int(seconds + part.ljust(9, b"0"))
     program.blocks(take, "list", capture)
-    return found
+    return times
 
 
 def matched(left: dict[int, int], arrived: dict[int, int], packets: int) -> list[int]:
     """How much earlier each packet was stamped where it left, of those that were recorded at both ends. A busy machine
     may drop some."""
-    found = [arrived[number] - at for number, at in left.items() if number in arrived]
-    if not found or 10 * len(found) < 9 * packets:
-        raise fault(f"{len(found)} of {packets} packets were recorded at both ends, so nothing is measured", DEVICE)
-    return found
+    delays = [arrived[number] - at for number, at in left.items() if number in arrived]
+    if not delays or 10 * len(delays) < 9 * packets:
+        raise fault(f"{len(delays)} of {packets} packets were recorded at both ends, so nothing is measured", DEVICE)
+    return delays

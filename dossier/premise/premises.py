@@ -48,20 +48,20 @@ def premises(claim: Claim) -> list[Premise]:
 MORE = "That is more than the claim grants.", ""
 
 
-def support(name: str, found: Backing, record: Record, entry: Entry) -> Iterator[tuple[str, str]]:
+def support(name: str, evidence: Backing, record: Record, entry: Entry) -> Iterator[tuple[str, str]]:
     """The sentences for a premise, each with what leads to it."""
     if name == "leap" and record.leap_seconds:
         yield ("Looked up:", looked_up(record.leap_seconds, entry))
-    for recorded in found.recorded if name == "reading" else ():
+    for recorded in evidence.recorded if name == "reading" else ():
         yield ("Recorded:", recorded.sentence())
-    for measured in found.measured if name == "reading" else ():
+    for measured in evidence.measured if name == "reading" else ():
         yield ("Measured:", measured.sentence())
         if measured.greatest_ns > entry.claim.reading_ns:
             yield MORE
-    for log in found.logs if name == "drift" else ():
-        if not any(read.tracking is log for read in found.read):
+    for log in evidence.logs if name == "drift" else ():
+        if not any(read.tracking is log for read in evidence.read):
             yield ("Read:", log_in_words(log))
-    for read in found.read if name == "drift" else ():
+    for read in evidence.read if name == "drift" else ():
         yield ("Read:", " ".join(read.sentences()))
         if read.drift_ppb > entry.claim.drift_ppb:
             yield MORE
@@ -71,17 +71,17 @@ def support(name: str, found: Backing, record: Record, entry: Entry) -> Iterator
 
 def looked_up(leaps: LeapList, entry: Entry) -> str:
     """What the list of leap seconds says."""
-    found = entry.leap
-    over = f"from {shown_time(found.from_)} to {shown_time(found.to)}"
+    leap = entry.leap
+    over = f"from {shown_time(leap.from_)} to {shown_time(leap.to)}"
     if leaps.fault:
         return f"nothing, since {leaps.fault} ({leaps.file})."
     of = f"the list {leaps.file} (SHA-256 {leaps.sha256[:16]} and on)"
     until = civil(leaps.good_until)[:10]
-    if found.says == NONE:
+    if leap.says == NONE:
         return f"no leap second {over}, by {of}, which is good until {until}."
-    if found.says == EXPIRED:
+    if leap.says == EXPIRED:
         return f"nothing is known {over}: {of} was good until {until} only."
-    return f"{named(found.seconds)} {over}, by {of}."
+    return f"{named(leap.seconds)} {over}, by {of}."
 
 
 def named(seconds: list[tuple[int, int]]) -> str:

@@ -112,11 +112,11 @@ class Reading:
         is known, else for the last such day."""
         if message[1]:
             return civil(int(message[1][:10])) if message[1][4] != "-" else in_utc(message[1].replace(",", "."))
-        near, found = seconds_of(self.known or self.now), list[str]()
+        near, readings = seconds_of(self.known or self.now), list[str]()
         for year in range(int(civil(near)[:4]) - 4, int(civil(near)[:4]) + 2):
             with suppress(ValueError):  # (29 February of another year, or no day at all)
-                found.append(datetime.strptime(f"{year} {message[2][:15]}", "%Y %b %d %H:%M:%S").strftime(FORM))
-        times = [time for time in found if self.known or seconds_of(time) <= near + DAY]
+                readings.append(datetime.strptime(f"{year} {message[2][:15]}", "%Y %b %d %H:%M:%S").strftime(FORM))
+        times = [time for time in readings if self.known or seconds_of(time) <= near + DAY]
         return min(times, key=lambda time: abs(seconds_of(time) - near), default="")
 
 
@@ -176,15 +176,15 @@ def ppm(rate: Fraction) -> str:
     return f"{float(rate):.3f}"
 
 
-def in_words(found: Tracking) -> str:
+def in_words(log: Tracking) -> str:
     """What a page and a draft say of it."""
-    steps = count(len(found.steps), "step") if found.steps else "no step"
-    updates = count(found.updates, "update")
-    span = f" from {shown(found.first)} to {shown(found.last)}" if found.last != UNKNOWN else ""
-    unread = f" {count(found.unread, 'line')} of another form {'says' if found.unread == 1 else 'say'} nothing that " \
-        "is known." if found.unread else ""
-    return (f"{', '.join(found.files)}, as chronyd wrote it: {updates}{span}, its frequency from "
-            f"{found.least_ppm} to {found.greatest_ppm} ppm, with {found.change_ppm} ppm at the most from one to the "
+    steps = count(len(log.steps), "step") if log.steps else "no step"
+    updates = count(log.updates, "update")
+    span = f" from {shown(log.first)} to {shown(log.last)}" if log.last != UNKNOWN else ""
+    unread = f" {count(log.unread, 'line')} of another form {'says' if log.unread == 1 else 'say'} nothing that " \
+        "is known." if log.unread else ""
+    return (f"{', '.join(log.files)}, as chronyd wrote it: {updates}{span}, its frequency from "
+            f"{log.least_ppm} to {log.greatest_ppm} ppm, with {log.change_ppm} ppm at the most from one to the "
             f"next; {steps}.{unread}")
 
 
@@ -203,21 +203,21 @@ def is_within(step: Step, first: int, last: int) -> bool:
     return first - 1 <= max(behind, before) - zones[0] and min(behind, before) - zones[1] <= last + 1
 
 
-def greatest(found: Tracking, first: int, last: int) -> tuple[int, int]:
+def greatest(log: Tracking, first: int, last: int) -> tuple[int, int]:
     """The greatest frequency, or difference of two, in parts of 10^9, and the greatest offset in nanoseconds, that were
     logged inside a span of Unix seconds or within ten minutes of it."""
-    own = [row for row in found.extremes if first - TOGETHER <= seconds_of(row[0]) <= last]
+    own = [row for row in log.extremes if first - TOGETHER <= seconds_of(row[0]) <= last]
     if not own:
         return 0, 0
     least, most = min(Fraction(row[1]) for row in own), max(Fraction(row[2]) for row in own)
     return int(max(abs(least), abs(most), most - least) * 1000), int(max(Fraction(row[3]) for row in own) * 10**9)
 
 
-def cautions(found: Tracking, first: int, last: int) -> list[str]:
+def cautions(log: Tracking, first: int, last: int) -> list[str]:
     """What a person has to look at over a span of Unix seconds: the steps inside it, and whether the log covers it."""
     said = [f"A step{f' of {seconds} s' if seconds and how != FALLS else ''} at {shown(time)} ({how}) "
             f"{'may be' if how.endswith(NO_ZONE) else 'is'} inside the span."
-            for time, seconds, how in found.steps if is_within((time, "0", how[-len(NO_ZONE):]), first, last)]
-    if seconds_of(found.first) > first or seconds_of(found.last) + 1 < last:
+            for time, seconds, how in log.steps if is_within((time, "0", how[-len(NO_ZONE):]), first, last)]
+    if seconds_of(log.first) > first or seconds_of(log.last) + 1 < last:
         said.append("The log doesn't cover the whole span.")
     return said
