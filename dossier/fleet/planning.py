@@ -84,7 +84,7 @@ def days_beside(path: str, machines: list[str], seconds: int) -> list[str] | Ref
             try:
                 with Folder(place) as folder:
                     places += [os.path.join(place, name) for name in folder.names()
-                              if is_day(name) and folder.is_folder(name)]
+                               if is_day(name) and folder.is_folder(name)]
             except Fault:
                 places.append(place)
             if len(places) > MOST_DAYS_AT_ONCE:
