@@ -224,6 +224,7 @@ OPTIONS = [
 
 
 def parser() -> Parser:
+    """The reader of the words of each command, with its help."""
     top = Parser(prog="ntpaudit-dossier", description=ABOUT, formatter_class=argparse.RawDescriptionHelpFormatter,
                  allow_abbrev=False)
     top.add_argument("--version", action="store_true", help="print the versions of dossier and program")
@@ -296,6 +297,7 @@ def say(line: str) -> None:
 
 
 def run(given: argparse.Namespace) -> int:
+    """Does what the words call for, and gives the status."""
     if given.command in ("audit", "page", "verify", "sign", "keep"):
         return run_on_folders(given, [tidy(folder) for folder in given.folders])
     if given.command == "year":
@@ -327,6 +329,7 @@ def run(given: argparse.Namespace) -> int:
 
 
 def run_now(given: argparse.Namespace, program: Program) -> int:
+    """`now`: the last minutes of what recorders are writing."""
     from .fleet.now import NowCall, follow, show_now
     from .premise.leap import read_list
     wanted = NowCall(given.source, given.claim, given.minutes, read_list(given.leap_seconds), program)
@@ -336,6 +339,7 @@ def run_now(given: argparse.Namespace, program: Program) -> int:
 
 
 def run_year(given: argparse.Namespace, folders: list[str]) -> int:
+    """`year`: a calendar of machines, and statements to sign."""
     from .fleet.days import YearCall
     from .fleet.signature import Signers
     from .page.years import Pages, write_year
@@ -348,6 +352,7 @@ def run_year(given: argparse.Namespace, folders: list[str]) -> int:
 
 
 def run_on_folders(given: argparse.Namespace, folders: list[str]) -> int:
+    """The commands on folders: each by its module of fleet, or by page."""
     if given.command == "page" and given.split and given.output:
         raise fault("--split takes no --output: it writes into a folder", USAGE)
     known = Known(state_of(given.state), writes=given.command != "page" or given.verify)
@@ -408,6 +413,7 @@ def correction_of(given: argparse.Namespace) -> "Correction | None":
 
 
 def reading_of(given: argparse.Namespace) -> "Proposal":
+    """How a draft comes to its `reading_ns`, by what is named or stands beside the captures."""
     from .capture.recorder import recorders_of
     from .premise.allowance import measured, named, proposed
     from .premise.measurement import read_measurement
@@ -417,6 +423,7 @@ def reading_of(given: argparse.Namespace) -> "Proposal":
 
 
 def run_draft(given: argparse.Namespace, program: Program) -> int:
+    """`draft`: a claim of captures on the output, and what has to be looked at in it on standard error."""
     from .folder.placing import write_named
     from .premise.leap import read_list
     from .schema import json_text

@@ -27,6 +27,7 @@ def default_of(default: Any) -> Any:
 
 
 def begin(self: Any, *given: Any, **named: Any) -> None:
+    """Sets the fields of a record, by their order or by their names."""
     own, count = self.own_fields, len(given) + len(named)
     named.update(zip(own, given))
     values = {**own, **named}

@@ -187,6 +187,7 @@ def by_word(records: list[Any], may_lack: bool) -> Reader:
 
 
 def list_of(reader: Reader) -> Reader:
+    """A reader of lists."""
     def read(value: Any) -> Any:
         if type(value) is not list:
             raise Mangled
@@ -209,6 +210,7 @@ def tuple_of(readers: list[Reader]) -> Reader:
 
 
 def dict_of(of_key: Reader, of_item: Reader) -> Reader:
+    """A reader of objects with names of one kind."""
     def read(value: Any) -> Any:
         if type(value) is not dict:
             raise Mangled

@@ -186,6 +186,7 @@ class Band:
                 del own[second]
 
     def show(self, moments: list[Moment], columns: int) -> None:
+        """Shows the moments of all recorders, in place of those that are shown."""
         if not self.is_shown:
             for moment in moments:
                 print(line_of(moment), flush=True)
@@ -208,6 +209,7 @@ class Band:
         return [f"{colour}{line}{PLAIN}" for line in lines] if self.has_colour else lines
 
     def band(self, moment: Moment, width: int) -> list[str]:
+        """The lines of the band of one recorder: the hull over an hour, and the bound."""
         bound, end = bound_ticks(moment.bound_ns), moment.end
         places = width - LEFT
         columns = [self.cell(moment.recorder, end - HOUR + HOUR * k // places, end - HOUR + HOUR * (k + 1) // places)

@@ -119,6 +119,7 @@ class Twins:
         self.twins, self.alike = dict[int, set[int]](), dict[int, set[int]]()
 
     def add(self, year: Year) -> None:
+        """Adds a machine's year, of which `of` then tells the twins."""
         number = len(self.machines)
         self.machines.append(year.machine)
         for sum_ in year.captures:

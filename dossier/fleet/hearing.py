@@ -50,6 +50,7 @@ class Hearing:
         """In which so many groups are asked that a step is seen."""
 
     def take(self, block: bytes) -> None:
+        """Takes lines of `samples`."""
         for line in block[: closing_of(block)].decode("ascii").splitlines():
             fields = line.split(" ")
             request, reply = map(int, fields[2:4])

@@ -48,6 +48,7 @@ class Judging:
         self.folder, self.program, self.leaps = folder, program, leaps
 
     def judged(self, record: Record) -> Judged:
+        """The first difference, or none, and the capture by which the answers were judged; `Other` if they can't be."""
         if record.refusal or record.options.days or len(record.entries) != 1:
             raise Other
         entry, = record.entries

@@ -73,6 +73,7 @@ def of_verdict(folder: str, verdict: str, day: str = "") -> Iterator[Sample]:
 
 
 def of_entry(folder: str, entry: Entry) -> Iterator[Sample]:
+    """The metrics of an audit."""
     day = "" if entry.part == "." else entry.part
     labels = labels_of_folder(folder, day)
     yield from of_verdict(folder, entry.verdict, day)

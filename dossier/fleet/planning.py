@@ -29,6 +29,7 @@ class Plan(NamedTuple):
 
 
 def planned(folders: list[str], named: set[str], seconds: int) -> Plan:
+    """Which folders are verified, for what was named."""
     stated, below = dict[str, str](), dict[str, list[str]]()
     for folder in folders:
         below[folder] = []

@@ -64,6 +64,7 @@ class Signers:
         return self.looked_at(at)
 
     def looked_at(self, at: str) -> Signature:
+        """What `ssh-keygen` says of a private copy of a signature that was made at this time."""
         status, said, _ = self.keygen("check-novalidate", "-n", NAMESPACE)
         key = KEY.search(said)
         if status or not key:

@@ -79,6 +79,7 @@ def in_quotes(machine: str) -> str:
 
 
 def premises_of(claim: Claim) -> str:
+    """The premises of a claim in a sentence."""
     groups, wrong = len(claim.grouped), claim.false_max
     servers = f"{count(len(claim.servers), 'server')} in {count(groups, 'group')}"
     return (f"It rests on these premises: of {servers} ({', '.join(claim.servers)}) no more than "

@@ -179,6 +179,7 @@ class Comparison:
         self.at, self.line, self.difference = 0, 1, ""
 
     def take(self, block: bytes) -> None:
+        """Takes a block of what was kept, which one's own file has to have next."""
         if self.difference:
             return
         own = self.opened.read(len(block))
@@ -243,6 +244,7 @@ class Told:
         print(plain(line), flush=True)
 
     def tell(self, path: str, result: Compared, more: list[str], stated: dict[str, str]) -> None:
+        """Prints the lines of a folder, and counts what came of it."""
         for line in [*result.lines, *more]:
             print(f"{label(path)}: {plain(line)}", flush=True)
         status = (0 if result.is_same else NOT_SHOWN) if self.as_signed else result.status

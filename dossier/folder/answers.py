@@ -35,6 +35,7 @@ class Settled(NamedTuple):
 
 
 def read_settled(text: bytes) -> Settled:
+    """What `settle` printed."""
     if text.startswith(b'{"pieces"'):
         return Settled(YES)
     if text.startswith(b"{"):

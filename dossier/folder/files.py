@@ -250,6 +250,7 @@ class Folder:
         return self.sums[name] if name in self.sums else self.read(name, lambda _: None)
 
     def read(self, name: str, take: Callable[[bytes], object]) -> str:
+        """Reads a file once, hands on its blocks, and gives its sum."""
         try:
             with parent_of(self.place, name) as (parent, file):
                 sum_ = read_once(parent, file, name, take, limit_of(name))

@@ -67,6 +67,7 @@ class Copy:
         return self
 
     def take(self, block: bytes) -> None:
+        """Writes a block; one of zeros is left out."""
         self.size += len(block)
         try:
             if not block.lstrip(b"\0"):
@@ -274,6 +275,7 @@ class Begun:
             raise
 
     def take(self, records: bytes) -> None:
+        """Writes whole records."""
         try:
             write(self.file, records)
         except OSError:

@@ -110,6 +110,7 @@ def path_of_program() -> str | None:
 
 
 def path_of_launcher() -> str:
+    """The path of the program that ./ntpaudit runs."""
     home = {name: os.environ[name] for name in ("HOME",) if name in os.environ}
     with begun([f"{ROOT}/ntpaudit", "--path"], env=ENVIRONMENT | home, stdout=PIPE) as built:
         assert built.stdout

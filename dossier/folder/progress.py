@@ -25,6 +25,7 @@ class Progress:
         return between.join(f"{number} {verdict}" for verdict, number in self.tally.items() if number)
 
     def show(self) -> None:
+        """Draws the bar."""
         if self.is_shown:
             part = self.finished / self.total
             bar = "#" * int(WIDTH * part)

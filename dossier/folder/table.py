@@ -10,6 +10,7 @@ class Table:
         self.grow()
 
     def grow(self) -> None:
+        """Makes room for twice as many."""
         old = zip(self.keys, self.numbers)
         self.size = 2 * self.size or 1 << 10
         self.keys, self.numbers, self.used = array("Q", bytes(8 * self.size)), array("I", bytes(4 * self.size)), 0

@@ -31,6 +31,7 @@ class Cell(NamedTuple):
 
 
 def cells_of(envelope: Envelope, bound: int) -> list[Cell]:
+    """The cells of a picture, from left to right."""
     first, last = envelope.begins[0], envelope.ends[-1]
     width = max(1, last - first)
     columns = min(COLUMNS, MOST_STROKES // max(1, len(envelope.servers)))
@@ -51,6 +52,7 @@ def column_edges(pieces: int, columns: int) -> Iterator[tuple[int, int, float, f
 
 
 def cell_of(envelope: Envelope, bound: int, start: int, stop: int, begin: float, end: float) -> Cell:
+    """The cell of some pieces, from `begin` to `end` in parts of the width."""
     hulls = envelope.hulls[start:stop]
     bounded = [hull for hull in hulls if not isinstance(hull, str)]
     lows, highs = [hull[0] for hull in bounded], [hull[1] for hull in bounded]

@@ -107,6 +107,7 @@ class Looking(NamedTuple):
             return self.refused(path, error, signature)
 
     def look_in(self, path: str, folder: Folder, signature: Signature, number: int) -> OnPage:
+        """What the page has of an open folder."""
         data = audit_json(folder)
         written = read_any(data)
         if self.verifier:
@@ -133,6 +134,7 @@ class Looking(NamedTuple):
 
     def refused(self, path: str, refusal: Fault | Refusal, signature: Signature,
                 metrics: Sequence[Sample] = ()) -> OnPage:
+        """What the page has of a folder without a verdict."""
         why, what = (f"{refusal.why}.", capital(refusal.what)) if refusal.why else remedy(refusal.line, path)
         row = row_without_verdict(path, REFUSED, f"{refusal.line}. {why}", what, signature)
         is_for_input = refusal.status == INPUT_REFUSED and not metrics

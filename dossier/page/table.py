@@ -26,6 +26,7 @@ def row_without_verdict(folder: str, verdict: str, why: str, what: str, signatur
 
 
 def row_of(folder: str, entry: Entry, signature: Signature, judged: Judgement | None) -> Row:
+    """The row of an audit."""
     claim, worst, has_worst = entry.claim, entry.worst, entry.verdict != NOTHING_FITS
     return replace(
         row_without_verdict(folder, entry.verdict, reason(entry), to_do(entry), signature),

@@ -50,6 +50,7 @@ def minus(words: str) -> str:
 
 @cache
 def templates() -> "Environment":
+    """The templates, with all that they call."""
     sys.path += [place for place in PLACES if place not in sys.path]
     try:
         from jinja2 import Environment, FileSystemLoader, StrictUndefined

@@ -72,6 +72,7 @@ class Pages(NamedTuple):
             yield MONTHS[int(month) - 1], [self.cell(year, day) for day in days]
 
     def cell(self, year: Year, day: Told) -> tuple[str, str, str, str]:
+        """A day's cell: its class, its sign, what is said of it, and the link to its page."""
         kind, shaded = day.verdict.replace(" ", "-"), shade(year, day)
         least = f", least bound {ns_up_ms(day.least_ns)} ms" if day.least_ns is not None else ""
         by = f", signed by {day.by}" if day.by else ""

@@ -47,6 +47,7 @@ class Correction:
 
 
 def correction(oscillator_ppb: int, settings: Configuration, log: Tracking | None, made: str) -> Correction:
+    """What a draft proposes by an oscillator, settings and a log."""
     if log:  # (what it shows, is granted)
         oscillator_ppb = max(oscillator_ppb, tracking.greatest(log, 0, seconds_of(log.last))[0])
     drift = oscillator_ppb + settings.slew_ppb

@@ -41,6 +41,7 @@ def read_list(path: str | None) -> LeapList:
 
 
 def list_of(path: str) -> LeapList:
+    """The list that a file has; a fault if it is none."""
     try:
         data = data_named(path)
     except Fault as error:

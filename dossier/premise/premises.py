@@ -20,6 +20,7 @@ class Premise:
 
 
 def premises(claim: Claim) -> list[Premise]:
+    """The premises of a claim, in their order."""
     most, groups = claim.false_max, len(claim.grouped)
     by = f", by more than {ns_ms(claim.reading_ns)} ms (reading_ns)" if claim.reading_ns else " (reading_ns is 0)"
     wrong = f"At most {most} of {groups} groups of servers held one that was wrong, or whose packets somebody " \

@@ -78,6 +78,7 @@ class Reading:
         self.last, self.unread = "", 0
 
     def take(self, line: str) -> None:
+        """Takes a line of a log."""
         line = of_journal(line) if line.startswith("{") else line
         if update := UPDATE.match(line):
             self.update(update)
@@ -163,6 +164,7 @@ def extremes_of(reading: Reading) -> list[Extremes]:
 
 
 def in_utc(time: str) -> str:
+    """A time of a log in UTC; one without a zone is taken as it stands."""
     try:
         time = re.sub(" (UTC|GMT)$", "Z", time)
         moment = datetime.fromisoformat(time if ZONE.search(time) else f"{time}+00:00")
