@@ -14,7 +14,7 @@ from tests.support import DATA, ROOT, check, files_in, program, run
 from tests.cases import transcript
 from tests.dossier.leaps import leap_list
 from tests.pages import made_up
-from tests.second import columns
+from tests.second import claims, columns
 
 DOCUMENTS = sorted([*ROOT.glob("*.md"), *ROOT.glob("docs/*.md"), *ROOT.glob("data/*.md"), *ROOT.glob("bench/*.md"),
                     *ROOT.glob("second/*.md"), *ROOT.glob("judge/*.md")])
@@ -50,22 +50,6 @@ def hold_blocks(document: Path) -> None:
         for (command, shown), (_, out, err) in zip(typed, answers):
             seen = [line for line in (out + err).decode().splitlines() if line]
             check(f"{document.name}: {command}", lines=(seen, lambda seen: is_shown(shown, seen)))
-
-
-def test_steps() -> None:
-    """Each row of the table: a step, the number of pieces, the certificate's bytes, and the least bound."""
-    claim = json.loads((DATA / "chrony-ns.claim.json").read_text())
-    table = (ROOT / "docs/GUIDE.md").read_text("utf-8").split("| `--step` |")[1].split("\n\n")[0]
-
-    def found(step: int, bound_ns: int) -> tuple[int | str, bytes]:
-        words = [PROGRAM, "find", "/dev/stdin", DATA / "chrony-ns.pcap", "--step", step]
-        return run(words, json.dumps({**claim, "bound_ns": bound_ns}).encode())[:2]
-    rows = [[int(cell.replace(".", "")) for cell in row.split("|")[1:-1]]
-            for row in table.splitlines() if "---" not in row and row[2:3].isdigit()]
-    check("GUIDE.md's table of steps", rows=(len(rows), 3))
-    for step, pieces, size, least in rows:
-        (status, text), (over, _) = found(step, least), found(step, least - 1)
-        check(f"GUIDE.md: --step {step}", seen=((status, text.count(b"upto"), len(text), over), (0, pieces, size, 1)))
 
 
 def test_allowances() -> None:
@@ -147,7 +131,7 @@ LIMITS = {
     "README.md": 910, "SECURITY.md": 150, "docs/STABILITY.md": 440, "docs/PROMISES.md": 1640,
     "docs/THEOREM.md": 3330, "docs/DEFINITIONS.md": 4310, "docs/DECISIONS.md": 1630, "docs/FORMATS.md": 3710,
     "docs/GUIDE.md": 2570, "docs/REFUSALS.md": 920, "docs/DOSSIER.md docs/AUDITING.md": 3130, "docs/FLEET.md": 1410,
-    "docs/BOUND.md": 560, "docs/RATTLE.md": 990, "second/README.md": 240, "ARCHITECTURE.md CONTRIBUTING.md": 3190,
+    "docs/BOUND.md": 560, "docs/RATTLE.md": 990, "second/README.md": 240, "ARCHITECTURE.md CONTRIBUTING.md": 3200,
     "CHANGELOG.md": 600, "bench/README.md": 630, "data/README.md": 600,
 }
 
@@ -276,6 +260,30 @@ def test_crates() -> None:
     others = {name for names in stands_on.values() for name in names.split()} - there
     named = set(CODE.findall((ROOT / "README.md").read_text("utf-8")))
     check("README.md names the toolchain's crates", missing=(sorted(others - named), []))
+
+
+SHOWN = {"crates/audit_text/specs/CheckReport.antt", "crates/audit_text/src/check_report.rt",
+         "crates/fault_words/specs/Slip.antt", "crates/fault_words/src/slip.rt", "crates/vectors/src/lib.rt",
+         "crates/worked_examples/src/engines/trial.rt", "crates/worked_runs/src/runs.rt"}
+"""These show all numbers of a claim, or are claims, which may lack a new one."""
+
+
+def test_claim_field() -> None:
+    """CONTRIBUTING.md names as many files as it says for a new field of the claim, and each that has all numbers of one
+    and isn't about what they mean."""
+    section = (ROOT / "CONTRIBUTING.md").read_text("utf-8").split("## A new field of the claim\n")[1].split("\n## ")[0]
+    first, *others = re.findall(r"^\d\. (.*)$", section, flags=re.M)
+    listed = {word for line in others for word in re.findall(r"[\w./]+/[\w./]*\w", line)}
+    for folder, names in re.findall(r"in (specs|src|proofs) ([^;.]*)", first):
+        end = "rt" if folder == "src" else "antt"
+        listed |= {f"crates/claim_file/{folder}/{name}.{end}" for name in CODE.findall(names)}
+    patterns = ("crates/*/src/**/*.rt", "crates/*/specs/**/*.antt", "crates/*/proofs/**/*.antt", "judge/*.v",
+                "second/recheck", "dossier/folder/*.py")
+    there = {str(file.relative_to(ROOT)) for pattern in patterns for file in ROOT.glob(pattern)
+             if all(name in file.read_text("utf-8") for name in claims.MOST)}
+    check("a new field of the claim", missing=(sorted(there - listed - SHOWN), []),
+          gone=([name for name in sorted(listed) if not (ROOT / name).exists()], []),
+          count=(f"is 0 then: {len(listed)} files" in section, True))
 
 
 def test_kit() -> None:

@@ -23,6 +23,19 @@ def test_form() -> None:
         check("flake8 finds nothing", run=(run(words, cwd=ROOT)[:2], (0, b"")))
 
 
+WIDTHS = {"src": (100, 7), "specs": (100, 4), "proofs": (120, 35)}
+"""How wide a line is in each folder of a crate, and how many at most are wider: they stand in crates on which others
+stand, whose proofs they would cost. Lists of what a file takes (`use`) have no width."""
+
+
+def test_widths() -> None:
+    for folder, (width, most) in WIDTHS.items():
+        wide = [f"{file.relative_to(ROOT)}:{number}" for file in sorted(ROOT.glob(f"crates/*/{folder}/**/*.*t*"))
+                for number, line in enumerate(file.read_text("utf-8").splitlines(), 1)
+                if len(line) > width and not re.match(r"(pub |ghost )*use ", line)]
+        check(f"lines of {folder} over {width} columns", lines=(wide, lambda wide: len(wide) <= most))
+
+
 def test_skips(place: Path) -> None:
     """Where all tools are installed, a skip with the mark fails the gate. No other skip says that a tool is missing."""
     unmarked = [str(path.relative_to(ROOT)) for path in ROOT.glob("tests/**/*.py")
