@@ -59,7 +59,7 @@ class Classic:
     """A capture in a file of one's own; nothing has to be one. Its extent may be known already."""
 
     def __init__(self, path: str, extent: Extent | None = None):
-        self.path, self.found, self.data = path, extent, mapped(path)
+        self.path, self.whole_extent, self.data = path, extent, mapped(path)
         self.size = len(self.data)
         self.order, self.unit = MAGICS.get(self.data[:4], ("<", 0))
         self.is_one = self.unit > 0 and self.size >= HEADER
@@ -87,8 +87,8 @@ class Classic:
 
     @property
     def extent(self) -> Extent:
-        self.found = self.found or self.look()
-        return self.found
+        self.whole_extent = self.whole_extent or self.look()
+        return self.whole_extent
 
     def look(self) -> Extent:
         """Goes from record to record, and over those of one length that follow one another at once."""
@@ -191,8 +191,8 @@ def join(captures: dict[str, Classic], path: str, times: Times | None = None) ->
             yield time * of, number, capture.renewed(begin, end, unit)
         if end != capture.size:
             raise fault(f"{name} is damaged from byte {end} on, so it can't be joined with the others")
-    found = [records(number, name, captures[name]) for number, name in enumerate(known or captures)]
-    rows: Iterable[Timed] = woven(found, [times[name] for name in known]) if times is not None else merged(found)
+    files = [records(number, name, captures[name]) for number, name in enumerate(known or captures)]
+    rows: Iterable[Timed] = woven(files, [times[name] for name in known]) if times is not None else merged(files)
     write(path, chain([new_header(unit, first.kind)], map(itemgetter(2), rows)))
     return None
 
@@ -206,19 +206,19 @@ def merged(captures: list[Iterator[Timed]]) -> Iterator[Timed]:
 
 def woven(captures: Iterable[Iterable[Timed]], times: list[tuple[int, int]]) -> list[Timed]:
     """The records of captures in the order in which these begin."""
-    found, end = list[Timed](), 0
+    rows, end = list[Timed](), 0
     for capture, (begin, last) in zip(captures, times):
         own = list(capture)
-        do_share = not {own_of(record[2]) for record in own[:AT_ENDS]}.isdisjoint(own_of(record[2]) for record in found)
-        found = [*found, *own] if begin >= end and not do_share else both(found, own)
+        do_share = not {own_of(record[2]) for record in own[:AT_ENDS]}.isdisjoint(own_of(record[2]) for record in rows)
+        rows = [*rows, *own] if begin >= end and not do_share else both(rows, own)
         end = max(end, last)
-    return found
+    return rows
 
 
 def both(one: list[Timed], other: list[Timed]) -> list[Timed]:
     """Records of two, in the order of both, those that both have once; packets that both have, by other stamps, one
     after the other; between these in order of time."""
-    places, found = dict[bytes, list[int]](), list[Timed]()
+    places, records = dict[bytes, list[int]](), list[Timed]()
     for number, record in enumerate(one):
         places.setdefault(own_of(record[2]), []).append(number)
     i = j = 0
@@ -226,10 +226,10 @@ def both(one: list[Timed], other: list[Timed]) -> list[Timed]:
         own = places.get(own_of(record[2]), [])
         if (at := bisect_left(own, i)) < len(own):
             same = one[own[at]]
-            found += merge(one[i : own[at]], other[j:number], key=itemgetter(0, 1))
-            found += [record] if record[2] == same[2] else sorted([same, record])
+            records += merge(one[i : own[at]], other[j:number], key=itemgetter(0, 1))
+            records += [record] if record[2] == same[2] else sorted([same, record])
             i, j = own[at] + 1, number + 1
-    return [*found, *merge(one[i:], other[j:], key=itemgetter(0, 1))]
+    return [*records, *merge(one[i:], other[j:], key=itemgetter(0, 1))]
 
 
 def own_of(record: bytes) -> bytes:
@@ -258,10 +258,10 @@ def runs_of(capture: Classic, spans: list[tuple[int, int]]) -> list[Runs]:
     """Of each span of Unix seconds the records whose times lie in it, or all, if they can't be told apart to the end.
     The spans have to be in order, as their ends."""
     begins, ends = ([second * capture.unit for second in side] for side in zip(*spans))
-    found: list[Runs] = [[] for _ in spans]
+    runs_in: list[Runs] = [[] for _ in spans]
     left, end = MOST_RUNS, HEADER
     for time, begin, end in capture.rows():
-        for runs in found[bisect_left(ends, time) : bisect_right(begins, time)]:
+        for runs in runs_in[bisect_left(ends, time) : bisect_right(begins, time)]:
             if runs and runs[-1][1] == begin:
                 runs[-1][1] = end
             else:
@@ -269,7 +269,7 @@ def runs_of(capture: Classic, spans: list[tuple[int, int]]) -> list[Runs]:
                 left -= 1
         if left < 0:
             raise fault("the times of the capture go back and forth between days too often")
-    return found if end == capture.size else [[[HEADER, capture.size]] for _ in spans]
+    return runs_in if end == capture.size else [[[HEADER, capture.size]] for _ in spans]
 
 
 def records_in(whole: Classic, gap: tuple[int, int], is_between: bool) -> Iterator[bytes]:

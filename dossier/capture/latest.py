@@ -43,19 +43,19 @@ def latest(folder: Folder, files: Iterable[Written], order: list[str], seconds: 
            bad: list[str]) -> Latest:
     """Of a recorder's files, and the order in which it says that it began them. What can't be read is left out, and
     its fault is kept, and so is a copy of another's begin."""
-    found, header, ahead = list[Ending](), b"", 0
+    endings, header, ahead = list[Ending](), b"", 0
     for file, at in in_order(folder, files, order, now, bad):
         ahead = max(ahead, at - now)
-        left, room = seconds - sum(one.seconds for one in found), MOST_READ - sum(len(one.data) for one in found)
+        left, room = seconds - sum(one.seconds for one in endings), MOST_READ - sum(len(one.data) for one in endings)
         if left <= 0 or header and file.header != header:
             continue
         own = file.ending(left, max(GAP, seconds // 4), room, bad)
-        if own and not any(own.data[-ALIKE:] in one.data for one in found):
-            found = [own, *(one for one in found if one.data[-ALIKE:] not in own.data)]
+        if own and not any(own.data[-ALIKE:] in one.data for one in endings):
+            endings = [own, *(one for one in endings if one.data[-ALIKE:] not in own.data)]
             header, ahead = file.header, max(ahead, own.latest - now)
-    if found:
-        keep(LATEST, header + b"".join(one.data for one in found))
-    return Latest(LATEST, found[-1].last if found else 0, ahead if ahead > AHEAD else 0)
+    if endings:
+        keep(LATEST, header + b"".join(one.data for one in endings))
+    return Latest(LATEST, endings[-1].last if endings else 0, ahead if ahead > AHEAD else 0)
 
 
 def in_order(folder: Folder, files: Iterable[Written], order: list[str], now: int,
@@ -63,7 +63,7 @@ def in_order(folder: Folder, files: Iterable[Written], order: list[str], now: in
     """The files, the newest first, but those that were only just begun; each with the time at which it was written
     last, if that is later than now."""
     place = {name: number for number, name in enumerate(order)}
-    found = list[tuple[int, bool, int, int, Growing]]()
+    growing = list[tuple[int, bool, int, int, Growing]]()
     for number, one in enumerate(sorted(files, reverse=True, key=lambda one: (
             place.get(one.name, -1), folder.written_ns(one.name), one.begun, one.number))):
         try:
@@ -72,8 +72,8 @@ def in_order(folder: Folder, files: Iterable[Written], order: list[str], now: in
             file, at = Growing(folder, one.name), folder.written_ns(one.name) // SECOND
             if not order and number < LOOKED_AT and abs(at - (last := file.last(MOST_READ))) > FITS:
                 at = last
-            found.append((place.get(one.name, -1), at <= now + AHEAD, at, -number, file))
+            growing.append((place.get(one.name, -1), at <= now + AHEAD, at, -number, file))
         except Fault as wrong:
             bad.append(wrong.line)
-    for _, is_past, at, _, file in sorted(found, key=lambda one: one[:4], reverse=True):
+    for _, is_past, at, _, file in sorted(growing, key=lambda one: one[:4], reverse=True):
         yield file, 0 if is_past or order else at

@@ -61,8 +61,8 @@ class Pcapng:
 
     def interfaces(self) -> list[Interface]:
         """All of its interfaces, of all sections: by these the unit is chosen in which it is rewritten."""
-        found = (interface_of(order, body) for kind, order, body in self.blocks() if kind == INTERFACE)
-        known = list(islice(found, MOST_INTERFACES + 1))
+        every = (interface_of(order, body) for kind, order, body in self.blocks() if kind == INTERFACE)
+        known = list(islice(every, MOST_INTERFACES + 1))
         if len(known) > MOST_INTERFACES:
             raise fault(f"{self.name} has more than {MOST_INTERFACES:,} interfaces, so it is damaged")
         return known

@@ -58,8 +58,8 @@ def ends_of(path: str | None, clients: list[str]) -> tuple[list[str], list[str]]
         if path is not None:
             claim: Claim = read_typed(os.path.basename(path), Claim, data_named(path))
             return [claim.client], claim.servers
-    except Fault as found:
-        note(found.line)
+    except Fault as error:
+        note(error.line)
     return clients, []
 
 
@@ -93,15 +93,15 @@ def version_of(tool: str) -> str:
     return plain(", ".join(told([tool, "--version"])[1].splitlines()[:2]))
 
 
-def keep(path: str, found: Recorder) -> None:
+def keep(path: str, recorder: Recorder) -> None:
     """Leaves it in a folder, if it isn't there, and has evidence.json name it. Another recorder may do so as well."""
-    name = f"{found.interface}{ENDING}"
+    name = f"{recorder.interface}{ENDING}"
     for _ in range(TRIES):
         with Folder(path) as folder:
             told = evidence(folder)
             made, reading = dict[str, Iterable[bytes]](), told.get("reading", "")
-            if not is_as(read_recorder(folder, name), found):
-                made[name] = [json_text(found)]
+            if not is_as(read_recorder(folder, name), recorder):
+                made[name] = [json_text(recorder)]
             if name not in named_in(reading):
                 made[EVIDENCE] = [json_text({**told, "reading": f"{reading} {name}".strip()})]
             if not made:
@@ -110,16 +110,16 @@ def keep(path: str, found: Recorder) -> None:
     raise fault(f"{name} and {EVIDENCE} don't stay as they are written")
 
 
-def is_as(old: Recorder | None, found: Recorder) -> bool:
+def is_as(old: Recorder | None, new: Recorder) -> bool:
     """Whether nothing has changed since."""
-    return old is not None and old == replace(found, since=old.since) and old.since <= found.since
+    return old is not None and old == replace(new, since=old.since) and old.since <= new.since
 
 
 def read_recorder(folder: Folder, name: str) -> Recorder | None:
     """What a file of a folder says, if it is of this form."""
     try:
-        found: Recorder = read_typed(name, Recorder, folder.data(name))
-        return found
+        recorder: Recorder = read_typed(name, Recorder, folder.data(name))
+        return recorder
     except Fault:
         return None
 
@@ -149,9 +149,9 @@ def begun_files(folder: Folder) -> Iterator[Written]:
 
 def recorders_of(captures: list[str]) -> list[Recorder] | None:
     """By what captures were recorded, as the evidence beside each says; None if it doesn't of one of them."""
-    found = [recorder_of(*os.path.split(capture)) for capture in captures]
-    known = [one for number, one in enumerate(found) if one and one not in found[:number]]
-    return None if None in found else known
+    every = [recorder_of(*os.path.split(capture)) for capture in captures]
+    known = [one for number, one in enumerate(every) if one and one not in every[:number]]
+    return None if None in every else known
 
 
 def recorder_of(path: str, name: str) -> Recorder | None:

@@ -110,19 +110,19 @@ class Growing:
 
     def hours(self) -> set[int]:
         """The hours since 1970 in which the times of its records lie, as far as these can be told apart."""
-        found, data, at = set[int](), b"", HEADER
+        hours, data, at = set[int](), b"", HEADER
         while len(data) < MOST_LENGTH and (block := self.folder.part(self.name, at, at + FIRST)):
             data, at, end = data + block, at + len(block), 0
             for second, _, end in self.heads.walk(data, 0):
-                found.add(second // HOUR)
+                hours.add(second // HOUR)
             data = data[end:]
-        return found
+        return hours
 
     def ending(self, seconds: int, longest: int, most: int, bad: list[str]) -> Ending | None:
         """The records of its last seconds, as far as so many bytes have them; None if it has none. What went by is the
         time from each record to the next, but none where the clock fell back, and so much at the longest. Where it is
         damaged is said."""
-        found, ends = None, 0
+        ending, ends = None, 0
         for ends, (data, begin, _) in enumerate(self.endings(most), 1):
             times, places, end = array("Q"), array("Q"), begin
             for second, at, end in self.heads.walk(data, begin):
@@ -135,12 +135,12 @@ class Growing:
                 gone += min(max(0, times[first] - times[first - 1]), longest)
                 first -= gone <= seconds
             if times:
-                found = Ending(data[places[first] : end], gone, times[-1], max(times[first:]))
+                ending = Ending(data[places[first] : end], gone, times[-1], max(times[first:]))
             if first > 0 or is_damaged:
                 break
         if not ends:
             bad.append(fault(f"{self.name}: in its last {most // 1_000_000:,} MB no record can be told apart").line)
-        return found
+        return ending
 
     def is_damaged(self, data: bytes, end: int) -> bool:
         """Whether what stands there is no record that was cut off."""

@@ -77,8 +77,8 @@ def read_state(folder: Folder, interface: str) -> State | None:
     """What the recorder of an interface says of itself in a folder, if one does."""
     name = f"{interface}{ENDING}"
     try:
-        found: State = read_typed(name, State, folder.part(name, 0, Slate.SIZE))
-        return found
+        state: State = read_typed(name, State, folder.part(name, 0, Slate.SIZE))
+        return state
     except Fault:
         return None
 
@@ -119,7 +119,7 @@ class Watch:
         self.call: Beside | None = None
         self.file: Begun | None = None
         self.slate: Slate | None = None
-        self.found: Recorder | None = None
+        self.evidence: Recorder | None = None
         self.files = before.files if (before := read_state(folder, wanted.interface)) else []
         self.header = self.rest = b""
         self.heard = self.said = ""
@@ -175,7 +175,7 @@ class Watch:
 
     def look(self) -> None:
         with suppress(Fault):
-            if self.found and addresses_of(self.wanted.interface) != self.found.addresses:
+            if self.evidence and addresses_of(self.wanted.interface) != self.evidence.addresses:
                 note(f"ntpaudit-dossier: {self.wanted.interface}: its addresses have changed")
                 self.drop()
         self.look_at_tool()
@@ -239,11 +239,11 @@ class Watch:
     def begin(self) -> None:
         """Begins tcpdump, with the filter and the evidence as they are now."""
         try:
-            self.found = recorder(self.tool, self.wanted.interface)
-            keep(self.wanted.folder, self.found)
-        except Fault as found:  # (what is recorded counts without it too)
-            note(f"ntpaudit-dossier: no evidence of the recorder is left: {found.words}")
-        ends = ends_of(self.wanted.claim, self.found.addresses if self.found else [])
+            self.evidence = recorder(self.tool, self.wanted.interface)
+            keep(self.wanted.folder, self.evidence)
+        except Fault as error:  # (what is recorded counts without it too)
+            note(f"ntpaudit-dossier: no evidence of the recorder is left: {error.words}")
+        ends = ends_of(self.wanted.claim, self.evidence.addresses if self.evidence else [])
         self.keeping.clients = set(map(number_of, ends[0]))
         words = [self.tool, "-i", self.wanted.interface, "-n", "-U", "-j", "host", "--time-stamp-precision=nano",
                  "-s", str(PACKET), "-B", BUFFER, "-w", "-", "--", filter_of(*ends)]
@@ -273,8 +273,8 @@ class Watch:
         said = plain(self.said) or (f"signal {-status}" if status < 0 else f"status {status}")
         if not listened and not self.troubles.get("ended"):
             raise fault(f"tcpdump doesn't record {self.wanted.interface} ({said})", DEVICE)
-        if (found := self.addresses_fault()) and found.status == DEVICE:
-            raise found
+        if (why := self.addresses_fault()) and why.status == DEVICE:
+            raise why
         self.failing = self.failing or since_boot()
         if since_boot() > self.failing + PATIENCE:
             raise fault(f"tcpdump records {self.wanted.interface} no more ({said})", DEVICE)
@@ -284,8 +284,8 @@ class Watch:
         """Why the interface's addresses can't be told; a fault of a device if it isn't there."""
         try:
             addresses_of(self.wanted.interface)
-        except Fault as found:
-            return found
+        except Fault as error:
+            return error
         return None
 
     def hear(self, words: bytes) -> None:

@@ -15,27 +15,27 @@ def length(nanoseconds: int) -> str:
     return span_of_seconds(nanoseconds / SECOND)
 
 
-def number(found: OfServers | ForATime, one: str, many: str) -> str:
+def number(alert: OfServers | ForATime, one: str, many: str) -> str:
     """A word that fits the number of a warning's servers."""
-    return one if len(found.servers) == 1 else many
+    return one if len(alert.servers) == 1 else many
 
 
-def outside(found: Between) -> str:
-    parts = [f"begins {length(found.before)} before the first"] if found.before else []
-    parts += [f"ends {length(found.after)} after the last"] if found.after else []
+def outside(alert: Between) -> str:
+    parts = [f"begins {length(alert.before)} before the first"] if alert.before else []
+    parts += [f"ends {length(alert.after)} after the last"] if alert.after else []
     return f"The span goes beyond the packets that count: it {' and '.join(parts)}. {ON_DRIFT}"
 
 
-def falls(found: Falls) -> str:
-    before, after = (shown_time(time // SECOND) for time in (found.before, found.after))
-    return (f"The times of the records fall back ({count(found.count, 'time')}; first at record {found.record}, from "
-            f"{before} to {after}, by {length(found.before - found.after)}). If the clock was stepped, the claim can't "
+def falls(alert: Falls) -> str:
+    before, after = (shown_time(time // SECOND) for time in (alert.before, alert.after))
+    return (f"The times of the records fall back ({count(alert.count, 'time')}; first at record {alert.record}, from "
+            f"{before} to {after}, by {length(alert.before - alert.after)}). If the clock was stepped, the claim can't "
             "be made of this span.")
 
 
-def silence(found: Quiet) -> str:
-    more = f" There are {found.count:,} such times, of which this is the longest." if found.count > 1 else ""
-    return f"{silent(Silence(found.before, found.after, found.requests, found.replies))}{more} {ON_DRIFT}"
+def silence(alert: Quiet) -> str:
+    more = f" There are {alert.count:,} such times, of which this is the longest." if alert.count > 1 else ""
+    return f"{silent(Silence(alert.before, alert.after, alert.requests, alert.replies))}{more} {ON_DRIFT}"
 
 
 def silent(gap: Silence) -> str:
@@ -50,38 +50,38 @@ def silent(gap: Silence) -> str:
     return f"No server was heard {when}: no reply was of use, of {gap.replies:,} to {asked}."
 
 
-def far(found: Far) -> str:
-    where = f", {between(found.piece.from_, found.piece.to)}" if found.piece else ""
-    return (f"{count(found.count, 'piece')} {is_or_are(found.count)} farther from every sample than a tenth of the "
-            f"span; the farthest{where}, by {length(found.distance)}. {ON_DRIFT}")
+def far(alert: Far) -> str:
+    where = f", {between(alert.piece.from_, alert.piece.to)}" if alert.piece else ""
+    return (f"{count(alert.count, 'piece')} {is_or_are(alert.count)} farther from every sample than a tenth of the "
+            f"span; the farthest{where}, by {length(alert.distance)}. {ON_DRIFT}")
 
 
-def torn(found: Torn) -> str:
-    more = f", and so do {count(found.count - 1, 'other')}" if found.count > 1 else ""
-    return (f"{plain(found.file)} ends inside a record, and counts up to there (byte {found.place:,}){more}. It was "
+def torn(alert: Torn) -> str:
+    more = f", and so do {count(alert.count - 1, 'other')}" if alert.count > 1 else ""
+    return (f"{plain(alert.file)} ends inside a record, and counts up to there (byte {alert.place:,}){more}. It was "
             "cut off, or is still being written (`tcpdump -U` writes whole records).")
 
 
-def twice(found: Again) -> str:
-    where = f"{plain(found.file)} and {plain(found.beside)}" if found.beside else plain(found.file)
-    return (f"{count(found.count, 'packet')} {'was' if found.count == 1 else 'were'} recorded once more, the first of "
-            f"them in {where}, with stamps up to {ns_up_ms(found.spread)} ms apart: each counts once, a request by its "
+def twice(alert: Again) -> str:
+    where = f"{plain(alert.file)} and {plain(alert.beside)}" if alert.beside else plain(alert.file)
+    return (f"{count(alert.count, 'packet')} {'was' if alert.count == 1 else 'were'} recorded once more, the first of "
+            f"them in {where}, with stamps up to {ns_up_ms(alert.spread)} ms apart: each counts once, a request by its "
             "earliest stamp and a reply by its latest.")
 
 
-def apart_for_a_time(found: ForATime) -> str:
-    more = f"; so {'does a server' if found.count == 1 else 'do servers'} at {count(found.count, 'other time')}"
-    return (f"{listed(found.servers)} {number(found, 'stands', 'stand')} apart "
-            f"{from_to(*outward(found.before, found.after))}: {number(found, 'its', 'their')} samples then miss the "
-            f"hull{more if found.count else ''}.")
+def apart_for_a_time(alert: ForATime) -> str:
+    more = f"; so {'does a server' if alert.count == 1 else 'do servers'} at {count(alert.count, 'other time')}"
+    return (f"{listed(alert.servers)} {number(alert, 'stands', 'stand')} apart "
+            f"{from_to(*outward(alert.before, alert.after))}: {number(alert, 'its', 'their')} samples then miss the "
+            f"hull{more if alert.count else ''}.")
 
 
-def without_xleave(found: OfServers) -> str:
-    return f"take `xleave` out of {number(found, 'its line', 'their lines')} in chrony.conf, and record again"
+def without_xleave(alert: OfServers) -> str:
+    return f"take `xleave` out of {number(alert, 'its line', 'their lines')} in chrony.conf, and record again"
 
 
-def logged_at(found: Logged) -> str:
-    return shown_time(found.before // SECOND) if found.before else "a time of no known form"
+def logged_at(alert: Logged) -> str:
+    return shown_time(alert.before // SECOND) if alert.before else "a time of no known form"
 
 
 BARE = {
@@ -115,53 +115,53 @@ FIGURES: dict[str, Callable[[int], str]] = {
                              "they are of two clocks, the clock was set between them, or two packets are alike.",
 }
 SERVERS: dict[str, Callable[[OfServers], str]] = {
-    "address": lambda found: f"By the folder's own evidence the recorder had the address {found.servers[0]}, and not "
+    "address": lambda alert: f"By the folder's own evidence the recorder had the address {alert.servers[0]}, and not "
                              "the claim's client's: another machine's stamps say nothing of this clock.",
-    "apart": lambda found: f"{listed(found.servers)} {number(found, 'stands', 'stand')} apart: "
-                           f"{number(found, 'its range never meets', 'their ranges never meet')} the hull.",
-    "interleaved": lambda found: f"{listed(found.servers)} mostly {number(found, 'answers', 'answer')} in interleaved "
-                                 f"mode, which can't be used: {without_xleave(found)}.",
-    "wrong": lambda found: f"{listed(found.servers)} {number(found, 'was', 'were')} wrong for some time: no course of "
-                           f"events fits in which {number(found, 'it was', 'they were')} right.",
-    "contrary": lambda found: f"Of {listed(found.servers)} at least one was wrong for some time: no course of events "
+    "apart": lambda alert: f"{listed(alert.servers)} {number(alert, 'stands', 'stand')} apart: "
+                           f"{number(alert, 'its range never meets', 'their ranges never meet')} the hull.",
+    "interleaved": lambda alert: f"{listed(alert.servers)} mostly {number(alert, 'answers', 'answer')} in interleaved "
+                                 f"mode, which can't be used: {without_xleave(alert)}.",
+    "wrong": lambda alert: f"{listed(alert.servers)} {number(alert, 'was', 'were')} wrong for some time: no course of "
+                           f"events fits in which {number(alert, 'it was', 'they were')} right.",
+    "contrary": lambda alert: f"Of {listed(alert.servers)} at least one was wrong for some time: no course of events "
                               "fits in which all were right.",
 }
 
 
-def leap_seconds(found: LeapSeconds) -> str:
-    return (f"{capital(named(found.seconds))} lies in the span or among the exchanges, by the "
+def leap_seconds(alert: LeapSeconds) -> str:
+    return (f"{capital(named(alert.seconds))} lies in the span or among the exchanges, by the "
             "list of leap seconds. No such span can be claimed.")
 
 
-def list_ends(found: ListEnds) -> str:
-    return (f"The list of leap seconds was good until {civil(found.before // SECOND)[:10]} only, "
+def list_ends(alert: ListEnds) -> str:
+    return (f"The list of leap seconds was good until {civil(alert.before // SECOND)[:10]} only, "
             "and the span or the exchanges go on beyond that.")
 
 
-def one_reference(found: OneReference) -> str:
-    return (f"All exchanges name one reference ({reference(found.reference)}): these servers may "
+def one_reference(alert: OneReference) -> str:
+    return (f"All exchanges name one reference ({reference(alert.reference)}): these servers may "
             "be wrong together, and belong into one group.")
 
 
-def step(found: Logged) -> str:
-    return (f"The client logged a step of the clock at {logged_at(found)}"
-            f"{f', the first of {found.count:,} steps' if found.count > 1 else ''}. No drift covers a "
+def step(alert: Logged) -> str:
+    return (f"The client logged a step of the clock at {logged_at(alert)}"
+            f"{f', the first of {alert.count:,} steps' if alert.count > 1 else ''}. No drift covers a "
             "step.")
 
 
-def other_step(found: Logged) -> str:
+def other_step(alert: Logged) -> str:
     return ("The client logged a step of the clock at "
-            f"{logged_at(found)}, where none is presumed.")
+            f"{logged_at(alert)}, where none is presumed.")
 
 
-def unlogged(found: Between) -> str:
-    return (f"The client's log has no step {between(*outward(found.before, found.after))}, where one "
+def unlogged(alert: Between) -> str:
+    return (f"The client's log has no step {between(*outward(alert.before, alert.after))}, where one "
             "is presumed.")
 
 
-def unread(found: Unread) -> str:
-    return (f"{count(found.count, 'line')} of {plain(found.file) or 'logs'} "
-            f"{'is' if found.count == 1 else 'are'} of no known form: nothing in them was read.")
+def unread(alert: Unread) -> str:
+    return (f"{count(alert.count, 'line')} of {plain(alert.file) or 'logs'} "
+            f"{'is' if alert.count == 1 else 'are'} of no known form: nothing in them was read.")
 
 
 TO_DO = {
@@ -183,36 +183,36 @@ TO_DO = {
 """What to do about each warning that takes a yes away."""
 
 
-def warning_words(found: Alert) -> str:
+def warning_words(alert: Alert) -> str:
     """The sentence of a warning."""
-    match found:
+    match alert:
         case Bare():
-            return BARE[found.kind]
+            return BARE[alert.kind]
         case Figure():
-            return FIGURES[found.kind](found.count)
+            return FIGURES[alert.kind](alert.count)
         case OfServers():
-            return SERVERS[found.kind](found)
+            return SERVERS[alert.kind](alert)
         case Between():
-            return outside(found) if found.kind == "outside" else unlogged(found)
+            return outside(alert) if alert.kind == "outside" else unlogged(alert)
         case Falls():
-            return falls(found)
+            return falls(alert)
         case Quiet():
-            return silence(found)
+            return silence(alert)
         case Far():
-            return far(found)
+            return far(alert)
         case LeapSeconds():
-            return leap_seconds(found)
+            return leap_seconds(alert)
         case ListEnds():
-            return list_ends(found)
+            return list_ends(alert)
         case OneReference():
-            return one_reference(found)
+            return one_reference(alert)
         case ForATime():
-            return apart_for_a_time(found)
+            return apart_for_a_time(alert)
         case Logged():
-            return step(found) if found.kind == "step" else other_step(found)
+            return step(alert) if alert.kind == "step" else other_step(alert)
         case Torn():
-            return torn(found)
+            return torn(alert)
         case Again():
-            return twice(found)
+            return twice(alert)
         case Unread():
-            return unread(found)
+            return unread(alert)

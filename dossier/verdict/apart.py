@@ -57,11 +57,11 @@ def pieces_of(envelope: Envelope, begin: int, end: int) -> Envelope:
 
 def are_in(envelope: Envelope, gaps: list[Gap]) -> list[bool]:
     """Of each piece whether some of it lies in a gap, of those in order of time."""
-    lasts, found = [last for _, last in gaps], []
+    lasts, inside = [last for _, last in gaps], []
     for begin, end in zip(envelope.begins, envelope.ends):
         at = bisect_right(lasts, begin * SECOND)
-        found.append(at < len(gaps) and gaps[at][0] < end * SECOND)
-    return found
+        inside.append(at < len(gaps) and gaps[at][0] < end * SECOND)
+    return inside
 
 
 class Time(NamedTuple):
@@ -178,7 +178,7 @@ def conflicts_in(program: Program, claim: Claim, capture: str) -> Conflicts:
     return Conflicts(pairs, [{group[server] for server in pair} for pair in pairs])
 
 
-def needed(conflicts: list[set[int]], most: int) -> set[int] | None:
+def in_each_cover(conflicts: list[set[int]], most: int) -> set[int] | None:
     """What is in each set of at most so many that has an end of each conflict; None if there is no such set. It has the
     group that is in most conflicts, or else what that is in conflict with."""
     if not conflicts:
@@ -186,20 +186,20 @@ def needed(conflicts: list[set[int]], most: int) -> set[int] | None:
     (one, number), = Counter(chain(*conflicts)).most_common(1)
     others = set().union(*(own for own in conflicts if one in own)) - {one}
     ways = [{one}, others] if {one} not in conflicts else [{one}]
-    found = [way | rest for way in ways if len(way) <= most and len(conflicts) <= most * number and
-             (rest := needed([own for own in conflicts if not own & way], most - len(way))) is not None]
-    return set.intersection(*found) if found else None
+    sets = [way | rest for way in ways if len(way) <= most and len(conflicts) <= most * number and
+            (rest := in_each_cover([own for own in conflicts if not own & way], most - len(way))) is not None]
+    return set.intersection(*sets) if sets else None
 
 
 def wrong_in(program: Program, claim: Claim, captures: Iterable[str]) -> tuple[list[str], list[str]]:
     """The servers that were wrong in each course of events that fits one of these captures; and others of which some
     were."""
-    found = list[set[str]]()
+    sets = list[set[str]]()
     for conflicts in (conflicts_in(program, claim, capture) for capture in captures):
-        must = needed(conflicts.groups, claim.false_max) or set()
+        must = in_each_cover(conflicts.groups, claim.false_max) or set()
         named = set().union(*conflicts.servers)
-        found += ({claim.servers[k] for k in claim.grouped[number]} & named for number in must)
-        found += (pair for pair, groups in zip(*conflicts) if not groups & must)
-    wrong = {server for own in found if len(own) == 1 for server in own}
-    some = {server for own in found if not own & wrong for server in own}
+        sets += ({claim.servers[k] for k in claim.grouped[number]} & named for number in must)
+        sets += (pair for pair, groups in zip(*conflicts) if not groups & must)
+    wrong = {server for own in sets if len(own) == 1 for server in own}
+    some = {server for own in sets if not own & wrong for server in own}
     return [server for server in claim.servers if server in wrong], [one for one in claim.servers if one in some]

@@ -56,19 +56,19 @@ class Search:
             for request, reply in zip(own[-2::-2], own[::-2]):
                 self.other[request], self.other[reply] = reply, request
 
-    def found(self) -> list[Break]:
+    def breaks(self) -> list[Break]:
         """None if there are many, or they can't be told: then it isn't steps."""
         left = self.left = self.from_left(0, self.number)
         right = self.from_right(left) if 0 < len(left) <= FEW else []
         if self.calls <= 0 or self.bytes <= 0 or len(left) != len(right) or not left:
             return []
-        found = list[Break]()
+        breaks = list[Break]()
         for one in (self.narrowed(Break(min(m, n), max(m, n), m < n)) for m, n in zip(right, left)):
-            if found and one.after < found[-1].by:
-                found[-1] = Break(found[-1].after, one.by, False)
+            if breaks and one.after < breaks[-1].by:
+                breaks[-1] = Break(breaks[-1].after, one.by, False)
             else:
-                found.append(one)
-        return found
+                breaks.append(one)
+        return breaks
 
     def narrowed(self, one: Break) -> Break:
         """A break in which the times of the records fall back once by more than a second: there it was, if it was a
@@ -90,8 +90,8 @@ class Search:
 
     def from_left(self, first: int, end: int) -> list[int]:
         """The reply with which each stretch is fitted no more, if it is as long as may be."""
-        found = list[int]()
-        while len(found) <= FEW and (seen := self.conflicts(first, end)):
+        begins = list[int]()
+        while len(begins) <= FEW and (seen := self.conflicts(first, end)):
             low, high, back = first, min(end, self.ends(seen)[1] + 1), 1
             while high - low > 1:
                 middle, back = max((low + high) // 2, high - back), 2 * back
@@ -100,37 +100,37 @@ class Search:
                 else:
                     low = middle
             first = high - 1
-            found.append(first)
-        return found
+            begins.append(first)
+        return begins
 
     def from_right(self, near: list[int]) -> list[int]:
         """The request from which on each stretch isn't fitted, seen from the end; near others, most likely."""
-        found, end, hints = list[int](), self.number, list(near)
-        while len(found) <= FEW and (low := self.narrowest(0, end, hints.pop() if hints else 0)[0]) is not None:
+        ends, end, hints = list[int](), self.number, list(near)
+        while len(ends) <= FEW and (low := self.narrowest(0, end, hints.pop() if hints else 0)[0]) is not None:
             end = low + 1
-            found.insert(0, low)
-        return found
+            ends.insert(0, low)
+        return ends
 
     def narrowest(self, first: int, end: int, hint: int = 0) -> tuple[int | None, list[Pair]]:
         """The last record from which on to before the end no course fits, most likely near another one, and the
         conflicts of these; None if one fits from the first on."""
-        found = self.conflicts(first, end)
-        low, high, back = max(first, self.ends(found)[0]) if found else None, end, 1
+        pairs = self.conflicts(first, end)
+        low, high, back = max(first, self.ends(pairs)[0]) if pairs else None, end, 1
         while low is not None and high - low > 1:
             middle, back = max((low + high) // 2, high - back), 2 * back
             if low < hint < high:
                 middle, back, hint = hint, 1, 0
             if closer := self.conflicts(middle, end):
-                low, found = max(middle, self.ends(closer)[0]), closer
+                low, pairs = max(middle, self.ends(closer)[0]), closer
             else:
                 high = middle
-        return low, found
+        return low, pairs
 
     def told(self) -> list[Pair]:
         """Of each stretch from the left the nearest conflicts by which it ends."""
         keep(ANY, self.any)
-        found = (self.narrowest(first, end + 1)[1] for first, end in pairwise([0, *self.left]))
-        return [pair for own in found for pair in sorted(own, key=lambda pair: abs(pair[1] - pair[3]))[:FEW]]
+        pairs = (self.narrowest(first, end + 1)[1] for first, end in pairwise([0, *self.left]))
+        return [pair for own in pairs for pair in sorted(own, key=lambda pair: abs(pair[1] - pair[3]))[:FEW]]
 
     def conflicts(self, first: int, end: int) -> list[Pair]:
         """The conflicts for which no course fits the records from the first to before the end, if none does."""

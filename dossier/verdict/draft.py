@@ -65,12 +65,12 @@ def group(servers: list[str], references: References) -> list[list[int]]:
             met = of[server] | of.get(above, {above})
             for member in met:
                 of[member] = met
-    found = []
+    groups = []
     for number, server in enumerate(servers):
         members = [k for k, other in enumerate(servers) if other in of[server]]
         if members[0] == number:
-            found.append(members)
-    return found
+            groups.append(members)
+    return groups
 
 
 def span_of(first_request: int, last_reply: int, whole_days: bool) -> tuple[int, int]:
@@ -234,8 +234,8 @@ def draft(program: Program, captures: list[str], wanted: DraftCall) -> tuple[Cla
 
 def of_leaps(claim: Claim, leaps: LeapList) -> list[str]:
     """What the list of leap seconds would take a yes away for, and what to do."""
-    found = alerts_of(look_up(leaps, claim.first, claim.last), leaps)
-    return [f"{warning_words(alert)} {TO_DO[alert.kind]}" for alert in found]
+    alerts = alerts_of(look_up(leaps, claim.first, claim.last), leaps)
+    return [f"{warning_words(alert)} {TO_DO[alert.kind]}" for alert in alerts]
 
 
 def claim_text(claim: Claim) -> str:

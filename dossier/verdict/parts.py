@@ -20,7 +20,7 @@ from ..folder.placing import keep
 from ..folder.program import Program
 from ..records import replace
 from ..units import DAY, LAST_SECOND, SECOND, TICKS, bound_ticks, ceil_div, civil
-from .apart import SEVERAL, Time, are_in, conflicts_in, needed, outermost, pieces_of, search_of
+from .apart import SEVERAL, Time, are_in, conflicts_in, in_each_cover, outermost, pieces_of, search_of
 from .breaks import SOME, Break, Search
 from .gaps import SILENCE, gaps_of, inner_gaps, told_of
 
@@ -75,7 +75,7 @@ class Parting:
         """The ends of leap seconds, in Unix seconds, and whether the claim takes more servers for wrong than is
         granted."""
         self.search = Search(program, claim, capture, extent)
-        self.breaks, self.first, self.end = self.search.found(), 0, self.search.number
+        self.breaks, self.first, self.end = self.search.breaks(), 0, self.search.number
         self.times, self.hulls = dict[int, tuple[int, int]](), dict[tuple[str, int, int, int, int], Hull]()
         self.are_whole, self.hidden = bool(self.breaks), 0
         """Whether a yes of one stretch may stand; and by how much a clock that moved faster than is granted may have
@@ -217,7 +217,7 @@ class Parting:
         servers, groups = conflicts_in(self.program, self.claim, SOME)
         heard = {server for side in self.sides[number : number + 2] for server in side.recording.by_server}
         return 2 * sum(len(pair) == 1 for pair in servers) > len(heard) or all(
-            needed([pair for pair in groups if group not in pair], self.claim.false_max) is None
+            in_each_cover([pair for pair in groups if group not in pair], self.claim.false_max) is None
             for group in range(len(self.claim.grouped)))
 
     def may_show(self, number: int) -> bool:

@@ -77,7 +77,7 @@ def answers_of(entry: Entry) -> Iterator[tuple[str, str, str]]:
         yield entry.within(CLAIM), report, own_data(report).decode().splitlines()[-1]
 
 
-def found(name: str, variable: str, own: str) -> str | None:
+def path_of(name: str, variable: str, own: str) -> str | None:
     """The path of a program: of the file that the environment names (from the repository's root), or the repository's;
     or of the one that was installed or copied with this; or on the PATH."""
     named = os.environ.get(variable)
@@ -88,7 +88,7 @@ def found(name: str, variable: str, own: str) -> str | None:
 
 
 def find_second() -> Second:
-    path, judge = found(NAME, "NTPAUDIT_SECOND", "second/recheck"), found(JUDGE, "NTPAUDIT_JUDGE", "")
+    path, judge = path_of(NAME, "NTPAUDIT_SECOND", "second/recheck"), path_of(JUDGE, "NTPAUDIT_JUDGE", "")
     if not path or not os.access(path, os.X_OK):
         raise fault(f"the second program, {NAME}, isn't there: NTPAUDIT_SECOND is the path to it", MISSING)
     programs = [Other("second program", path, sum_of_file(path))]

@@ -59,48 +59,48 @@ def sentence(entry: Entry) -> str:
 
 def reason(entry: Entry) -> str:
     """Why it isn't a yes."""
-    found = entry.reason
-    if not found:
+    cause = entry.reason
+    if not cause:
         return ""
     if entry.verdict == UNSUPPORTED:
         return " ".join(warning_words(warning) for warning in entry.warnings if warning.kind in AGAINST)
-    if isinstance(found, (Silent, Elsewhere)):
-        return why_no_evidence(entry, found)
-    if isinstance(found, Misfit):
-        return why_nothing_fits(entry, found)
-    if isinstance(found, Gaps):
-        return why_gap(entry, found)
-    if isinstance(found, AtTick) and found.hull is not None:
-        is_word = isinstance(found.hull, str)
-        left = f"the hull is {found.hull}" if is_word else f"errors from {range_ms(*found.hull)} are left open"
-        return f"At {shown_time(found.tick // TICKS)} {left}."
-    if found == Cause("unbounded"):
+    if isinstance(cause, (Silent, Elsewhere)):
+        return why_no_evidence(entry, cause)
+    if isinstance(cause, Misfit):
+        return why_nothing_fits(entry, cause)
+    if isinstance(cause, Gaps):
+        return why_gap(entry, cause)
+    if isinstance(cause, AtTick) and cause.hull is not None:
+        is_word = isinstance(cause.hull, str)
+        left = f"the hull is {cause.hull}" if is_word else f"errors from {range_ms(*cause.hull)} are left open"
+        return f"At {shown_time(cause.tick // TICKS)} {left}."
+    if cause == Cause("unbounded"):
         return "No more groups have a sample than the claim takes for wrong, so nothing follows."
-    return capital(why_off(entry)) if found == OFF else f"A course of events fits the exchanges {course_of(entry)}."
+    return capital(why_off(entry)) if cause == OFF else f"A course of events fits the exchanges {course_of(entry)}."
 
 
 OFF = Cause("off")
 
 
-def why_no_evidence(entry: Entry, found: Silent | Elsewhere) -> str:
+def why_no_evidence(entry: Entry, cause: Silent | Elsewhere) -> str:
     """What is missing: the recording at the time of the span, the client, its servers' replies, or enough of them."""
     counts, client = entry.counts, entry.claim.client
-    if isinstance(found, Elsewhere):
-        before, after = (time // SECOND for time in found.recorded)
+    if isinstance(cause, Elsewhere):
+        before, after = (time // SECOND for time in cause.recorded)
         ends = [f"the last before it is from {shown_time(before)}"] if before else []
         ends += [f"the first after it from {shown_time(after)}"] if after else []
         return f"No packet was recorded within the span: {', '.join(ends)} UTC."
     if not counts.get("records"):
         return "Nothing was recorded: there is no record at all."
     if not counts.get("requests"):
-        if found.asked:
-            return f"{client} asks none of the claim's servers: it asks {', '.join(found.asked)}."
-        others, do = ", ".join(found.asking) or "nobody", "do" if len(found.asking) > 1 else "does"
+        if cause.asked:
+            return f"{client} asks none of the claim's servers: it asks {', '.join(cause.asked)}."
+        others, do = ", ".join(cause.asking) or "nobody", "do" if len(cause.asking) > 1 else "does"
         return f"{client} asks nobody in this capture: {others} {do}."
     if not counts.get("replies"):
         return f"The servers never answered: {count(counts['requests'], 'request')}, and no reply."
-    groups, have = count(len(entry.claim.grouped), "group"), "has" if found.heard == 1 else "have"
-    return (f"{found.heard} of {groups} of servers {have} a sample, and {entry.claim.false_max or 'none'} may be "
+    groups, have = count(len(entry.claim.grouped), "group"), "has" if cause.heard == 1 else "have"
+    return (f"{cause.heard} of {groups} of servers {have} a sample, and {entry.claim.false_max or 'none'} may be "
             "wrong: whatever the error, a course of events fits.")
 
 
@@ -112,11 +112,11 @@ def why_off(entry: Entry) -> str:
 
 def off_times(entry: Entry) -> str:
     """The longest times beyond the bound, of all parts, in their order."""
-    found = [(part, time) for part in entry.parts for time in part.beyond]
-    longest = sorted(found, key=lambda one: one[1].from_ - one[1].to)[:MOST_TIMES]
+    times = [(part, time) for part in entry.parts for time in part.beyond]
+    longest = sorted(times, key=lambda one: one[1].from_ - one[1].to)[:MOST_TIMES]
     told = listed([f"{ahead(time.hull)} UTC {from_to(time.from_, time.to)}{where(entry, part)}"
-                   for part, time in found if (part, time) in longest])
-    return told + (f" and at {len(found) - MOST_TIMES} other times" if len(found) > MOST_TIMES else "")
+                   for part, time in times if (part, time) in longest])
+    return told + (f" and at {len(times) - MOST_TIMES} other times" if len(times) > MOST_TIMES else "")
 
 
 def ahead(hull: tuple[int, int]) -> str:
@@ -125,11 +125,11 @@ def ahead(hull: tuple[int, int]) -> str:
     return f"{range_ms(low, high)} {'ahead of' if hull[0] > 0 else 'behind'}"
 
 
-def why_gap(entry: Entry, found: Gaps) -> str:
+def why_gap(entry: Entry, cause: Gaps) -> str:
     """When nothing was heard, and what holds at all other times."""
-    told = found.gaps if len(found.gaps) <= MOST_TIMES else sorted(
-        sorted(found.gaps, key=lambda gap: gap.after - gap.by)[:MOST_TIMES], key=lambda gap: gap.after)
-    more = f" And so it was at {found.count - len(told):,} other times." if found.count > len(told) else ""
+    told = cause.gaps if len(cause.gaps) <= MOST_TIMES else sorted(
+        sorted(cause.gaps, key=lambda gap: gap.after - gap.by)[:MOST_TIMES], key=lambda gap: gap.after)
+    more = f" And so it was at {cause.count - len(told):,} other times." if cause.count > len(told) else ""
     return f"{' '.join(map(silent, told))}{more} Nothing shows how the clock went on then.{in_parts(entry)}"
 
 
@@ -164,17 +164,17 @@ MOST_TIMES = 4
 """Times that a sentence names."""
 
 
-def why_nothing_fits(entry: Entry, found: Misfit) -> str:
+def why_nothing_fits(entry: Entry, cause: Misfit) -> str:
     groups = count(len(entry.claim.grouped), "group")
     if entry.moves:
-        more = f" That takes {found.count} wrong of {groups}, more than the claim grants, unless it moved once more." \
-            if found.count else ""
+        more = f" That takes {cause.count} wrong of {groups}, more than the claim grants, unless it moved once more." \
+            if cause.count else ""
         return f"The clock was {moves_of(entry)}.{more}{in_parts(entry)}"
-    wrong = f" (with {found.count} wrong of {groups} a course of events would fit)" if found.count else ""
-    faster = f" (with a drift of {found.drift_ppb:,} parts in 10^9 one would fit)" if found.drift_ppb else ""
-    apart = f" {listed(found.apart)} {is_or_are(len(found.apart))} apart." if found.apart else ""
+    wrong = f" (with {cause.count} wrong of {groups} a course of events would fit)" if cause.count else ""
+    faster = f" (with a drift of {cause.drift_ppb:,} parts in 10^9 one would fit)" if cause.drift_ppb else ""
+    apart = f" {listed(cause.apart)} {is_or_are(len(cause.apart))} apart." if cause.apart else ""
     return (f"More servers were wrong than the claim grants{wrong}, or the clock was stepped or moved faster{faster}."
-            f"{apart}{in_camps(found)}{first_conflict(entry, found)}")
+            f"{apart}{in_camps(cause)}{first_conflict(entry, cause)}")
 
 
 def moves_of(entry: Entry) -> str:
@@ -188,22 +188,22 @@ def moved(move: Move) -> str:
     return f"{how} {between(before, after)} by {range_ms(move.low, move.high)}"
 
 
-def in_camps(found: Misfit) -> str:
+def in_camps(cause: Misfit) -> str:
     """Which servers agree with which, for the longest time, and what they say then."""
-    if not found.camps:
+    if not cause.camps:
         return ""
     said = [f"{listed(camp.servers)} {'says' if len(camp.servers) == 1 else 'say'} {range_ms(camp.low, camp.high)}"
-            for camp in found.camps]
-    return f" {capital(from_to(found.camps[0].from_, found.camps[0].to))} {listed(said)}."
+            for camp in cause.camps]
+    return f" {capital(from_to(cause.camps[0].from_, cause.camps[0].to))} {listed(said)}."
 
 
-def first_conflict(entry: Entry, found: Misfit) -> str:
+def first_conflict(entry: Entry, cause: Misfit) -> str:
     """The first conflict in time, or of those about that time the steepest, with its figures, and how fast the clock
     would have had to move."""
-    if not found.conflicts:
+    if not cause.conflicts:
         return ""
-    end = min(max(one.asked, one.answered) for one in found.conflicts)
-    one = max((one for one in found.conflicts if min(one.asked, one.answered) <= end),
+    end = min(max(one.asked, one.answered) for one in cause.conflicts)
+    one = max((one for one in cause.conflicts if min(one.asked, one.answered) <= end),
               key=lambda one: (one.least - one.most) / (abs(one.asked - one.answered) or 1))
     low = f"by {one.low} the error was at least {low_ms(one.least)} ms at {shown_time(one.asked // SECOND)}"
     high = f"by {one.high} at most {high_ms(one.most)} ms at {shown_time(one.answered // SECOND)}"
@@ -219,22 +219,22 @@ def longest(gaps: list[Silence]) -> Silence:
 
 def in_short(entry: Entry) -> str:
     """The cause in few words, for a line; nothing if the figures say it."""
-    found = entry.reason
-    if not found or entry.verdict == UNSUPPORTED:
+    cause = entry.reason
+    if not cause or entry.verdict == UNSUPPORTED:
         return ""
     if entry.verdict == NOTHING_FITS and entry.moves:
         return moves_of(entry)
-    if found == OFF:
+    if cause == OFF:
         return off_times(entry)
-    if isinstance(found, Gaps):
-        more, gap = f", and {found.count - 1:,} more times" if found.count > 1 else "", longest(found.gaps)
+    if isinstance(cause, Gaps):
+        more, gap = f", and {cause.count - 1:,} more times" if cause.count > 1 else "", longest(cause.gaps)
         return f"no server heard {from_to(*inward(gap.after, gap.by))} UTC{more}"
-    if isinstance(found, Misfit) and found.apart:
-        return f"{listed(found.apart)} apart"
-    if isinstance(found, Silent):
+    if isinstance(cause, Misfit) and cause.apart:
+        return f"{listed(cause.apart)} apart"
+    if isinstance(cause, Silent):
         mode = next((warning.servers for warning in entry.warnings if warning.kind == "interleaved"), None)
-        return f"{listed(mode)} in interleaved mode" if mode else why_no_evidence(entry, found).rstrip(".")
-    return SHORT.get(found.why, "")
+        return f"{listed(mode)} in interleaved mode" if mode else why_no_evidence(entry, cause).rstrip(".")
+    return SHORT.get(cause.why, "")
 
 
 SHORT = {"drift": "stepped, or too little drift granted",
@@ -244,23 +244,23 @@ SHORT = {"drift": "stepped, or too little drift granted",
 
 def to_do(entry: Entry) -> str:
     """What to do about it."""
-    found = entry.reason
-    if not found:
+    cause = entry.reason
+    if not cause:
         return ""
     if entry.verdict == UNSUPPORTED:
         return " ".join(alerts.TO_DO[warning.kind] for warning in entry.warnings if warning.kind in AGAINST)
     if mode := next((warning for warning in entry.warnings if warning.kind == "interleaved"), None):
-        if found.why == "silent":
+        if cause.why == "silent":
             return f"{capital(alerts.without_xleave(mode))}."
-    does_help = entry.least_ns is not None and found.why in ("exceeds", "tick")
+    does_help = entry.least_ns is not None and cause.why in ("exceeds", "tick")
     least = f"A bound of {ns_up_ms(entry.least_ns or 0)} ms is the least that a certificate carries. " \
         if does_help else ""
     if entry.verdict == NOTHING_FITS and entry.moves:
         return after_moves(entry)
-    if found.why == "silent" and not entry.counts.get("requests"):
+    if cause.why == "silent" and not entry.counts.get("requests"):
         return NOT_ASKED
-    gap = longest(found.gaps) if isinstance(found, Gaps) and found.gaps else None
-    return least + TO_DO[found.why].format(journal=journal(gap.after, gap.by) if gap else "")
+    gap = longest(cause.gaps) if isinstance(cause, Gaps) and cause.gaps else None
+    return least + TO_DO[cause.why].format(journal=journal(gap.after, gap.by) if gap else "")
 
 
 TIGHTER = "For a tighter one ask nearer servers, more of them, or more often; or grant less drift, if that is true."
@@ -306,14 +306,14 @@ def after_moves(entry: Entry) -> str:
 
 def claimable(entry: Entry) -> list[tuple[int, int]]:
     """The readings that were shown between two moves, and surely not before or behind these."""
-    found = list[tuple[int, int]]()
+    spans = list[tuple[int, int]]()
     for own in entry.parts if all(move.until and move.since for move in entry.moves) else ():
         others = [part for part in entry.parts if part.moves != own.moves]
         first = max([own.from_, *(move.since for move in entry.moves[: own.moves][-1:])])
         last = min([own.to, *(move.until for move in entry.moves[own.moves :][:1])])
         if first < last and not any(part.from_ <= last and first <= part.to for part in others):
-            found.append((first, last))
-    return found
+            spans.append((first, last))
+    return spans
 
 
 def leap_near(entry: Entry) -> str:
@@ -366,13 +366,13 @@ def fit(entry: Entry) -> str:
 
 def course_of(entry: Entry) -> str:
     """The course of events of a refutation, with its error rounded towards zero."""
-    found = entry.refutation
-    if not found:
+    refutation = entry.refutation
+    if not refutation:
         return ""
-    text = high_ms(found.error) if found.error < 0 else low_ms(found.error)
+    text = high_ms(refutation.error) if refutation.error < 0 else low_ms(refutation.error)
     error = "under 0.001 ms" if text.strip("-") == "0.000" else f"{text} ms"
-    wrong = ", ".join(entry.claim.servers[number] for number in found.false) or "no server"
-    return f"with an error of {error} at {shown_time(found.reading // TICKS)} and {wrong} wrong"
+    wrong = ", ".join(entry.claim.servers[number] for number in refutation.false) or "no server"
+    return f"with an error of {error} at {shown_time(refutation.reading // TICKS)} and {wrong} wrong"
 
 
 def refusal_of(folder: str, line: str, verdict: str = REFUSED) -> str:
