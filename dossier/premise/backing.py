@@ -87,6 +87,7 @@ def log_of(folder: Folder, name: str, step_s: str | None) -> tuple[Tracking | No
 
 
 def is_json(data: bytes) -> bool:
+    """Whether a file is a JSON text, and so no log."""
     try:
         parsed(data)
         return True

@@ -30,6 +30,7 @@ class Measurement:
     """What was seen, in words."""
 
     def lines(self) -> list[str]:
+        """What `measure` prints."""
         return [f"packets {self.packets}{f', {self.under}' if self.busy else ''}", f"late {self.late}",
                 f"greatest {self.greatest_ns}", f"median {self.median_ns}", f"reading_ns {self.reading_ns}",
                 f"({self.why})"]

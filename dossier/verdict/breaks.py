@@ -2,7 +2,7 @@
 
 From the left each stretch is as long as a course fits it, and from the right too. If both ways find as many, then in
 every course with just so many steps each step lies in its break: behind the request that ends a stretch from the right,
-and before the reply that ends one from the left (design: what a capture settles, cut at a step).
+and before the reply that ends one from the left.
 """
 from array import array
 from itertools import pairwise
