@@ -1,4 +1,5 @@
 """Tests ./release in a clone of the files that have the version, where what proves, audits and packages is made up."""
+import os
 import re
 import shutil
 from pathlib import Path
@@ -69,6 +70,11 @@ def test_refused(folder: Path) -> None:
     status, _, err = released(place, "99.1.0")
     check("release of a tree with something more", status=(status, 70), why=(b"isn't clean" in err, True))
     (place / "more").unlink()
+    nobody = {"PATH": os.environ["PATH"], "HOME": str(place), "GIT_CONFIG_NOSYSTEM": "1", "GIT_CONFIG_COUNT": "1",
+              "GIT_CONFIG_KEY_0": "user.useConfigOnly", "GIT_CONFIG_VALUE_0": "true"}
+    status, _, err = run([place / "release", "99.1.0"], cwd=place, env=nobody)
+    check("release by nobody, before anything is built", status=(status, 70), left=(state(place), before),
+          why=(b"git knows no name" in err, True))
     moved = place / "docs/ntpaudit-judge.1"
     moved.write_text(moved.read_text("utf-8").replace(version(), "0"), "utf-8")
     run([*GIT, "commit", "-q", "-a", "-m", "moved"], cwd=place)
