@@ -111,11 +111,11 @@ def times_of(captures: dict[str, Classic], program: Program) -> Times | None:
     said |= answered_elsewhere(silent, captures, program)
     ends = {name: sorted([median_low(said[name, 0][:NEAREST]), median_low(said[name, 1][-NEAREST:])])
             for name in captures if (name, 0) in said and (name, 1) in said}
-    found, last = dict[str, tuple[int, int]](), 0
+    times, last = dict[str, tuple[int, int]](), 0
     for name in names:
         begin, last = ends.get(name, (last, last))
-        found[name] = begin, last
-    return found
+        times[name] = begin, last
+    return times
 
 
 def do_follow(captures: list[Classic], times: list[int]) -> bool:
@@ -198,9 +198,9 @@ def thinned(whole: Audited, claim: Claim, program: Program) -> Audited:
         numbers = list[int]()
 
         def take(block: bytes) -> None:
-            found = [int(one[0]) for one in request.findall(block)]
-            found += (int(one[0]) for one in reply.findall(block) if (one[2], one[1], one[3]) in asked)
-            numbers.extend(sorted(found))
+            numbers_in = [int(one[0]) for one in request.findall(block)]
+            numbers_in += (int(one[0]) for one in reply.findall(block) if (one[2], one[1], one[3]) in asked)
+            numbers.extend(sorted(numbers_in))
         yield capture.data[:HEADER]
         for some in listed(take):
             dropped, end = dropped + len(some) - len(numbers), some[-1][2]
@@ -247,10 +247,10 @@ def unpacked(name: str, copy: str) -> tuple[str, int | None]:
 
 def sum_of_unpacked(name: str, copy: str) -> str:
     """The SHA-256 of what a copy holds."""
-    found = sha256()
+    digest = sha256()
     if is_packed(copy):
-        unpack(name, copy, found.update)
-    return found.hexdigest() if is_packed(copy) else sum_of_file(copy)
+        unpack(name, copy, digest.update)
+    return digest.hexdigest() if is_packed(copy) else sum_of_file(copy)
 
 
 def unpacked_at_once(copies: dict[str, str]) -> dict[str, str]:
@@ -259,20 +259,20 @@ def unpacked_at_once(copies: dict[str, str]) -> dict[str, str]:
     sizes = [size_said(copy) for copy in copies]
     if not sizes or 0 in sizes or max(sizes) > MOST_AT_ONCE or sum(sizes) > MOST_OF_A_CAPTURE:
         return {}
-    found, left = dict[str, str](), bytearray()
+    sums, left = dict[str, str](), bytearray()
 
     def take(block: bytes) -> None:
         left.extend(block)
-        while len(found) < len(sizes) and len(left) >= sizes[len(found)]:
-            path, size = list(copies.values())[len(found)], sizes[len(found)]
+        while len(sums) < len(sizes) and len(left) >= sizes[len(sums)]:
+            path, size = list(copies.values())[len(sums)], sizes[len(sums)]
             keep(path, whole := bytes(left[:size]))
-            found[path] = sum_of(whole)
+            sums[path] = sum_of(whole)
             del left[:size]
         if len(left) > max(sizes):
             raise fault("packed files hold more than they say")
     with suppress(Fault):
         status, _ = stream([find_tool("zstd", NO_ZSTD), "-dcq", "--", *copies], take)
-        return found if not status and not left else {}
+        return sums if not status and not left else {}
     return {}
 
 
@@ -347,17 +347,17 @@ def around(whole: Classic, falls: list[int], part: Part) -> Callable[[str], bool
     some of all others; False if there are no more: a clock that shows other hours may have come to them in between."""
     stamps, more, each = whole.extent.stamps, NEXT * len(part.claim.servers), EACH * len(part.claim.servers)
     first, last = ((second << 32) for second in (max(0, part.claim.first - MARGIN), part.claim.last + MARGIN))
-    found, runs, begin = 0, list[list[int]](), 0
+    count, runs, begin = 0, list[list[int]](), 0
     for end in [*falls, len(stamps)]:
         own = [bisect_left(stamps, first, begin, end), bisect_right(stamps, last, begin, end)]
         if own[0] < own[1]:
-            found += own[1] - own[0]
+            count += own[1] - own[0]
             runs.append([max(0, own[0] - more), min(len(stamps), own[1] + more)])
         begin = end
     blocks = min(BLOCKS, len(stamps) // each + 1)
     runs += [[at, min(len(stamps), at + each)] for at in (k * len(stamps) // blocks for k in range(blocks))]
     kept = sorted({record for begin, end in runs for record in range(begin, end)})
-    if not found or len(kept) == found:
+    if not count or len(kept) == count:
         return lambda _: False
     begins = [begin for _, begin, _ in whole.rows()] + [whole.extent.end]
 
@@ -369,8 +369,8 @@ def around(whole: Classic, falls: list[int], part: Part) -> Callable[[str], bool
 
 def falls_in(stamps: array[int]) -> list[int]:
     """The records whose times are before those of the records before them; none if there are many."""
-    found = [] if do_rise(stamps) else [k for k in range(1, len(stamps)) if stamps[k] < stamps[k - 1]]
-    return found if len(found) <= MOST_FALLS else []
+    falls = [] if do_rise(stamps) else [k for k in range(1, len(stamps)) if stamps[k] < stamps[k - 1]]
+    return falls if len(falls) <= MOST_FALLS else []
 
 
 def put(whole: Classic, runs: Runs, path: str) -> bool:

@@ -57,12 +57,12 @@ def sums_of_inputs(folder: Folder, record: Record, taken: dict[str, str]) -> dic
     """The SHA-256 of each input, by its name: of one that is packed that of the capture in it. Some may have been taken
     already. A packed file beside its capture is none, if it holds the same."""
     inputs = inputs_of(folder, record)
-    found = {name: taken.get(name) or (folder.sum(file) if file == name else sum_in(folder, file))
-             for name, file in inputs.items()}
+    sums = {name: taken.get(name) or (folder.sum(file) if file == name else sum_in(folder, file))
+            for name, file in inputs.items()}
     for file, name in packed_in(folder.names(), record).items():
-        if inputs[name] == name and sum_in(folder, file) != found[name]:
-            found[file] = folder.sum(file)
-    return found
+        if inputs[name] == name and sum_in(folder, file) != sums[name]:
+            sums[file] = folder.sum(file)
+    return sums
 
 
 def sum_in(folder: Folder, file: str) -> str:
@@ -89,7 +89,7 @@ class Inputs:
     def typed(self, words: str) -> str:
         """Commands about copies as commands about the files in the folder."""
         names = {copy: operand(name) for name, copy in self.copies.items()}
-        return re.sub(r"(?<= )[0-9]+\.pcap(?![^ ,;])", lambda found: plain(names.get(found[0], found[0])), words)
+        return re.sub(r"(?<= )[0-9]+\.pcap(?![^ ,;])", lambda match: plain(names.get(match[0], match[0])), words)
 
 
 def take_inputs(folder: Folder, record: Record | None) -> Inputs:
@@ -159,8 +159,8 @@ class Making:
         backed = backing(self.folder, self.taken.sums)
         try:
             return self.of(make(self.taken, self.options, self.leaps, backed, self.program, earlier or {}))
-        except Fault as found:
-            found.why, found.what = self.taken.named(found.why), self.taken.typed(found.what)
+        except Fault as error:
+            error.why, error.what = self.taken.named(error.why), self.taken.typed(error.what)
             raise
 
     def capture_of(self, entry: Entry) -> str:
@@ -172,5 +172,5 @@ class Making:
         return Record(VERSION, self.program.made, self.options, self.taken.sums, self.taken.capture, self.made,
                       round(time.monotonic() - self.begun, 3), "", entries, refusal, None if refusal else self.leaps)
 
-    def refused(self, found: Fault) -> Record:
-        return self.of([], refusal_by(found))
+    def refused(self, error: Fault) -> Record:
+        return self.of([], refusal_by(error))

@@ -168,10 +168,10 @@ class Parting:
     def moved(self) -> list[Move]:
         """How the clock moved in each break; none if that isn't known of one of them, or if it isn't most servers that
         show it."""
-        found = [self.move(number) if self.is_seen(number) else None for number in range(len(self.breaks))]
-        moves = [move for move in found if move]
+        every = [self.move(number) if self.is_seen(number) else None for number in range(len(self.breaks))]
+        moves = [move for move in every if move]
         are_apart = all(one.is_step or other.is_step or one.by <= other.after for one, other in pairwise(moves))
-        return moves if len(moves) == len(found) and are_apart else []
+        return moves if len(moves) == len(every) and are_apart else []
 
     def move(self, number: int) -> Move | None:
         """A step, if the hulls of both sides are apart wherever in this time it came, and no drift does that; or else a
@@ -204,9 +204,9 @@ class Parting:
     def round(self, side: Side, place: int) -> int:
         """The record of a stretch from which on each server was asked once more (-1), or by which each had answered
         (0); of one that was silent there for long none."""
-        found = [sorted(own)[place][0 if place else 1] for own in side.recording.by_address.values()]
-        end = max(found) if place else min(found)
-        near = [record for record in found if abs(end - record) <= ROUND * len(self.claim.servers)]
+        records = [sorted(own)[place][0 if place else 1] for own in side.recording.by_address.values()]
+        end = max(records) if place else min(records)
+        near = [record for record in records if abs(end - record) <= ROUND * len(self.claim.servers)]
         return min(near) if place else max(near)
 
     def is_seen(self, number: int) -> bool:
@@ -239,13 +239,13 @@ class Parting:
         if not self.moves or not self.are_whole:
             self.moves = [replace(move, until=0, since=0) for move in self.moves]
             return None
-        found = [side for number, side in enumerate(self.sides) if self.may_show(number)]
-        if len(found) != 1:
+        sides = [side for number, side in enumerate(self.sides) if self.may_show(number)]
+        if len(sides) != 1:
             return None
         wider = replace(self.claim, reading_ns=min(SECOND, self.claim.reading_ns + self.hidden))
-        own, wide = (read_settled(self.program.run("settle", self.named(claim), found[0].path).text).answer
+        own, wide = (read_settled(self.program.run("settle", self.named(claim), sides[0].path).text).answer
                      for claim in (self.claim, wider))
-        return found[0] if own != YES or wide == YES else None
+        return sides[0] if own != YES or wide == YES else None
 
     def spans(self, step: int) -> Iterator[tuple[int, Side, Claim]]:
         """Of each stretch its number and the claims of the readings of the span that it has records beside, if there
@@ -283,24 +283,24 @@ class Parting:
         """The readings that the clock may have shown once more, if it was stepped to and fro: a server is taken for
         wrong that needn't be, by few samples, one after the other."""
         begin, end = min(first, side.first // SECOND), max(last, ceil_div(side.last, SECOND))
-        claim, times, found = replace(self.claim, from_=civil(begin), to=civil(end)), side.recording.times, list[Gap]()
+        claim, times, doubts = replace(self.claim, from_=civil(begin), to=civil(end)), side.recording.times, list[Gap]()
         text = self.program.run("envelope", self.named(claim), side.path, "--servers", "--step", str(step)).text
         for time in search_of(self.program, claim, side.path, None, read_envelope(text), []).missed:
             if time.samples < SEVERAL:
                 off, ends = up(time.off) + SECOND, sorted((time.first, time.last))
                 before, after = bisect_left(times, ends[0] - off), bisect_right(times, ends[1] + off)
-                found.append((times[before - 1] - off if before else first * SECOND,
+                doubts.append((times[before - 1] - off if before else first * SECOND,
                               times[after] + off if after < len(times) else last * SECOND))
-        return found
+        return doubts
 
     def beside(self, own: Side) -> list[Gap]:
         """From when to when the other stretches were recorded, and what lies in breaks."""
-        whole, found = self.search.whole, [(side.first, side.last) for side in self.sides if side is not own]
-        found += self.left_out()
+        whole, gaps = self.search.whole, [(side.first, side.last) for side in self.sides if side is not own]
+        gaps += self.left_out()
         for one in self.breaks:
             if left_out := whole.nanoseconds(whole.extent.stamps[one.after + 1 : one.by]):
-                found.append((min(left_out), max(left_out)))
-        return found
+                gaps.append((min(left_out), max(left_out)))
+        return gaps
 
 
 def spoken(program: Program, claim: Claim, capture: str, extent: Extent | None) -> Spoken:
@@ -319,30 +319,30 @@ def spoken(program: Program, claim: Claim, capture: str, extent: Extent | None) 
 
 def in_parts(program: Program, parting: Parting, step: int) -> Parted:
     """Where no stretch speaks for the span alone: what holds in each, if the clock's moves are known."""
-    found = Parted([], [], [], [])
+    parted = Parted([], [], [], [])
     for number, side, claim in parting.spans(step) if parting.moves else ():
         words = ("envelope", parting.named(claim), side.path, "--servers", "--step", str(step))
         text = program.run(*words).text
         envelope = read_envelope(text)
         gaps = gaps_of(claim, side.recording)
-        found.parts.extend(replace(part, moves=number) for part in split(envelope, gaps, claim))
+        parted.parts.extend(replace(part, moves=number) for part in split(envelope, gaps, claim))
         elsewhere = parting.beside(side)
-        found.gaps.extend((gap, side.path) for gap in told_of(inner_gaps(side.recording, gaps), elsewhere))
-        found.apart.extend(time for time in search_of(program, claim, side.path, None, envelope, gaps).missed
-                           if time.samples >= SEVERAL)
-        found.texts.append(text)
-    return found._replace(parts=found.parts[-MOST_PARTS:])
+        parted.gaps.extend((gap, side.path) for gap in told_of(inner_gaps(side.recording, gaps), elsewhere))
+        parted.apart.extend(time for time in search_of(program, claim, side.path, None, envelope, gaps).missed
+                            if time.samples >= SEVERAL)
+        parted.texts.append(text)
+    return parted._replace(parts=parted.parts[-MOST_PARTS:])
 
 
 def split(envelope: Envelope, gaps: list[Gap], claim: Claim) -> list[Stretch]:
     """The parts of an envelope between gaps; all of it, if it lies in one."""
-    found, at, bound, inside = list[Stretch](), 0, bound_ticks(claim.bound_ns), are_in(envelope, gaps)
+    stretches, at, bound, inside = list[Stretch](), 0, bound_ticks(claim.bound_ns), are_in(envelope, gaps)
     for is_in, run in groupby([False] * len(inside) if all(inside) else inside):
         begin, at = at, at + len(list(run))
         if not is_in:
             own = pieces_of(envelope, begin, at)
-            found.append(Stretch(own.begins[0], own.ends[-1], outermost(own.hulls), beyond_in(own, bound)))
-    return found[-MOST_PARTS:]
+            stretches.append(Stretch(own.begins[0], own.ends[-1], outermost(own.hulls), beyond_in(own, bound)))
+    return stretches[-MOST_PARTS:]
 
 
 def at_leaps(leaps: Iterable[int], first: int, last: int, times: list[int],

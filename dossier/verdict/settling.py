@@ -96,14 +96,14 @@ class Settling:
             return texts
         search = parting.search
         spared, parting = (0, parting) if parting.moves else self.spared(parting)
-        found = in_parts(self.program, parting, self.step)
-        if found.texts:
-            self.keep(files.PARTS, b"".join(found.texts))
+        parted = in_parts(self.program, parting, self.step)
+        if parted.texts:
+            self.keep(files.PARTS, b"".join(parted.texts))
         more = search.told() if not parting.moves and search.whole.path == self.capture else []
         shown = read_shown(self.program, self.claim, self.capture, self.extent,
                            read_settled(texts.settled).conflicts + more)
-        return texts._replace(moves=parting.moves, parts=found.parts, conflicts=shown, spared=spared, gaps=found.gaps,
-                              apart=Seen([], found.apart, *wrong_in(self.program, parting.claim, [
+        return texts._replace(moves=parting.moves, parts=parted.parts, conflicts=shown, spared=spared, gaps=parted.gaps,
+                              apart=Seen([], parted.apart, *wrong_in(self.program, parting.claim, [
                                   side.path for side in parting.sides if parting.moves and not spared])))
 
     def spared(self, parting: Parting) -> tuple[int, Parting]:
@@ -112,9 +112,9 @@ class Settling:
         claim = self.part.claim
         for most in range(claim.false_max + 1, min(claim.false_max + MOST_ADDED, (len(claim.grouped) - 1) // 2) + 1):
             more = replace(claim, false_max=most)
-            found = Parting(self.program, more, self.capture, self.extent, parting.leaps, True)
-            if found.moves or not found.search.left:
-                return most, found
+            other = Parting(self.program, more, self.capture, self.extent, parting.leaps, True)
+            if other.moves or not other.search.left:
+                return most, other
         return 0, parting
 
     def seen_apart(self, texts: Texts, gaps: list[Gap]) -> Seen:
@@ -138,16 +138,16 @@ class Settling:
     def silent(self, gaps: list[tuple[Gap, str]]) -> dict[Gap, Silence]:
         """What was recorded in gaps, of this client: with times in them, or between the replies at their ends, if none
         between is of use."""
-        found = dict[Gap, Silence]()
+        silences = dict[Gap, Silence]()
         for gap, capture in sorted(gaps):
             whole = Classic(capture, self.extent if capture == self.capture else None)
             for is_between in (True, False):
                 write(SOME, chain([whole.data[:HEADER]], records_in(whole, gap, is_between)))
                 counts = read_counts(self.call("samples", self.claim, SOME).splitlines()[-1].decode("ascii"))
-                found[gap] = Silence(*gap, counts["requests"], counts["replies"])
+                silences[gap] = Silence(*gap, counts["requests"], counts["replies"])
                 if not counts["samples"]:
                     break
-        return found
+        return silences
 
     def take(self, capture: str, own: str) -> None:
         """Takes another capture as that of the part, and leaves it, with what comes of it alone."""

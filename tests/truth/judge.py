@@ -7,7 +7,7 @@ from typing import Any
 from tests.truth.clock import SECOND
 from tests.truth.forms import Form, When, form_of
 from tests.truth.history import LEAP, civil
-from tests.truth.sight import MARGIN, counted
+from tests.truth.sight import MARGIN
 from tests.truth.view import Range, View, clock_time
 
 LEAP_DAY = civil(LEAP - SECOND)[:10]

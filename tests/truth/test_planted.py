@@ -13,7 +13,7 @@ from tests.truth.test_histories import ONCE_UNSAID, ONCE_UNTRUE
 
 PLANTS = [
     ("a yes by the stretch that was recorded last, whatever another one may have shown", "verdict/parts.py",
-     "found = [side for number, side in enumerate(self.sides) if self.may_show(number)]", "found = self.sides[-1:]"),
+     "sides = [side for number, side in enumerate(self.sides) if self.may_show(number)]", "sides = self.sides[-1:]"),
     ("the size of a step forgotten", "verdict/sentences.py", "by {range_ms(move.low, move.high)}",
      "by {range_ms(move.low // 2, move.high // 2)}"),
     ("the times of a step sorted", "verdict/sentences.py", "move.after // SECOND, -(-move.by // SECOND)",

@@ -190,7 +190,8 @@ class View:
 
     @cached_property
     def counting(self) -> list[Exchange]:
-        """The exchanges that count: where a verdict presumes moves, those between two of them, as the span was shown."""
+        """The exchanges that count: where a verdict presumes moves, those between two of them, as the span was
+        shown."""
         if self.verdict == "nothing fits":
             return counted(self.of)
         at = min((piece.begin for piece in self.clock.shown(*self.span)), default=0)
