@@ -232,6 +232,7 @@ def open_capture(name: str, copy: str) -> Opened:
 
 
 def begins(path: str, magic: bytes) -> bool:
+    """Whether a private copy begins with these bytes."""
     with own(path) as opened:
         return opened.read(len(magic)) == magic
 
@@ -287,6 +288,7 @@ def size_said(copy: str) -> int:
 
 
 def is_packed(copy: str) -> bool:
+    """Whether a private copy is packed, by how it begins."""
     return begins(copy, GZIP) or begins(copy, ZSTD)
 
 
@@ -320,6 +322,7 @@ def gunzip(name: str, copy: str, take: Callable[[bytes], None]) -> bool:
 
 
 def unzstd(name: str, copy: str, take: Callable[[bytes], None]) -> bool:
+    """Unpacks a private copy by zstd, and hands on its blocks."""
     tool = find_tool("zstd", f"{name} {NO_ZSTD}")
     status, error = stream([tool, "-dcq", "--", copy], take)
     if status:
@@ -374,6 +377,7 @@ def falls_in(stamps: array[int]) -> list[int]:
 
 
 def put(whole: Classic, runs: Runs, path: str) -> bool:
+    """Writes runs of a capture; False if they are all of it, and nothing is written."""
     if runs == [[HEADER, whole.size]] or whole.size <= HEADER or (not runs and path == JOINED):
         return False  # (of a claim that isn't cut into days it is told when else packets were recorded)
     write(CUT, (whole.data[begin:end] for begin, end in [[0, HEADER], *runs]))

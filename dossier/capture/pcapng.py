@@ -68,6 +68,7 @@ class Pcapng:
         return known
 
     def packets(self) -> Iterator[Packet]:
+        """Its packets, with their interfaces."""
         known: list[Interface] = []
         for kind, order, body in self.blocks():
             if kind == SECTION:
@@ -123,6 +124,7 @@ def convert(name: str, data: Mapped, path: str) -> int | None:
 
 
 def records(capture: Pcapng, unit: int, link: int) -> Iterator[bytes]:
+    """The records of a classic capture of them."""
     yield new_header(unit, (2, 4, link))
     for packet in capture.packets():
         seconds, part = divmod(packet.time * unit // packet.interface.resolution, unit)

@@ -48,6 +48,7 @@ class Recorder:
             self.since <= f"{match[2]}:{match[3]}:{match[4]}Z"
 
     def sentence(self) -> str:
+        """What a person is told of it."""
         return (f"{self.tool} recorded {self.interface} ({', '.join(self.addresses) or 'without an address'}) on "
                 f"{self.machine}, since {self.since} under {self.kernel}, with the kernel's own stamps.")
 
@@ -75,12 +76,14 @@ def filter_of(clients: list[str], servers: list[str]) -> str:
 
 
 def recorder(tool: str, interface: str) -> Recorder:
+    """What an interface is recorded by here, and now."""
     system = os.uname()
     return Recorder("recorder", interface, "host", version_of(tool), f"{system.sysname} {system.release}",
                     plain(system.nodename), addresses_of(interface), now())
 
 
 def addresses_of(interface: str) -> list[str]:
+    """The addresses that an interface has now."""
     tool = find_tool("ip", "ip isn't installed (iproute2), which knows the interface's addresses")
     status, text = told([tool, "-4", "-o", "addr", "show", "dev", interface])
     if status:
@@ -155,6 +158,7 @@ def recorders_of(captures: list[str]) -> list[Recorder] | None:
 
 
 def recorder_of(path: str, name: str) -> Recorder | None:
+    """By what a capture was recorded, if the evidence beside it says so."""
     try:
         with Folder(path) as folder:
             named = named_in(evidence(folder).get("reading", ""))

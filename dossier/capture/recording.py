@@ -96,6 +96,7 @@ class Recording:
 
 
 def read_recording(program: Program, claim: str, capture: str, extent: Extent | None = None) -> Recording:
+    """What a capture holds, by `samples`, and by `list` if there is more."""
     samples, packets = Samples(), array("I")
     program.blocks(samples.take, "samples", claim, capture)
     whole, counts = Classic(capture, extent), samples.counts
@@ -124,6 +125,7 @@ class Samples:
         self.counts: dict[str, int] = {}
 
     def take(self, block: bytes) -> None:
+        """Takes lines of `samples`."""
         end = closing_of(block)
         self.counts = read_counts(block[end:].decode("ascii"))
         words = b" ".join(SAMPLE.findall(block, 0, end)).split()

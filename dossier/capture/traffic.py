@@ -33,10 +33,12 @@ class Traffic:
 
 
 def number_of(address: str) -> tuple[int, ...]:
+    """By which addresses stand in order."""
     return tuple(map(int, address.split(".")))
 
 
 def read_traffic(program: Program, capture: str) -> Traffic:
+    """What a capture holds of NTP, by `list`."""
     seen = Traffic()
     receive: dict[tuple[str, str], str] = {}
 

@@ -145,6 +145,7 @@ class Watch:
         self.troubles[kind] = words
 
     def is_well(self, kind: str, words: str) -> None:
+        """Says that a trouble is over, if it was one."""
         if self.troubles.pop(kind, ""):
             note(f"ntpaudit-dossier: {self.wanted.interface}: {words}")
 
@@ -160,6 +161,7 @@ class Watch:
     # ---- from one look to the next
 
     def run(self) -> None:
+        """Records until it is told to end."""
         self.begin()
         at = since_boot() + LOOK
         while True:
@@ -174,6 +176,7 @@ class Watch:
                 self.begin_again()
 
     def look(self) -> None:
+        """Looks whether all is as it should be, as every ten seconds."""
         with suppress(Fault):
             if self.evidence and addresses_of(self.wanted.interface) != self.evidence.addresses:
                 note(f"ntpaudit-dossier: {self.wanted.interface}: its addresses have changed")
@@ -254,6 +257,7 @@ class Watch:
         self.call = Beside(words, {**ENVIRONMENT, "TZ": "UTC"})
 
     def begin_again(self) -> None:
+        """Begins tcpdump again, if it has ended."""
         if self.call is None:
             self.begin()
 
@@ -377,6 +381,7 @@ class Watch:
             raise fault(f"{self.wanted.folder} was moved or taken away: what is recorded would be nowhere", DEVICE)
 
     def close_file(self) -> None:
+        """Ends the file that is being written."""
         if self.file:
             self.file.end()
             self.file = None

@@ -80,6 +80,7 @@ class Hearing:
         self.errors[server], self.last = error, max(self.last, reply)
 
     def is_silent(self, server: str) -> bool:
+        """Whether a server wasn't heard for longer than it mostly takes."""
         if server not in self.times:
             return True
         age = self.gone[-1] - self.times[server][-1]

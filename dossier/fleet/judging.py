@@ -131,6 +131,7 @@ class Judging:
             raise
 
     def is_refuted(self, entry: Entry, capture: str) -> bool:
+        """Whether the program says that the refutation stands."""
         claim = CLAIM if entry.answer == REFUTED else CLAIM_OF_0
         stands: Refutation = read_typed(REFUTATION, Refutation, own_data(REFUTATION))
         return stands == entry.refutation and \

@@ -32,6 +32,7 @@ def unwritable(name: str, error: OSError) -> Fault:
 
 
 def write(file: int, data: bytes) -> None:
+    """Writes all of it, however little is taken at once."""
     while data:
         data = data[os.write(file, data) :]
 

@@ -153,6 +153,7 @@ def send(sending: socket.socket, packets: int) -> None:
 
 
 def end_of(recording: subprocess.Popen[bytes]) -> None:
+    """Waits for a recording's end."""
     try:
         recording.wait(PATIENCE)
     except subprocess.TimeoutExpired:

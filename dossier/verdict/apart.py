@@ -172,6 +172,7 @@ class Conflicts(NamedTuple):
 
 
 def conflicts_in(program: Program, claim: Claim, capture: str) -> Conflicts:
+    """What conflicts in a capture, each server for itself."""
     keep(SUSPECTS, replace(claim, groups=[], false_max=0, bound_ns=MOST_BOUND).text)
     group = {claim.servers[k]: number for number, own in enumerate(claim.grouped) for k in own}
     pairs = [{low, high} for low, _, high, _ in read_settled(program.run("settle", SUSPECTS, capture).text).conflicts]

@@ -107,6 +107,7 @@ class Parting:
         return []
 
     def stretches(self) -> Iterator[Side | None]:
+        """Each stretch between two breaks; None for one without records."""
         whole, claim = self.search.whole, self.named(self.claim)
         for number, (begin, end) in enumerate(self.ends()):
             if begin >= end:

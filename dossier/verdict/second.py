@@ -88,6 +88,7 @@ def path_of(name: str, variable: str, own: str) -> str | None:
 
 
 def find_second() -> Second:
+    """The second program, and the third if it is there."""
     path, judge = path_of(NAME, "NTPAUDIT_SECOND", "second/recheck"), path_of(JUDGE, "NTPAUDIT_JUDGE", "")
     if not path or not os.access(path, os.X_OK):
         raise fault(f"the second program, {NAME}, isn't there: NTPAUDIT_SECOND is the path to it", MISSING)

@@ -165,6 +165,7 @@ MOST_TIMES = 4
 
 
 def why_nothing_fits(entry: Entry, cause: Misfit) -> str:
+    """When the clock moved; else what conflicts, and with what more a course would fit."""
     groups = count(len(entry.claim.grouped), "group")
     if entry.moves:
         more = f" That takes {cause.count} wrong of {groups}, more than the claim grants, unless it moved once more." \
