@@ -233,8 +233,20 @@ def test_remove(folder: Path) -> None:
                 ["bin/ntpaudit", "share/ntpaudit/installed"]))
     check("no file behind a link is written", run=(run([ROOT / "install", prefix])[::2],
           (70, f"ntpaudit: {own} is a link, and what it leads to would be written\n".encode())))
-    (prefix / "share/ntpaudit/installed").unlink()
+    (listed := prefix / "share/ntpaudit/installed").unlink()
     check("what isn't known isn't removed", run=(run([ROOT / "install", "--remove", prefix])[0], 70))
+    own.unlink()
+    (prefix / "bin/ntpaudit").unlink()
+    (prefix / "bin/ntpaudit").symlink_to(other)
+    listed.symlink_to(folder / "another's")
+    check("no list behind a link is written", run=(run([ROOT / "install", prefix])[0], 70),
+          there=((folder / "another's").exists(), False))
+    listed.unlink()
+    os.mkfifo(listed)
+    check("no list that is a FIFO is waited for", run=(run([ROOT / "install", prefix])[0], 70))
+    listed.unlink()
+    check("a link is replaced, and what it leads to is as it was", run=(run([ROOT / "install", prefix])[0], 0),
+          program=((prefix / "bin/ntpaudit").is_symlink(), False), left=(files_below(other), there))
 
 
 def test_package(folder: Path) -> None:
