@@ -257,11 +257,13 @@ def test_package(folder: Path) -> None:
     if not (ROOT / ".git").exists():
         skip("the package", "the repository's history isn't here, and so not its time")
         return
-    packages = []
+    packages = list[Path]()
     for name in ("one", "two"):
         (folder / name).mkdir()
+        for package in packages:
+            (folder / name / package.name).symlink_to(folder / "another's")
         status, out, err = run([ROOT / "package"], cwd=folder / name)
-        check(f"package {name}", run=((status, err), (0, b"")))
+        check(f"package {name}", run=((status, err), (0, b"")), through_a_link=((folder / "another's").exists(), False))
         packages.append(folder / name / out.decode().strip())
     check("the same sources give the same package", same=(packages[0].read_bytes() == packages[1].read_bytes(), True))
     if is_here("lintian", "the package by lintian"):
@@ -360,6 +362,21 @@ def is_at_hand(name: str) -> bool:
     if not is_shipped():
         skip(name, "dist/MANIFEST names other sources")
     return is_shipped()
+
+
+OWN = re.compile(r'"\$(made|top|doc)\b|/dev/null$')
+"""Where these scripts write: into folders that they made themselves."""
+
+
+def test_scripts() -> None:
+    """What ./install and ./package write comes to its place by a move that follows no link, but for the one list that
+    is looked at before."""
+    for name in ("install", "package"):
+        text = (ROOT / name).read_text("utf-8")
+        moves = [move for move in re.findall(r"\bmv .*", text) if not OWN.search(move.split(" -- ")[1].split(" ")[-1])]
+        written = set(re.findall(r'\d?>>?(?!&)\s*("[^"]+|/dev/null)', text))
+        check(f"what {name} writes", moves=([move for move in moves if not move.startswith("mv -fT -- ")], []),
+              written=({file for file in written if not OWN.match(file)} - {'"$2', '"$prefix/$list'}, set()))
 
 
 def test_sources() -> None:
