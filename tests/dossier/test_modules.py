@@ -77,7 +77,7 @@ def test_modules() -> None:
 
 def test_calls() -> None:
     """ARCHITECTURE.md has a line for each module that isn't everybody's, and each calls those behind it."""
-    text = (ROOT / "ARCHITECTURE.md").read_text("utf-8").split("Of the dossier: ")[1].split("\n## ")[0]
+    text = (ROOT / "ARCHITECTURE.md").read_text("utf-8").split("In the dossier, ")[1].split("\n## ")[0]
     paths = {path.stem: path for path in files_in(ROOT / "dossier", "**/*.py")
              if path.stem != "__init__"}
     modules = {name: {word for node in ast.walk(ast.parse(path.read_text("utf-8"))) if isinstance(node, ast.ImportFrom)
