@@ -52,7 +52,7 @@ ANSWERED = re.compile(rb"(?m)^(?:\S+ ){5}m4 (?:\S+ ){7}(\S+) .* (\d+)$")
 """The timestamp by which a line of `list` asks; and the one by which another answers, and when."""
 
 
-class Audited(NamedTuple):
+class AuditedCapture(NamedTuple):
     """The capture that is audited; whether it was made, of captures that the program doesn't take as they are; warnings
     if any of them was cut off, or records were left out; its extent, if it is known; and by their names the captures
     that are in it, as far as they are still there."""
@@ -72,7 +72,7 @@ class Opened(NamedTuple):
     extent: Extent
 
 
-def audited(copies: dict[str, str], program: Program | None = None) -> Audited:
+def audited(copies: dict[str, str], program: Program | None = None) -> AuditedCapture:
     """One capture of all, given by their names and their copies; in the order in which they were made by the servers'
     time, if the program can be asked for that."""
     opened = {name: open_capture(name, copy) for name, copy in copies.items()}
@@ -88,8 +88,8 @@ def audited(copies: dict[str, str], program: Program | None = None) -> Audited:
     elif one.path != copies[name] or one.torn is not None:
         move(one.path, JOINED)
     else:
-        return Audited(one.path, False, alerts, extent, paths)
-    return Audited(JOINED, True, alerts, extent, paths)
+        return AuditedCapture(one.path, False, alerts, extent, paths)
+    return AuditedCapture(JOINED, True, alerts, extent, paths)
 
 
 def times_of(captures: dict[str, Classic], program: Program) -> Times | None:
@@ -168,7 +168,7 @@ def by_number(name: str) -> list[str | int]:
     return [int(word) if number % 2 else word for number, word in enumerate(re.split("([0-9]+)", name))]
 
 
-def thinned(whole: Audited, claim: Claim, program: Program) -> Audited:
+def thinned(whole: AuditedCapture, claim: Claim, program: Program) -> AuditedCapture:
     """The capture without what can't be of an exchange of the claim's client with its servers, if it has more records
     than the program takes, or great ones: what comes from afar can't make a day too big. The program's own listing says
     which are its requests, and which answer one, some at a time; these are kept as they were recorded."""
@@ -214,7 +214,7 @@ def thinned(whole: Audited, claim: Claim, program: Program) -> Audited:
     if not dropped:
         return whole
     move(THINNED, JOINED)
-    return Audited(JOINED, True, [*whole.alerts, Figure("flood", dropped)], None, whole.paths)
+    return AuditedCapture(JOINED, True, [*whole.alerts, Figure("flood", dropped)], None, whole.paths)
 
 
 def open_capture(name: str, copy: str) -> Opened:

@@ -13,7 +13,7 @@ from ..folder.files import Folder
 from ..folder.placing import keep
 from ..units import SECOND
 from .classic import HEADER
-from .recorder import Written
+from .recorder import RecorderFile
 from .tail import Ending, Growing
 
 MOST_READ = 64_000_000
@@ -39,7 +39,7 @@ class Latest(NamedTuple):
     ahead: int
 
 
-def latest(folder: Folder, files: Iterable[Written], order: list[str], seconds: int, now: int,
+def latest(folder: Folder, files: Iterable[RecorderFile], order: list[str], seconds: int, now: int,
            bad: list[str]) -> Latest:
     """Of a recorder's files, and the order in which it says that it began them. What can't be read is left out, and
     its fault is kept, and so is a copy of another's begin."""
@@ -58,7 +58,7 @@ def latest(folder: Folder, files: Iterable[Written], order: list[str], seconds: 
     return Latest(LATEST, endings[-1].last if endings else 0, ahead if ahead > AHEAD else 0)
 
 
-def in_order(folder: Folder, files: Iterable[Written], order: list[str], now: int,
+def in_order(folder: Folder, files: Iterable[RecorderFile], order: list[str], now: int,
              bad: list[str]) -> Iterator[tuple[Growing, int]]:
     """The files, the newest first, but those that were only just begun; each with the time at which it was written
     last, if that is later than now."""

@@ -127,7 +127,7 @@ def read_recorder(folder: Folder, name: str) -> Recorder | None:
         return None
 
 
-class Written(NamedTuple):
+class RecorderFile(NamedTuple):
     """A file that a recorder began: what stands before the time in its name and behind it, the time, and the name."""
 
     before: str
@@ -141,13 +141,13 @@ class Written(NamedTuple):
         return int(re.sub(r"\D", "", self.behind.removesuffix(".gz").removesuffix(".zst")) or "0")
 
 
-def begun_files(folder: Folder) -> Iterator[Written]:
+def begun_files(folder: Folder) -> Iterator[RecorderFile]:
     """The files that recorders began."""
     for name in filter(is_capture, folder.names()):
         match = BEGUN.fullmatch(name)
         begun = f"{match[2]}:{match[3]}:{match[4]}Z" if match else ""
         if match and is_time(begun):
-            yield Written(match[1], match[5], seconds_of(begun), name)
+            yield RecorderFile(match[1], match[5], seconds_of(begun), name)
 
 
 def recorders_of(captures: list[str]) -> list[Recorder] | None:

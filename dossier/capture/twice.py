@@ -15,7 +15,7 @@ from ..folder.entry import Again
 from ..folder.files import CLAIM, JOINED, mapped
 from ..folder.placing import move
 from ..folder.program import Program
-from .captures import Audited
+from .captures import AuditedCapture
 from .classic import HEAD, HEADER, Classic, write
 from .recording import closing_of
 from .traffic import NONE
@@ -27,7 +27,7 @@ ONCE = "once.pcap"
 """A private file."""
 
 
-def once(whole: Audited, program: Program) -> Audited:
+def once(whole: AuditedCapture, program: Program) -> AuditedCapture:
     """The capture in which each packet is there once: looked for if a reply of the claim's servers may be one to two
     requests, and in what isn't one recording after the other."""
     if whole.extent and not is_ambiguous(program, whole.path):
@@ -52,7 +52,7 @@ def once(whole: Audited, program: Program) -> Audited:
     write(ONCE, chain([capture.data[:HEADER]], (capture.data[begin:end] for number, (_, begin, end)
                                                 in enumerate(capture.rows()) if number not in again)))
     move(ONCE, JOINED)
-    return Audited(JOINED, True, [*whole.alerts, Again("twice", len(again), file, beside, spread)], None)
+    return AuditedCapture(JOINED, True, [*whole.alerts, Again("twice", len(again), file, beside, spread)], None)
 
 
 def is_ambiguous(program: Program, capture: str) -> bool:
@@ -68,7 +68,7 @@ def is_ambiguous(program: Program, capture: str) -> bool:
     return True
 
 
-def having(whole: Audited, capture: Classic, record: int) -> list[str]:
+def having(whole: AuditedCapture, capture: Classic, record: int) -> list[str]:
     """The files that have a record's packet."""
     _, begin, end = next(row for number, row in enumerate(capture.rows()) if number == record)
     return [name for name, path in whole.paths.items() if len(whole.paths) == 1 or

@@ -15,7 +15,7 @@ from typing import Annotated, Literal, NamedTuple
 
 from ..fault import DEVICE, USAGE, Fault, Stopped, fault
 from ..folder.files import Folder
-from ..folder.jobs import ENVIRONMENT, GRACE, Beside, find_tool
+from ..folder.jobs import ENVIRONMENT, GRACE, Companion, find_tool
 from ..folder.placing import Begun, Slate, make_folder, undisturbed
 from ..records import dataclass, field
 from ..schema import Count, Text, json_text, length, read_typed
@@ -116,7 +116,7 @@ class Watch:
     def __init__(self, wanted: RecordCall, tool: str, folder: Folder):
         self.wanted, self.tool, self.folder = wanted, tool, folder
         self.keeping = Keeping(since_boot)
-        self.call: Beside | None = None
+        self.call: Companion | None = None
         self.file: Begun | None = None
         self.slate: Slate | None = None
         self.evidence: Recorder | None = None
@@ -254,7 +254,7 @@ class Watch:
         self.heard = self.said = ""
         self.taken = self.counted = 0
         self.listens, self.waits = None, since_boot()
-        self.call = Beside(words, {**ENVIRONMENT, "TZ": "UTC"})
+        self.call = Companion(words, {**ENVIRONMENT, "TZ": "UTC"})
 
     def begin_again(self) -> None:
         """Begins tcpdump again, if it has ended."""
@@ -310,7 +310,7 @@ class Watch:
 
     # ---- packets
 
-    def take(self, call: Beside, ready: set[int]) -> None:
+    def take(self, call: Companion, ready: set[int]) -> None:
         """Takes what tcpdump has printed. What is taken isn't lost to a signal."""
         with undisturbed():
             output, words = call.came(ready)

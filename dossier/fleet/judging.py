@@ -36,7 +36,7 @@ class Judged(NamedTuple):
     capture: str
 
 
-class Other(Exception):
+class Unjudgeable(Exception):
     """What can't be judged by itself, and has to be made again: another capture than all of them together, days, a
     refusal, another form."""
 
@@ -50,10 +50,10 @@ class Judging:
     def judged(self, record: Record) -> Judged:
         """The first difference, or none, and the capture by which the answers were judged; `Other` if they can't be."""
         if record.refusal or record.options.days or len(record.entries) != 1:
-            raise Other
+            raise Unjudgeable
         entry, = record.entries
         if entry.answer == YES and (entry.moves or not entry.refutation):
-            raise Other  # (`check` says neither that the moves are found, nor that a course fits the whole capture)
+            raise Unjudgeable  # (`check` says neither that the moves are so, nor that a course fits the whole capture)
         taken = take_inputs(self.folder, record)
         if changed := change_of(self.folder, record, taken.sums):
             return Judged(changed, "")
@@ -67,11 +67,11 @@ class Judging:
         stamps = self.whole.extent.stamps
         if entry.answer == YES and not do_rise(stamps) and any(before >> 32 > after >> 32 for before, after
                                                                in pairwise(stamps)):
-            raise Other  # (times that fall back by a second may take the yes away)
+            raise Unjudgeable  # (times that fall back by a second may take the yes away)
         own = self.verdict_of(entry, taken)
         if own != entry.verdict and entry.answer == YES:
             if own == UNSUPPORTED:
-                raise Other  # (what speaks against it may be beside all exchanges)
+                raise Unjudgeable  # (what speaks against it may be beside all exchanges)
             return Judged(f"the verdict of audit.json is {entry.verdict}, and by the evidence and the list of leap "
                           f"seconds {own}", capture)
         return Judged(self.difference(entry, capture, record), capture)
@@ -80,10 +80,10 @@ class Judging:
         """The capture that was audited: the one input, or all of them joined."""
         whole = audited(taken.copies, self.program)
         if (JOINED if whole.is_made else next(iter(taken.copies))) != record.capture:
-            raise Other
+            raise Unjudgeable
         entry, = record.entries  # (a certificate's capture is held to its sum when it is judged)
         if whole.is_made and entry.answer != YES and sum_of_file(JOINED) != entry.outputs.get(JOINED):
-            raise Other
+            raise Unjudgeable
         self.whole = Classic(whole.path, whole.extent)
         return whole.path
 
@@ -127,7 +127,7 @@ class Judging:
             return self.program.run(*words, sums=sums).text
         except Fault as error:
             if error.status == REFUSED and error.line.endswith("sums differ capture") and words[2] == JOINED:
-                raise Other from None
+                raise Unjudgeable from None
             raise
 
     def is_refuted(self, entry: Entry, capture: str) -> bool:

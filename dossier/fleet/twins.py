@@ -19,7 +19,7 @@ def few_of(captures: Iterable[str], folders: int) -> list[str]:
     return sorted(captures)[:max(FEW, MANY // max(1, folders))]
 
 
-class Seen:
+class SeenFolders:
     """The folders that were seen. A few bytes are kept of each capture, however many there are."""
 
     def __init__(self, folders: int):

@@ -23,11 +23,11 @@ from ..verdict.second import Second
 from ..verdict.sentences import reason
 from .audit import change_of, counted_once
 from .drawing import drawn_of, likelihoods
-from .judging import ONLY_MADE, Judging, Other
+from .judging import ONLY_MADE, Judging, Unjudgeable
 from .planning import is_of_days, names_of, planned
 from .signature import GOOD, NONE, UNSEEN, Signers, in_words, signed_in
 from .statements import compared as year_compared, days_of
-from .twins import Seen
+from .twins import SeenFolders
 
 SHOWN, MOST_OF_A_DISPUTE = 80, 1000
 """Characters of a value that are shown of a difference, and of what is disputed."""
@@ -94,9 +94,9 @@ class Verifier:
         record = read_any(audit_json(folder))
         try:
             if form_of(audit_json(folder)) < VERSION:
-                raise Other
+                raise Unjudgeable
             difference, capture = Judging(folder, self.program, self.leaps).judged(record)
-        except Other:
+        except Unjudgeable:
             return self.verify(folder)
         if difference:
             return Verified(difference, [], None)
@@ -206,7 +206,7 @@ def verify_all(folders: list[str], verifier: Verifier, signers: Signers, seconds
     names = names_of(plan, seconds) if how.sample is not None else {}
     drawn = drawn_of(names, how.sample or 0, how.seed)
     verifier.known.believes = how.sample is not None and not how.answers
-    told, seen = Told(how.as_signed), Seen(len(plan.every))
+    told, seen = Tally(how.as_signed), SeenFolders(len(plan.every))
 
     def is_left(path: str) -> bool:
         return how.sample is not None and not how.answers and path in names and path not in drawn
@@ -232,7 +232,7 @@ def verify_all(folders: list[str], verifier: Verifier, signers: Signers, seconds
     return told.end()
 
 
-class Told:
+class Tally:
     """What is printed of folders, and what comes of all."""
 
     def __init__(self, as_signed: bool):

@@ -116,7 +116,7 @@ def told(words: Sequence[str]) -> tuple[int, str]:
     return call.returncode, text.decode("utf-8", "replace")
 
 
-class Beside:
+class Companion:
     """A program that runs beside this one for long. What it prints is taken as it comes."""
     ROOM = 1 << 20
     """Bytes of its output that wait, while this process is busy."""

@@ -24,7 +24,7 @@ from .templates import INDEX, SIGNS, page, put, templates
 MONTHS = ("Jan", "Feb", "Mar", "Apr", "May", "Jun", "Jul", "Aug", "Sep", "Oct", "Nov", "Dec")
 
 
-class Row(NamedTuple):
+class MachineRow(NamedTuple):
     """A machine in the table of all: where its year is, and what is said of it."""
 
     link: str
@@ -54,7 +54,7 @@ class Pages(NamedTuple):
         """The folder from which days are linked to."""
         return self.split or os.path.dirname(self.output or "")
 
-    def page(self, title: str, articles: list[tuple[int, Year]], machines: Sequence[Row] = (),
+    def page(self, title: str, articles: list[tuple[int, Year]], machines: Sequence[MachineRow] = (),
              above: str = "") -> bytes:
         """A page of the table of machines, or of a machine alone."""
         return page("year.html", len(machines), title=title, articles=articles, machines=machines, above=above,
@@ -87,10 +87,10 @@ def quoted(path: str) -> str:
                    for byte in path.encode("utf-8", "surrogateescape"))
 
 
-def row_of(link: str, year: Year) -> Row:
+def row_of(link: str, year: Year) -> MachineRow:
     signed = sum(day.verdict == YES for day in year.days if day.by)
-    return Row(link, year.machine, len(year.days), year.counts, year.signers, signed, year.gap, year.worst,
-               year.unknown, year.off, year.twins, year.alike, strip(year))
+    return MachineRow(link, year.machine, len(year.days), year.counts, year.signers, signed, year.gap, year.worst,
+                      year.unknown, year.off, year.twins, year.alike, strip(year))
 
 
 def days_among(folders: list[str], seconds: int) -> list[str]:
@@ -130,7 +130,7 @@ def write_year(folders: list[str], wanted: YearCall, pages: Pages, seconds: int,
         articles = list(enumerate(years, 1))
         put(pages.page(pages.title, articles, [row_of(f"#m{number}", year) for number, year in articles]), pages.output)
         return worst
-    rows, stated = list[Row](), list[Stated]()
+    rows, stated = list[MachineRow](), list[Stated]()
     for number, year in enumerate(years, 1):
         name = page_of(year.path)
         split.put(pages.page(f"{pages.title}: {year.machine}", [(number, year)], above=INDEX), f"{name}.html")

@@ -76,7 +76,7 @@ class Time(NamedTuple):
     """Ticks by which the error that they say is off the hull at the most, as far as their own delays tell."""
 
 
-class Seen(NamedTuple):
+class Apart(NamedTuple):
     """The servers that stand apart all the time, and when others do; those that were wrong in each course of events
     that fits; and those of which it isn't known which were."""
 
@@ -103,7 +103,7 @@ def apart_of(envelope: Envelope, gaps: list[Gap]) -> list[str]:
     return [address for address, own in met_of(envelope, gaps).items() if own and not any(own)]
 
 
-class Search:
+class ApartSearch:
     """Looks for the times in which servers stand apart."""
 
     def __init__(self, envelope: Envelope, gaps: list[Gap], whole: Classic):
@@ -141,9 +141,9 @@ class Search:
 
 
 def search_of(program: Program, claim: Claim, capture: str, extent: Extent | None, envelope: Envelope,
-              gaps: list[Gap]) -> Search:
+              gaps: list[Gap]) -> ApartSearch:
     """All samples that miss the hull, of servers of which some interval does."""
-    search = Search(envelope, gaps, Classic(capture, extent))
+    search = ApartSearch(envelope, gaps, Classic(capture, extent))
     if suspects := [address for address, own in met_of(envelope, gaps).items() if not all(own)]:
         keep(SUSPECTS, replace(claim, servers=suspects, false_max=0, groups=[]).text)
         program.blocks(search.take, "samples", SUSPECTS, capture)
@@ -151,7 +151,7 @@ def search_of(program: Program, claim: Claim, capture: str, extent: Extent | Non
 
 
 def seen_apart(program: Program, claim: Claim, capture: str, extent: Extent | None, envelope: Envelope,
-               gaps: list[Gap], least: int = 0) -> Seen:
+               gaps: list[Gap], least: int = 0) -> Apart:
     """Which servers stand apart, and when, by their samples where their intervals don't tell; or only by so many, one
     after the other."""
     search, always = search_of(program, claim, capture, extent, envelope, gaps), apart_of(envelope, gaps)
@@ -160,8 +160,8 @@ def seen_apart(program: Program, claim: Claim, capture: str, extent: Extent | No
     own = {time.server for time in missed} - search.met
     if not least:
         own |= {*always} - search.met
-    return Seen([server for server in claim.servers if server in own], times,
-                *wrong_in(program, claim, [] if least else [capture]))
+    return Apart([server for server in claim.servers if server in own], times,
+                 *wrong_in(program, claim, [] if least else [capture]))
 
 
 class Conflicts(NamedTuple):

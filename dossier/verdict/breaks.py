@@ -38,7 +38,7 @@ class Break(NamedTuple):
     is_doubted: bool = False
 
 
-class Search:
+class BreakSearch:
     """Looks for the breaks of a capture."""
 
     def __init__(self, program: Program, claim: Claim, capture: str, extent: Extent | None):

@@ -4,7 +4,7 @@ import json
 import os
 from collections import defaultdict
 
-from ..capture.captures import Audited, audited, begins
+from ..capture.captures import AuditedCapture, audited, begins
 from ..capture.recording import Recording, read_recording
 from ..capture.traffic import Traffic, number_of, read_traffic
 from ..capture.twice import once
@@ -84,7 +84,7 @@ def span_of(first_request: int, last_reply: int, whole_days: bool) -> tuple[int,
 class Draft:
     """Drafts a claim for one capture, and says on the way what a person has to look at."""
 
-    def __init__(self, program: Program, whole: Audited):
+    def __init__(self, program: Program, whole: AuditedCapture):
         self.program, self.whole, self.capture = program, whole, whole.path
         self.remarks = [warning_words(warning) for warning in whole.alerts]
 

@@ -18,7 +18,7 @@ from ..premise.allowance import slip
 from ..premise.backing import Backing, against
 from ..premise.leap import entry_by, look_up, stretch
 from ..units import SECOND, bound_ticks
-from .apart import Seen as Apart, Time, are_in
+from .apart import Apart, Time, are_in
 from .gaps import gaps_of, inner_gaps, longest_of, told_of
 from .seen import camps_of
 
@@ -87,7 +87,7 @@ def judge(part: Part, recording: Recording, beside: Beside, texts: Texts, step: 
                if isinstance(alert, Again) and alert.spread > claim.bound_ns]
     if 0 < claim.drift_ppb <= OSCILLATOR and not beside.backing.read:
         warned.append(Figure("oscillator", claim.drift_ppb))
-    reason = reason_of(claim, settled, Seen(servers, recording, gaps, texts))
+    reason = reason_of(claim, settled, Grounds(servers, recording, gaps, texts))
     if isinstance(reason, (Gaps, Elsewhere)):
         warned = [alert for alert in warned if alert.kind not in TOLD]
     return entry_by(beside.leaps, Entry(
@@ -117,7 +117,7 @@ def is_beyond(hull: Hull, bound: int) -> bool:
     return not isinstance(hull, str) and (hull[0] < -bound or hull[1] > bound)
 
 
-class Seen(NamedTuple):
+class Grounds(NamedTuple):
     """What a reason is seen in."""
 
     servers: list[Server]
@@ -126,7 +126,7 @@ class Seen(NamedTuple):
     texts: Texts
 
 
-def reason_of(claim: Claim, settled: Settled, seen: Seen) -> Reason | None:
+def reason_of(claim: Claim, settled: Settled, seen: Grounds) -> Reason | None:
     """Of what isn't a yes by the program: why, and what shows it."""
     if settled.answer == REFUTED:
         return why_refuted(claim, seen)
@@ -147,7 +147,7 @@ def silent(claim: Claim, heard: int, seen: Traffic) -> Silent:
     return Silent("silent", heard, seen.by_number()[:FEW], sorted(asked, key=number_of)[:FEW])
 
 
-def why_refuted(claim: Claim, seen: Seen) -> Reason:
+def why_refuted(claim: Claim, seen: Grounds) -> Reason:
     """`unbounded`; `off` if a hull lies beyond the bound as a whole; `beside` if no packet lies within the span; `gap`
     if hulls go beyond the bound where nothing was heard for long; else `exceeds`."""
     envelope, bound = seen.texts.envelope, bound_ticks(claim.bound_ns)

@@ -21,7 +21,7 @@ from ..folder.program import Program
 from ..records import replace
 from ..units import DAY, LAST_SECOND, SECOND, TICKS, bound_ticks, ceil_div, civil
 from .apart import SEVERAL, Time, are_in, conflicts_in, in_each_cover, outermost, pieces_of, search_of
-from .breaks import SOME, Break, Search
+from .breaks import SOME, Break, BreakSearch
 from .gaps import SILENCE, gaps_of, inner_gaps, told_of
 
 ALONE = "alone.claim.json"
@@ -74,7 +74,7 @@ class Parting:
         self.leaps, self.is_spared = leaps, is_spared
         """The ends of leap seconds, in Unix seconds, and whether the claim takes more servers for wrong than is
         granted."""
-        self.search = Search(program, claim, capture, extent)
+        self.search = BreakSearch(program, claim, capture, extent)
         self.breaks, self.first, self.end = self.search.breaks(), 0, self.search.number
         self.times, self.hulls = dict[int, tuple[int, int]](), dict[tuple[str, int, int, int, int], Hull]()
         self.are_whole, self.hidden = bool(self.breaks), 0

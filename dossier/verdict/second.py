@@ -18,7 +18,7 @@ MOST_OF_A_LINE = 1000
 """Bytes that one may say of an answer: it says a line."""
 
 
-class Other(NamedTuple):
+class OtherProgram(NamedTuple):
     """Another program, which judges an answer."""
     name: str
     path: str
@@ -49,7 +49,7 @@ class Other(NamedTuple):
 
 class Second(NamedTuple):
     """The second program; and the judge that Coq proves, if it is there."""
-    programs: list[Other]
+    programs: list[OtherProgram]
 
     @property
     def sha256(self) -> str:
@@ -92,9 +92,9 @@ def find_second() -> Second:
     path, judge = path_of(NAME, "NTPAUDIT_SECOND", "second/recheck"), path_of(JUDGE, "NTPAUDIT_JUDGE", "")
     if not path or not os.access(path, os.X_OK):
         raise fault(f"the second program, {NAME}, isn't there: NTPAUDIT_SECOND is the path to it", MISSING)
-    programs = [Other("second program", path, sum_of_file(path))]
+    programs = [OtherProgram("second program", path, sum_of_file(path))]
     if judge:
         if not os.access(judge, os.X_OK):
             raise fault(f"the judge, {JUDGE}, isn't there: NTPAUDIT_JUDGE is the path to it", MISSING)
-        programs.append(Other("judge", judge, sum_of_file(judge)))
+        programs.append(OtherProgram("judge", judge, sum_of_file(judge)))
     return Second(programs)

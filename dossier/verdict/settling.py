@@ -3,7 +3,7 @@ from collections.abc import Callable
 from contextlib import suppress
 from itertools import chain
 
-from ..capture.captures import Audited, cut
+from ..capture.captures import AuditedCapture, cut
 from ..capture.classic import HEADER, Classic, records_in, write
 from ..capture.recording import Recording, read_recording
 from ..capture.traffic import read_traffic
@@ -16,7 +16,7 @@ from ..folder.files import sum_of, sum_of_file
 from ..folder.placing import keep, make_private, move
 from ..folder.program import Program
 from ..records import replace
-from .apart import SEVERAL, Seen, outermost, seen_apart, wrong_in
+from .apart import SEVERAL, Apart, outermost, seen_apart, wrong_in
 from .breaks import ANY, SOME
 from .gaps import gaps_of, inner_gaps, longest_of, told_of
 from .judgement import Beside, Texts, judge, more_drift
@@ -38,7 +38,7 @@ class Settling:
     were left so far. The envelope has pieces of the step that is asked for, if one is. A refutation that was found
     earlier is taken in place of another one, if the program accepts it."""
 
-    def __init__(self, part: Part, whole: Audited, program: Program, step: int | None, sums: dict[str, str],
+    def __init__(self, part: Part, whole: AuditedCapture, program: Program, step: int | None, sums: dict[str, str],
                  earlier: bytes = b""):
         self.part, self.capture, self.program, self.earlier = part, whole.path, program, earlier
         self.extent = whole.extent
@@ -103,7 +103,7 @@ class Settling:
         shown = read_shown(self.program, self.claim, self.capture, self.extent,
                            read_settled(texts.settled).conflicts + more)
         return texts._replace(moves=parting.moves, parts=parted.parts, conflicts=shown, spared=spared, gaps=parted.gaps,
-                              apart=Seen([], parted.apart, *wrong_in(self.program, parting.claim, [
+                              apart=Apart([], parted.apart, *wrong_in(self.program, parting.claim, [
                                   side.path for side in parting.sides if parting.moves and not spared])))
 
     def spared(self, parting: Parting) -> tuple[int, Parting]:
@@ -117,7 +117,7 @@ class Settling:
                 return most, other
         return 0, parting
 
-    def seen_apart(self, texts: Texts, gaps: list[Gap]) -> Seen:
+    def seen_apart(self, texts: Texts, gaps: list[Gap]) -> Apart:
         """Which servers stand apart, of as many as may be wrong, or have to be."""
         claim, envelope = self.part.claim, texts.envelope
         if texts.spared:
