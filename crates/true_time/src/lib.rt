@@ -1,0 +1,21 @@
+//! When it was that a clock showed a reading: the earliest and the latest true time, by the hull of
+//! its error.
+//!
+//! [`readings_text`] gives the text for many readings: the samples are laid out in tables once, and
+//! a hull is a search in them. [`laws`] say that true time lies between the two.
+//!
+//! The line of a reading, as `add_readings` of `true_time/src/reading_line.rt` makes it, with its
+//! proof:
+//!
+//! ```text
+//! let hull = hull_over(tables, &mut places, claim, reading.begin, reading.end);
+//! add_reading(text, style, reading, hull)?;
+//! ```
+
+#![tactic(auto)]
+
+mod hull;
+pub mod laws;
+mod reading_line;
+
+pub use reading_line::readings_text;
