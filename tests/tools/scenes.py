@@ -51,10 +51,11 @@ def made_refutation(rng: random.Random, claim: Claim) -> Refutation:
 def altered(rng: random.Random, text: bytes, samples: int) -> bytes:
     """Another certificate, or refutation, near this one."""
     value: Any = json.loads(text)
-    if "pieces" in value:
+    if "pieces" in value or "cases" in value:
         for _ in range(rng.randrange(1, 3)):
-            if value["pieces"]:
-                alter_piece(rng, value["pieces"], samples)
+            pieces = rng.choice(value["cases"])["pieces"] if "cases" in value else value["pieces"]
+            if pieces:
+                alter_piece(rng, pieces, samples)
     else:
         what = rng.randrange(8)
         if what < 4:

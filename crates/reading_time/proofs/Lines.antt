@@ -22,7 +22,8 @@ lines_cut front (byte ∷ text) some =
         ∙ ap (λ line. line ∷ lines_from [] (rest_of text)) (append_assoc front (byte ∷ []) (first_line text)))
 
 -- readings that were read, before what the other lines say
-abbrev pub after_readings : List ReadingData → Result (List ReadingData) TimesFault → Result (List ReadingData) TimesFault
+abbrev pub after_readings : List ReadingData → Result (List ReadingData) TimesFault →
+    Result (List ReadingData) TimesFault
 after_readings readings (Ok more) = Ok (readings ++ more)
 after_readings readings (Err fault) = Err fault
 
@@ -60,7 +61,8 @@ module _ (done : ℕ) (rest : List ℕ) (few : done < most_readings) (some : (le
       ∙ ap (λ o. read_before (done + 1) o (left_at (done + 1) (rest_of rest))) (sym is))
       ∙ put (left_at (done + 1) (rest_of rest))
     where
-      put : (r : Result (List ReadingData) TimesFault) → after_readings readings (read_before (done + 1) (Some reading) r)
+      put : (r : Result (List ReadingData) TimesFault) →
+          after_readings readings (read_before (done + 1) (Some reading) r)
           ≡ after_readings (readings ++ reading ∷ []) r
       put (Ok more) = ap Ok (sym (append_assoc readings (reading ∷ []) more))
       put (Err fault) = refl

@@ -10,8 +10,9 @@ use finder::laws::best_hulls_hold_the_error;
 /// In every course of events that fits, whenever the clock shows a reading, true time lies between
 /// the earliest and the latest that the hull over the reading's ticks gives.
 pub fn true_time_lies_between()
-    ensures between { (claim : ClaimData) (samples : List Sample) (r : ReadingData) → IsLawful claim →
-        AreSamplesOf claim samples → HoldsTrueTime claim samples r (hull_of samples claim r) }
+    ensures between { (claim : ClaimData) (samples : List Sample) (r : ReadingData) →
+        IsLawful claim → AreSamplesOf claim samples →
+        HoldsTrueTime claim samples r (hull_of samples claim r) }
 {
     best_hulls_hold_the_error();
 }
