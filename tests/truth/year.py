@@ -112,7 +112,8 @@ class Fleet:
         chunks = [folders[at:at + 100] for at in range(0, len(folders), 100)]
         with ThreadPoolExecutor(self.jobs) as pool:
             told = pool.map(lambda chunk: self.call(*words, *chunk, state=state), chunks)
-            return Counter(line.split(": ", 1)[1] for text in told for line in text.splitlines() if "(signed" not in line)
+            lines = [line for text in told for line in text.splitlines() if "(signed" not in line]
+            return Counter(line.split(": ", 1)[1] for line in lines)
 
     def key(self, name: str) -> Path:
         path = self.place / "keys" / name
