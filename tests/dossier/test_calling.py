@@ -104,7 +104,7 @@ def test_statuses(place: Path) -> None:
         "closed output": (f'"$0" page "{folder}" >&-', (4,)), "closed input": (f'"$0" verify "{folder}" <&-', (0,)),
         "closed errors": (f'"$0" verify "{folder}" 2>&-', (0,)),
         "closed errors, and what is said there": ('"$0" page -o /dev/full x 2>&-', (4,)),
-        "errors to a full disk": ('"$0" audit --bad 2>/dev/full', (5,)),
+        "errors to a full disk": ('"$0" audit --bad 2>/dev/full', (4, 5)),  # (5 if Python's own parser passes over it)
         "an empty operand": ('"$0" verify ""', (5,)), "a full output": (f'"$0" verify "{folder}" > /dev/full', (4,)),
         "help to a full output": ('"$0" help > /dev/full', (4,))}
     for name, (script, wanted) in calls.items():
