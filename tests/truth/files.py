@@ -121,6 +121,9 @@ class Logs:
             self.offset = max(self.offset, int(abs(offset * 1e9)))
             lines.append(f"{log_time(stamp, '%Y-%m-%d %H:%M:%S')} {'10.9.1.1':15}  2 {ppm + rate:10.3f}      0.010 "
                          f"{offset:10.3e} N  4 1.000e-05 1.0e-06 1e-3 1e-3 1e-3")
+        written = [time for time in range(history.begin, self.end, 2 * history.poll) if clock.reading(time) is not None]
+        self.fast = [event for event in self.fast
+                     if any(event.begin <= time < event.end + 2 * history.poll for time in written)]
         pid = rng.randint(300, 9000)
         form = rng.choice(("%b %e %H:%M:%S", "%Y-%m-%dT%H:%M:%S+0000", "%Y-%m-%dT%H:%M:%SZ"))
         more = random.Random(f"logs {history.seed}")
