@@ -395,7 +395,8 @@ def against(entry: Entry) -> str:
 
 
 def figures(entry: Entry) -> str:
-    """The bounds, where there is a least one."""
-    if entry.least_ns is None or entry.verdict == NO_EVIDENCE:
-        return ""
-    return f"least bound {ns_up_ms(entry.least_ns)} ms, claimed {ns_ms(entry.claim.bound_ns)} ms"
+    """The bounds: the least one, unless the claim is shown by covers."""
+    claimed = f"claimed {ns_ms(entry.claim.bound_ns)} ms"
+    if entry.least_ns is None:
+        return f"shown by covers, {claimed}" if entry.verdict in (YES, UNSUPPORTED) else ""
+    return "" if entry.verdict == NO_EVIDENCE else f"least bound {ns_up_ms(entry.least_ns)} ms, {claimed}"

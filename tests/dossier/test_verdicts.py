@@ -228,9 +228,10 @@ def test_by_covers(place: Path) -> None:
     folder = folder_of(place, "creeping", place / "creeping.pcap", **{
         **CLAIM, "servers": [f"192.0.2.{k}" for k in (101, 102, 103, 104)], "from": "2023-11-14T22:13:20Z",
         "to": "2023-11-14T22:47:28Z", "bound_ns": 9_600_000, "drift_ppb": 15_000})
-    status = dossier("audit", folder)[0]
+    status, out, _ = dossier("audit", folder)
     entry, page = record_of(folder)["entries"][0], dossier("page", folder)[1].decode()
     check("a yes by covers", status=(status, 0), verdict=(entry["verdict"], "yes"), least=(entry["least_ns"], None),
+          line=(out.decode().endswith(": shown by covers, claimed 9.6 ms\n"), True),
           verified=(dossier("verify", folder)[0], 0), lesser=("lesser bound" in page, False),
           judged=((folder / "report.txt").read_text().splitlines()[-2:], ["wrong 192.0.2.104", "verdict yes"]))
 
