@@ -24,7 +24,7 @@ pub(crate) fn declaration<'a>(alloc: Global) -> Result<Command<'a>, AllocError>
 {
     let step = "Seconds of each piece, 1 to 86400";
     let servers = "Print before each piece what each server says about it, `K SERVER LOW HIGH`";
-    let least = "Print last the least bound that a certificate carries, `least_ns N piece K`";
+    let least = "Print last the least bound that pieces of any length carry, `least_ns N piece K`";
     let about = "Print how far off the clock may have been, piece by piece";
     evidence_command(alloc, "envelope", about, HELP)?
         .arg(step_option(alloc, step))?

@@ -12,9 +12,10 @@ Prints:   one of five answers. A certificate, which `check` accepts: the claim i
           refutation, which `refute --drift` accepts. Lines `conflict SERVER REQUEST SERVER REPLY`,
           and then `nothing fits`: in this capture one of the premises fails. `no evidence
           groups K of G false_max F`: no more groups of servers have a sample than may be wrong. Or
-          `open P Q hull LO HI`: neither is found, and no certificate is accepted. With --human what
-          is found is told in short lines: milliseconds, times as 2026-11-22T06:46:09Z, addresses.
-          With -o FILE all but these lines goes to FILE, at status 0 and 1
+          `open P Q hull LO HI`: neither is found, and no certificate of pieces is accepted. With
+          --human what is found is told in short lines: milliseconds, times as
+          2026-11-22T06:46:09Z, addresses. With -o FILE all but these lines goes to FILE, at status
+          0 and 1
 Status:   0 shown; 1 any other answer; 2 an input is refused, or over 100000 pieces are needed
           and no refutation is found; 3 out of memory; 4 a file or the output failed; 5 the command
           line is refused
