@@ -187,8 +187,8 @@ class Draft:
                 "it is more than a claim can say"
             self.remark(f"bound_ns: no bound is carried, since {why};", asked)
             return without
-        self.remark(f"bound_ns: the least bound that a certificate carries is {ns_up_ms(envelope.least_ns)} ms;",
-                    "rounded up." if wanted is None else asked)
+        self.remark(f"bound_ns: the least bound that a certificate of pieces carries is "
+                    f"{ns_up_ms(envelope.least_ns)} ms;", "rounded up." if wanted is None else asked)
         return round_up(envelope.least_ns) if wanted is None else wanted
 
     def leave_to_a_person(self, claim: Claim, wanted: DraftCall, reading: Allowance) -> None:

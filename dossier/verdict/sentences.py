@@ -37,9 +37,13 @@ SAID = {
     NOTHING_FITS: "Whether {it} can't be said: no course of events fits the capture, so one of the premises fails in "
                   "it.",
     NO_EVIDENCE: "Whether {it} can't be said: the capture says nothing about this clock.",
-    OPEN: "Whether {it} stays open: no certificate shows it, and no course of events was found that fits the capture "
-          "and breaks it.",
+    OPEN: "Whether {it} stays open: no certificate was found that shows it, and no course of events that fits the "
+          "capture and breaks it.",
 }
+
+
+BY_COVERS = "This is shown by covers: servers that were wrong at some time are left out throughout. The picture " \
+    "judges each piece by itself, and so leaves more open."
 
 
 def sentence(entry: Entry) -> str:
@@ -52,9 +56,9 @@ def sentence(entry: Entry) -> str:
         return f"{SAID[entry.verdict].format(it=f'{span(claim)} {within}', granted=granted(claim))} {reason(entry)}"
     said = f"{capital(span(claim))} {within}, {granted(claim)} and what else the claim grants is true."
     if entry.least_ns is None:
-        return said
-    return (f"{said} Then the widest it may have been off was {ns_up_ms(entry.least_ns)} ms, "
-            f"{between(entry.worst.from_, entry.worst.to)}: no certificate carries a lesser bound.")
+        return f"{said} {BY_COVERS}"
+    return (f"{said} Then it was off by at most {ns_up_ms(entry.least_ns)} ms, as much as is needed "
+            f"{between(entry.worst.from_, entry.worst.to)}: no certificate of pieces carries a lesser bound.")
 
 
 def reason(entry: Entry) -> str:
@@ -254,7 +258,7 @@ def to_do(entry: Entry) -> str:
         if cause.why == "silent":
             return f"{capital(alerts.without_xleave(mode))}."
     does_help = entry.least_ns is not None and cause.why in ("exceeds", "tick")
-    least = f"A bound of {ns_up_ms(entry.least_ns or 0)} ms is the least that a certificate carries. " \
+    least = f"A bound of {ns_up_ms(entry.least_ns or 0)} ms is the least that a certificate of pieces carries. " \
         if does_help else ""
     if entry.verdict == NOTHING_FITS and entry.moves:
         return after_moves(entry)

@@ -746,7 +746,8 @@ def test_other_answers(place: Path) -> None:
           verified=(dossier("verify", folder, env=environment)[1].endswith(b"verified: open\n"), True),
           said=(f"At {civil(TICK >> 32)} errors from {ticks_range(-2579000, 2580000)} are left open.".replace("\u2212",
                                                                                                               "-")
-                in shown, True), to_do=("A bound of 0.619 ms is the least that a certificate carries." in shown, True))
+                in shown, True), to_do=("A bound of 0.619 ms is the least that a certificate of pieces carries."
+                                        in shown, True))
     refutation = {"error": 3_000_000, "false": [3], "reading": TICK}
     answers(json.dumps(refutation))
     check("a refutation", status=(dossier("audit", "--again", folder, env=environment)[0], 1))

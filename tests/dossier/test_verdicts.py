@@ -232,6 +232,7 @@ def test_by_covers(place: Path) -> None:
     entry, page = record_of(folder)["entries"][0], dossier("page", folder)[1].decode()
     check("a yes by covers", status=(status, 0), verdict=(entry["verdict"], "yes"), least=(entry["least_ns"], None),
           line=(out.decode().endswith(": shown by covers, claimed 9.6 ms\n"), True),
+          said=("what else the claim grants is true. This is shown by covers: " in page, True),
           verified=(dossier("verify", folder)[0], 0), lesser=("lesser bound" in page, False),
           judged=((folder / "report.txt").read_text().splitlines()[-2:], ["wrong 192.0.2.104", "verdict yes"]))
 
