@@ -387,8 +387,8 @@ def falls_in(stamps: array[int]) -> list[int]:
 
 def put(whole: Classic, runs: Runs, path: str) -> bool:
     """Writes runs of a capture; False if they are all of it, and nothing is written."""
-    if runs == [[HEADER, whole.size]] or whole.size <= HEADER or (not runs and path == JOINED):
-        return False  # (of a claim that isn't cut into days it is told when else packets were recorded)
+    if runs == [[HEADER, whole.size]] or whole.size <= HEADER:
+        return False
     write(CUT, (whole.data[begin:end] for begin, end in [[0, HEADER], *runs]))
     move(CUT, path)  # (it may be the place of what it is cut of)
     return True

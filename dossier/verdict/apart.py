@@ -106,8 +106,8 @@ def apart_of(envelope: Envelope, gaps: list[Gap]) -> list[str]:
 class ApartSearch:
     """Looks for the times in which servers stand apart."""
 
-    def __init__(self, envelope: Envelope, gaps: list[Gap], whole: Classic):
-        self.envelope, self.hulls, self.whole = envelope, hulls_of(envelope, gaps), whole
+    def __init__(self, envelope: Envelope, whole: Classic):
+        self.envelope, self.whole = envelope, whole
         self.open: dict[str, Time] = {}
         self.times: list[Time] = []
         self.met = set[str]()
@@ -137,13 +137,13 @@ class ApartSearch:
     def hull_at(self, time: int) -> Hull:
         """The hull at Unix nanoseconds; `empty` outside of the span."""
         at = bisect_right(self.envelope.begins, time // SECOND) - 1
-        return self.hulls[at] if at >= 0 and time <= self.envelope.ends[at] * SECOND else "empty"
+        return self.envelope.hulls[at] if at >= 0 and time <= self.envelope.ends[at] * SECOND else "empty"
 
 
 def search_of(program: Program, claim: Claim, capture: str, extent: Extent | None, envelope: Envelope,
               gaps: list[Gap]) -> ApartSearch:
     """All samples that miss the hull, of servers of which some interval does."""
-    search = ApartSearch(envelope, gaps, Classic(capture, extent))
+    search = ApartSearch(envelope, Classic(capture, extent))
     if suspects := [address for address, own in met_of(envelope, gaps).items() if not all(own)]:
         keep(SUSPECTS, replace(claim, servers=suspects, false_max=0, groups=[]).text)
         program.blocks(search.take, "samples", SUSPECTS, capture)

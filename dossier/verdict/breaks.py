@@ -78,6 +78,13 @@ class BreakSearch:
                  if (stamps[k] >> 32) + 1 < stamps[k - 1] >> 32]
         return Break(falls[0] - 1, falls[0], one.is_met) if len(falls) == 1 else one
 
+    def between_exchanges(self, one: Break) -> Break:
+        """A break, between exchanges: of a record beside it that is in none it isn't known what the clock's error was,
+        if it was stepped again."""
+        after = next((k for k in range(one.after, -1, -1) if self.other[k] != k), one.after)
+        by = next((k for k in range(one.by, self.number) if self.other[k] != k), one.by)
+        return one._replace(after=after, by=by)
+
     def is_one(self, wide: Break, claim: Claim) -> bool:
         """Whether the records of a break, its ends among them, fall into two stretches by a claim, and each exchange of
         theirs into one of the two."""

@@ -131,7 +131,7 @@ class Parting:
         wide = Break(begin + self.round(self.sides[number], -1), first + self.round(self.sides[number + 1], 0),
                      one.is_met, bool(move and move.is_step))
         is_clear = move and move.is_step and self.search.is_one(wide, replace(self.claim, groups=[], false_max=0))
-        return one if is_clear else wide
+        return self.search.between_exchanges(one) if is_clear else wide
 
     def named(self, claim: Claim) -> str:
         keep(ALONE, claim.text)
@@ -204,12 +204,12 @@ class Parting:
         return Move(before.last, behind.first, *size, rate, False, max(0, until), max(0, since))
 
     def round(self, side: Side, place: int) -> int:
-        """The record of a stretch from which on each server was asked once more (-1), or by which each had answered
+        """The record of a stretch behind which each server was asked once more (-1), or before which each had answered
         (0); of one that was silent there for long none."""
         records = [sorted(own)[place][0 if place else 1] for own in side.recording.by_address.values()]
         end = max(records) if place else min(records)
         near = [record for record in records if abs(end - record) <= ROUND * len(self.claim.servers)]
-        return min(near) if place else max(near)
+        return max(0, min(near) - 1) if place else min(len(side.recording.stamps) - 1, max(near) + 1)
 
     def is_seen(self, number: int) -> bool:
         """Whether it is the clock that moved there: most servers contradict themselves, each taken by itself; or

@@ -7,7 +7,7 @@ from ..folder.claim import Claim
 from ..folder.entry import (AGAINST, NO_EVIDENCE, NOTHING_FITS, OPEN, REFUSED, REFUTED, UNSUPPORTED, YES, AtTick, Cause,
                             Elsewhere, Entry, Gaps, Misfit, Move, Silence, Silent, Stretch)
 from ..folder.files import CLAIM, REFUTATION
-from ..text import capital, count, is_or_are, label, listed, plain
+from ..text import capital, count, label, listed, plain
 from ..units import (SECOND, TICKS, between, civil, from_to, high_ms, inward, low_ms, ns_ms, ns_up_ms, outward,
                      range_ms, shown_time)
 from ..premise.premises import named
@@ -177,9 +177,9 @@ def why_nothing_fits(entry: Entry, cause: Misfit) -> str:
         return f"The clock was {moves_of(entry)}.{more}{in_parts(entry)}"
     wrong = f" (with {cause.count} wrong of {groups} a course of events would fit)" if cause.count else ""
     faster = f" (with a drift of {cause.drift_ppb:,} parts in 10^9 one would fit)" if cause.drift_ppb else ""
-    apart = f" {listed(cause.apart)} {is_or_are(len(cause.apart))} apart." if cause.apart else ""
-    return (f"More servers were wrong than the claim grants{wrong}, or the clock was stepped or moved faster{faster}."
-            f"{apart}{in_camps(cause)}{first_conflict(entry, cause)}")
+    among = f", {listed(cause.apart)} among them" if cause.apart else ""
+    return (f"More servers were wrong than the claim grants{among}{wrong}, or the clock was stepped or moved "
+            f"faster{faster}.{in_camps(cause)}{first_conflict(entry, cause)}")
 
 
 def moves_of(entry: Entry) -> str:
@@ -235,7 +235,7 @@ def in_short(entry: Entry) -> str:
         more, gap = f", and {cause.count - 1:,} more times" if cause.count > 1 else "", longest(cause.gaps)
         return f"no server heard {from_to(*inward(gap.after, gap.by))} UTC{more}"
     if isinstance(cause, Misfit) and cause.apart:
-        return f"{listed(cause.apart)} apart"
+        return f"{listed(cause.apart)} wrong, or the clock stepped or moved faster"
     if isinstance(cause, Silent):
         mode = next((warning.servers for warning in entry.warnings if warning.kind == "interleaved"), None)
         return f"{listed(mode)} in interleaved mode" if mode else why_no_evidence(entry, cause).rstrip(".")
@@ -346,8 +346,13 @@ def warned(entry: Entry) -> list[str]:
     """The warnings, but those that the reason tells."""
     against = AGAINST if entry.verdict == UNSUPPORTED else ()
     apart = set(entry.reason.apart) if isinstance(entry.reason, Misfit) else set[str]()
-    return presumed(entry) + [warning_words(warning) for warning in entry.warnings if warning.kind not in against
-                              and not (warning.kind == "apart" and set(warning.servers) <= apart)]
+    told = [warning for warning in entry.warnings if warning.kind not in against
+            and not (warning.kind == "apart" and set(warning.servers) <= apart)]
+    return presumed(entry) + [f"{UNLESS_MOVED if apart and 'apart' in warning.kind else ''}{warning_words(warning)}"
+                              for warning in told]
+
+
+UNLESS_MOVED = "Unless the clock was stepped or moved faster, "
 
 
 def presumed(entry: Entry) -> list[str]:

@@ -25,8 +25,8 @@ from .seen import read_shown
 
 MOST_LINES = 1_000_000
 """Of an envelope: a line for each piece and for each server in it."""
-AROUND = "around.pcap"
-"""A private file: what was recorded in the span, beside it, and next to that."""
+NEAR, AROUND = "near.pcap", "around.pcap"
+"""Private files: what was recorded in the span and near it; and with that what is next to it."""
 MOST_ADDED = 3
 """Groups, more than the claim grants, that are taken for wrong where nothing fits."""
 MANY_PIECES = 10_000
@@ -57,8 +57,7 @@ class Settling:
             make_private(self.part.name)
             self.keep(files.CLAIM, self.part.claim.text)
         own = self.part.within(files.JOINED)
-        if cut_to(own):
-            self.take(own, own)
+        self.take_near(cut_to, own)
         texts = self.decide()
         leaps = [end for end, _ in beside.leaps.seconds]
         if parting := self.broken(texts, around_to, leaps):
@@ -87,7 +86,8 @@ class Settling:
         """What comes of a capture that breaks: the answer of the stretch that has shown the span, or none."""
         if side := parting.shown_by():
             cut_to, = cut(side.path, [self.part], None)
-            self.take(own if cut_to(own) else side.path, own)
+            self.take(side.path, own)
+            self.take_near(cut_to, own)
             return self.decide()._replace(moves=parting.moves, elsewhere=parting.beside(side))
         if parting.moves and read_settled(texts.settled).answer != NOTHING_FITS:
             self.take(AROUND, own)
@@ -148,6 +148,16 @@ class Settling:
                 if not counts["samples"]:
                     break
         return silences
+
+    def take_near(self, cut_to: Callable[[str], bool], own: str) -> None:
+        """Takes what was recorded in the span and near it. Of a claim that isn't a day's all stays if no server is
+        heard in that: then it is told when else packets were recorded."""
+        if cut_to(NEAR) and (self.part.name != "." or self.is_heard(NEAR)):
+            self.take(NEAR, own)
+
+    def is_heard(self, capture: str) -> bool:
+        settled = read_settled(self.call("settle", self.claim, capture))
+        return settled.answer != NO_EVIDENCE or settled.heard > 0
 
     def take(self, capture: str, own: str) -> None:
         """Takes another capture as that of the part, and leaves it, with what comes of it alone."""

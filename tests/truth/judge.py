@@ -175,10 +175,15 @@ def apart_then(view: View, servers: list[str], when: When, *_: int) -> str:
     return view.unless_unseen(f"{', '.join(right)} was right then" if right else "")
 
 
-def ever_apart(view: View, servers: list[str]) -> str:
+def wrong_or_moved(view: View, servers: list[str], *_: int) -> str:
     view.named.update(servers)
     right = [server for server in servers if not view.is_ever_wrong(server)]
-    return f"{', '.join(right)} was right" if right and not view.too_many_wrong else ""
+    return f"{', '.join(right)} was right" if right and not view.too_many_wrong and not view.clock.breaks else ""
+
+
+def apart_unless_moved(view: View, servers: list[str], when: When, *_: int) -> str:
+    wrong = apart_then(view, servers, when)
+    return wrong if not view.clock.breaks else ""
 
 
 def was_wrong(view: View, servers: list[str]) -> str:
