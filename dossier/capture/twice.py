@@ -6,8 +6,8 @@ clock did then would be hidden. So each packet counts once: a request by its ear
 That holds by each of the stamps. If they differ by more than the bound, they aren't of one clock.
 """
 import re
+from collections.abc import Container, Iterator
 from contextlib import suppress
-from itertools import chain
 
 from ..fault import Fault
 from ..folder.answers import read_counts
@@ -32,8 +32,21 @@ def once(whole: AuditedCapture, program: Program) -> AuditedCapture:
     requests, and in what isn't one recording after the other."""
     if whole.extent and not is_ambiguous(program, whole.path):
         return whole
-    capture, kept, again = Classic(whole.path, whole.extent), dict[bytes, int](), dict[int, bytes]()
-    stamps = capture.extent.stamps
+    capture = Classic(whole.path, whole.extent)
+    again, stamps = repeated(program, capture), capture.extent.stamps
+    if not again:
+        return whole
+    times = (capture.nanoseconds([stamps[left], stamps[kept]]) for left, kept in again.items())
+    spread = max(abs(one - other) for one, other in times)
+    file, beside, *_ = *having(whole, capture, min(again)), ""
+    write(ONCE, without(capture, again))
+    move(ONCE, JOINED)
+    return AuditedCapture(JOINED, True, [*whole.alerts, Again("twice", len(again), file, beside, spread)], None)
+
+
+def repeated(program: Program, capture: Classic) -> dict[int, int]:
+    """The records of a capture that don't count, since their packet is there once more; and the one that does."""
+    kept, again, stamps = dict[bytes, int](), dict[int, bytes](), capture.extent.stamps
 
     def take(block: bytes) -> None:
         for number, ends, mode, others, transmit in PACKET.findall(block):
@@ -43,16 +56,14 @@ def once(whole: AuditedCapture, program: Program) -> AuditedCapture:
             of = sorted((other, int(number)), key=stamps.__getitem__)
             kept[key], left = of if mode == b"3" else reversed(of)
             again[left] = key
-    program.blocks(take, "list", whole.path)
-    if not again:
-        return whole
-    times = (capture.nanoseconds(stamps[at] for at in (left, kept[key])) for left, key in again.items())
-    spread = max(abs(one - other) for one, other in times)
-    file, beside, *_ = *having(whole, capture, min(again)), ""
-    write(ONCE, chain([capture.data[:HEADER]], (capture.data[begin:end] for number, (_, begin, end)
-                                                in enumerate(capture.rows()) if number not in again)))
-    move(ONCE, JOINED)
-    return AuditedCapture(JOINED, True, [*whole.alerts, Again("twice", len(again), file, beside, spread)], None)
+    program.blocks(take, "list", capture.path)
+    return {left: kept[key] for left, key in again.items()}
+
+
+def without(capture: Classic, again: Container[int]) -> Iterator[bytes]:
+    """A capture without some records."""
+    yield capture.data[:HEADER]
+    yield from (capture.data[begin:end] for number, (_, begin, end) in enumerate(capture.rows()) if number not in again)
 
 
 def is_ambiguous(program: Program, capture: str) -> bool:

@@ -78,7 +78,7 @@ def seen(name: str, folder: Folder, record: Record, entry: Entry) -> dict[str, o
         picture(joined(drawn_of), claim.bound_ns, name, label, steps_of(entry), entry.verdict == NOTHING_FITS),
         "legend": legend(joined(drawn_of), claim.bound_ns),
         "servers": [(server, drawn.get(server.address), strokes.get(server.address, "")) for server in entry.servers],
-        "apart": apart, "is_void": entry.is_void,
+        "apart": apart, "is_void": entry.is_void or not all(move.is_step for move in entry.moves),
         "premises": [(premise, list(support(premise.name, backed, record, entry)), kept.get(premise.name, ""))
                      for premise in premises(claim)],
         "counts": [(what, f"{number:,}", COUNTS.get(what, "")) for what, number in entry.counts.items()],

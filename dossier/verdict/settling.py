@@ -7,6 +7,7 @@ from ..capture.captures import AuditedCapture, cut
 from ..capture.classic import HEADER, Classic, records_in, write
 from ..capture.recording import Recording, read_recording
 from ..capture.traffic import read_traffic
+from ..capture.twice import ONCE, repeated, without
 from ..fault import MISSING, Fault, fault
 from ..folder import files
 from ..folder.answers import read_counts, read_envelope, read_settled
@@ -102,9 +103,10 @@ class Settling:
         more = search.told() if not parting.moves and search.whole.path == self.capture else []
         shown = read_shown(self.program, self.claim, self.capture, self.extent,
                            read_settled(texts.settled).conflicts + more)
+        are_steps = parting.moves and all(move.is_step for move in parting.moves)  # (else some may be on both sides)
         return texts._replace(moves=parting.moves, parts=parted.parts, conflicts=shown, spared=spared, gaps=parted.gaps,
                               apart=Apart([], parted.apart, *wrong_in(self.program, parting.claim, [
-                                  side.path for side in parting.sides if parting.moves and not spared])))
+                                  side.path for side in parting.sides if are_steps and not spared])))
 
     def spared(self, parting: Parting) -> tuple[int, Parting]:
         """With how many wrong groups, fewer than half, a course of events fits, or it is known how the clock moved, and
@@ -143,7 +145,9 @@ class Settling:
             whole = Classic(capture, self.extent if capture == self.capture else None)
             for is_between in (True, False):
                 write(SOME, chain([whole.data[:HEADER]], records_in(whole, gap, is_between)))
-                counts = read_counts(self.call("samples", self.claim, SOME).splitlines()[-1].decode("ascii"))
+                some = Classic(SOME)
+                write(ONCE, without(some, repeated(self.program, some)))
+                counts = read_counts(self.call("samples", self.claim, ONCE).splitlines()[-1].decode("ascii"))
                 silences[gap] = Silence(*gap, counts["requests"], counts["replies"])
                 if not counts["samples"]:
                     break

@@ -3,12 +3,11 @@ on none that comes after it.
 """
 import ast
 import dataclasses
-import re
 from collections.abc import Callable, Iterator
 from pathlib import Path
 from typing import Any
 
-from tests.support import ROOT, check, files_in
+from tests.support import ROOT, check, files_in, run
 
 OPENING = {"open", "os.open", "os.read", "os.pread", "os.scandir", "os.listdir", "os.stat", "os.lstat", "os.fstat",
            "mmap.mmap"}
@@ -75,23 +74,26 @@ def test_modules() -> None:
     check("what is watched is called", never=(OPENING & seen, lambda found: len(found) > 5))
 
 
+def calls_in(path: Path, tree: ast.Module) -> Iterator[tuple[str, str]]:
+    """The functions that functions of a module call by a name that it takes from another one, each with who calls."""
+    taken = {alias.name for node in ast.walk(tree) if isinstance(node, ast.ImportFrom) and node.level
+             for alias in node.names}
+    for own in ast.walk(tree):
+        if isinstance(own, ast.FunctionDef) and not any(isinstance(node, ast.FunctionDef) for node in ast.walk(own)
+                                                        if node is not own):
+            yield from ((node.func.id, f"called by {own.name} in {path.relative_to(ROOT)}:{own.lineno}")
+                        for node in ast.walk(own) if isinstance(node, ast.Call) and isinstance(node.func, ast.Name)
+                        and node.func.id in taken and node.func.id.islower())
+
+
 def test_calls() -> None:
-    """ARCHITECTURE.md has a line for each module that isn't everybody's, and each calls those behind it."""
-    text = (ROOT / "ARCHITECTURE.md").read_text("utf-8").split("In the dossier, ")[1].split("\n## ")[0]
-    paths = {path.stem: path for path in files_in(ROOT / "dossier", "**/*.py")
-             if path.stem != "__init__"}
-    modules = {name: {word for node in ast.walk(ast.parse(path.read_text("utf-8"))) if isinstance(node, ast.ImportFrom)
-                      for word in ((node.module or "").split(".")[-1], *(alias.name for alias in node.names))}
-               for name, path in paths.items()}
-    called, wrong = set[str](), []
-    for callers, names in re.findall(r"([\w, ]+): ([\w, ]+)(?:;|$)", re.sub(r"^- ", "", text, flags=re.M), flags=re.M):
-        for caller in callers.split(", "):
-            wrong += [f"{caller} {name}" for name in names.split(", ") if name not in modules[caller.strip()]]
-        called |= set(names.split(", "))
-    everybodys = {"fault", "records", "schema", "text", "units", "command_line", "answers", "claim", "entry", "files",
-                  "jobs", "placing", "program", "result"}
-    check("ARCHITECTURE.md: who calls a module", wrong=(wrong, []),
-          missing=(sorted(set(modules) - everybodys - called), []))
+    """`docs/callers` tells each call that Python's own reader finds."""
+    for path in files_in(ROOT / "dossier/verdict", "*.py"):
+        found = set(calls_in(path, ast.parse(path.read_text("utf-8"))))
+        names = sorted({name for name, _ in found})
+        told = run([ROOT / "docs/callers", *names])[1].decode() if names else ""
+        untold = sorted({call for _, call in found if call not in told})
+        check(f"docs/callers: what {path.name} calls", untold=(untold, []))
 
 
 def kind_by(module: Any) -> Any:
