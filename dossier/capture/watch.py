@@ -139,7 +139,7 @@ class Watch:
     # ---- what is wrong
 
     def trouble(self, kind: str, words: str) -> None:
-        """Says once that something is wrong."""
+        """Says once on standard error that something is wrong, and keeps it for the state's file."""
         if kind not in self.troubles:
             note(f"ntpaudit-dossier: {self.wanted.interface}: {words}")
         self.troubles[kind] = words

@@ -306,7 +306,7 @@ class Parting:
 
 
 def spoken(program: Program, claim: Claim, capture: str, extent: Extent | None) -> Spoken:
-    """What a capture says of a claim."""
+    """What `settle` says of a claim by a whole capture, or by the one stretch of it that can have shown the span."""
     keep(ALONE, claim.text)
     settled = program.run("settle", ALONE, capture).text
     if read_settled(settled).answer != NOTHING_FITS:
