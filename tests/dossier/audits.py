@@ -12,13 +12,14 @@ import signal
 import socket
 import subprocess
 import tempfile
+import time
 from base64 import b64encode
 from collections.abc import Callable, Sequence
 from html.parser import HTMLParser
 from pathlib import Path
 from typing import Any
 
-from tests.support import DATA, ROOT, SECONDS, Ran, check, files_in, program, run, skip, wanting
+from tests.support import DATA, ROOT, SECONDS, Ran, check, files_in, program, run, runnable, skip, wanting
 from tests.dossier.leaps import LATER, leap_list
 
 PROGRAM = program()
@@ -32,7 +33,6 @@ ENVIRONMENT = {**os.environ, "XDG_STATE_HOME": STATE, "NTPAUDIT": PROGRAM, "PYTH
 WITHOUT_EVIDENCE = {"clients-us.few.claim.json", "vlan-ns.silent.claim.json"}
 """Claims of which their capture says nothing, so that there are no figures."""
 CLAIMS = [claim for claim in files_in(DATA, "*.claim.json") if claim.name not in WITHOUT_EVIDENCE]
-TICKS_PER_MS = 2**32 / 1000
 KEEP = [("keep",)] if shutil.which("zstd") else []
 """The command `keep`, where it can be called: tests/dossier/test_daily.py says it where it can't."""
 SEARCH = (ROOT / "dossier/page/templates/search.js").read_text()
@@ -102,6 +102,20 @@ def dossier(*words: object, **how: Any) -> Ran:
     return run(words if memory else [SCRIPT, *words], **how)
 
 
+def with_change(change: str, *words: object, **how: Any) -> Ran:
+    """A call of the dossier that some Python has changed before."""
+    script = (f"import sys\nsys.path.insert(0, {str(ROOT)!r})\n{change}\nfrom dossier import command_line\n"
+              "sys.exit(command_line.main(sys.argv[1:]))\n")
+    how.setdefault("env", ENVIRONMENT)
+    return run(["python3", "-I", "-S", "-B", "-X", "utf8", "-c", script, *words], **how)
+
+
+def stand_in(path: Path, script: str) -> dict[str, str]:
+    """The environment of calls of a program that does something and then is the program."""
+    runnable(path, f'#!/bin/sh\n{script}\nexec "{PROGRAM}" "$@"\n')
+    return {**ENVIRONMENT, "NTPAUDIT": str(path)}
+
+
 def within(call: Callable[[int], Ran], is_enough: Callable[[Ran], object]) -> tuple[int, Ran]:
     """The least of some limits in seconds that leaves enough for what doesn't hang, and what a call with it gives."""
     for limit in (3, 15, 75, 375):
@@ -164,6 +178,26 @@ def table(*folders: Path, words: Sequence[object] = ()) -> list[dict[str, Any]]:
     rows = json.loads(dossier("page", "--json", *words, *folders)[1])
     names = list(map(str, folders))
     return sorted(rows, key=lambda row: names.index(row["machine"]) if row["machine"] in names else 0)
+
+
+def running_program() -> Any:
+    from dossier.folder.entry import Made
+    from dossier.folder.program import Program
+    return Program(PROGRAM, Made("ntpaudit", "0" * 64))
+
+
+def auditing(place: Path) -> Any:
+    """What audits a folder in this process's children, for what of the dossier is changed here."""
+    from dossier.fleet import audit
+    from dossier.folder.entry import LeapList, Options
+    from dossier.folder.registry import Known
+    wanted = audit.AuditCall(Options(), False, LeapList("none", good_until=4_000_000_000),
+                             Known(str(place / "state"), True), running_program())
+    return lambda path, number: audit.audit(wanted, path, number)
+
+
+def civil(second: int) -> str:
+    return time.strftime("%Y-%m-%dT%H:%M:%SZ", time.gmtime(second))
 
 
 def parts_left(parent: Path) -> list[str]:

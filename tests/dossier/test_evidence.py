@@ -600,6 +600,7 @@ def test_client(place: Path) -> None:
                       "hwtimestamp eth0\nhwtimestamp eth1": (83_433_334, "hwtimestamp eth0 eth1"),
                       "confdir /etc/chrony/conf.d": (83_433_334, "takes in /etc/chrony/conf.d besides, which wasn't"),
                       "maxslewrate x": (None, "maxslewrate has no number"),
+                      "maxslewrate -5": (None, "maxslewrate is below zero"),
                       "maxslewrate 500000": (None, "more than a claim can grant")}
     for text, (drift, words) in configurations.items():
         (place / "chrony.conf").write_text(text)

@@ -12,8 +12,8 @@ from math import comb
 from pathlib import Path
 from typing import Any
 
-from tests.support import ROOT, check, is_here, run, runnable
-from tests.dossier.audits import ENVIRONMENT, called, capture_of, dossier, match_of
+from tests.support import ROOT, check, is_here, run
+from tests.dossier.audits import ENVIRONMENT, called, capture_of, dossier, match_of, stand_in
 from tests.dossier.test_evidence import key_of
 from tests.dossier.test_years import DAY, FIRST, RIGHT, WIDE, day
 
@@ -141,9 +141,9 @@ def test_answers(place: Path) -> None:
     own = machine(place / "fleet", "web-1", 3)
     other = day(place / "fleet" / "web-1", 3, RIGHT, servers=1)
     dossier("audit", *days_of(own))
-    log, wrapper = place / "log", place / "program"
-    runnable(wrapper, f'#!/bin/sh\necho "$@" >> {log}\nexec {ROOT / ENVIRONMENT["NTPAUDIT"]} "$@"\n')
-    status, out, _ = dossier("verify", "--answers", *days_of(own), env={**ENVIRONMENT, "NTPAUDIT": str(wrapper)})
+    log = place / "log"
+    status, out, _ = dossier("verify", "--answers", *days_of(own),
+                             env=stand_in(place / "program", f'echo "$@" >> "{log}"'))
     calls = [line.split()[0] + " --sums" * ("--sums" in line) + " --drift" * ("--drift" in line)
              for line in log.read_text().splitlines()]
     check("days by their answers", status=(status, 1),

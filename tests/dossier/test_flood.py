@@ -1,9 +1,8 @@
 """A test of the recorder: a flood of answers that nobody asked for, from a server's address, while a client asks four
 servers each second. What is left of a minute, and what `now` and `audit` say of it. All is in two networks of its own.
 
-usage, for a minute: unshare -n python3 tests/dossier/test_flood.py [--rate N] [--seconds N] FOLDER
+usage, for a minute: unshare -n python3 tests/dossier/test_flood.py FOLDER 60
 """
-import argparse
 import json
 import os
 import select
@@ -20,21 +19,21 @@ if __name__ == "__main__":
     sys.path[0] = str(ROOT)
 
 from tests.support import SECONDS, check, children, is_here, run, skip  # noqa: E402
-from tests.dossier.audits import ENVIRONMENT, SCRIPT  # noqa: E402
+from tests.dossier.audits import ENVIRONMENT, SCRIPT, civil  # noqa: E402
 from tests.dossier.test_recording import Rig  # noqa: E402
 
 CLIENT, PORT, SERVERS = "10.9.0.1", 40_123, [f"10.9.1.{k}" for k in (1, 2, 3, 4)]
 SOURCE = ROOT / "tests" / "tools" / "flood.c"
 EPOCH = 2_208_988_800
-CALM = 4
-"""Seconds in which the client asks before the flood, and after it."""
+CALM, RATE = 4, 100_000
+"""Seconds in which the client asks before the flood, and after it; and packets a second of the flood."""
 
 
 def called(*words: object) -> None:
     subprocess.run(list(map(str, words)), check=True)
 
 
-def outside(tool: str, mac: str, rate: str, seconds: str) -> None:
+def outside(tool: str, mac: str, seconds: str) -> None:
     """Once a line comes, servers that answer; and at the next one the flood."""
     print("here", flush=True)
     sys.stdin.readline()
@@ -51,7 +50,7 @@ def outside(tool: str, mac: str, rate: str, seconds: str) -> None:
         if sys.stdin in ready:
             if not sys.stdin.readline():
                 break
-            flood = subprocess.Popen([tool, "d1", mac, SERVERS[0], CLIENT, rate, seconds])
+            flood = subprocess.Popen([tool, "d1", mac, SERVERS[0], CLIENT, str(RATE), seconds])
         for one in (one for one in own if one in ready):
             data, asker = one.recvfrom(2048)
             stamp = (time.time_ns() + EPOCH * 10**9) * 2**32 // 10**9
@@ -67,11 +66,11 @@ def ticks_of(process: int) -> float:
     return (int(words[11]) + int(words[12])) / os.sysconf("SC_CLK_TCK")
 
 
-def flooded(place: Path, rate: int, seconds: int) -> dict[str, Any]:
+def flooded(place: Path, seconds: int) -> dict[str, Any]:
     """What was sent and left."""
     called("cc", "-O2", "-o", place / "flood", SOURCE)
     called("ip", "link", "add", "d0", "address", "02:00:00:00:00:02", "type", "veth", "peer", "name", "d1")
-    words = [place / "flood", "02:00:00:00:00:02", rate, seconds]
+    words = [place / "flood", "02:00:00:00:00:02", seconds]
     other = subprocess.Popen(["unshare", "-n", sys.executable, "-B", __file__, "outside", *map(str, words)],
                              stdin=subprocess.PIPE, stdout=subprocess.PIPE, text=True)
     assert other.stdin and other.stdout and other.stdout.readline() == "here\n"
@@ -80,7 +79,7 @@ def flooded(place: Path, rate: int, seconds: int) -> dict[str, Any]:
     called("ip", "link", "set", "d0", "up")
     print(file=other.stdin, flush=True)
     assert other.stdout.readline() == "ready\n"
-    begin, day = int(time.time()), time.strftime("%Y-%m-%dT%H:%M:%SZ", time.gmtime())
+    begin, day = int(time.time()), civil(int(time.time()))
     claim: dict[str, Any] = {"client": CLIENT, "servers": SERVERS, "false_max": 1, "from": day, "to": day,
                              "bound_ns": 50_000_000, "drift_ppb": 100_000, "reading_ns": 0}
     (place / "claim.json").write_text(json.dumps(claim))
@@ -116,10 +115,6 @@ def flooded(place: Path, rate: int, seconds: int) -> dict[str, Any]:
             "said": rig.said().splitlines()[1:], "now": said[0], "audit": said[1]}
 
 
-def civil(second: int) -> str:
-    return time.strftime("%Y-%m-%dT%H:%M:%SZ", time.gmtime(second))
-
-
 def test_flood(place: Path) -> None:
     """A short one: no more than 1 MB and the client's own packets are kept, and the verdict is a yes."""
     if os.geteuid() or run(["unshare", "-n", "true"])[0]:
@@ -127,7 +122,7 @@ def test_flood(place: Path) -> None:
         return
     if not all([is_here(tool, "a flood") for tool in ("tcpdump", "ip", "cc")]):
         return
-    status, out, err = run(["unshare", "-n", sys.executable, "-B", __file__, "--seconds", 2, place])
+    status, out, err = run(["unshare", "-n", sys.executable, "-B", __file__, place, 2])
     found = json.loads(out or b"{}")
     if not found:
         check("a flood", run=((status, err), (0, b"")))
@@ -140,18 +135,8 @@ def test_flood(place: Path) -> None:
           verdicts=(("  yes  " in found["now"], found["audit"].split()[0]), (True, "yes")))
 
 
-def main() -> int:
-    if sys.argv[1:2] == ["outside"]:
-        outside(*sys.argv[2:])
-        return 0
-    parser = argparse.ArgumentParser()
-    parser.add_argument("--rate", type=int, default=100_000)
-    parser.add_argument("--seconds", type=int, default=60)
-    parser.add_argument("folder", type=Path)
-    given = parser.parse_args()
-    print(json.dumps(flooded(given.folder, given.rate, given.seconds), indent=1))
-    return 0
-
-
 if __name__ == "__main__":
-    sys.exit(main())
+    if sys.argv[1] == "outside":
+        outside(*sys.argv[2:])
+    else:
+        print(json.dumps(flooded(Path(sys.argv[1]), int(sys.argv[2])), indent=1))

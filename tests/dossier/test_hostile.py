@@ -24,8 +24,9 @@ from typing import Any
 from unittest.mock import patch
 
 from tests.support import DATA, SECONDS, check, children, run, runnable, wait_until, wanting
-from tests.dossier.audits import (ENVIRONMENT, KEEP, PROGRAM, SCRIPT, SEARCH, audited, called, check_page, dossier,
-                                  folder_of, parts_left, record_of, rows, skipped, table, within)
+from tests.dossier.audits import (ENVIRONMENT, KEEP, PROGRAM, SCRIPT, SEARCH, audited, auditing, called, check_page,
+                                  dossier, folder_of, parts_left, record_of, rows, skipped, stand_in, table,
+                                  with_change, within)
 
 limited = functools.partial(dossier, memory=3 << 30)
 """A call with a limit of memory, so that one that takes all of it fails by itself."""
@@ -404,9 +405,9 @@ def test_at_once(place: Path) -> None:
     fcntl.flock(held, fcntl.LOCK_EX)
     check("an audit of a folder that somebody holds", status=(dossier("audit", "--again", folder)[0], 0))
     os.close(held)
-    signs, signature = place / "signs", folder / "audit.json.sig"
-    runnable(signs, f'#!/bin/sh\n[ "$1" != envelope ] || : > "{signature}"\nexec "{PROGRAM}" "$@"\n')
-    status, _, _ = dossier("audit", "--state", state, folder, env={**ENVIRONMENT, "NTPAUDIT": str(signs)})
+    signature = folder / "audit.json.sig"
+    signs = stand_in(place / "signs", f'[ "$1" != envelope ] || : > "{signature}"')
+    status, _, _ = dossier("audit", "--state", state, folder, env=signs)
     check("an audit of what is signed meanwhile", status=(status, 2), left=(signature.exists(), True))
 
 
@@ -476,10 +477,8 @@ def test_programs(place: Path) -> None:
           line=(f"not done within {limit} s (--limit)" in out.decode(), True),
           left=(list(filter(is_running, sleeping.read_text().split())), []))
     said = place / "environment"
-    keeps = place / "keeps"
-    runnable(keeps, f'#!/bin/sh\nenv > "{said}"\nexec "{PROGRAM}" "$@"\n')
-    dossier("audit", "--again", single,
-            env={**ENVIRONMENT, "NTPAUDIT": str(keeps), "SECRET": "secret", "PATH": f".:{os.environ['PATH']}"})
+    keeps = stand_in(place / "keeps", f'env > "{said}"')
+    dossier("audit", "--again", single, env={**keeps, "SECRET": "secret", "PATH": f".:{os.environ['PATH']}"})
     names = {line.split("=")[0] for line in said.read_text().splitlines()}
     check("the environment of programs", names=(names - {"PATH", "LC_ALL", "TZ", "PWD", "OLDPWD", "SHLVL", "_"}, set()),
           path=("PATH=." in said.read_text(), False))
@@ -571,38 +570,6 @@ def is_number_of(own: object, path: tuple[Any, ...], kind: str) -> bool:
                                                  "tick", "reading", 0)
     may_be_left_out = bool(path) and path[-1] in ("least_ns", "reason", "refutation", "step")
     return (kind == "null" and may_be_left_out) or (kind == "a fraction" and path == ("seconds",))
-
-
-def test_hostile_records(place: Path) -> None:
-    """Folders with such fields beside a good one: by every subcommand, on a page, and on a terminal."""
-    good = folder_of(place, "good")
-    (good / "evidence.json").write_text(json.dumps({"drift": "<u>Ann's</u> \x1b[31m $(touch owned)"}))
-    dossier("audit", good)
-    whole = record_of(good)
-    folders = []
-    paths = {"false_max": ("entries", 0, "claim", "false_max"), "step": ("entries", 0, "envelope_step"),
-             "verdict": ("entries", 0, "verdict"), "version": ("program", "version"), "seconds": ("seconds",),
-             "samples": ("entries", 0, "counts", "samples"), "part": ("entries", 0, "part"), "all": ()}
-    for name, path in paths.items():
-        for kind in ("HTML", "a shell's words", "an escape", "nesting", "NaN", "10^400", "a surrogate"):
-            folder = place / f"{name}, {kind}"
-            shutil.copytree(good, folder)
-            (folder / "audit.json").write_text(with_value(whole, path, HOSTILE[kind]))
-            folders.append(folder)
-    status, out, err = limited("page", *folders, good)
-    page = check_page("a page of hostile fields", out.decode(), scripts=[SEARCH])
-    check("hostile fields on a page", status=(status, 2), error=(err, b""), tags=(page.tags & {"img", "u"}, set()),
-          badges=(out.count(b'class="verdict yes"'), 3), step=(b"--step 1; touch" in out, False),
-          said=("<u>Ann's</u> \\x1b[31m" in "".join(page.words), True))
-    for command in ("verify", "sign"):
-        status, out, err = limited(command, *(("--key", "any") if command == "sign" else ()), *folders)
-        lines = out.decode().splitlines()
-        check(f"hostile fields by {command}", error=(err, b""), lines=(len(lines) >= len(folders), True),
-              good=([line for line in lines if line.endswith((": verified: yes", ": signed"))], []),
-              escape=(b"\x1b" in out, False))
-    status, out, err = limited("audit", "--jobs", "2", *folders, good)
-    check("hostile fields, audited", status=(status, 0), error=(err, b""),
-          last=(out.splitlines()[-1], f"{len(folders) + 1} yes".encode()), owned=(list(place.rglob("owned")), []))
 
 
 def test_hostile_inputs(place: Path) -> None:
@@ -728,16 +695,10 @@ def test_second_look(place: Path) -> None:
 
 def test_own_faults(place: Path) -> None:
     """What goes wrong within one folder is that folder's alone, and never has the status of a no."""
-    from dossier.fleet import audit
     from dossier.verdict import making
     from dossier.folder import jobs
-    from dossier.folder.entry import LeapList, Made, Options
-    from dossier.folder.registry import Known
-    from dossier.folder.program import Program
     from dossier.folder.result import Audited
     folders = [str(folder_of(place, name)) for name in ("one", "two")]
-    wanted = audit.AuditCall(Options(), False, LeapList("none", good_until=4_000_000_000),
-                             Known(str(place / "state"), True), Program(PROGRAM, Made("ntpaudit", "0" * 64)))
     make = making.make
 
     def crash() -> None:
@@ -756,17 +717,15 @@ def test_own_faults(place: Path) -> None:
         first_sum = sums_of(Path(folders[0]), "f.pcap")["f.pcap"]
         with patch.object(making, "make", failing):
             for limit in (3, 15, 75) if "--limit" in line else (SECONDS,):
-                found = dict(jobs.run_all(folders, lambda path, number: audit.audit(wanted, path, number),
-                                          Audited, limit, 2))
+                found = dict(jobs.run_all(folders, auditing(place), Audited, limit, 2))
                 if found[folders[1]].status == 0:
                     break
         one, other = (found[folder] for folder in folders)
         lines = one.lines if isinstance(one, Audited) else [one.line]
         check(f"a folder with {line}", line=(line.format(limit) in lines[0], True),
               statuses=((one.status, other.status), (status, 0)))
-    script = (f'import sys; sys.path.insert(0, {str(Path(SCRIPT).parent)!r}); from dossier import command_line as c; '
-              'c.run = lambda given: 1 / 0; sys.exit(c.main(["page", "x"]))')
-    check("an error of one's own", status=(run(["python3", "-c", script], env=ENVIRONMENT)[0], 70))
+    wrong = "from dossier import command_line; command_line.run = lambda given: 1 / 0"
+    check("an error of one's own", status=(with_change(wrong, "page", "x")[0], 70))
 
 
 REFUSED = ["f.pcap is a FIFO", "f.pcap is too big: it has more than 1 bytes",

@@ -7,74 +7,32 @@ import os
 import shutil
 import time
 from pathlib import Path
-from typing import Any
 
-from tests.support import DATA, ROOT, SECONDS, Ran, check, is_here, run, wanting
-from tests.dossier.audits import ENVIRONMENT, KEEP, SCRIPT, audited, dossier, folder_of, rows, skipped
+from tests.support import DATA, SECONDS, check, is_here, run, wanting
+from tests.dossier.audits import ENVIRONMENT, KEEP, SCRIPT, audited, dossier, folder_of, rows, skipped, with_change
 from tests.dossier.test_captures import records_of
-from tests.dossier.test_daily import DAY, hours_of, recorded
+from tests.dossier.test_daily import DAY
 
 CLIENT = DATA / "client/chrony.conf"
 
 
-def at(clock: float, *words: object, **how: object) -> Ran:
-    """A call by a clock that shows another time."""
-    script = (f"import sys, time; sys.path.insert(0, {str(ROOT)!r}); time.time = lambda: {clock}; "
-              "from dossier.command_line import main; sys.exit(main(sys.argv[1:]))")
-    return run(["python3", "-S", "-c", script, *words], **{**dict[str, Any](env=ENVIRONMENT), **how})
-
-
-def listed(folder: Path) -> list[str]:
-    return sorted(path.name for path in folder.iterdir() if path.name[:2] in ("20", "21"))
-
-
-def test_clock_of_2058(place: Path) -> None:
-    """A clock that is set to 2058 for a night: no day of then is made, none is lost, and the real ones go on."""
-    today = int(time.time()) // DAY * DAY
-    night = 2_777_000_000 // DAY * DAY
-    recorder, days, _ = recorded(place, range(-12 * 24, 0, 8), today)
-    claim = {**json.loads((days / "claim.json").read_text()), "bound_ns": 900_000_000}
-    (days / "claim.json").write_text(json.dumps(claim))
-    words = ("--from", recorder, "--to", days)
-    dossier("day", *words)
-    made = listed(days)
-    check("days of today", count=(len(made) in (11, 12), True))
-    own = [days / name for name in made]
-    state = ("--state", place / "state")
-    dossier("audit", *state, *own)
-    dossier("keep", *state, "--years", "5", *own)
-    for name, hours in (("without a recording", ()), ("with recordings of it", range(-40, 40, 8))):
-        hours_of(recorder, hours, night)
-        status, out, err = at(night + DAY // 2, "day", *words)
-        check(f"day in 2058, {name}", run=((status, out), (5, b"")), made=(listed(days), made),
-              said=(b"is the clock right?" in err, True))
-        at(night + DAY // 2, "keep", *state, "--years", "5", *own)
-        check(f"keep in 2058, {name}", left=(listed(days), made))
-    at(night + DAY // 2, "day", *words, "--date", "2057-12-31")
-    status, out, err = dossier("day", *words)
-    check("day afterwards", status=(status, 0), last=(out.decode().splitlines()[-1], str(own[-1])),
-          others=(b"2057" in out, False), said=(err.count(b"is from the future"), 8),
-          more=(b"3 more are from the future: is the clock right?" in err, True))
-    shutil.rmtree(days / "2057-12-31")
-    later = folder_of(days, "2057-12-31", **{"from": "2057-12-31T00:00:00Z", "to": "2058-01-01T00:00:00Z"})
-    dossier("audit", *state, later)
-    status, out, _ = dossier("keep", *state, "--years", "5", later, *own)
-    check("keep afterwards", left=(listed(days), [*made, later.name]),
-          said=(f"{later}: ntpaudit-dossier: its span is in the future" in out.decode(), True))
-
-
 def test_at_most(place: Path) -> None:
-    """One call takes away a tenth at most, and of each machine no more than days have passed."""
+    """One call takes away a tenth at most, and of each machine no more than days have passed. A span in the future is
+    kept, and no other counts as older for its sake."""
     state, now = ("--state", place / "state"), time.time()
     claim = json.loads((DATA / "clients-us.claim.json").read_text())
     spans = [{end: claim[end].replace("2026", year) for end in ("from", "to")} for year in ("2026", "2016")]
     folders = [folder_of(place / machine, f"{number:02}", **spans[number > 1])
                for machine in ("web-1", "web-2") for number in range(15)]
-    dossier("audit", *state, *folders)
+    later = folder_of(place, "later", **{"from": "2057-12-31T00:00:00Z", "to": "2058-01-01T00:00:00Z"})
+    dossier("audit", *state, *folders, later)
     for days, left in ((0, 27), (1, 25), (3, 23), (40, 23), (-1, 23)):
-        at(now + days * DAY, "keep", *state, "--years", "5", *(folder for folder in folders if folder.exists()))
-        check(f"folders that are left after {days} days", left=(sum(folder.exists() for folder in folders), left))
-    dossier("keep", *state, "--force", "--years", "5", *(folder for folder in folders if folder.exists()))
+        there = [folder for folder in folders if folder.exists()]
+        out = with_change(f"import time; time.time = lambda: {now + days * DAY}", "keep", *state, "--years", "5", later,
+                          *there)[1].decode()
+        check(f"folders that are left after {days} days", left=(sum(folder.exists() for folder in folders), left),
+              said=(f"{later}: ntpaudit-dossier: its span is in the future" in out, days >= 0))  # (else its audit is)
+    dossier("keep", *state, "--force", "--years", "5", later, *(folder for folder in folders if folder.exists()))
     check("folders that are left by --force", left=([folder.name for folder in folders if folder.exists()],
                                                     ["00", "01"] * 2))
 

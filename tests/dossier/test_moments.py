@@ -1,4 +1,5 @@
-"""Tests of what the last minutes of a recording say: `ntpaudit-dossier now`.
+"""Tests of what the last minutes of a recording say: `ntpaudit-dossier now`. What it says of clocks and servers is held
+to histories too (tests/truth/minutes.py).
 
 The captures have times of today, since now is the machine's.
 """
@@ -8,14 +9,14 @@ import re
 import signal
 import struct
 import subprocess
-import sys
 import time
-from collections.abc import Sequence
+from collections.abc import Iterable
 from contextlib import chdir
 from pathlib import Path
+from typing import Any
 
-from tests.support import ROOT, SECONDS, check, run, runnable
-from tests.dossier.audits import CAPTURE, ENVIRONMENT, SCRIPT, capture_of, dossier
+from tests.support import SECONDS, check
+from tests.dossier.audits import CAPTURE, ENVIRONMENT, SCRIPT, capture_of, civil, dossier, stand_in, with_change
 from tests.dossier.test_captures import records_of
 from tests.dossier.test_daily import metrics_of
 
@@ -25,38 +26,44 @@ CLAIM = {"client": "192.0.2.10", "servers": [f"192.0.2.{k}" for k in (1, 2, 3, 4
 RIGHT, AHEAD = "-1000..1000", "85899346..85903640"
 """Ends in ticks: under a microsecond, and 20.000 to 20.001 ms."""
 
-
-def words_of(parts: Sequence[tuple[int, int, str]], servers: Sequence[int]) -> list[str]:
-    """Exchanges with servers each ten seconds, as parts of seconds with their ends say."""
-    return [f"{server}:{ends}@{second}" for begin, end, ends in parts for second in range(begin, end, 10)
-            for server in servers]
+Part = tuple[Any, ...]
+"""From which second until which there are exchanges each ten seconds, their ends, and their servers if not all."""
 
 
-def by_time(*words: list[str]) -> list[str]:
-    return sorted([word for each in words for word in each], key=lambda word: int(word.partition("@")[2]))
+def words_of(*parts: Part) -> list[str]:
+    """The exchanges of some parts, in order of time."""
+    every = [(second, server, ends) for begin, end, ends, *own in parts for second in range(begin, end, 10)
+             for server in (own[0] if own else (1, 2, 3, 4))]
+    return [f"{server}:{ends}@{second}" for second, server, ends in sorted(every, key=lambda one: one[0])]
 
 
-def civil(second: int) -> str:
-    return time.strftime("%Y-%m-%dT%H:%M:%SZ", time.gmtime(second))
+def lately() -> int:
+    """A second of a few seconds ago, which ends in a zero."""
+    return (int(time.time()) - 5) // 10 * 10
 
 
 def name_of(second: int, interface: str) -> str:
     return f"{interface}-{civil(second).replace(':', '')}.pcap"
 
 
-def recorded(place: Path, begin: int, *parts: tuple[int, int, str], interface: str = "eth0",
-             servers: Sequence[int] = (1, 2, 3, 4)) -> Path:
+def recorded(place: Path, begin: int, *parts: Part, interface: str = "eth0") -> Path:
+    return kept(place, begin, CAPTURE(words_of(*parts)), interface)
+
+
+def kept(place: Path, begin: int, data: bytes, interface: str = "eth0") -> Path:
+    """A recorder's file, with the time at which it was written last: that of its last record."""
     place.mkdir(exist_ok=True)
-    path = capture_of(place / name_of(begin, interface), *words_of(parts, servers))
-    return written(path)
-
-
-def written(path: Path) -> Path:
-    """Has a file the time at which a recorder wrote it last: that of its last record."""
-    *_, last = records_of(path.read_bytes())
+    path = place / name_of(begin, interface)
+    path.write_bytes(data)
+    *_, last = records_of(data)
     at = int.from_bytes(last[:4], "little")
     os.utime(path, (at, at))
     return path
+
+
+def requests_of(words: list[str]) -> bytes:
+    """The records of exchanges that nobody answers."""
+    return b"".join(record for record in records_of(CAPTURE(words)) if record[58] & 7 == 3)  # (a request's mode)
 
 
 def claim_in(place: Path, **changes: object) -> Path:
@@ -65,16 +72,35 @@ def claim_in(place: Path, **changes: object) -> Path:
     return path
 
 
+def word_of_recorder(place: Path, at: float, last: float, files: Iterable[Path], number: int = 9) -> None:
+    """Leaves what a recorder says of itself: by the time since the boot when it said so, and when it kept a record
+    last; which files it began; and how many records it kept."""
+    (place / "eth0.recording").write_text(json.dumps({
+        "kind": "recording", "at": int(at), "last": int(last), "files": [file.name for file in files], "kept": number,
+        "left_out": 0, "lost": 0}))
+
+
+def since_boot() -> float:
+    return time.clock_gettime(time.CLOCK_BOOTTIME)
+
+
 def now(place: Path, *words: object, claim: Path | None = None) -> tuple[int | str, list[str], str]:
     status, out, err = dossier("now", "--from", place, "--claim", claim or claim_in(place.parent), *words)
     return status, out.decode().splitlines(), err.decode()
 
 
+def looked(place: Path, *words: object, claim: Path | None = None) -> tuple[int | str, list[str], dict[str, str]]:
+    """The status, the words of the first line, and its recorder's metrics, each by its name and what it is of."""
+    status, lines, _ = now(place, "--metrics", place.parent / "m.prom", *words, claim=claim)
+    found = {" ".join([name.removeprefix("now_"), *(value for label, value in labels if label != "recorder")]): value
+             for (name, *labels), value in metrics_of(place.parent / "m.prom").items()}
+    return status, lines[0].split("  "), found
+
+
 def test_now(place: Path) -> None:
     """The line, by hand: the span, the verdict, the hull, the error now, the bound and the groups; and of a step the
     records between which it was, and what holds since."""
-    last = int(time.time()) - 5
-    last -= last % 10
+    last = lately()
     begin, moved = last - 1500, last - 300
     right, ahead = "-0.001 .. +0.001 ms", "+20.000 .. +20.001 ms"
     off = f"{ahead} of 5.000 ms  now {ahead}  least 20.001 ms  4 of 4 groups  the clock is off"
@@ -103,284 +129,220 @@ def test_now(place: Path) -> None:
         check(f"the step: {name}", between=(after <= civil(moved) and civil(moved) <= by <= civil(moved + 30), True),
               since=(first, by), size=(low <= size <= high <= low + 0.1, True))
     recorded(place / "twice", begin, (begin, moved - 100, RIGHT), (moved - 100, moved, AHEAD), (moved, last + 1, RIGHT))
-    line = now(place / "twice", "--metrics", place / "m.prom")[1][0]
-    moves = {key.removeprefix("now_last_step_"): float(value)
-             for (key, *_), value in metrics_of(place / "m.prom").items() if "_step_" in key}
-    check("two steps", said=(line.count("stepped"), 2), at=(moved <= moves["timestamp_seconds"] <= moved + 30, True),
-          size=([-0.0201 < moves[f"{end}_seconds"] < -0.0199 for end in ("low", "high")], [True] * 2))
-    old = place / "old"
-    recorded(old, begin - 3600, (begin - 3600, begin - 900, RIGHT))
-    status, lines, _ = now(old)
-    check("a recorder that is silent", status=(status, 1), told=(f"nothing was recorded since {civil(begin - 910)}"
-                                                                 in lines[0] and "no evidence" in lines[0], True))
+    _, line, figures = looked(place / "twice")
+    low, high, at = (float(figures[f"last_step_{name}_seconds"]) for name in ("low", "high", "timestamp"))
+    check("two steps", said=("  ".join(line).count("stepped"), 2), at=(moved <= at <= moved + 30, True),
+          size=(-0.0201 < low <= high < -0.0199, True))
+
+
+def test_nothing(place: Path) -> None:
+    """A recorder that is silent, none, and no claim. A recorder that has left nothing for two polls, but for 60 s at
+    least, isn't yes."""
+    last = int(time.time()) // 10 * 10
+    for name, age, verdict in (("50 s", 50, "yes"), ("70 s", 70, "no evidence")):
+        recorded(place / name, last - 900, (last - 900, last - age + 1, RIGHT))
+        check(f"nothing for {name}", verdict=(looked(place / name)[1][2], verdict))
+    recorded(place / "old", last - 5100, (last - 5100, last - 2399, RIGHT))
+    status, words, _ = looked(place / "old")
+    check("a recorder that is silent", status=(status, 1), verdict=(words[2], "no evidence"),
+          told=(f"nothing was recorded since {civil(last - 2400)}" in words[3], True))
     (place / "none").mkdir()
-    status, lines, _ = now(place / "none")
-    check("no recorder", run=(status, 1), told=("nothing was recorded" in lines[0], True))
-    status, _, err = now(place / "right", claim=place / "missing")
+    status, words, _ = looked(place / "none")
+    check("no recorder", run=(status, 1), told=("nothing was recorded" in "  ".join(words), True))
+    status, _, err = now(place / "50 s", claim=place / "missing")
     check("no claim", run=((status, err.count("\n")), (4, 1)))
 
 
-def test_silence(place: Path) -> None:
-    """A recorder that has left nothing for two polls, but for 60 s at least, isn't yes; a server that is silent, and
-    one that is off, are named."""
-    last = int(time.time())
-    last -= last % 10
-    for name, age, verdict in (("50 s", 50, "yes"), ("70 s", 70, "no evidence")):
-        recorded(place / name, last - 900, (last - 900, last - age + 1, RIGHT))
-        check(f"nothing for {name}", verdict=(now(place / name)[1][0].split("  ")[2], verdict))
+def test_servers(place: Path) -> None:
+    """A server that is silent, and one that is off, are named; and two camps."""
+    last = int(time.time()) // 10 * 10
     begin = last - 900
-    whole = capture_of(place / name_of(begin, "eth0"), *by_time(
-        words_of([(begin, last + 1, RIGHT)], (1, 2)), words_of([(begin, last - 100, RIGHT)], (3,)),
-        words_of([(begin, last + 1, AHEAD)], (4,))))
-    (place / "servers").mkdir()
-    written(whole).rename(place / "servers" / whole.name)
-    metrics = place / "m.prom"
-    status, lines, _ = now(place / "servers", "--metrics", metrics)
-    found = {(key, dict(labels).get("server", "")): value for (key, *labels), value in metrics_of(metrics).items()}
+    recorded(place / "servers", begin, (begin, last + 1, RIGHT, (1, 2)), (begin, last - 100, RIGHT, (3,)),
+             (begin, last + 1, AHEAD, (4,)))
+    status, words, found = looked(place / "servers")
+    off = [float(found[f"server_error_{end}_seconds 192.0.2.4"]) for end in ("low", "high")]
     check("servers that are off and silent", status=(status, 0),
-          said=([words for words in lines[0].split("  ") if "off" in words or "silent" in words or "group" in words],
+          said=([word for word in words if "off" in word or "silent" in word or "group" in word],
                 ["3 of 4 groups", "192.0.2.4 is off by -20.002 .. -19.999 ms", "silent: 192.0.2.3"]),
-          silent=([found["now_server_silent", f"192.0.2.{k}"] for k in (1, 2, 3, 4)], ["0", "0", "1", "0"]),
-          apart=([found.get(("now_server_apart", f"192.0.2.{k}")) for k in (1, 2, 3, 4)], ["0", "0", "0", "1"]),
-          needed=((found["now_groups_heard", ""], found["now_groups_needed", ""]), ("3", "3")),
-          off=(-0.0201 < float(found["now_server_error_low_seconds", "192.0.2.4"]) < -0.02 < float(
-              found["now_server_error_high_seconds", "192.0.2.4"]) < -0.0199, True))
+          silent=([found[f"server_silent 192.0.2.{k}"] for k in (1, 2, 3, 4)], ["0", "0", "1", "0"]),
+          apart=([found.get(f"server_apart 192.0.2.{k}") for k in (1, 2, 3, 4)], ["0", "0", "0", "1"]),
+          needed=((found["groups_heard"], found["groups_needed"]), ("3", "3")),
+          off=(-0.0201 < off[0] < -0.02 < off[1] < -0.0199, True))
     groups = claim_in(place / "servers", groups=[[0, 2], [1], [3]])
-    check("a group of which one is silent", said=("  3 of 3 groups  " in now(place / "servers", claim=groups)[1][0],
-                                                  True))
-    recorded(place / "camps", begin, (begin, last + 1, RIGHT), servers=(1, 2))
-    path = place / "camps" / name_of(begin, "eth0")
-    capture_of(path, *by_time(words_of([(begin, last + 1, RIGHT)], (1, 2)),
-                              words_of([(begin, last + 1, AHEAD)], (3, 4))))
-    status, lines, _ = now(place / "camps", "--metrics", metrics)
-    found = {(key, dict(labels).get("server", "")): value for (key, *labels), value in metrics_of(metrics).items()}
-    check("two camps", status=(status, 1), said=(
-        "servers contradict one another: 192.0.2.1, 192.0.2.2 and 192.0.2.3, 192.0.2.4" in lines[0], True),
-        unseen=((found["now_seen", ""], ("now_clock_off", "") in found), ("0", False)))
+    check("a group of which one is silent", said=("3 of 3 groups" in looked(place / "servers", claim=groups)[1], True))
+    recorded(place / "camps", begin, (begin, last + 1, RIGHT, (1, 2)), (begin, last + 1, AHEAD, (3, 4)))
+    status, words, found = looked(place / "camps")
+    check("two camps", status=(status, 1), seen=((found["seen"], "clock_off" in found), ("0", False)), said=(
+        "servers contradict one another: 192.0.2.1, 192.0.2.2 and 192.0.2.3, 192.0.2.4" in "  ".join(words), True))
 
 
 def test_word_of_a_recorder(place: Path) -> None:
     """What stands beside the files as a recorder's word makes no old minutes a yes: it may be a stranger's, or be left
-    by a crash or on a copied disk, or its recorder has no room."""
-    last, metrics = int(time.time()) - 5, place / "m.prom"
-    last -= last % 10
+    by a crash or on a copied disk, or its recorder has no room. Nor does one of before a boot, and none since."""
+    last = lately()
     for name, age, wanted in (("alone", 0, 0), ("before others", 0, 0), ("of a dead one", 100, 3600)):
-        folder, at = place / name, int(time.clock_gettime(time.CLOCK_BOOTTIME)) - age
+        folder, at = place / name, since_boot() - age
         old = recorded(folder, last - 4500, (last - 4500, last - 3599, RIGHT))
         if name == "before others":
             recorded(folder, last - 900, (last - 900, last + 1, AHEAD))
-        (folder / "eth0.recording").write_text(json.dumps({
-            "kind": "recording", "at": at, "last": at, "files": [old.name], "kept": 9, "left_out": 0, "lost": 0}))
-        status, lines, _ = now(folder, "--metrics", metrics)
-        found = {key: value for (key, *_), value in metrics_of(metrics).items()}
-        dead = [value for (key, *labels), value in metrics_of(metrics).items() if ("trouble", "dead") in labels]
-        words = f"since {civil(last - 3600)}, 6[01][.][0-9] min ago" + (
+        word_of_recorder(folder, at, at, [old])
+        status, words, found = looked(folder)
+        said = f"since {civil(last - 3600)}, 6[01][.][0-9] min ago" + (
             "" if age else ", by the recorder's word [0-9].0 s")
-        check(f"a recorder's word: {name}", status=(status, 1), verdict=(lines[0].split("  ")[2], "no evidence"),
-              said=(bool(re.search(f"{words}  ", f"{lines[0]}  ")), True),
-              age=(0 <= float(found["now_last_record_age_seconds"]) - wanted <= 60, True),
-              trouble=(("the recorder doesn't run" in lines[0], dead), (bool(age), [str(int(bool(age)))])))
+        check(f"a recorder's word: {name}", status=(status, 1), verdict=(words[2], "no evidence"),
+              said=(bool(re.search(f"{said}  ", f"{'  '.join(words)}  ")), True),
+              age=(0 <= float(found["last_record_age_seconds"]) - wanted <= 60, True),
+              trouble=(("the recorder doesn't run" in "  ".join(words), found.get("recorder_trouble dead")),
+                       (bool(age), str(int(bool(age))))))
+    path = recorded(place / "boot", last - 900, (last - 900, last + 1, RIGHT))
+    for ahead in (1000, -100):
+        word_of_recorder(place / "boot", since_boot() + ahead, since_boot() + ahead, [path], 99)
+        status, words, _ = looked(place / "boot")
+        check(f"a word of a recorder that doesn't run: {ahead}", status=(status, 1), verdict=(words[2], "no evidence"))
 
 
 def test_unanswered(place: Path) -> None:
     """Servers answer no more and the client asks on, whether its clock is stepped or not: what was shown until then is
-    no yes of now. By a step back they were heard a moment ago by the clock, but not by what was recorded since."""
-    last, metrics = int(time.time()), place / "m.prom"
-    last -= last % 10
-    for name, step in (("no step", 0), ("a second", 1), ("a year", 31_536_000), ("back", -380)):
-        heard, folder = last - 400 - step, place / name
-        folder.mkdir()
-        answered, asked = (records_of(CAPTURE(words_of([part], (1, 2, 3, 4)))) for part in (
-            (heard - 500, heard + 1, RIGHT), (last - 390, last + 1, RIGHT)))
-        asked = [record for record in asked if record[58] & 7 == 3]  # (a request's mode)
-        path = folder / name_of(heard - 500, "eth0")
-        path.write_bytes(CAPTURE([]) + b"".join([*answered, *asked]))
-        status, lines, _ = now(written(path).parent, "--metrics", metrics)
-        found = {key: value for (key, *labels), value in metrics_of(metrics).items() if len(labels) == 1}
-        _, _, verdict, since, *rest = lines[0].split("  ")
-        check(f"unanswered: {name}", status=(status, 1), verdict=(verdict, "no evidence"), rest=(rest, [
-            "0 of 4 groups, 3 needed", "silent: 192.0.2.1, 192.0.2.2, 192.0.2.3, 192.0.2.4"]),
-            since=(since.partition(",")[0], f"too few groups were heard since {civil(heard)}"),
-            metrics=((found["now_seen"], "now_clock_off" in found, found["now_groups_heard"]), ("0", False, "0")))
+    no yes of now. By a step back they were heard a moment ago by the clock, but not by what was recorded since. Nor is
+    one that is set back by 40 s and shows the last minute again, until it has shown that."""
+    last = lately()
+    for name, step, begin in (("no step", 0, -390), ("a second", 1, -390), ("a year", 31_536_000, -390),
+                              ("back", -380, -390), ("again", -390, -40)):
+        heard = last - 400 - step
+        answered, asked = CAPTURE(words_of((heard - 500, heard + 1, RIGHT))), words_of((last + begin, last + 1, RIGHT))
+        kept(place / name, heard - 500, answered + requests_of(asked))
+        status, words, found = looked(place / name)
+        _, _, verdict, since, *rest = words
+        check(f"unanswered: {name}", status=(status, 1), verdict=(verdict, "no evidence"),
+              since=(since.partition(",")[0], f"too few groups were heard since {civil(heard)}"))
+        if name != "again":
+            check(f"who is silent: {name}", rest=(rest, [
+                "0 of 4 groups, 3 needed", "silent: 192.0.2.1, 192.0.2.2, 192.0.2.3, 192.0.2.4"]),
+                metrics=((found["seen"], "clock_off" in found, found["groups_heard"]), ("0", False, "0")))
 
 
 def test_unanswered_seldom(place: Path) -> None:
     """A client that asks each 64 s and isn't answered for seven minutes: each of these leaps is time that went by, also
     if the clock was set back then."""
     for back in (0, 400):
-        begin, folder = int(time.time()) - 5 - 45 * 64 + back, place / f"{back}"
-        folder.mkdir()
+        begin = int(time.time()) - 5 - 45 * 64 + back
         answered, asked = ([f"{server}:-1000..1000@{begin - less + 64 * k}" for k in own for server in (1, 2, 3, 4)]
                            for own, less in ((range(39), 0), (range(39, 46), back)))
-        requests = [record for record in records_of(CAPTURE(asked)) if record[58] & 7 == 3]
-        path = folder / name_of(begin, "eth0")
-        path.write_bytes(CAPTURE(answered) + b"".join(requests))
-        status, lines, _ = now(written(path).parent)
+        kept(place / f"{back}", begin, CAPTURE(answered) + requests_of(asked))
+        status, words, _ = looked(place / f"{back}")
         check(f"unanswered, asked seldom and set back by {back} s", status=(status, 1),
-              said=("  no evidence  too few groups were heard since" in lines[0], True),
-              heard=("  0 of 4 groups, 3 needed  silent: 192.0.2.1, " in lines[0], True))
-
-
-def test_shown_again(place: Path) -> None:
-    """Nobody answers, and the clock is set back by 40 s and shows the last minute again: until it has shown that, what
-    was said of it is no yes, though it is later than all records by now."""
-    heard = int(time.time()) - 15
-    heard -= heard % 10
-    answered, asked = (records_of(CAPTURE(words_of([part], (1, 2, 3, 4)))) for part in (
-        (heard - 500, heard + 1, RIGHT), (heard - 30, heard + 11, RIGHT)))
-    path = place / "rec" / name_of(heard - 500, "eth0")
-    path.parent.mkdir()
-    path.write_bytes(CAPTURE([]) + b"".join([*answered, *(record for record in asked if record[58] & 7 == 3)]))
-    status, lines, _ = now(written(path).parent)
-    check("minutes that are shown again", status=(status, 1), said=(
-        f"  no evidence  too few groups were heard since {civil(heard)}, " in lines[0], True))
+              said=((words[2], words[3][:31]), ("no evidence", "too few groups were heard since")),
+              heard=((words[4], words[5][:18]), ("0 of 4 groups, 3 needed", "silent: 192.0.2.1,")))
 
 
 def test_few_groups(place: Path) -> None:
     """Two of four servers are heard, however long: one may be wrong, and a step not be seen, so it is no yes; but where
     both say the same it is known how the clock is now."""
-    last, metrics = int(time.time()) - 5, place / "m.prom"
-    last -= last % 10
+    last = lately()
+    begin = last - 900
     for name, ends, is_off in (("right", RIGHT, 0), ("off", AHEAD, 1)):
-        recorded(place / name, last - 900, (last - 900, last + 1, ends), servers=(1, 4))
-        status, lines, _ = now(place / name, "--metrics", metrics)
-        found = {key: value for (key, *labels), value in metrics_of(metrics).items() if len(labels) == 1}
-        words = lines[0].split("  ")
+        recorded(place / name, begin, (begin, last + 1, ends, (1, 4)))
+        status, words, found = looked(place / name)
         check(f"two of four servers: {name}", status=(status, 1), verdict=(words[2], "no evidence"), said=(words[4:], [
             "now +20.000 .. +20.001 ms" if is_off else "now -0.001 .. +0.001 ms", "2 of 4 groups, 3 needed",
             *["the clock is off"] * is_off, "silent: 192.0.2.2, 192.0.2.3"]),
-            off=((found["now_seen"], found["now_clock_off"]), ("1", str(is_off))))
-    capture_of(place / "right" / name_of(last - 900, "eth0"), *by_time(
-        words_of([(last - 900, last + 1, RIGHT)], (1,)), words_of([(last - 900, last + 1, AHEAD)], (4,))))
-    now(place / "right", "--metrics", metrics)
-    found = {key: value for (key, *labels), value in metrics_of(metrics).items() if len(labels) == 1}
-    check("two of four, which contradict each other", off=(found.get("now_clock_off"), None))
+            off=((found["seen"], found["clock_off"]), ("1", str(is_off))))
+    recorded(place / "both", begin, (begin, last + 1, RIGHT, (1,)), (begin, last + 1, AHEAD, (4,)))
+    check("two of four, which contradict each other", off=("clock_off" in looked(place / "both")[2], False))
 
 
 def test_runs_away(place: Path) -> None:
     """A clock that moves faster than is granted, without an end: how far it is off is told by what was said last before
     the last second, unless more servers say otherwise than may be wrong."""
-    last, tick = int(time.time()) - 5, 1 << 32
-    last -= last % 10
+    last, tick = lately(), 1 << 32
     for name, moving in (("clock", (1, 2, 3, 4)), ("servers", (3, 4)), ("but one", (1, 2, 4))):
-        (place / name).mkdir()
-        words = [f"{server}:{far - 1000}..{far + 1000}@{second}" for second in range(last - 900, last + 1, 10)
-                 for server in (1, 2, 3, 4) for far in [(second - last + 800) * tick // 1000 * (server in moving)]]
-        written(capture_of(place / name / name_of(last - 900, "eth0"), *words))
-        status, lines, _ = now(place / name, "--metrics", place / "m.prom")
-        found = {key: value for (key, *labels), value in metrics_of(place / "m.prom").items() if len(labels) == 1}
+        kept(place / name, last - 900, CAPTURE([
+            f"{server}:{far - 1000}..{far + 1000}@{second}" for second in range(last - 900, last + 1, 10)
+            for server in (1, 2, 3, 4) for far in [(second - last + 800) * tick // 1000 * (server in moving)]]))
+        status, words, found = looked(place / name)
         is_told = len(moving) > 2
-        check(f"a clock that runs away: {name}", status=(status, 1), said=(lines[0].split("  ")[2:6], [
+        check(f"a clock that runs away: {name}", status=(status, 1), said=(words[2:6], [
             "nothing fits", *["now +789.999 .. +790.001 ms"] * is_told, "4 of 4 groups",
-            *["the clock is off"] * is_told]), off=(found.get("now_clock_off"), "1" if is_told else None))
+            *["the clock is off"] * is_told]), off=(found.get("clock_off"), "1" if is_told else None))
 
 
 def test_wide(place: Path) -> None:
     """An error that may be within the bound and far beyond it is none of which is told that it isn't off."""
-    last, metrics = int(time.time()) - 5, place / "m.prom"
+    last = lately()
     recorded(place / "rec", last - 900, (last - 900, last + 1, "-42949673..42949673"))
     for bound, off in ((9_000_000, None), (11_000_000, "0")):
-        now(place / "rec", "--metrics", metrics, claim=claim_in(place, bound_ns=bound))
-        found = {key: value for (key, *labels), value in metrics_of(metrics).items() if len(labels) == 1}
-        check(f"a wide hull of {bound}", off=(found.get("now_clock_off"), off), seen=(found["now_seen"], "1"))
+        found = looked(place / "rec", claim=claim_in(place, bound_ns=bound))[2]
+        check(f"a wide hull of {bound}", off=(found.get("clock_off"), off), seen=(found["seen"], "1"))
 
 
 def test_one_for_all(place: Path) -> None:
     """One server alone hides nothing of the others: neither by a time that leaps ahead, as if the clock was stepped and
-    no time went by, nor because it is asked seldom."""
-    last, tick = int(time.time()) - 5, 1 << 32
-    last -= last % 10
-    (place / "leaps").mkdir()
-    written(capture_of(place / "leaps" / name_of(last - 900, "eth0"), *by_time(
-        words_of([(last - 900, last + 1, RIGHT)], (1, 2)), words_of([(last - 900, last - 300, RIGHT)], (3,)),
-        [f"4:{k * 3600 * tick - 1000}..{k * 3600 * tick + 1000}@{last - 900 + 10 * k}" for k in range(91)])))
-    line = now(place / "leaps")[1][0]
-    check("a server that leaps", said=(line.split("  ")[-1], "silent: 192.0.2.3"),
-          heard=("  3 of 4 groups" in line, True))
-    (place / "seldom").mkdir()
-    written(capture_of(place / "seldom" / name_of(last - 900, "eth0"), *by_time(
-        words_of([(last - 900, last - 119, RIGHT)], (1, 2, 3)),
-        [f"4:{RIGHT}@{second}" for second in range(last - 720, last - 119, 300)])))
-    line = now(place / "seldom")[1][0]
-    check("a server that is asked seldom", said=(line.split("  ")[2:4], lambda said: said[0] == "no evidence" and
-                                                 said[1].startswith("nothing was recorded since ")))
-
-
-def test_end(place: Path) -> None:
-    """The minutes end where so many groups were heard since that a step would have been seen, and not with the last
-    record: what one server says since is no word about a step."""
-    last = int(time.time()) - 5
-    last -= last % 10
-    (place / "rec").mkdir()
-    written(capture_of(place / "rec" / name_of(last - 900, "eth0"), *by_time(
-        words_of([(last - 900, last - 39, RIGHT)], (2, 3, 4)), words_of([(last - 900, last + 1, RIGHT)], (1,)))))
-    words = now(place / "rec")[1][0].split("  ")
+    no time went by, nor because it is asked seldom. And what it alone says at the end is no word about a step."""
+    last, tick = lately(), 1 << 32
+    begin = last - 900
+    kept(place / "leaps", begin, CAPTURE(sorted([
+        *words_of((begin, last + 1, RIGHT, (1, 2)), (begin, last - 300, RIGHT, (3,))),
+        *(f"4:{k * 3600 * tick - 1000}..{k * 3600 * tick + 1000}@{begin + 10 * k}" for k in range(91))],
+        key=lambda word: int(word.partition("@")[2]))))
+    words = looked(place / "leaps")[1]
+    check("a server that leaps", said=((words[-1], "3 of 4 groups" in words), ("silent: 192.0.2.3", True)))
+    recorded(place / "seldom", begin, (begin, last - 119, RIGHT, (1, 2, 3)),
+             *((second, second + 1, RIGHT, (4,)) for second in range(last - 720, last - 119, 300)))
+    words = looked(place / "seldom")[1]
+    check("a server that is asked seldom", verdict=(words[2], "no evidence"),
+          said=(words[3].startswith("nothing was recorded since "), True))
+    recorded(place / "end", begin, (begin, last - 39, RIGHT, (2, 3, 4)), (begin, last + 1, RIGHT, (1,)))
+    words = looked(place / "end")[1]
     check("where the minutes end", end=(words[1][-9:], civil(last - 40)[11:]), verdict=(words[2], "yes"))
 
 
 def test_to_and_fro(place: Path) -> None:
     """A clock that is stepped to and fro more often than moves are told, and then no more: what ended the fit is left
     out, and of what was recorded since then the error is told."""
-    last = int(time.time()) - 5
-    last -= last % 10
+    last = lately()
     for name, ends, verdict, error in (("right", RIGHT, "yes", "-0.001 .. +0.001 ms"),
                                        ("off", AHEAD, "refuted", "+20.000 .. +20.001 ms")):
         parts = [(last - 700 + 20 * k, last - 680 + 20 * k, (RIGHT, AHEAD)[k % 2]) for k in range(20)]
         recorded(place / name, last - 700, *parts, (last - 300, last + 1, ends))
-        words = now(place / name)[1][0].split("  ")
-        begin = words[1].partition(" ")[0]
+        words = looked(place / name)[1]
         check(f"stepped to and fro, and then {name}", verdict=(words[2], verdict), said=(words[3:5], [
             f"nothing fits with what was before; since then {error} of 5.000 ms", f"now {error}"]),
-            begin=(civil(last - 300) <= begin <= civil(last - 60), True))
+            begin=(civil(last - 300) <= words[1].partition(" ")[0] <= civil(last - 60), True))
 
 
 def test_one_sample(place: Path) -> None:
-    """A server is off by two samples that miss the hull, and not by one, which may be the first behind a step."""
-    last = int(time.time()) - 5
-    last -= last % 10
+    """A server is off by two samples that miss the hull, and not by one, which may be the first behind a step. Of one
+    that contradicts itself, where none may be wrong, nothing is said of the others, which agree."""
+    last = lately()
     for number in (1, 2):
-        (place / f"{number}").mkdir()
         begin = last - 5 - 10 * number
-        written(capture_of(place / f"{number}" / name_of(last - 900, "eth0"), *by_time(
-            words_of([(last - 900, last + 1, RIGHT)], (1, 2, 3)),
-            words_of([(last - 905, begin + 1, RIGHT), (begin + 10, last, AHEAD)], (4,)))))
-        line = now(place / f"{number}")[1][0]
-        check(f"a server of which {number} misses the hull", off=("192.0.2.4 is off by" in line, number == 2))
-
-
-def test_after_a_boot(place: Path) -> None:
-    """A recorder's word of before a boot, and none since: the clock shows what it likes, so nothing is known of now."""
-    last = int(time.time()) - 5
-    path = recorded(place / "rec", last - 900, (last - 900, last + 1, RIGHT))
-    for ahead in (1000, -100):
-        at = int(time.clock_gettime(time.CLOCK_BOOTTIME)) + ahead
-        (place / "rec/eth0.recording").write_text(json.dumps({
-            "kind": "recording", "at": at, "last": at, "files": [path.name], "kept": 99, "left_out": 0, "lost": 0}))
-        status, lines, _ = now(place / "rec")
-        check(f"a word of a recorder that doesn't run: {ahead}", status=(status, 1),
-              verdict=(lines[0].split("  ")[2], "no evidence"))
+        recorded(place / f"{number}", last - 900, (last - 900, last + 1, RIGHT, (1, 2, 3)),
+                 (last - 905, begin + 1, RIGHT, (4,)), (begin + 10, last, AHEAD, (4,)))
+        said = "  ".join(looked(place / f"{number}")[1])
+        check(f"a server of which {number} misses the hull", off=("192.0.2.4 is off by" in said, number == 2))
+    changing = [(second, second + 1, (RIGHT, AHEAD)[second // 10 % 2], (4,))
+                for second in range(last - 200, last + 1, 10)]
+    recorded(place / "rec", last - 200, (last - 200, last + 1, RIGHT, (1, 2, 3)), *changing)
+    words = looked(place / "rec", claim=claim_in(place, false_max=0))[1]
+    check("a server that contradicts itself", verdict=(words[2], "nothing fits"),
+          said=("192.0.2.1" in "  ".join(words), False))
 
 
 def test_begun(place: Path) -> None:
     """A recorder that has just begun: what was recorded before may be older than a boot, whatever the clock shows, so
     there is no yes until it has heard enough groups itself."""
-    last, at = int(time.time()) - 5, int(time.clock_gettime(time.CLOCK_BOOTTIME))
-    last -= last % 10
+    last, at = lately(), since_boot()
     old = recorded(place / "rec", last - 900, (last - 900, last - 9, RIGHT))
     new = old.with_name(name_of(last - 9, "eth0"))
-    for kept, verdict, said in ((0, "no evidence", f"nothing was recorded since {civil(last - 10)}"),
-                                (4, "no evidence", f"too few groups were heard since {civil(last - 10)}"),
-                                (8, "yes", "-0.001 .. +0.001 ms of 5.000 ms")):
-        new.write_bytes(CAPTURE(words_of([(last, last + 1, RIGHT)], (1, 2, 3, 4)[: kept // 2])))
-        (place / "rec/eth0.recording").write_text(json.dumps({
-            "kind": "recording", "at": at, "last": at if kept else 0, "files": [old.name, new.name], "kept": kept,
-            "left_out": 0, "lost": 0}))
-        status, lines, _ = now(place / "rec")
-        words = lines[0].split("  ")
-        check(f"a recorder of {kept} records", status=(status, int(verdict != "yes")), verdict=(words[2], verdict),
-              said=(words[3][: len(said)], said),
-              groups=([word for word in words if "group" in word][-1:], {
-                  0: [], 4: ["2 of 4 groups, 3 needed"], 8: ["4 of 4 groups"]}[kept]),
+    for number, verdict, said, groups in (
+            (0, "no evidence", f"nothing was recorded since {civil(last - 10)}", []),
+            (4, "no evidence", f"too few groups were heard since {civil(last - 10)}", ["2 of 4 groups, 3 needed"]),
+            (8, "yes", "-0.001 .. +0.001 ms of 5.000 ms", ["4 of 4 groups"])):
+        new.write_bytes(CAPTURE(words_of((last, last + 1, RIGHT, (1, 2, 3, 4)[: number // 2]))))
+        word_of_recorder(place / "rec", at, at if number else 0, [old, new], number)
+        status, words, _ = looked(place / "rec")
+        check(f"a recorder of {number} records", status=(status, int(verdict != "yes")), verdict=(words[2], verdict),
+              said=(words[3][: len(said)], said), groups=([word for word in words if "group" in word][-1:], groups),
               silent=([word for word in words if "silent" in word], []))
 
 
@@ -398,133 +360,92 @@ def test_fall(place: Path) -> None:
             answered = answered[:4] + struct.pack("<I", int(way % 1 * 1e9) + 1000) + answered[8:-24]
             own += [asked[:-8] + mark, answered + mark + said]
         records += sorted(own, key=lambda record: struct.unpack("<II", record[:8]))
-    (place / "rec").mkdir()
-    path = place / "rec" / name_of(last - 300, "eth0")
-    path.write_bytes(CAPTURE([])[:24] + b"".join(records))
-    status, lines, _ = now(place / "rec", claim=claim_in(place, bound_ns=5_000_000_000))
-    check("a clock that falls back a little", status=(status, 1), said=(lines[0].split("  ")[2:5], [
+    kept(place / "rec", last - 300, CAPTURE([])[:24] + b"".join(records))
+    status, words, _ = looked(place / "rec", claim=claim_in(place, bound_ns=5_000_000_000))
+    check("a clock that falls back a little", status=(status, 1), said=(words[2:5], [
         "yes", "the times of records fall back; since then -4,000.001 .. -499.998 ms of 5,000.000 ms",
         "now -4,000.001 .. -499.998 ms"]))
-
-
-def test_one_camp(place: Path) -> None:
-    """A server that contradicts itself, where none may be wrong: of the others, which agree, nothing is said."""
-    last = int(time.time()) - 5
-    last -= last % 10
-    begin = last - 200
-    (place / "rec").mkdir()
-    path = capture_of(place / "rec" / name_of(begin, "eth0"), *by_time(
-        words_of([(begin, last + 1, RIGHT)], (1, 2, 3)),
-        [f"4:{(RIGHT, AHEAD)[second // 10 % 2]}@{second}" for second in range(begin, last + 1, 10)]))
-    written(path)
-    line = now(place / "rec", claim=claim_in(place, false_max=0))[1][0]
-    check("a server that contradicts itself", verdict=(line.split("  ")[2], "nothing fits"),
-          said=("192.0.2.1" in line, False))
 
 
 def test_set_back(place: Path) -> None:
     """A clock that was set back: records later than the machine's clock are the finding, whichever file has them, and
     never a yes; and what follows is read as it was written."""
-    last = int(time.time()) - 5
-    last -= last % 10
-    words = "the clock was set back: records up to 3[345]\\.[0-9] min ahead of it"
+    last = lately()
+    said = "the clock was set back: records up to 3[345]\\.[0-9] min ahead of it"
     cases = {"another file": [[(last - 900, last + 2040, RIGHT)], [(last - 60, last + 1, RIGHT)]],
              "nothing since": [[(last + 1140, last + 2040, RIGHT)]],
              "one file": [[(last + 1740, last + 2040, RIGHT), (last - 200, last + 1, RIGHT)]]}
     for name, files in cases.items():
-        folder = place / name
-        folder.mkdir()
         for parts in files:
-            path = folder / name_of(parts[0][0], "eth0")
-            records, head = list[bytes](), b""
-            for part in parts:
-                data = capture_of(place / "part.pcap", *words_of([part], (1, 2, 3, 4))).read_bytes()
-                head, records = data[:24], [*records, *records_of(data)]
-            path.write_bytes(head + b"".join(records))
-            written(path)
-        status, lines, _ = now(folder, "--metrics", place / "m.prom")
-        ahead = {key: value for (key, *_), value in metrics_of(place / "m.prom").items()}["now_records_ahead_seconds"]
-        check(f"a clock that was set back: {name}", status=(status, 1), said=(bool(re.search(words, lines[0])), True),
-              yes=("  yes  " in lines[0], False), ahead=(1980 < float(ahead) < 2100, True))
+            records = [record for part in parts for record in records_of(CAPTURE(words_of(part)))]
+            kept(place / name, parts[0][0], CAPTURE([]) + b"".join(records))
+        status, words, found = looked(place / name)
+        check(f"a clock that was set back: {name}", status=(status, 1), yes=("yes" in words, False),
+              said=(bool(re.search(said, "  ".join(words))), True),
+              ahead=(1980 < float(found["records_ahead_seconds"]) < 2100, True))
         if name == "another file":
-            check("the file that was written since", end=(civil(last)[11:] in lines[0].split("  ")[1], True))
+            check("the file that was written since", end=(civil(last)[11:] in words[1], True))
     for name, second in (("2099", 4_102_444_740), ("1970", 9)):
         recorded(place / name, second, (second, second + 60, RIGHT))
         recorded(place / name, last - 900, (last - 900, last + 1, RIGHT))
-        line = now(place / name)[1][0]
-        check(f"a file of {name}", verdict=(line.split("  ")[2], "unsupported" if second > last else "yes"),
-              said=("the clock was set back: records up to" in line, second > last))
+        words = looked(place / name)[1]
+        check(f"a file of {name}", verdict=(words[2], "unsupported" if second > last else "yes"),
+              said=("the clock was set back: records up to" in "  ".join(words), second > last))
 
 
 def test_newest(place: Path) -> None:
     """Which file is the newest is told by what was written last: tcpdump's own numbers count as numbers, and an old
     file under the newest name is old."""
-    last = int(time.time()) - 5
-    last -= last % 10
+    last = lately()
     begin, numbered = last - 900, place / "numbered"
     for number in range(12):
-        path = recorded(numbered, begin, (begin + 60 * number, min(last + 1, begin + 60 * number + 60), AHEAD))
-        if number == 11:
-            capture_of(path, *words_of([(begin + 660, last + 1, RIGHT)], (1, 2, 3, 4)))
+        parts = ((begin + 60 * number, min(last + 1, begin + 60 * number + 60), AHEAD) if number < 11 else
+                 (begin + 660, last + 1, RIGHT))
+        path = recorded(numbered, begin, parts)
         os.utime(path, (last, last))
-        if number:
-            path.rename(f"{path}{number}")
-        else:
-            first = path.rename(f"{path}.first")
-    first.rename(str(first).removesuffix(".first"))
-    line = now(numbered, "--minutes", "2")[1][0]
-    check("files that tcpdump began by size", verdict=(line.split("  ")[2], "yes"),
-          end=(civil(last)[11:] in line, True))
+        path.rename(f"{path}{number or '.first'}")
+    (numbered / f"{path.name}.first").rename(path)
+    words = looked(numbered, "--minutes", "2")[1]
+    check("files that tcpdump began by size", verdict=(words[2], "yes"), end=(civil(last)[11:] in words[1], True))
     old = place / "old"
     recorded(old, begin, (begin, last + 1, RIGHT))
     copy = recorded(old, last - 90_000, (last - 90_000, last - 89_000, AHEAD))
     copy.rename(old / name_of(last - 1, "eth0"))
     os.utime(old / name_of(last - 1, "eth0"))
-    status, lines, _ = now(old)
-    check("an old file under the newest name", status=(status, 0), verdict=(lines[0].split("  ")[2], "yes"))
+    status, right, _ = looked(old)
+    check("an old file under the newest name", status=(status, 0), verdict=(right[2], "yes"))
     own = recorded(place / "copied", last - 300, (last - 300, last + 1, RIGHT))
     for name, size in (("copy", 301 * 4 * 106 // 5), ("part", 24 + 60 * 4 * 106), ("short", 24 + 100 * 106)):
         copy = own.with_name(own.name.replace(".pcap", f"-{name}.pcap"))
         copy.write_bytes(own.read_bytes()[:size])
-        check(f"a {name} beside", line=(now(place / "copied")[1][0].split("  ")[2:], lines[0].split("  ")[2:]))
+        check(f"a {name} beside", line=(looked(place / "copied")[1][2:], right[2:]))
         copy.unlink()
 
 
 def test_step_ahead(place: Path) -> None:
     """By a step of 300 s ahead no server is silent that wasn't heard since; by a gap of that length one is."""
-    last, ticks = int(time.time()) - 5, 300 << 32
-    last -= last % 10
+    last, ticks = lately(), 300 << 32
     for name, ends in ("step", f"{ticks - 1000}..{ticks + 1000}"), ("gap", RIGHT):
-        (place / name).mkdir()
-        written(capture_of(place / name / name_of(last - 900, "eth0"), *by_time(
-            words_of([(last - 900, last - 309, RIGHT)], (1, 2, 3, 4)),
-            words_of([(last - 10, last + 1, ends)], (1, 2)))))
-        line = now(place / name)[1][0]
-        check(f"servers behind a {name}", silent=("silent: 192.0.2.3, 192.0.2.4" in line, name == "gap"),
-              heard=("  4 of 4 groups" in line, name == "step"))
+        recorded(place / name, last - 900, (last - 900, last - 309, RIGHT), (last - 10, last + 1, ends, (1, 2)))
+        words = looked(place / name)[1]
+        check(f"servers behind a {name}", silent=("silent: 192.0.2.3, 192.0.2.4" in words, name == "gap"),
+              heard=("4 of 4 groups" in words, name == "step"))
 
 
 def test_order(place: Path) -> None:
     """A clock ten minutes ahead that was set back: the recorder says which of its files came after which, though the
     first was written later by the clock."""
-    last = int(time.time()) - 5
-    last -= last % 10
-    ticks, rec, names = 600 << 32, place / "rec", list[str]()
+    last, ticks, files = lately(), 600 << 32, list[Path]()
     parts = [(last - 1810, last - 600, f"{ticks - 1000}..{ticks + 1000}"), (last - 1200, last - 900, RIGHT),
              (last - 900, last + 1, RIGHT)]
-    records = records_of(CAPTURE(words_of(parts, (1, 2, 3, 4))))  # (no two of their exchanges are alike)
-    rec.mkdir()
+    records = records_of(CAPTURE([word for part in parts for word in words_of(part)]))  # (no two are alike)
     for begin, end, _ in parts:
         own, records = records[: (number := 8 * len(range(begin, end, 10)))], records[number:]
-        names.append(name_of(begin, "eth0"))
-        (rec / names[-1]).write_bytes(CAPTURE([]) + b"".join(own))
-        written(rec / names[-1])
-    at = int(time.clock_gettime(time.CLOCK_BOOTTIME))
-    (rec / "eth0.recording").write_text(json.dumps({
-        "kind": "recording", "at": at, "last": at, "files": names, "kept": 9, "left_out": 0, "lost": 0}))
-    line = now(rec, "--minutes", "25")[1][0]
-    check("files in the recorder's order", by=(f"{civil(last - 1200)[11:]} by -600,0" in line, True),
-          verdict=(line.split("  ")[2], "yes"))
+        files.append(kept(place / "rec", begin, CAPTURE([]) + b"".join(own)))
+    word_of_recorder(place / "rec", since_boot(), since_boot(), files)
+    words = looked(place / "rec", "--minutes", "25")[1]
+    check("files in the recorder's order", by=(f"{civil(last - 1200)[11:]} by -600,0" in "  ".join(words), True),
+          verdict=(words[2], "yes"))
 
 
 def test_now_of_files(place: Path) -> None:
@@ -543,15 +464,13 @@ def test_now_of_files(place: Path) -> None:
     recorded(rotated, begin, (begin, last + 1, AHEAD), interface="wlan0")
     status, lines, _ = now(rotated)
     check("two interfaces", status=(status, 1), order=([line.split()[0] for line in lines], ["wlan0", "eth0"]))
-    alike = place / "alike"
-    recorded(alike, begin, (begin, last + 1, AHEAD), interface="eth0  yes  4 of 4 groups")
-    check("a recorder called like a line", line=(now(alike)[1][0].split("  ")[0], r"eth0 \x20yes \x204 of 4 groups"))
-    few = place / "few"
-    recorded(few, begin, (begin, last + 1, RIGHT), servers=(1, 2, 3))
-    check("a silent group", line=("  3 of 4 groups" in now(few)[1][0], True))
-    recorded(place / "one", begin, (begin, last + 1, RIGHT), servers=(1,))
-    status, lines, _ = now(place / "one")
-    check("too few groups", run=((status, "no evidence" in lines[0], "1 of 4" in lines[0]), (1, True, True)))
+    recorded(place / "alike", begin, (begin, last + 1, AHEAD), interface="eth0  yes  4 of 4 groups")
+    check("a recorder called like a line", line=(looked(place / "alike")[1][0], r"eth0 \x20yes \x204 of 4 groups"))
+    for name, servers, verdict, groups in (("a silent group", (1, 2, 3), "yes", "3 of 4 groups"),
+                                           ("too few groups", (1,), "no evidence", "1 of 4 groups, 3 needed")):
+        recorded(place / name, begin, (begin, last + 1, RIGHT, servers))
+        status, words, _ = looked(place / name)
+        check(name, status=(status, int(verdict != "yes")), verdict=(words[2], verdict), said=(groups in words, True))
 
 
 def test_bad_files(place: Path) -> None:
@@ -581,24 +500,12 @@ def test_bad_files(place: Path) -> None:
                               ("rubbish", 99 * b"x", "is no classic capture, as tcpdump writes it"),
                               ("damaged", damaged, f"is damaged from byte {place_of} on")):
         bad.write_bytes(data)
-        status, lines, err = now(rec, "--metrics", metrics)
+        status, lines, err = now(rec)
         check(f"one bad file: {name}", status=(status, 2 if named else 0), lines=(len(lines), 1), verdict=(
-            lines[0].split("  ")[2], "yes"), named=(err, f"ntpaudit-dossier: {bad.name} {named}\n" if named else ""),
-            metrics=([dict(labels)["verdict"] for (_, *labels), value in metrics_of(metrics).items()
-                      if "verdict" in dict(labels) and value == "1"], ["yes"]))
+            lines[0].split("  ")[2], "yes"), named=(err, f"ntpaudit-dossier: {bad.name} {named}\n" if named else ""))
     bad.unlink()
     bad.symlink_to(rec)
     check("a link among files", run=(now(rec)[0], 2), named=(bad.name in now(rec)[2], True))
-
-
-LIMITED = """import sys
-sys.path.insert(0, sys.argv.pop(1))
-from dossier.fleet import now
-now.MOST_SECONDS = 4
-from dossier.command_line import main
-sys.exit(main(sys.argv[1:]))
-"""
-"""The dossier with four seconds for each recorder."""
 
 
 def test_each_by_itself(place: Path) -> None:
@@ -607,10 +514,9 @@ def test_each_by_itself(place: Path) -> None:
     begin, rec = last - 900, place / "rec"
     recorded(rec, begin, (begin, last + 1, RIGHT))
     slow = recorded(rec, last - 300, (last - 300, last + 1, RIGHT), interface="eth1")
-    hangs = runnable(place / "hangs", f'#!/bin/sh\ncmp -s latest.pcap "{slow}" && exec sleep 1000\n'
-                                      f'exec "{ENVIRONMENT["NTPAUDIT"]}" "$@"\n')
-    words = ["now", "--from", rec, "--claim", claim_in(place)]
-    status, out, err = run([sys.executable, "-c", LIMITED, ROOT, *words], env={**ENVIRONMENT, "NTPAUDIT": str(hangs)})
+    hangs = stand_in(place / "hangs", f'cmp -s latest.pcap "{slow}" && exec sleep 1000')
+    status, out, err = with_change("from dossier.fleet import now; now.MOST_SECONDS = 4", "now", "--from", rec,
+                                   "--claim", claim_in(place), env=hangs)
     lines = {line.split("  ")[0]: line.split("  ")[2] for line in out.decode().splitlines()}
     check("a recorder that takes long", status=(status, 1), verdicts=(lines, {"eth0": "yes", "eth1": "refused"}),
           said=(b"4 seconds" in err or b"4 s" in err, True))
@@ -623,40 +529,33 @@ def test_all_of_a_recorder(place: Path) -> None:
     from dossier.folder.files import Folder
     from dossier.folder.placing import ROOM
     begin, each = int(time.time()) - 8000, 2 * 4 * 4000 * 106
-    (place / "rec").mkdir()
     for part in (0, 4000):
-        words = [f"{k}:{RIGHT}@{begin + part}x4000" for k in (1, 2, 3, 4)]
-        records = records_of((whole := capture_of(place / "part.pcap", *words)).read_bytes())
-        path = place / "rec" / name_of(begin + part, "eth0")
-        path.write_bytes(whole.read_bytes()[:24] + b"".join(
-            sorted(records, key=lambda record: struct.unpack_from("<II", record))))
-        written(path)
+        whole = CAPTURE([f"{k}:{RIGHT}@{begin + part}x4000" for k in (1, 2, 3, 4)])
+        kept(place / "rec", begin + part, whole[:24] + b"".join(
+            sorted(records_of(whole), key=lambda record: struct.unpack_from("<II", record))))
     before, left = latest.MOST_READ, ROOM.left
     try:
         latest.MOST_READ, ROOM.left = each + 2_000_000, 1 << 30
         with chdir(place), Folder(str(place / "rec")) as folder:
             found = latest.latest(folder, list(begun_files(folder)), [], 9000, begin + 8000, [])
-            kept = Path(found.path).stat().st_size
+            size = Path(found.path).stat().st_size
     finally:
         latest.MOST_READ, ROOM.left = before, left
     check("all files of a recorder", last=(found.last, begin + 7999),
-          kept=(each + 500_000 < kept <= each + 2_000_000, True))
+          kept=(each + 500_000 < size <= each + 2_000_000, True))
 
 
 def test_now_metrics(place: Path) -> None:
-    last = int(time.time()) - 5
-    begin = last - 1500
+    last = lately()
     for name, ends in (("right", RIGHT), ("off", f"-{AHEAD.split('.')[-1]}..-{AHEAD.split('.')[0]}")):
-        recorded(place / name, begin, (begin, last + 1, ends))
-        now(place / name, "--metrics", place / "m.prom")
-        found = {(key, dict(labels).get("verdict", "")): value
-                 for (key, *labels), value in metrics_of(place / "m.prom").items()}
-        own = {key.removeprefix("now_"): value for (key, verdict), value in found.items() if not verdict
-               if not key.startswith(("now_server", "now_recorder_trouble"))}
+        recorded(place / name, last - 1500, (last - 1500, last + 1, ends))
+        _, _, found = looked(place / name)
+        own = {key: value for key, value in found.items()
+               if not key.startswith(("verdict", "server", "recorder_trouble"))}
         hull = ("-0.000000233", "0.000000233") if name == "right" else ("-0.020001000", "-0.020000000")
         check(f"metrics of the last minutes: {name}",
-              verdict=([verdict for (key, verdict), value in found.items() if verdict and value == "1"],
-                       ["yes" if name == "right" else "refuted"]),
+              verdict=([key for key, value in found.items() if key.startswith("verdict") and value == "1"],
+                       ["verdict yes" if name == "right" else "verdict refuted"]),
               own=({key: own[key] for key in own if key != "least_bound_seconds" and not key.endswith(
                   ("timestamp_seconds", "age_seconds"))},
                    {"seen": "1", "clock_off": str(int(name == "off")), "claimed_bound_seconds": "0.005000000",

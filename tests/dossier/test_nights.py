@@ -5,13 +5,14 @@ import gzip
 import json
 import os
 import shutil
-import sys
 import time
 from pathlib import Path
 
 from tests.support import DATA, ROOT, check, is_here, run
-from tests.dossier.audits import ENVIRONMENT, SCRIPT, capture_of, dossier, folder_of, match_of, rows, table
+from tests.dossier.audits import (ENVIRONMENT, SCRIPT, capture_of, dossier, folder_of, match_of, rows, table,
+                                  with_change)
 from tests.dossier.test_daily import DAY, NIGHT, recorded
+from tests.dossier.test_moments import since_boot, word_of_recorder
 from tests.dossier.leaps import leap_list
 from tests.tools.wire import records_of
 from tests.truth.clock import SECOND
@@ -29,20 +30,6 @@ def test_own_names(place: Path) -> None:
     dossier("audit", folder)
     said = table(folder)[0]["to_do"]
     check("a file that is no capture", said=("editcap -F pcap './-a b.pcap' new.pcap" in said, True))
-
-
-def test_twice_in_one(place: Path) -> None:
-    """A capture that has each packet twice, as one of all interfaces: the verdict is that of one that has it once."""
-    once, twice = folder_of(place, "once", *VLAN), folder_of(place, "twice", *VLAN)
-    whole = (twice / "f.pcap").read_bytes()
-    (twice / "f.pcap").write_bytes(whole[:24] + b"".join(2 * record for record in records_of(whole)))
-    lines = [dossier("audit", folder)[1].decode().splitlines() for folder in (once, twice)]
-    said, = lines[1][1:]
-    check("twice in one file", same=(lines[1][0].replace("twice", "once"), lines[0][0]), yes=(lines[0][0][:4], "yes "),
-          said=("640 packets were recorded once more, the first of them in f.pcap, with stamps up to 0" in said, True),
-          verified=(b"verified: yes" in dossier("verify", twice)[1], True),
-          picture=(dossier("picture", twice / "claim.json", twice / "f.pcap")[1],
-                   dossier("picture", *reversed(VLAN))[1]))
 
 
 def test_asked_elsewhere(place: Path) -> None:
@@ -94,7 +81,8 @@ def test_drafts_of_nights(place: Path) -> None:
     (twice / "f.pcap").write_bytes(whole[:24] + b"".join(2 * record for record in records_of(whole)))
     status, out, err = dossier("draft", twice / "f.pcap")
     check("a draft of packets twice", run=((status, out), (0, dossier("draft", VLAN[0])[1])),
-          said=(b"640 packets were recorded once more" in err, True))
+          said=(b"640 packets were recorded once more" in err, True),
+          picture=(dossier("picture", VLAN[1], twice / "f.pcap")[1], dossier("picture", *reversed(VLAN))[1]))
     words = 'exec "$0" draft --chrony <(cat "$1") "$2"'
     configuration = DATA / "client/chrony.conf"
     piped = run(["bash", "-c", words, SCRIPT, configuration, VLAN[0]], env=ENVIRONMENT)
@@ -111,10 +99,6 @@ def test_drafts_of_nights(place: Path) -> None:
     said = dossier("draft", VLAN[0], env=old)[2].decode()
     check("a draft with an old list", said=("The list of leap seconds was good until 2026-06-30 only" in said
                                             and "apt-get install tzdata" in said, True))
-    vlan = folder_of(place, "vlan", *VLAN)
-    for words, verdict in rows(((), b"unsupported"), (("--leap-seconds", DATA / "leap-seconds.list"), b"yes")):
-        check(f"an audit with an old list {bool(words)}", line=(dossier("audit", *words, vlan, env=old)[1].split()[0],
-                                                                verdict))
 
 
 def test_own_remedies(place: Path) -> None:
@@ -191,24 +175,12 @@ def test_still_written(place: Path) -> None:
     """What a recorder says that it writes isn't finished, though another file has a later name, or one of 2099."""
     recorder, days, names = recorded(place, range(4))
     (recorder / names[3]).rename(recorder / "eth0-2099-01-01T000000Z.pcap")
-    at = int(time.clock_gettime(time.CLOCK_BOOTTIME))
     for name in names[1:3]:
-        (recorder / "eth0.recording").write_text(json.dumps({
-            "kind": "recording", "at": at, "last": at, "files": [names[0], name], "kept": 9, "left_out": 0, "lost": 0}))
+        word_of_recorder(recorder, since_boot(), since_boot(), [recorder / names[0], recorder / name])
         said = dossier("day", "--from", recorder, "--to", days, "--date", "2001-09-09")[2].decode()
         check("a file that is written", said=(f"{name} is still being written" in said, True),
               there=((days / "2001-09-09" / name).exists(), False))
         shutil.rmtree(days / "2001-09-09")
-
-
-BY_A_CLOCK = """import sys, time
-sys.path.insert(0, sys.argv.pop(1))
-true, ahead = time.time, float(sys.argv.pop(1))
-time.time = lambda: true() + ahead
-from dossier.command_line import main
-sys.exit(main(sys.argv[1:]))
-"""
-"""The dossier by a clock that is so many seconds ahead."""
 
 
 def test_set_clock(place: Path) -> None:
@@ -223,7 +195,7 @@ def test_set_clock(place: Path) -> None:
             ("1970", 90_000 - time.time(), 0, "52 more are from the future: is the clock right?", 60, 0),
             ("an hour back", -min(3600, int(time.time() % DAY)), 0, f"6 {taken}", 54, 14),
             ("now", 0, 0, f"5 {taken}", 49, 14)):
-        found = run([sys.executable, "-c", BY_A_CLOCK, ROOT, ahead, *words], env=ENVIRONMENT)
+        found = with_change(f"import time; true = time.time; time.time = lambda: true() + {ahead}", *words)
         stay = {path.name for path in recorder.iterdir()}
         check(f"days by a clock of {name}", status=(found[0], status), said=(said in found[2].decode(), True),
               left=(len(stay), left), days=(len(list(days.iterdir())), 1 + made),

@@ -11,7 +11,7 @@ import struct
 import subprocess
 import sys
 import time
-from collections.abc import Callable
+from collections.abc import Callable, Iterable
 from pathlib import Path
 from typing import Any
 
@@ -19,7 +19,7 @@ ROOT = Path(__file__).resolve().parents[2]
 if __name__ == "__main__":
     sys.path[0] = str(ROOT)
 
-from tests.support import SECONDS, check, children, run, skip, wanting  # noqa: E402
+from tests.support import SECONDS, check, children, run, runnable, skip, wait_until, wanting  # noqa: E402
 
 RECORDER = """import signal, sys
 sys.path.insert(0, sys.argv.pop(1))
@@ -34,6 +34,13 @@ sys.exit(main(sys.argv[1:]))
 """The recorder, which looks each second."""
 
 
+def send(packets: Iterable[bytes]) -> None:
+    """Sends what a recorder here takes."""
+    with socket.socket(socket.AF_INET, socket.SOCK_DGRAM) as out:
+        for packet in packets:
+            out.sendto(packet, ("127.0.0.1", 123))
+
+
 class Rig:
     """A recorder in this network, begun where nothing can be written, as its unit is; and packets for it."""
 
@@ -46,33 +53,25 @@ class Rig:
         self.until("listening on")
 
     def until(self, words: str, number: int = 1) -> bool:
-        end = time.monotonic() + SECONDS
-        while self.said().count(words) < number and time.monotonic() < end:
-            if self.call.poll() is not None:
-                return words in self.said()
-            time.sleep(0.05)
-        return True
+        wait_until(lambda: self.said().count(words) >= number or self.call.poll() is not None)
+        return self.said().count(words) >= number
 
     def said(self) -> str:
         return os.pread(self.err.fileno(), 1 << 20, 0).decode()
 
-    def packets(self, number: int, size: int = 48) -> None:
+    def packets(self, number: int) -> None:
         """Sends requests, which the recorder has then taken."""
         before = self.state().get("kept", 0) if self.state() else 0
-        with socket.socket(socket.AF_INET, socket.SOCK_DGRAM) as out:
-            for _ in range(number):
-                out.sendto(b"\x23".ljust(40, b"\0") + os.urandom(8) + bytes(size - 48), ("127.0.0.1", 123))
-        end = time.monotonic() + 5
-        while time.monotonic() < end and self.state().get("kept", 0) < before + number:
-            time.sleep(0.1)
+        send(b"\x23".ljust(40, b"\0") + os.urandom(8) for _ in range(number))
+        self.state_with(lambda state: state.get("kept", 0) >= before + number, 5)
 
     def state(self) -> dict[str, Any]:
         path = self.folder / "lo.recording"
         found: dict[str, Any] = json.loads(path.read_text()) if path.exists() and path.stat().st_size else {}
         return found
 
-    def state_with(self, is_there: Callable[[dict[str, Any]], object]) -> bool:
-        end = time.monotonic() + SECONDS / 4
+    def state_with(self, is_there: Callable[[dict[str, Any]], object], seconds: float = SECONDS / 4) -> bool:
+        end = time.monotonic() + seconds
         while not (held := bool(is_there(self.state()))) and time.monotonic() < end:
             time.sleep(0.1)
         return held
@@ -194,27 +193,27 @@ def flooded(place: Path) -> dict[str, Any]:
     rig = Rig(place, setting="watch.ALL = 9000")
     is_said = rig.until("lo.recording can't be written (Is a directory)")
     for number in (60, 9, 9):
-        with socket.socket(socket.AF_INET, socket.SOCK_DGRAM) as out:
-            for _ in range(number):
-                out.sendto(b"\x23".ljust(48, b"\0"), ("127.0.0.1", 123))
+        send([b"\x23".ljust(48, b"\0")] * number)
         time.sleep(3)
     return {"said": is_said, "status": rig.end(), "files": rig.files(), "left": "18 were left out" in rig.said()}
 
 
-LOSING = """#!/bin/sh
+STAND_IN = """#!/bin/sh
 case $* in --version) echo tcpdump; exit;; esac
-trap 'echo "0 packets captured, 7 packets received by filter, 7 packets dropped by kernel" >&2' USR1
-trap 'echo "0 packets captured" >&2; echo "8 packets received by filter" >&2; echo "8 packets dropped by kernel" >&2
-exit' INT
+{}
 echo "tcpdump: listening on lo" >&2
 while :; do sleep 0.1; done
 """
+"""What stands in for tcpdump, and is told apart by what it says when it is asked by a signal."""
+LOSING = """trap 'echo "0 packets captured, 7 packets received by filter, 7 packets dropped by kernel" >&2' USR1
+trap 'echo "0 packets captured" >&2; echo "8 packets received by filter" >&2; echo "8 packets dropped by kernel" >&2
+exit' INT"""
+COUNTING = """trap 'echo "9 packets captured, 9 packets received by filter, 0 packets dropped by kernel" >&2' USR1"""
 
 
 def lost(place: Path) -> dict[str, Any]:
     """Packets that the kernel drops are told while it records, and at the end."""
-    (place / "tcpdump").write_text(LOSING)
-    (place / "tcpdump").chmod(0o755)
+    runnable(place / "tcpdump", STAND_IN.format(LOSING))
     rig = Rig(place, tools=f"{place}:")
     said = rig.until("packets are lost") and rig.state_with(lambda state: state["lost"] == 7)
     return {"said": said, "status": rig.end(), "end": "0 packets were recorded, 8 were lost" in rig.said(),
@@ -237,18 +236,9 @@ def wrong(place: Path) -> dict[str, Any]:
     return {"status": status, "files": rig.files(), "years": years == {"1970", "2099", str(time.gmtime().tm_year)}}
 
 
-SILENT = """#!/bin/sh
-case $* in --version) echo tcpdump; exit;; esac
-trap 'echo "9 packets captured, 9 packets received by filter, 0 packets dropped by kernel" >&2' USR1
-echo "tcpdump: listening on lo" >&2
-while :; do sleep 0.1; done
-"""
-
-
 def counts(place: Path) -> dict[str, Any]:
     """A tcpdump that counts packets of which nothing comes: it is begun anew."""
-    (place / "tcpdump").write_text(SILENT)
-    (place / "tcpdump").chmod(0o755)
+    runnable(place / "tcpdump", STAND_IN.format(COUNTING))
     rig = Rig(place, tools=f"{place}:")
     return {"said": rig.until("tcpdump has counted 9 packets, and 0 came of it: it is begun anew"),
             "again": rig.until("listening on", 2), "status": rig.end()}

@@ -8,12 +8,11 @@ import subprocess
 from pathlib import Path
 from typing import Any
 
-from tests.support import DATA, ROOT, SECONDS, Ran, check, run, runnable, sum_of, wait_until, wanting
-from tests.dossier.audits import (ENVIRONMENT, KEEP, PROGRAM, SCRIPT, capture_of, dossier, folder_of, rows, skipped,
-                                  within)
+from tests.support import DATA, ROOT, SECONDS, Ran, check, run, sum_of, wait_until, wanting
+from tests.dossier.audits import (ENVIRONMENT, KEEP, SCRIPT, auditing, capture_of, dossier, folder_of, rows,
+                                  running_program, skipped, stand_in, within)
 from tests.dossier.leaps import leap_list
 from tests.dossier.test_captures import records_of
-from tests.dossier.test_daily import kept_in, recorded
 from tests.dossier.test_evidence import FIRST, MINUTE
 from tests.dossier.test_hostile import elsewhere, forge, limited
 
@@ -68,20 +67,6 @@ def test_crashes(place: Path) -> None:
     check("an ASCII locale", runs=(ran, [(0, b"")] * len(ran)))
 
 
-def test_bad_recordings(place: Path) -> None:
-    """A recorder's file that is too big or can't be read is named, and the day is made of the others."""
-    recorder, days, names = recorded(place, range(4))
-    with open(recorder / names[1], "r+b") as large:
-        large.truncate((1 << 32) + 1)
-    os.utime(recorder / names[1], times=(0, os.stat(recorder / names[2]).st_mtime - 3600))
-    (recorder / names[2]).unlink()
-    os.mkfifo(recorder / names[2])
-    status, out, err = dossier("day", "--from", recorder, "--to", days, "--date", "2001-09-09")
-    check("a day with bad files", status=(status, 2), path=(out, f"{days}/2001-09-09\n".encode()),
-          named=([f"{name} is {what}" in err.decode() for name, what in zip(names[1:3], ("too big", "a FIFO"))],
-                 [True] * 2), files=(sorted(kept_in(days / "2001-09-09")), ["claim.json", names[0], names[3]]))
-
-
 def of_processor() -> float:
     """The seconds of the processor that were used by what was called here."""
     used = resource.getrusage(resource.RUSAGE_CHILDREN)
@@ -116,7 +101,7 @@ def test_bounds(place: Path) -> None:
     from dossier.folder import jobs
     from dossier.folder.result import Audited
     from dossier.capture import traffic
-    work, bounds = wanted_of(place), jobs.bounds_of
+    work, bounds = auditing(place), jobs.bounds_of
     for name, few, limit in (("memory", jobs.Bounds(SECONDS, 1 << 22, 1 << 30), "out of memory"),
                              ("room", jobs.Bounds(SECONDS, 1 << 30, 9000), "more room than a folder may"),
                              ("processor", jobs.Bounds(1, 1 << 30, 1 << 30), "not done within 1 s")):
@@ -145,11 +130,10 @@ def test_bounds(place: Path) -> None:
 
 def test_killed(place: Path) -> None:
     """An audit that is killed leaves no private copies."""
-    folder, private, slow = folder_of(place, "host"), place / "private", place / "ntpaudit"
+    folder, private = folder_of(place, "host"), place / "private"
     private.mkdir()
-    runnable(slow, f'#!/bin/sh\n[ "$1" != settle ] || sleep 600\nexec {PROGRAM} "$@"\n')
-    call = subprocess.Popen([SCRIPT, "audit", folder], env={**ENVIRONMENT, "NTPAUDIT": str(slow),
-                                                            "TMPDIR": str(private)})
+    slow = stand_in(place / "ntpaudit", '[ "$1" != settle ] || sleep 600')
+    call = subprocess.Popen([SCRIPT, "audit", folder], env={**slow, "TMPDIR": str(private)})
     has_begun = wait_until(lambda: bool([*private.glob("ntpaudit-*/0/claim.json")]))
     call.kill()
     call.wait()
@@ -160,22 +144,6 @@ def test_killed(place: Path) -> None:
 def endless(*_: object) -> None:
     while True:
         pass
-
-
-def running_program() -> Any:
-    from dossier.folder.entry import Made
-    from dossier.folder.program import Program
-    return Program(PROGRAM, Made("ntpaudit", "0" * 64))
-
-
-def wanted_of(place: Path) -> Any:
-    """What audits a folder in this process's children, for the constants that are changed here."""
-    from dossier.fleet import audit
-    from dossier.folder.entry import LeapList, Options
-    from dossier.folder.registry import Known
-    wanted = audit.AuditCall(Options(), False, LeapList("none", good_until=4_000_000_000),
-                             Known(str(place / "state"), True), running_program())
-    return lambda path, number: audit.audit(wanted, path, number)
 
 
 TWO = {**MINUTE, "servers": ["192.0.2.1", "192.0.2.2"]}
@@ -204,10 +172,10 @@ def test_flood(place: Path) -> None:
     kept, captures.MANY, classic.MOST_RECORDS = (captures.MANY, classic.MOST_RECORDS), 16, 60
     most = captures.MOST_UNTHINNED
     try:
-        found = dict(jobs.run_all([str(flooded), str(plain)], wanted_of(place), Audited, 600))
-        refused = jobs.run_one(str(damaged), wanted_of(place), Audited)
+        found = dict(jobs.run_all([str(flooded), str(plain)], auditing(place), Audited, 600))
+        refused = jobs.run_one(str(damaged), auditing(place), Audited)
         classic.MOST_RECORDS, captures.MOST_UNTHINNED = kept[1], 5000
-        found |= jobs.run_all([str(great)], wanted_of(place), Audited, 600)
+        found |= jobs.run_all([str(great)], auditing(place), Audited, 600)
     finally:
         captures.MANY, classic.MOST_RECORDS, captures.MOST_UNTHINNED = *kept, most
     check("a flood of great packets",

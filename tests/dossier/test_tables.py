@@ -19,14 +19,13 @@ import time
 from collections import Counter
 from collections.abc import Callable, Iterator
 from fractions import Fraction
-from itertools import product
 from pathlib import Path
 from typing import Any
 from unittest.mock import patch
 
 from tests.support import DATA, ROOT, SECONDS, Ran, check, files_in, run, runnable, wait_until
-from tests.dossier.audits import (CLAIMS, ENVIRONMENT, PROGRAM, SCRIPT, TICKS_PER_MS, audited, capture_of, check_page,
-                                  dossier, folder_of, match_of, parts_left, record_of, rows, table)
+from tests.dossier.audits import (CLAIMS, ENVIRONMENT, PROGRAM, SCRIPT, audited, capture_of, check_page, dossier,
+                                  folder_of, match_of, parts_left, record_of, rows, stand_in, table)
 from tests.dossier.test_captures import records_of
 from tests.system.fault_lines import fault_lines
 
@@ -99,16 +98,6 @@ def civil(seconds: float) -> str:
 def sums_of(folder: Path) -> dict[str, str]:
     return {path.name: hashlib.sha256(path.read_bytes()).hexdigest() for path in folder.iterdir()
             if path.name != "audit.json"}
-
-
-def test_rounding() -> None:
-    from dossier.units import high_ms, low_ms, ns_ms, ns_up_ms
-    for ticks in (0, 1, -1, 4294967, 4294968, -4294967, -9936214, 9705162, -(10**13), 10**13 + 1):
-        low, high = (float(text.replace(",", "")) * TICKS_PER_MS for text in (low_ms(ticks), high_ms(ticks)))
-        check(f"{ticks} ticks in milliseconds", low=(low <= ticks + 1e-3, True), high=(high >= ticks - 1e-3, True),
-              near=(high - low < 4296, True))
-    check("nanoseconds in milliseconds", seen=([ns_ms(5000000), ns_ms(956568), ns_up_ms(956568), ns_up_ms(956000)],
-                                               ["5", "0.956568", "0.957", "0.956"]))
 
 
 def seen_in_texts(claim: Path, capture: Path) -> dict[str, Any]:
@@ -376,12 +365,11 @@ def test_remedies() -> None:
 
 # ---- many folders
 def test_side_by_side(place: Path) -> None:
-    parent, hold, held = place / "many", place / "hold", place / "held"
+    parent, hold = place / "many", place / "hold"
     folders = [folder_of(parent, f"host-{number:03}") for number in range(200)]
     hold.touch()
-    runnable(held, f'#!/bin/sh\nwhile [ -e "{hold}" ] && [ -e "{folders[30]}/audit.json" ]; do sleep 0.1; done\n'
-             f'exec "{PROGRAM}" "$@"\n')
-    calls = {**ENVIRONMENT, "NTPAUDIT": str(held)}
+    calls = stand_in(place / "held",
+                     f'while [ -e "{hold}" ] && [ -e "{folders[30]}/audit.json" ]; do sleep 0.1; done')
     call = subprocess.Popen([SCRIPT, "audit", "--jobs", "4", *folders], env=calls, stdout=subprocess.DEVNULL,
                             stderr=subprocess.DEVNULL)
     wait_until(lambda: len(list(parent.glob("*/audit.json"))) >= 20 or call.poll() is not None)
@@ -545,12 +533,6 @@ def test_verify(place: Path) -> None:
 
 
 # ---- files that change
-def stand_in(path: Path, script: str) -> dict[str, str]:
-    """A program that does something and then is the program."""
-    runnable(path, f'#!/bin/sh\n{script}\nexec "{PROGRAM}" "$@"\n')
-    return {**ENVIRONMENT, "NTPAUDIT": str(path)}
-
-
 UNSEEN = "conv=notrunc bs=1 seek=40 status=none of"
 """For dd: the first byte of an Ethernet address, which no answer depends on."""
 HARMLESS = {".pcap": f"printf x | dd {UNSEEN}=", ".json": "echo >> "}
@@ -589,32 +571,6 @@ def test_changing(place: Path) -> None:
     good = stand_in(place / "program", ":")
     check("a stand-in that changes nothing", status=(dossier("audit", folder, env=good)[0], 0),
           verify=(dossier("verify", folder, env=good), (0, f"{folder}: verified: yes\n".encode(), b"")))
-
-
-def test_sums(place: Path) -> None:
-    """What `check` and `refute` get as a file of sums: what sha256sum writes of the operands, and audit.json says."""
-    keeps = stand_in(place / "program",
-                     f'case "$*" in *" --sums sums") cat sums > "{place}/$1.sums"; sha256sum "$2" "$3" "$4" > '
-                     f'"{place}/$1.wanted";; esac')
-    names = ("-f.pcap", "back\\slash.pcap", "line\nfeed.pcap", "carriage\rreturn.pcap",
-             os.fsdecode(b"no\xff\\utf.pcap"))
-    kinds = [("check", "certificate.json", DATA / "clients-us.pcap", DATA / "clients-us.claim.json"),
-             ("refute", "refutation.json", DATA / "chrony-ns.pcap", DATA / "chrony-ns.tight.claim.json")]
-    for name, (command, second, capture, claim) in product(names, kinds):
-        folder = folder_of(place, f"folder of {name} for {command}", capture, claim)
-        os.rename(folder / "f.pcap", folder / name)
-        check(f"the audit of {name!a} by {command}",
-              status=(dossier("audit", folder, env=keeps)[0], int(command == "refute")))
-        record = record_of(folder)
-        recorded = {**record["inputs"], **record["entries"][0]["outputs"]}
-        said, wanted = ((place / f"{command}.{end}").read_bytes() for end in ("sums", "wanted"))
-        check(f"the sums that {command} gets of {name!a}", sums=(said, wanted),
-              record=([line[:64].decode() for line in said.splitlines()],
-                      [recorded["claim.json"], recorded[name], recorded[second]]))
-        (place / f"{command}.sums").unlink()
-        status, out, _ = dossier("verify", folder, env=keeps)
-        check(f"verify of {name!a} by {command}", status=(status, int(command == "refute")),
-              sums=((place / f"{command}.sums").exists(), True))
 
 
 # ---- drafts, days, verdicts

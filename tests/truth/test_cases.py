@@ -1,5 +1,6 @@
 """Tests of cases: what is said of a history that was made by hand, besides that all of it is so."""
 from collections.abc import Callable, Iterable
+from functools import partial
 from itertools import pairwise
 from pathlib import Path
 
@@ -21,27 +22,11 @@ def stepped(at: int, size: int, aim: int = 0, seed: int = 1, near: float = 0.3) 
     return history
 
 
-def set_back_at_midnight() -> History:
-    return stepped(MIDNIGHT - 20 * SECOND, -60 * SECOND, 60 * SECOND)
-
-
-def set_back_by_the_log() -> History:
-    return stepped(MIDNIGHT - 20 * SECOND, -60 * SECOND, 60 * SECOND, 2)
-
-
-def set_back_in_the_span() -> History:
-    return stepped(MIDNIGHT + 1500 * SECOND, -240 * SECOND)
-
-
 def off_for_a_time() -> History:
     """A clock that is stepped by 60 ms, and slews back until long before the end."""
     history = stepped(MIDNIGHT + 600 * SECOND, 60 * SECOND // 1000)
     history.ppb, history.bound, history.returns = 100_000, 40_000_000, True
     return history
-
-
-def set_back_behind_the_end() -> History:
-    return stepped(MIDNIGHT + 3000 * SECOND + SECOND // 2, -SECOND)
 
 
 def step_and_gap() -> History:
@@ -107,11 +92,6 @@ def leap_in_no_record() -> History:
     return history
 
 
-def stepped_unseen(seed: int) -> Callable[[], History]:
-    """By so little that no record shows it."""
-    return lambda: stepped(MIDNIGHT + 1503 * SECOND, 4 * SECOND // 1000, seed=seed)
-
-
 def ahead_while_nobody_answers() -> History:
     """For 40 s it is an hour ahead, and only its requests are recorded then."""
     history = History(1, MIDNIGHT, 16, 400, near=0.05)
@@ -125,7 +105,8 @@ def ahead_while_nobody_answers() -> History:
 
 
 def off_in_one_of_two_recordings() -> History:
-    """It is a second behind for eight minutes, which the smaller of two recordings has alone."""
+    """It is a second behind for eight minutes, which the smaller of two recordings has alone, though most of it stands
+    in the larger one too, with stamps 3 us later: what one alone has counts."""
     poll = 16 * SECOND
     history = History(1, MIDNIGHT, 16, 230, near=0.05)
     step = MIDNIGHT + 30 * poll - 5 * SECOND
@@ -153,7 +134,8 @@ def off_where_all_is_twice(files: list[str], unit: int = SECOND) -> Callable[[],
 
 
 def recorded_by_another() -> History:
-    """It is 0.9 s ahead, and another machine, whose clock is right, has recorded the same and more."""
+    """It is 0.9 s ahead, and another machine, whose clock is right, has recorded the same and more: what two clocks
+    have stamped is no yes, if the stamps of a packet differ by more than the bound."""
     history = History(1, MIDNIGHT, 16, 60, near=0.05)
     history.aim, history.bound = 9 * SECOND // 10, 120_000_000
     history.recorders = [Recorder("a.pcap", MIDNIGHT + 32 * SECOND, history.end),
@@ -180,20 +162,29 @@ def set_back_as_files_end(polls: int, files: int) -> Callable[[], History]:
     return made
 
 
+BEFORE_MIDNIGHT = MIDNIGHT - 20 * SECOND, -60 * SECOND, 60 * SECOND
+"""A clock that is 60 s ahead is set back by them."""
+UNSEEN = MIDNIGHT + 1503 * SECOND, 4 * SECOND // 1000
+"""A step by so little that no record shows it."""
 CASES: dict[str, tuple[Callable[[], History], bool, set[str], list[str]]] = {
-    "set back at midnight": (set_back_at_midnight, False, {"nothing fits", "refuted"}, ["by -60"]),
-    "set back at midnight, by the log too": (set_back_by_the_log, True, {"nothing fits", "refuted", "unsupported"}, []),
-    "set back in the span": (set_back_in_the_span, False, {"nothing fits"}, ["before the step", "behind the step"]),
+    "set back at midnight": (partial(stepped, *BEFORE_MIDNIGHT), False, {"nothing fits", "refuted"}, ["by -60"]),
+    "set back at midnight, by the log too": (partial(stepped, *BEFORE_MIDNIGHT, seed=2), True,
+                                             {"nothing fits", "refuted", "unsupported"}, []),
+    "set back in the span": (partial(stepped, MIDNIGHT + 1500 * SECOND, -240 * SECOND), False, {"nothing fits"},
+                             ["before the step", "behind the step"]),
     "off for a time": (off_for_a_time, False, {"nothing fits"}, ["stepped, or moved at", "and so beyond the bound"]),
-    "set back behind the end": (set_back_behind_the_end, False, {"nothing fits", "refuted"}, ["by -1,0"]),
+    "set back behind the end": (partial(stepped, MIDNIGHT + 3000 * SECOND + SECOND // 2, -SECOND), False,
+                                {"nothing fits", "refuted"}, ["by -1,0"]),
     "a step and a gap": (step_and_gap, False, {"nothing fits"}, ["by -2", "At the end it was beyond the bound"]),
     "14 ms in 20 s": (fast, False, {"nothing fits"}, ["that takes 69", "and 600 are granted"]),
     "two camps": (two_camps, False, {"nothing fits"}, ["10.9.1.1 and 10.9.1.2 say", "10.9.1.3 and 10.9.1.4 say"]),
     "nobody answers": (nobody_answers, False, {"refuted"}, ["nobody answered, of"]),
     "ten hours ahead on the day before": (hours_ahead, False, {"nothing fits"}, ["by -36,00"]),
     "no leap second": (leap_not_inserted, False, {"nothing fits"}, ["That is a leap second at the end of 2026-06-30"]),
-    "a step by a log in local time": (stepped_unseen(32), True, {"unsupported"}, ["journalctl --utc -o short-iso"]),
-    "a step by busybox's log": (stepped_unseen(43), True, {"unsupported"}, ["logged a step of the clock"]),
+    "a step by a log in local time": (partial(stepped, *UNSEEN, seed=32), True, {"unsupported"},
+                                      ["journalctl --utc -o short-iso"]),
+    "a step by busybox's log": (partial(stepped, *UNSEEN, seed=43), True, {"unsupported"},
+                                ["logged a step of the clock"]),
     "a leap second in no record": (leap_in_no_record, False, {"refuted"}, ["to 23:59:58", "from 2026-07-01 00:0"]),
     "ahead while nobody answers": (ahead_while_nobody_answers, False, {"unsupported"}, ["fall back (1 time;"]),
     "off in what two recordings have": (off_where_all_is_twice(["a.pcap", "b.pcap"]), False, {"nothing fits"},
@@ -210,18 +201,14 @@ CASES: dict[str, tuple[Callable[[], History], bool, set[str], list[str]]] = {
 """Of each case the history, whether there are logs, the verdicts that it may have, and words that are said."""
 
 
-def test_two_interfaces(place: Path) -> None:
-    """What one recording alone has counts, if most of it stands in a larger one too, with stamps 3 us earlier."""
-    one, = read({place / "web-1": (off_in_one_of_two_recordings().live(), None)})
-    check("two interfaces", verdict=(one.view.verdict, "nothing fits"),
-          said=("each counts once" in str(one.texts), True))
-
-
-def test_two_clocks(place: Path) -> None:
-    """What two clocks have stamped is no yes, if the stamps of a packet differ by more than the bound."""
-    one, = read({place / "web-1": (recorded_by_another().live(), None)})
-    check("two clocks", verdict=(one.view.verdict, "unsupported"), said=(
-        "Stamps of one packet are up to 900.000 ms apart, which is beyond the bound" in str(one.texts), True))
+def test_two_recordings(place: Path) -> None:
+    """What was recorded twice. (Of two clocks not all that is said is so: the verdict says why.)"""
+    for name, made, verdict, said in (
+            ("interfaces", off_in_one_of_two_recordings, "nothing fits", "each counts once"),
+            ("clocks", recorded_by_another, "unsupported",
+             "Stamps of one packet are up to 900.000 ms apart, which is beyond the bound")):
+        one, = read({place / name: (made().live(), None)})
+        check(f"two {name}", verdict=(one.view.verdict, verdict), said=(said in str(one.texts), True))
 
 
 def test_falls_by_answers(place: Path) -> None:
