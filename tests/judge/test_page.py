@@ -12,7 +12,7 @@ from pathlib import Path
 from tests.support import DATA, ROOT, check, is_here, program, run, skip, sum_of, wanting
 from tests.judge.made import made, missing
 from tests.tools import browser
-from tests.tools.browser import Browser
+from tests.tools.browser import Browser, Chromium
 
 KINDS = "claim", "capture", "answer"
 YES = DATA / "vlan-ns.claim.json", DATA / "vlan-ns.pcap", DATA / "vlan-ns.settle.txt"
@@ -47,6 +47,13 @@ def choose(page: Browser, files: tuple[Path, Path, Path]) -> None:
         page.choose(f"#{kind}", path)
 
 
+def judge(page: Browser, files: tuple[Path, Path, Path]) -> None:
+    """Opens the page, chooses these files and has them judged."""
+    page.open(url())
+    choose(page, files)
+    page.run("document.getElementById('judge').click()")
+
+
 def verdicts(page: Browser, number: int = 1) -> list[str]:
     """The verdicts that stand there, once there are so many."""
     page.wait(f"document.querySelectorAll('article').length >= {number} && document.getElementById('running').hidden")
@@ -77,9 +84,7 @@ def judged_by_program(files: tuple[Path, Path, Path]) -> str:
 def try_verdicts(page: Browser) -> None:
     """Each verdict, its line that of the program, and the sums of the files."""
     for wanted, files in {"Yes": YES, **OTHERS}.items():
-        page.open(url())
-        choose(page, files)
-        page.run("document.getElementById('judge').click()")
+        judge(page, files)
         seen = verdicts(page)
         check(f"{wanted}, chosen", verdict=(seen, [wanted]), line=(line(page), judged_by_program(files)),
               sums=(sums(page), [sum_of(path.read_bytes()) for path in files]))
@@ -133,11 +138,14 @@ def test_many_servers(folder: Path) -> None:
     with browser.chromium() as page:
         for server, number in (("", 21_000), ("192.0.2.1", 5_000)):
             path.write_text(json.dumps({**claim, "servers": [server] * number}, separators=(",", ":")))
-            page.open(url())
-            choose(page, (path, *YES[1:]))
-            page.run("document.getElementById('judge').click()")
+            judge(page, (path, *YES[1:]))
             check(f"{number} servers", verdict=(verdicts(page), ["Not judged"]),
                   line=(line(page), judged_by_program((path, *YES[1:]))))
+
+
+def dropped(page: Chromium, *files: Path) -> None:
+    page.open(url())
+    page.drop(*files)
 
 
 @needs("chromium")
@@ -146,31 +154,25 @@ def test_dropped(folder: Path) -> None:
     strange = folder / "<img src=x onerror=alert(1)>\u202epacp.exe"
     shutil.copytree(DATA / "older/1.0.0/yes", strange)
     with browser.chromium() as page:
-        page.open(url())
-        page.drop(*YES)
+        dropped(page, *YES)
         check("three files, dropped", verdict=(verdicts(page), ["Yes"]), line=(line(page), "verdict yes"))
-        page.open(url())
-        page.drop(YES[0], YES[1])
+        dropped(page, YES[0], YES[1])
         check("two files, dropped", warned=(page.wait("!document.getElementById('warning').hidden"), True),
               said=("Still missing: answer." in text(page), True))
         page.drop(YES[2])
         check("and the third", verdict=(verdicts(page), ["Yes"]))
         for name, wanted in (("yes", ["Yes", "It stands"]), ("refuted", ["It stands"]),
                              ("nothing-fits", ["Nothing fits"])):
-            page.open(url())
-            page.drop(DATA / "older/1.0.0" / name)
+            dropped(page, DATA / "older/1.0.0" / name)
             check(f"a folder of an audit, dropped: {name}", verdicts=(verdicts(page, len(wanted)), wanted))
-        page.open(url())
-        page.drop(DATA / "older/1.0.0")
+        dropped(page, DATA / "older/1.0.0")
         check("a folder of folders, dropped",
               verdicts=(verdicts(page, 4), ["Nothing fits", "It stands", "Yes", "It stands"]))
-        page.open(url())
-        page.drop(strange)
+        dropped(page, strange)
         check("a folder with a strange name", verdicts=(verdicts(page, 2), ["Yes", "It stands"]),
               images=(page.run("document.images.length"), 0),
               shown=("\\u{202e}pacp.exe/certificate.json" in text(page), True))
-        page.open(url())
-        page.drop(DATA / "README.md")
+        dropped(page, DATA / "README.md")
         check("something else, dropped", warned=(page.wait("!document.getElementById('warning').hidden"), True))
         check("what it complained of", complaints=(page.complaints(), []))
 
@@ -190,9 +192,7 @@ def test_at_work(folder: Path) -> None:
     """While it judges many records the page answers, shows how far it is, and can be stopped."""
     many = grown(folder, 300_000)
     with browser.chromium() as page:
-        page.open(url())
-        choose(page, (YES[0], many, YES[2]))
-        page.run("document.getElementById('judge').click()")
+        judge(page, (YES[0], many, YES[2]))
         parts = set[float]()
         while page.run("!document.getElementById('running').hidden"):
             parts.add(float(page.run("document.getElementById('progress').value")))

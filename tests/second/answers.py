@@ -7,6 +7,7 @@ from typing import NamedTuple
 from tests.second import pieces, rules, settlement
 from tests.second.claims import Claim
 from tests.second.columns import MOMENT, PIECE, PIECE_OF_SERVER, SAMPLE, TICKS, written
+from tests.second.pieces import Hulls
 from tests.second.rules import Hull, Intervals, Sample
 
 Answer = tuple[int, list[str]]
@@ -14,23 +15,18 @@ Answer = tuple[int, list[str]]
 
 
 class Evidence(NamedTuple):
-    """A claim and its samples: of each the numbers of its two records, the line of counts, and the interval of each
-    server over any piece; by their seconds the pieces that were made of it; and the hull over any piece, if it isn't
-    made of these intervals."""
+    """A claim and its samples: of each the numbers of its two records, and the line of counts; the hulls over any
+    piece; and by their seconds the pieces that were made of it."""
     claim: Claim
     samples: list[Sample]
     records: list[tuple[int, int]]
     counts: str
-    intervals: Callable[[int, int], Intervals]
+    hulls: Hulls
     made: dict[int, list["Drawn"]]
-    hull: Callable[[int, int], Hull] | None = None
 
 
 def by_rules(claim: Claim, samples: list[Sample], records: list[tuple[int, int]] = [], counts: str = "") -> Evidence:
-    """Evidence whose intervals are those of the best samples, looked for among all of them."""
-    def intervals(begin: int, end: int) -> Intervals:
-        return rules.intervals(claim, samples, rules.best_entries(claim, samples, begin, end), begin, end)
-    return Evidence(claim, samples, records, counts, intervals, {})
+    return Evidence(claim, samples, records, counts, Hulls(claim, samples), {})
 
 
 def step_of(words: Sequence[object]) -> int:
@@ -48,9 +44,9 @@ def samples(evidence: Evidence) -> Answer:
 def at(evidence: Evidence, time: str) -> Answer:
     """The servers' intervals at a moment, and the hull."""
     place = rules.ticks_of(time)
-    of_servers = evidence.intervals(place, place)
+    of_servers, hull = evidence.hulls.intervals(place, place), evidence.hulls.over(place, place)
     lines = [written(MOMENT, evidence.claim["servers"][server], *ends) for server, ends in of_servers.items()]
-    return 0, [*lines, written(MOMENT, "hull", *rules.hull_fields(rules.hull_of(evidence.claim, of_servers)))]
+    return 0, [*lines, written(MOMENT, "hull", *rules.hull_fields(hull))]
 
 
 class Drawn(NamedTuple):
@@ -68,9 +64,7 @@ def drawn(evidence: Evidence, step: int) -> Iterator[Drawn]:
         return
     found = []
     for begin, end in rules.pieces_of(evidence.claim, step):
-        of_servers = evidence.intervals(begin, end)
-        hull = evidence.hull(begin, end) if evidence.hull else rules.hull_of(evidence.claim, of_servers)
-        found.append(Drawn(begin, end, of_servers, hull))
+        found.append(Drawn(begin, end, evidence.hulls.intervals(begin, end), evidence.hulls.over(begin, end)))
         yield found[-1]
     evidence.made[step] = found
 

@@ -52,9 +52,8 @@ class Command(NamedTuple):
 
 def fault_alone(ran: Ran, options: Sequence[str], may_lack_words: bool = False) -> Ran:
     """The same run without the words of `--human` on standard error, which begin with two blanks: two lines behind a
-    fault line, and nothing else; with an answer lines about numbers that look like a slip of the pen
-    (tests/second/slips.py). One line stands for those about the inputs. Without the option there is nothing to leave
-    out."""
+    fault line, and nothing else; with an answer lines about numbers that look like a slip of the pen. One line stands
+    for those about the inputs. Without the option there is nothing to leave out."""
     if "--human" not in options:
         return ran
     status, output, error = ran = (ran[0], shown.without_about(ran[1]), ran[2])
@@ -112,7 +111,7 @@ def told(name: str, words: Sequence[Path | str], records: int) -> Answer:
     said = evidence(records)
     heard = {said.claim["servers"][sample.server] for sample in said.samples}
     least, *_ = READINGS["envelope"](said, "--least")[1][-1].split(" piece")
-    return status, [*shown.settle(lines, said.claim, {}, least, heard), shown.ABOUT]
+    return status, [*shown.settle(lines, said.claim, least, heard), shown.ABOUT]
 
 
 # ---- the commands

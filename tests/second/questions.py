@@ -113,10 +113,10 @@ class Question:
 
     @cached_property
     def evidence(self) -> Evidence:
-        """What tests/second/answers.py reads, whose intervals and hulls are made of sorted lists."""
+        """What tests/second/answers.py reads."""
         known = len(self.samples)
         counts = counted(records=2 * known, requests=known, replies=known, samples=known)
-        return Evidence(self.claim, self.samples, self.records, counts, self.hulls.intervals, {}, self.hulls.over)
+        return Evidence(self.claim, self.samples, self.records, counts, self.hulls, {})
 
     @cached_property
     def covers(self) -> list[set[int]]:
@@ -182,7 +182,7 @@ def settle_wrong(question: Question, ran: Ran, kind: str) -> str:
 
 def found_by_covers(question: Question) -> ByCovers | None:
     bound = rules.bound_of(question.claim)
-    return by_covers.Search(question.claim, question.samples, question.conflicts).find(bound).certificate
+    return by_covers.Search(question.claim, question.samples, question.conflicts).find(bound)
 
 
 def carried(question: Question) -> str:

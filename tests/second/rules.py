@@ -1,12 +1,11 @@
 """The rules of docs/DEFINITIONS.md on the samples of a claim, restated: what an exchange says of the clock's error, and
-what hulls, envelopes and the certificates and refutations that are found have to be. It looks at every sample, and at
-every point that an interval's end could be. What `check` and `refute` say of others is second/recheck's.
+what the certificates and refutations that are found have to be. It looks at every sample. What `check` and `refute` say
+of others is second/recheck's.
 
 A claim is the value of its file, and servers and samples go by their numbers. Times are in ticks of 2^-32 s.
 """
 import datetime
 import json
-from bisect import bisect_left, bisect_right
 from collections.abc import Callable, Collection, Iterable
 from itertools import accumulate
 
@@ -117,27 +116,6 @@ def intervals(claim: Claim, samples: list[Sample], entries: list[list[int]], beg
     """The interval of each server that has an entry."""
     return {samples[a].server: (moved_low(claim, samples[a], begin, end), moved_high(claim, samples[b], begin, end))
             for a, b in entries}
-
-
-def hull_of(claim: Claim, of_servers: Intervals) -> Hull:
-    """The hull over the groups of these servers, where an interval of a group is what all its servers have in common:
-    None where it's unbounded, () where it's empty."""
-    of_groups = []
-    for group in groups_of(claim):
-        if own := [of_servers[server] for server in group if server in of_servers]:
-            of_groups.append((max(low for low, _ in own), min(high for _, high in own)))
-    if len(of_groups) <= claim["false_max"]:
-        return None
-    lows = sorted(low for low, high in of_groups if low <= high)
-    highs = sorted(high for low, high in of_groups if low <= high)
-    most = claim["false_max"] - (len(of_groups) - len(lows))
-    points = [p for p in lows + highs if len(lows) - bisect_right(lows, p) + bisect_left(highs, p) <= most]
-    return (min(points), max(points)) if points else ()
-
-
-def hull(claim: Claim, samples: list[Sample], entries: list[list[int]], begin: int, end: int) -> Hull:
-    """The hull of some entries."""
-    return hull_of(claim, intervals(claim, samples, entries, begin, end))
 
 
 def need_of(found: Hull) -> int | None:

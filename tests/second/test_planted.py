@@ -4,7 +4,6 @@ asks is asked of each copy too, until something sees it.
 """
 import multiprocessing
 import os
-import random
 import tempfile
 from collections.abc import Callable
 from concurrent.futures import ProcessPoolExecutor
@@ -12,9 +11,9 @@ from pathlib import Path
 from typing import Any
 
 from tests.support import count
-from tests.second import rechecked, test_by_covers, test_recheck
+from tests.second import rechecked, test_recheck
+from tests.system import test_covers as by_covers
 
-SYSTEMS = 1000
 SCENES = 60
 """How many scenes are tried beside what is directed."""
 
@@ -109,7 +108,7 @@ COVERS: list[Plant] = [
      "high + max(0, drift * (end - v) // up, drift * (v - begin) // down)"),
     ("the last case isn't looked at", "for groups, pieces in cases)", "for groups, pieces in cases[:-1])"),
 ]
-"""What could be wrong of certificates by covers: test_by_covers.py has to see it."""
+"""What could be wrong of certificates by covers: tests/system/test_covers.py has to see it."""
 SEEN = multiprocessing.Array("b", len(PLANTS))
 """Which plants something has seen."""
 
@@ -165,10 +164,15 @@ def test_plants() -> None:
 
 
 def sees(number: int) -> bool:
-    """Whether one of many systems of exchanges shows this plant of COVERS."""
+    """Whether a certificate by covers shows this plant of COVERS."""
     text = rechecked.RECHECK.read_text("utf-8")
     rechecked.MODULE = module_of(text.replace(COVERS[number][1], COVERS[number][2]))
-    return any(test_by_covers.judged(random.Random(f"planted {k}"))[1] for k in range(SYSTEMS))
+    try:
+        for seed in range(by_covers.CHECKED):
+            by_covers.try_checked(seed)
+    except AssertionError:
+        return True
+    return False
 
 
 def test_covers() -> None:

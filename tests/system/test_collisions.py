@@ -60,25 +60,16 @@ def capture(start: int) -> bytes:
     return head + b"".join(request(number, *key) for number, key in enumerate(keys(start)))
 
 
-def test_model() -> None:
-    """The captures do what they are for: each has one state after its keys, and no two of its keys are the same."""
+def test_program(folder: Path) -> None:
+    """Each capture has one state after its keys, no two of which are the same; and the program takes no longer."""
+    claim, path = folder / "claim.json", folder / "f.pcap"
+    claim.write_text(json.dumps(Setting(SERVERS, 0, 0, 0).claim(1_000_000)))
     for name, start in STARTS.items():
         listed = list(keys(start))
         ends = {written(written(written(start, server, 1), port, 2), stamp, 8) for server, port, stamp in listed}
-        check(f"the timestamps for {name}", ends=(len(ends), 1), keys=(len(set(listed)), SERVERS * len(PORTS)))
-
-
-def claim_of(folder: Path) -> Path:
-    """A claim on all servers."""
-    (folder / "claim.json").write_text(json.dumps(Setting(SERVERS, 0, 0, 0).claim(1_000_000)))
-    return folder / "claim.json"
-
-
-def test_program(folder: Path) -> None:
-    claim, path = claim_of(folder), folder / "f.pcap"
-    for name, start in STARTS.items():
         path.write_bytes(capture(start))
-        check(f"requests that would collide under {name}",
+        check(f"requests that would collide under {name}", ends=(len(ends), 1),
+              keys=(len(set(listed)), SERVERS * len(PORTS)),
               run=(run([PROGRAM, "samples", claim, path], preexec_fn=limited), WANTED))
 
 

@@ -5,13 +5,12 @@ import os
 import re
 import select
 import shlex
-import shutil
 import subprocess
 from pathlib import Path
 from subprocess import PIPE
 from typing import IO, Any
 
-from tests.support import DATA, Ran, SECONDS, check, nobody, program, run
+from tests.support import DATA, Ran, SECONDS, check, program, run
 from tests.second.columns import SAMPLE, written
 from tests.second.commands import CAPTURE, CLAIM, Command, every_command, fault_alone
 
@@ -36,6 +35,7 @@ def test_closed_streams() -> None:
     check("standard error closed, and not needed", run=(shell('"$0" list "$1" 2>&-'), (0, LISTING, b"")))
     check("standard error closed", run=(shell('"$0" list "$1.missing" 2>&-'), (4, b"", b"")))
     check("standard error closed at a refused command line", run=(shell('"$0" lists 2>&-'), (5, b"", b"")))
+    check("a device whose reads fail", run=(shell('"$0" list /proc/self/mem'), (4, b"", NO_CAPTURE)))
     check("all streams closed", run=(shell('"$0" list "$1" <&- >&- 2>&-'), (4, b"", b"")))
 
 
@@ -78,19 +78,6 @@ def test_full_devices(folder: Path) -> None:
     whole = (DATA / "clients-us.list.txt").read_bytes()
     check("an output over the limit of a file's size", status=(status, 153),
           kept=(listing.read_bytes(), lambda seen: len(seen) <= 8192 and whole.startswith(seen)))
-
-
-def test_inputs(folder: Path) -> None:
-    check("a device whose reads fail", run=(shell('"$0" list /proc/self/mem'), (4, b"", NO_CAPTURE)))
-    closed, public = folder / "closed.pcap", folder / "program"
-    shutil.copy(CAPTURE, closed)
-    shutil.copy(PROGRAM, public)
-    folder.chmod(0o755)
-    closed.chmod(0)
-    public.chmod(0o755)
-    how = nobody("a file that may not be read")
-    if how is not None:
-        check("a file that may not be read", run=(run([public, "list", closed], cwd="/", **how), (4, b"", NO_CAPTURE)))
 
 
 def test_endless_inputs(folder: Path) -> None:

@@ -4,8 +4,8 @@ long calls take, and how that grows, bench/hostile measures.
 Of each capture of tests/tools/families.py and each of its claims all commands are held to a second reading: lines byte
 for byte; of certificates that the pieces lie inside the bound, and with one more tick don't; of refutations that they
 stand, and are there where the reading finds one; and the least bound by the property that makes it one. So are the
-captures of data/slow, a large one, and claims that take exactly 100,000 pieces and one more; and those of data/, by
-what `list` prints of them, with `settle` and `find` of some changed claims too.
+captures of data/slow, and a large one; and those of data/, by what `list` prints of them, with `settle` and `find` of
+some changed claims too. (How many pieces are too many is proved.)
 """
 import json
 import shutil
@@ -19,12 +19,11 @@ from pathlib import Path
 from typing import Any, NamedTuple
 
 from tests.support import DATA, check, count, files_in, program, run
-from tests.second import answers, marks, pieces, rules
+from tests.second import answers, marks, rules
 from tests.second.claims import Claim, changed
 from tests.second.columns import TICKS
 from tests.second.commands import plain_commands
 from tests.second.exchanges import evidence_of
-from tests.second.pieces import Hulls
 from tests.second.questions import Asks, CASES, Question, Way, find_case, settle_case
 from tests.tools import families
 from tests.tools.families import Exchanges
@@ -82,27 +81,6 @@ def try_family(name: str, size: int) -> Told:
         return tried(questions_on(f"{name} with {size}", made.exchanges, claims, way))
 
 
-def exact_claims() -> dict[str, Claim]:
-    """A claim that takes as many pieces as a certificate may have, and one of a second more that takes too many."""
-    made = families.many_pieces(64)
-    claim = changed(made.claims["over"], to=families.spelled(families.BEGIN + families.DAY * 11 // 10))
-    hulls = Hulls(claim, made.exchanges.samples(claim))
-    ends, stop = pieces.ends_of(rules.span_of(claim), hulls, rules.bound_of(claim))
-    last = ends[-1] // TICKS
-    assert stop and stop.is_over and ends[-2] < last * TICKS, stop
-    changes = {"exactly": last, "one-more": last + 1}
-    return {name: changed(claim, to=families.spelled(second)) for name, second in changes.items()}
-
-
-def try_exact() -> Told:
-    with tempfile.TemporaryDirectory(prefix="ntpaudit-") as folder:
-        way = Way(PROGRAM, Path(folder), LIMIT, True, {}, set())
-        exchanges = families.many_pieces(64).exchanges
-        told = tried(questions_on("100,000 pieces", exchanges, exact_claims(), way), [settle_case])
-    check("100,000 pieces, and one more", kinds=(told.kinds, lambda kinds: kinds[0] == "shown" != kinds[1]))
-    return told
-
-
 @contextmanager
 def captured(file: Path) -> Iterator[tuple[str, Claim, bytes, Way]]:
     """A claim of data/ by its name, with what `list` prints of its capture, and how questions on that are asked."""
@@ -151,7 +129,6 @@ def try_changed(file: Path) -> Told:
 def cases() -> Iterator[tuple[str, Callable[[], Told]]]:
     """What is tried: the longest first."""
     yield "system.hostile.large", partial(try_family, "hour", LARGE)
-    yield "system.hostile.exact", try_exact
     for file, step in [*product(files_in(families.FILES, "*.claim.json"), [3600]),
                        *product(files_in(DATA, "*.claim.json"), [1, 3, 8, 64, 86_400])]:
         yield f"system.hostile.{file.name.removesuffix('.claim.json')}.{step}", partial(try_file, file, step)

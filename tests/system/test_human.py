@@ -1,25 +1,23 @@
 """Compares what `--human` shows with a second reading (tests/second/shown.py), made of what the same command prints
-without it, byte for byte: for data/, 1,024 random ranges, and inputs with names that a terminal would obey. What
-`settle` tells stands in tests/cases/settle.txt. (How ranges, times and errors are rounded is proved.)
+without it, byte for byte: for data/, and inputs with names that a terminal would obey. What `settle` tells stands in
+tests/cases/settle.txt, and what is said of slips of the pen in tests/cases/words.txt. (How ranges, times and errors are
+rounded is proved.)
 """
 import hashlib
 import json
-import random
-import runpy
+import re
 from collections.abc import Sequence
 from concurrent.futures import ThreadPoolExecutor
 from datetime import datetime, timedelta, timezone
 from pathlib import Path
 
-from tests.support import DATA, ROOT, Ran, check, files_in, program, run
-from tests.second import exchanges, marks, shown, slips, sum_form
+from tests.support import DATA, Ran, check, files_in, program, run
+from tests.second import exchanges, marks, shown, sum_form
 from tests.second.claims import Claim, read_claim
-from tests.second.columns import TICKS
-from tests.second.commands import CAPTURE, CERTIFICATE, CLAIM, REFUTATION, TIME, every_command, plain_commands, variants
+from tests.second.commands import CAPTURE, CERTIFICATE, CLAIM, REFUTATION, every_command, plain_commands, variants
 
 PROGRAM = program()
 VERSION = run([PROGRAM, "--version"])[1]
-CAPTURE_OF = runpy.run_path(str(ROOT / "tests/tools/capture_of"))["capture"]
 EPOCH = datetime(1970, 1, 1, tzinfo=timezone.utc)
 Words = Sequence[Path | str]
 """A command line."""
@@ -32,7 +30,8 @@ def compare(name: str, words: Words) -> tuple[str, Ran, Ran]:
     called = [str(word) for word in words]
     fits = words[0] != "check" or not plain or does_fit(*words[1:3])
     text = shown.of(called, plain, fits, shown.about(called, VERSION))
-    return name, seen, (status, text, slips_of(words, status) or error)
+    are_slips = status in (0, 1) and re.fullmatch(rb"(  \S.*\n)*", seen[2])
+    return name, seen, (status, text, seen[2] if are_slips else error)
 
 
 def does_fit(claim: Path | str, capture: Path | str) -> bool:
@@ -40,11 +39,6 @@ def does_fit(claim: Path | str, capture: Path | str) -> bool:
     said = read_claim(str(claim))
     samples = exchanges.evidence_of(said, run([PROGRAM, "list", capture])[1]).samples
     return bool(marks.smallest_covers(said, marks.contradictions(said, samples)))
-
-
-def slips_of(words: Words, status: int | str) -> bytes:
-    """What is said of numbers that look like a slip of the pen, on standard error, with an answer."""
-    return slips.of(Path(words[1]), Path(words[2])) if status in (0, 1) else b""
 
 
 # ---- the captures of data/
@@ -103,27 +97,3 @@ def test_inputs(folder: Path) -> None:
             about = "".join(f"{line}\n" for line in shown.about(words, VERSION, held))
             check(f"{command} {' '.join(how)}", status=(status, lambda status: status in (0, 1)), lines=(
                 told.decode().removesuffix("verdict yes\n"), lambda told: told.endswith(f"\n{about}")))
-
-
-def end_of(rng: random.Random) -> int:
-    """An end of a range in ticks: any, at a whole nanosecond, one tick beside it, or small."""
-    sign, small = rng.choice((-1, 1)), rng.choice((-1, 0, 1))
-    return rng.choice((sign * rng.randrange(2 ** rng.randint(1, 61)), rng.randint(-3, 3),
-                       sign * 2**23 * rng.randrange(2 ** rng.randint(1, 38)) + small,  # (2^23 ticks are 1,953,125 ns)
-                       sign * (rng.randrange(10 ** rng.randint(1, 17)) * TICKS // 10**9 + small)))
-
-
-def test_ranges(folder: Path) -> None:
-    """1,024 random ranges, in 32 captures of as many servers."""
-    rng, calls = random.Random(41), list[tuple[str, Words]]()
-    given = {**json.loads(CLAIM.read_text()), "servers": [f"192.0.2.{11 + k}" for k in range(32)]}
-    for number in range(32):
-        claim, capture = folder / f"{number}.claim.json", folder / f"{number}.pcap"
-        claim.write_text(json.dumps({**given, "false_max": rng.choice((0, 5, 16, 25, 30, 31))}))
-        capture.write_bytes(CAPTURE_OF([f"{11 + k}:{min(ends)}..{max(ends)}" for k in range(32)
-                                        for ends in [(end_of(rng), end_of(rng))]]))
-        calls += [(f"ranges {number}: {words[0]}", [words[0], claim, capture, *words[1:]])
-                  for words in (["samples"], ["at", TIME], ["find"], ["envelope", "--servers"])]
-    with ThreadPoolExecutor() as pool:
-        for name, seen, wanted in pool.map(lambda call: compare(*call), calls):
-            check(name, run=(seen, wanted))

@@ -7,12 +7,12 @@ import os
 import re
 import shutil
 import subprocess
-import time
-from collections.abc import Callable
+from collections.abc import Callable, Iterator
+from contextlib import contextmanager
 from pathlib import Path
 from typing import Any
 
-from tests.support import ROOT, SECONDS, Ran, check, manifest_of, nobody, run, runnable, sum_of
+from tests.support import ROOT, SECONDS, Ran, check, manifest_of, nobody, run, runnable, sum_of, wait_until
 
 STAND_IN = """#!/bin/sh
 # stands in for the toolchain: `rt run` in the crate's folder leaves the "program" that its source is
@@ -37,6 +37,7 @@ if grep -q wrong src/main.rt; then echo the proof is open; exit 1; fi
 mkdir -p out; cp src/main.rt out/ntpaudit
 """
 PROGRAM = '#!/bin/sh\nread -r line || line=none\necho "$PWD $line $*"\necho the program ran >&2\nexit 3\n'
+STRANGE = PROGRAM.replace("ran", "ran wrongly")
 TOOLS = (
     "sh bash env find sort sha256sum readlink mkdir mv cp rm chmod tail touch sleep flock dirname basename cat grep "
     "nproc cmp").split()
@@ -91,11 +92,22 @@ class Copy:
     def builds(self) -> int:
         return len((self.top / "builds").read_text().split()) if (self.top / "builds").exists() else 0
 
-    def mark(self, name: str, is_there: bool) -> None:
-        if is_there:
-            (self.toolchain / name).touch()
-        else:
+    @contextmanager
+    def marked(self, name: str) -> Iterator[None]:
+        """While the toolchain does this."""
+        (self.toolchain / name).touch()
+        try:
+            yield
+        finally:
             (self.toolchain / name).unlink()
+
+    def write_source(self, more: str = "") -> None:
+        self.source.write_text(PROGRAM + more)
+
+    def write_version(self, version: str, toolchain: Path | None = None) -> None:
+        """Puts a toolchain of this version there."""
+        ((toolchain or self.toolchain) / "version").write_text(f"{version}\n")
+        ((toolchain or self.toolchain) / "rt").touch()
 
     def check_run(self, name: str, *words: object, is_built: bool = False, **how: Any) -> None:
         """A call runs the program, which it builds or not."""
@@ -137,79 +149,81 @@ def test_calls(folder: Path) -> None:
     copy.check_refused("the launcher alone", b"its repository is not around it", by=[moved])
 
 
+def set_back(copy: Copy) -> None:
+    """A change with a time that is set back."""
+    old = copy.source.stat()
+    copy.write_source("# other\n")
+    os.utime(copy.source, (old.st_atime - 1000, old.st_mtime - 1000))
+
+
+def replace_by_older(copy: Copy) -> None:
+    (older := copy.folder / "older").write_text(PROGRAM + "# older\n")
+    os.utime(older, (0, 0))
+    older.rename(copy.source)
+
+
+CHANGES: dict[str, tuple[Callable[[Copy], object], bool]] = {
+    "no change": (lambda copy: None, True),
+    "a new file": (lambda copy: (copy.crate / "specs/Line.antt").write_text("-- a definition\n"), True),
+    "a touch": (lambda copy: copy.source.touch(), False),
+    "a change with a time set back": (set_back, True),
+    "an older file took a file's place": (replace_by_older, True),
+    "a folder has another name": (lambda copy: (copy.top / "crates/other/proofs/lemma").rename(
+        copy.top / "crates/other/proofs/other_lemma"), True),
+    "the program was replaced": (lambda copy: (copy.kept / "ntpaudit").write_text(STRANGE), True),
+    "a touch of the toolchain": (lambda copy: copy.rt.touch(), False),
+    "another toolchain took its place": (lambda copy: copy.write_version("stand-in 2"), True),
+    "an empty stamp": (lambda copy: (copy.kept / "ntpaudit.stamp").write_text(""), True),
+    "the folder out/ was removed": (lambda copy: shutil.rmtree(copy.kept), True)}
+"""What changes, and whether the next call builds."""
+
+
 def test_changes(folder: Path) -> None:
     """Whatever changes in the sources, the program or the toolchain, the next call notices."""
     copy = Copy(folder)
-    copy.check_run("before the changes", is_built=True)
-    (copy.crate / "specs/Line.antt").write_text("-- a definition\n")
-    copy.check_run("after a new file", is_built=True)
-    copy.source.touch()
-    copy.check_run("after a touch")
-    old = copy.source.stat()
-    copy.source.write_text(PROGRAM + "# other\n")
-    os.utime(copy.source, (old.st_atime - 1000, old.st_mtime - 1000))
-    copy.check_run("after a change with a time set back", is_built=True)
-    older = folder / "older"
-    older.write_text(PROGRAM + "# older\n")
-    os.utime(older, (0, 0))
-    older.rename(copy.source)
-    copy.check_run("after an older file took a file's place", is_built=True)
-    (copy.top / "crates/other/proofs/lemma").rename(copy.top / "crates/other/proofs/other_lemma")
-    copy.check_run("after a folder has another name", is_built=True)
-    (copy.kept / "ntpaudit").write_text(PROGRAM.replace("ran", "ran wrongly"))
-    copy.check_run("after the program was replaced", is_built=True)
-    copy.rt.touch()
-    copy.check_run("after a touch of the toolchain")
-    (copy.toolchain / "version").write_text("stand-in 2\n")
-    copy.rt.touch()
-    copy.check_run("after another toolchain took its place", is_built=True)
+    for name, (change, is_built) in CHANGES.items():
+        change(copy)
+        copy.check_run(f"after {name}", is_built=is_built)
     other = folder / "other toolchain"
     shutil.copytree(copy.toolchain, other)
-    copy.check_run("with the same toolchain elsewhere", toolchain=other)
-    (other / "version").write_text("stand-in 3\n")
-    copy.rt.touch()
-    copy.check_run("with the toolchain of the build")
-    copy.check_run("with another toolchain elsewhere", toolchain=other, is_built=True)
-    for kit, is_built in (("kit-a logic one", True), ("kit-b logic one", False), ("kit-b logic two", True)):
-        (other / "version").write_text(f"{kit}\n")
-        (other / "rt").touch()
-        copy.check_run(f"with {kit}", toolchain=other, is_built=is_built)
-    (copy.kept / "ntpaudit.stamp").write_text("")
-    copy.check_run("with an empty stamp", toolchain=other, is_built=True)
-    shutil.rmtree(copy.kept)
-    copy.check_run("without the folder out/", toolchain=other, is_built=True)
+    for version, is_built in (("stand-in 2", False), ("stand-in 3", True), ("kit-a logic one", True),
+                              ("kit-b logic one", False), ("kit-b logic two", True)):
+        copy.write_version(version, other)
+        copy.check_run(f"with {version} elsewhere", toolchain=other, is_built=is_built)
+        if version == "stand-in 2":
+            copy.check_run("with the toolchain of the build")
 
 
 def test_failed_builds(folder: Path) -> None:
     """A build that fails leaves no program that could be taken for a proved one."""
     copy = Copy(folder)
+    log = copy.kept / "build.log"
+
+    def refused_twice(name: str, why: bytes) -> None:
+        for call in (name, f"{name}, called again"):
+            copy.check_refused(call, why)
     copy.check_run("before the failures", is_built=True)
-    copy.source.write_text(PROGRAM + "# wrong\n")
-    for call in ("a failed build", "the call after it"):
-        copy.check_refused(call, b"the proof is open")
+    copy.write_source("# wrong\n")
+    refused_twice("a failed build", b"the proof is open")
     copy.check_refused("after a failed build, without a toolchain", b"is not on the PATH", toolchain=copy.home)
-    copy.source.write_text(PROGRAM + "# right\n")
-    copy.mark("leaves-nothing", True)
-    for call in ("a build that leaves no program", "the call after it"):
-        copy.check_refused(call, b"the build left no program")
-    copy.mark("leaves-nothing", False)
+    copy.write_source("# right\n")
+    with copy.marked("leaves-nothing"):
+        refused_twice("a build that leaves no program", b"the build left no program")
     copy.check_run("a build that leaves one", is_built=True)
-    copy.source.write_text(PROGRAM + "# other\n")
-    (copy.kept / "build.log").unlink()
-    (copy.kept / "build.log").mkdir()
-    for call in ("a log that is a folder", "the call after it"):
-        copy.check_refused(call, b"build.log cannot be written")
-    (copy.kept / "build.log").rmdir()
+    copy.write_source("# other\n")
+    log.unlink()
+    log.mkdir()
+    refused_twice("a log that is a folder", b"build.log cannot be written")
+    log.rmdir()
     copy.check_run("a log that is a file again", is_built=True)
-    copy.source.write_text(PROGRAM + "# a change\n")
-    copy.mark("changes-sources", True)
-    copy.check_refused("sources that change during the build", b"the sources were changed while it was built")
-    copy.mark("changes-sources", False)
+    copy.write_source("# a change\n")
+    with copy.marked("changes-sources"):
+        copy.check_refused("sources that change during the build", b"the sources were changed while it was built")
     copy.check_run("sources that changed once", is_built=True)
     copy.source.write_text("#!/missing/interpreter\n")
     copy.check_refused("a program that can't be started", b"ntpaudit: ")
     shutil.rmtree(copy.kept)
-    copy.source.write_text(PROGRAM)
+    copy.write_source()
     copy.kept.write_text("a file\n")
     copy.check_refused("a file in the place of out/", b"nothing can be written")
     copy.kept.unlink()
@@ -228,10 +242,10 @@ def test_shipped_program(folder: Path) -> None:
     (copy.toolchain / "version").write_text("stand-in 2\n")
     copy.check_run("the shipped program, with another toolchain")
     (copy.toolchain / "version").write_text("stand-in 1\n")
-    copy.source.write_text(PROGRAM + "# other\n")
+    copy.write_source("# other\n")
     copy.check_refused("other sources, without a toolchain", b"which is run by: dist/ntpaudit", **nothing)
     copy.check_run("other sources, with a toolchain", is_built=True)
-    copy.source.write_text(PROGRAM)
+    copy.write_source()
     copy.check_run("the sources of the shipped program again", **nothing)
     for name, file, text in (("a changed program", "ntpaudit", PROGRAM + "# spoiled\n"),
                              ("a changed manifest", "MANIFEST", kept.replace("program ", "program 0")),
@@ -259,16 +273,15 @@ def test_strange_folders(folder: Path) -> None:
     ship(copy)
     nothing: dict[str, Any] = {"toolchain": copy.home}
     copy.check_run("before a strange folder", **nothing)
-    strange = PROGRAM.replace("ran", "ran wrongly")
     for name, is_there in (("without one's own", False), ("over one's own", True)):
         stamp = (copy.kept / "ntpaudit.stamp").read_text().splitlines()
         for mode in (0o755, 0o555):
             if not is_there:
                 shutil.rmtree(copy.kept)
             copy.kept.mkdir(exist_ok=True)
-            runnable(copy.kept / "ntpaudit", strange)
+            runnable(copy.kept / "ntpaudit", STRANGE)
             found = os.stat(copy.kept / "ntpaudit")
-            for third in (stamp[2], sum_of(strange.encode()) + "  -", f"{found.st_ino} {found.st_mtime:.10f}"):
+            for third in (stamp[2], sum_of(STRANGE.encode()) + "  -", f"{found.st_ino} {found.st_mtime:.10f}"):
                 (copy.kept / "ntpaudit.stamp").write_text("\n".join([*stamp[:2], third, *stamp[3:], ""]))
                 os.utime(copy.kept / "ntpaudit.stamp", (2**33, 2**33))
                 copy.kept.chmod(mode)
@@ -284,7 +297,7 @@ def test_strange_folders(folder: Path) -> None:
     copy.kept.unlink()
     copy.kept.mkdir()
     (copy.kept / "build.log").symlink_to(folder / "elsewhere/victim")
-    copy.source.write_text(PROGRAM + "# other\n")
+    copy.write_source("# other\n")
     copy.check_refused("a link in out/", b"has links in it")
     check("where a link in out/ leads", left=(os.listdir(folder / "elsewhere"), []))
 
@@ -307,10 +320,9 @@ def test_verify(folder: Path) -> None:
     check("the version, with the sum of the sources and the toolchain", status=(status, 0),
           output=(out.decode().splitlines(), lambda seen: seen[0].endswith("--version") and seen[1:] == told))
     verify("verified without a toolchain", 70, b"has to be on the PATH", toolchain=copy.home)
-    copy.mark("leaves-nothing", True)
-    verify("verified by a build that leaves no program", 70, b"the build left no program")
-    copy.mark("leaves-nothing", False)
-    copy.source.write_text(PROGRAM)
+    with copy.marked("leaves-nothing"):
+        verify("verified by a build that leaves no program", 70, b"the build left no program")
+    copy.write_source()
     verify("verified with other sources", 70, b"not those of the program in dist/")
     (dist / "ntpaudit").write_text("another\n")
     (dist / "MANIFEST").write_text(manifest_of(copy.top, "stand-in 1"))
@@ -348,37 +360,21 @@ def test_tools_and_rights(folder: Path) -> None:
         copy.check_run("run by another user", **how)
         copy.source.touch()
         copy.check_run("run by another user after a touch", **how)
-        copy.source.write_text(PROGRAM + "# a change\n")
+        copy.write_source("# a change\n")
         copy.check_refused("run by another user after a change", b"read-only", **how)
-
-
-def wait_for(is_so: Callable[[], bool]) -> bool:
-    """Whether it becomes so."""
-    end = time.monotonic() + SECONDS
-    while not is_so():
-        if time.monotonic() > end:
-            return False
-        time.sleep(0.02)
-    return True
 
 
 def test_two_builds(folder: Path) -> None:
     """A call during a build says so, waits for its end, and builds nothing."""
-    copy = Copy(folder)
-    copy.mark("holds", True)
-    said = folder / "said"
-    calls = []
-    try:
-        waits: list[tuple[str, str, Callable[[], bool]]] = [
-            ("a build is begun", os.devnull, (copy.toolchain / "is-held").exists),
-            ("a second call says that a build is running", str(said), lambda: b"another build" in said.read_bytes())]
-        for what, errors, is_so in waits:
+    copy, said, calls = Copy(folder), folder / "said", list[subprocess.Popen[bytes]]()
+    with copy.marked("holds"):
+        for what, errors, is_so in (
+                ("a build is begun", Path(os.devnull), (copy.toolchain / "is-held").exists),
+                ("a second call says that a build is running", said, lambda: b"another build" in said.read_bytes())):
             with open(errors, "wb") as error:
                 calls.append(subprocess.Popen([copy.top / "ntpaudit", "list"], stdin=subprocess.DEVNULL, stderr=error,
                                               stdout=subprocess.PIPE, cwd=folder, env=copy.environment()))
-            check(what, seen=(wait_for(is_so), True))
-    finally:
-        copy.mark("holds", False)
+            check(what, seen=(wait_until(is_so), True))
     outs = [call.communicate(timeout=SECONDS)[0] for call in calls]
     check("two calls at once", statuses=([call.returncode for call in calls], [3, 3]), builds=(copy.builds(), 1),
           outputs=(outs, 2 * [copy.ran("list").replace(b"input", b"none")]),
@@ -389,16 +385,13 @@ def test_two_builds(folder: Path) -> None:
 def test_killed_launcher(folder: Path) -> None:
     """What a killed launcher left is not taken for a built program, and the next call waits for what still runs."""
     copy = Copy(folder)
-    copy.mark("holds", True)
-    call = subprocess.Popen([copy.top / "ntpaudit"], stdin=subprocess.DEVNULL, stdout=subprocess.DEVNULL,
-                            stderr=subprocess.DEVNULL, cwd=folder, env=copy.environment())
-    try:
-        check("a build is begun, to be left alone", seen=(wait_for((copy.toolchain / "is-held").exists), True))
-    finally:
+    with copy.marked("holds"):
+        call = subprocess.Popen([copy.top / "ntpaudit"], stdin=subprocess.DEVNULL, stdout=subprocess.DEVNULL,
+                                stderr=subprocess.DEVNULL, cwd=folder, env=copy.environment())
+        check("a build is begun, to be left alone", seen=(wait_until((copy.toolchain / "is-held").exists), True))
         call.kill()
         call.wait()
         check("a killed launcher leaves no program", seen=((copy.kept / "ntpaudit").exists(), False))
-        copy.mark("holds", False)
     status, out, _ = copy.launch("list")
     check("a call after a killed launcher", status=(status, 3), output=(out, copy.ran("list")),
           builds=(copy.builds(), 2))

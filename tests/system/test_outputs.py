@@ -1,27 +1,23 @@
 """What `-o FILE` leaves: at status 0 and 1 what a program reads stands in
 FILE, whole; at any other FILE is as it was, or isn't there. No draft stays beside it, unless a run is killed.
 """
-import hashlib
 import os
 import shlex
 import shutil
 import signal
-import tempfile
 import time
 from collections.abc import Iterator
 from concurrent.futures import ThreadPoolExecutor
-from itertools import product
 from pathlib import Path
 from typing import Any
 
-from tests.support import Ran, check, program, run
+from tests.support import Ran, check, nobody, program, run
 from tests.second.commands import CAPTURE, CLAIM, Command, every_command, fault_alone
 
 PROGRAM = program()
 BYTES = CAPTURE.read_bytes()
 OLD = b"what stood there\n"
 NO_OUTPUT = 4, b"", b"ntpaudit: device output after 0\n"
-NOBODY = 65534
 
 
 def writers() -> list[Command]:
@@ -55,21 +51,14 @@ def call(command: Command, file: object, claim: object = CLAIM, capture: object 
     return fault_alone(ran, command.options)
 
 
-def sha256(*inputs: Path) -> bytes:
-    """What sha256sum writes of these inputs."""
-    return b"".join(f"{hashlib.sha256(path.read_bytes()).hexdigest()}  {path}\n".encode() for path in inputs)
-
-
 def files_of(folder: Path) -> dict[str, bytes]:
     """What stands in a folder, links by where they lead."""
     return {entry.name: os.readlink(entry).encode() if entry.is_symlink() else entry.read_bytes()
             for entry in folder.iterdir() if entry.is_symlink() or entry.is_file()}
 
 
-def beginnings() -> Iterator[tuple[str, dict[str, bytes]]]:
-    """What stands in the folder before a call: nothing, or a file."""
-    yield "a new file", {}
-    yield "a file", {"f": OLD}
+BEGINNINGS: dict[str, dict[str, bytes]] = {"a new file": {}, "a file": {"f": OLD}}
+"""What stands in the folder before a call: nothing, or a file."""
 
 
 def fill(folder: Path, files: dict[str, bytes]) -> None:
@@ -86,7 +75,7 @@ def test_answers(folder: Path) -> None:
     for command in writers():
         for records, capture in ((2, CAPTURE), (1, short)):
             text = text_of(for_a_program(command), records)[1]
-            for what, files in beginnings():
+            for what, files in BEGINNINGS.items():
                 fill(inside, files)
                 ran = call(command, inside / "f", capture=capture)
                 check(f"{command.title} of {records} packets to {what}", run=(ran, told(command, records)),
@@ -146,9 +135,11 @@ def test_obstacles(folder: Path) -> None:
 
 
 def test_inputs(folder: Path) -> None:
-    """The claim and the capture are evidence: no path of theirs is written."""
+    """The claim, the capture and SUMS are evidence: no path of theirs is written. (That nothing is written of inputs
+    with other sums is proved.)"""
     shutil.copy(CLAIM, folder / "claim")
     shutil.copy(CAPTURE, folder / "f.pcap")
+    (folder / "SUMS").write_bytes(run(["sha256sum", "claim", "f.pcap"], cwd=folder)[1])
     os.link(folder / "f.pcap", folder / "other")
     (folder / "sub").mkdir()
     before = files_of(folder)
@@ -156,6 +147,9 @@ def test_inputs(folder: Path) -> None:
         for file in ("claim", "./claim", folder / "claim", "sub/../f.pcap", "f.pcap", "other"):
             check(f"{command.title} to an input as {file}",
                   run=(call(command, file, "claim", "f.pcap", cwd=folder), NO_OUTPUT), files=(files_of(folder), before))
+        for file in ("SUMS", "sub/../SUMS") if command.name == "settle" else ():
+            ran = call(command, file, "claim", "f.pcap", streams="--sums SUMS", cwd=folder)
+            check(f"{command.title} to its sums as {file}", run=(ran, NO_OUTPUT), files=(files_of(folder), before))
         for which, claim, capture in (("claim", "-", "f.pcap"), ("f.pcap", "claim", "-"),
                                       ("f.pcap", "claim", "/dev/stdin")):
             ran = call(command, which, claim, capture, streams=f"< {which}", cwd=folder)
@@ -169,22 +163,11 @@ def test_inputs(folder: Path) -> None:
               files=(files_of(folder), before))
 
 
-def test_sums(folder: Path) -> None:
-    """SUMS is an input: no path of it is written. (What `-o` leaves of inputs with sums test_sum_lines.py tries.)"""
-    (folder / "SUMS").write_bytes(sha256(CLAIM, CAPTURE))
-    (folder / "other").hardlink_to(folder / "SUMS")
-    for command, file in product(writers(), ("SUMS", "./SUMS", folder / "SUMS", "other")):
-        if command.name == "settle":
-            check(f"{command.title} to its sums as {file}",
-                  run=(call(command, file, streams="--sums SUMS", cwd=folder), NO_OUTPUT),
-                  files=(set(files_of(folder).values()), {sha256(CLAIM, CAPTURE)}))
-
-
 def test_output_fails(folder: Path) -> None:
     """If a person can't be told, the file is as it was, though its draft was whole."""
     for command in writers():
         for streams in ("> /dev/full", ">&-", "<&- >&- 2>&-"):
-            for what, files in beginnings():
+            for what, files in BEGINNINGS.items():
                 fill(folder / "in", files)
                 is_told = "--human" in command.options
                 text = text_of(for_a_program(command), 2)[1]
@@ -210,7 +193,7 @@ def test_full_disk(folder: Path) -> None:
     claim, inside = long_claim(folder), folder / "in"
     for human in (list[str](), ["--human"]):
         words = ["find", claim, CAPTURE, "--step", "1", "-o", inside / "f", *human]
-        for what, files in beginnings():
+        for what, files in BEGINNINGS.items():
             name = " ".join([what, *human])
             fill(inside, files)
             ran = run(["sh", "-c", 'trap "" XFSZ; ulimit -f 8; exec "$0" "$@"', PROGRAM, *words])
@@ -250,26 +233,18 @@ def test_side_by_side(folder: Path) -> None:
 
 def test_rights(folder: Path) -> None:
     """A folder that may not be written to."""
-    public, shut = folder / "program", folder / "shut"
-    shutil.copy(PROGRAM, public)
-    for path, mode in ((folder, 0o755), (public, 0o755)):
-        path.chmod(mode)
-    how: dict[str, Any] = {"program": public, "cwd": "/"}
-    if not os.geteuid():
-        how |= {"user": NOBODY, "group": NOBODY, "extra_groups": []}
-    if run(["true"], **{key: value for key, value in how.items() if key != "program"})[0] != 0:
-        return  # (root that may not become another user: permissions can't be tried)
-    with tempfile.TemporaryDirectory(prefix="ntpaudit-", dir="/tmp") as open_to_all:
-        Path(open_to_all).chmod(0o755)
-        claim, capture = Path(open_to_all, "claim"), Path(open_to_all, "f.pcap")
-        shutil.copy(CLAIM, claim)
-        shutil.copy(CAPTURE, capture)
-        claim.chmod(0o644)
-        capture.chmod(0o644)
-        for command in writers():
-            fill(shut, {"f": OLD})
-            shut.chmod(0o555)
-            ran = call(command, shut / "f", claim, capture, **dict(how))
-            check(f"{command.title} to a folder that may not be written to", run=(ran, NO_OUTPUT),
-                  files=(files_of(shut), {"f": OLD}))
-            shut.chmod(0o755)
+    how = nobody("a folder that may not be written to")
+    if how is None:
+        return
+    public, claim, capture, shut = (folder / name for name in ("program", "claim", "f.pcap", "shut"))
+    for file, copy, mode in ((Path(PROGRAM), public, 0o755), (CLAIM, claim, 0o644), (CAPTURE, capture, 0o644)):
+        shutil.copy(file, copy)
+        copy.chmod(mode)
+    folder.chmod(0o755)
+    for command in writers():
+        fill(shut, {"f": OLD})
+        shut.chmod(0o555)
+        ran = call(command, shut / "f", claim, capture, program=public, cwd="/", **how)
+        check(f"{command.title} to a folder that may not be written to", run=(ran, NO_OUTPUT),
+              files=(files_of(shut), {"f": OLD}))
+        shut.chmod(0o755)

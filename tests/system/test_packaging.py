@@ -15,6 +15,18 @@ from tests.support import DATA, ROOT, check, is_here, is_shipped, program, run, 
 from tests.dossier.leaps import leap_list
 
 PROGRAM = program()
+BARE = {name: value for name, value in os.environ.items() if name != "NTPAUDIT"}
+
+
+def check_lint(page: Path) -> None:
+    if is_here("mandoc", f"{page.name} by mandoc"):
+        check(f"mandoc finds nothing in {page.name}", run=(run(["mandoc", "-T", "lint", page])[:2], (0, b"")))
+
+
+def check_program(name: str, installed: Path) -> None:
+    """That a program lists two packets."""
+    check(f"{name} runs", run=(run([installed, "list", DATA / "two-packets.pcap"]),
+                               (0, (DATA / "two-packets.list.txt").read_bytes(), b"")))
 
 
 def manual() -> bytes:
@@ -51,8 +63,7 @@ def test_manual() -> None:
     with tempfile.TemporaryDirectory(prefix="ntpaudit-") as folder:
         page = Path(folder) / "ntpaudit.1"
         page.write_bytes(made)
-        if is_here("mandoc", "the man page by mandoc"):
-            check("mandoc finds nothing", run=(run(["mandoc", "-T", "lint", page])[:2], (0, b"")))
+        check_lint(page)
         if is_here("man", "the man page by man"):
             shown = run(["man", "--warnings", "-l", page], env={**os.environ, "LC_ALL": "C.UTF-8", "MANWIDTH": "80"})
             check("man finds nothing", run=(shown[2], b""),
@@ -129,17 +140,14 @@ def test_dossier() -> None:
         check(f"the dossier's man page has {name}",
               seen=(f"\n.TP\n.B {name}\n" in text and f".SY ntpaudit-dossier\n.B {name}\n" in text, True),
               missing=([option for option in options - {"--help"} if f"{option}\\fR" not in text], []))
-    if is_here("mandoc", "the dossier's man page by mandoc"):
-        check("mandoc finds nothing in the dossier's",
-              run=(run(["mandoc", "-T", "lint", ROOT / "docs/ntpaudit-dossier.1"])[:2], (0, b"")))
+    check_lint(ROOT / "docs/ntpaudit-dossier.1")
     for called in (ROOT / "second/recheck", ROOT / "dist/ntpaudit-judge"):
         other = called.name if "-" in called.name else f"ntpaudit-{called.name}"
         page = ROOT / f"docs/{other}.1"
         shown, usage = page.read_text("utf-8").replace("\\-", "-"), run([called, "--help"])[1].decode()
         check(f"{other}'s man page", version=(f'"ntpaudit {said("--version").split()[1]}"' in shown, True),
               missing=([word for word in re.findall(r"--[a-z]+|\b[A-Z]{5,}\b", usage) if word not in shown], []))
-        if is_here("mandoc", f"{other}'s man page by mandoc"):
-            check(f"mandoc finds nothing in {other}'s", run=(run(["mandoc", "-T", "lint", page])[:2], (0, b"")))
+        check_lint(page)
     check("the dossier's man page's version", seen=(f'"ntpaudit {said("--version").split()[1]}"' in text, True))
     version = run([ROOT / "ntpaudit-dossier", "--version"], env={**os.environ, "NTPAUDIT": PROGRAM})
     check("the dossier's version", run=((version[0], version[2]), (0, b"")),
@@ -172,8 +180,7 @@ def test_install(folder: Path) -> None:
     names = ("bin/ntpaudit", "share/man/man1/ntpaudit.1", "share/bash-completion/completions/ntpaudit")
     for file in (*names, *(name.replace("/ntpaudit", "/ntpaudit-dossier") for name in names)):
         check(f"installed: {file}", seen=(file in listed, True))
-    check("the installed program runs", run=(run([prefix / "bin/ntpaudit", "list", DATA / "two-packets.pcap"]),
-                                             (0, (DATA / "two-packets.list.txt").read_bytes(), b"")))
+    check_program("the installed program", prefix / "bin/ntpaudit")
     files = [DATA / f"vlan-ns.{kind}" for kind in ("claim.json", "pcap", "settle.txt")]
     for name in ("ntpaudit-recheck", "ntpaudit-judge"):
         check(f"the installed {name} runs", run=(run([prefix / "bin" / name, *files]), (0, b"verdict yes\n", b"")))
@@ -184,8 +191,8 @@ def test_install(folder: Path) -> None:
             audit.mkdir()
             shutil.copy(DATA / "clients-us.pcap", audit)
             shutil.copy(DATA / "clients-us.claim.json", audit / "claim.json")
-        bare = {name: value for name, value in os.environ.items() if name != "NTPAUDIT"} | {
-            "XDG_STATE_HOME": str(folder / "state"), "NTPAUDIT_LEAP_SECONDS": str(leap_list(folder / "leap-seconds"))}
+        bare = {**BARE, "XDG_STATE_HOME": str(folder / "state"),
+                "NTPAUDIT_LEAP_SECONDS": str(leap_list(folder / "leap-seconds"))}
         status, out, _ = run([dossier, "audit", "--jobs", "2", *audits], cwd=folder, env=bare)
         check("the installed dossier audits folders side by side", status=(status, 0),
               said=(out, lambda seen: seen.count(b"yes") >= 2))
@@ -249,29 +256,36 @@ def test_remove(folder: Path) -> None:
           program=((prefix / "bin/ntpaudit").is_symlink(), False), left=(files_below(other), there))
 
 
-def test_package(folder: Path) -> None:
-    if not is_at_hand("the package"):
-        return
-    if not (is_here("dpkg-deb", "the package") and is_here("git", "the package")):
-        return
+def made_twice(folder: Path, *words: str) -> Path | None:
+    """The package, made twice: the same sources give the same. None where it can't be made."""
+    name = " ".join(["package", *words])
+    if not is_at_hand(name) or not is_here("git", name) or not is_here("rpmbuild" if words else "dpkg-deb", name):
+        return None
     if not (ROOT / ".git").exists():
-        skip("the package", "the repository's history isn't here, and so not its time")
-        return
+        skip(name, "the repository's history isn't here, and so not its time")
+        return None
     packages = list[Path]()
-    for name in ("one", "two"):
-        (folder / name).mkdir()
+    for place in (folder / "one", folder / "two"):
+        place.mkdir()
         for package in packages:
-            (folder / name / package.name).symlink_to(folder / "another's")
-        status, out, err = run([ROOT / "package"], cwd=folder / name)
-        check(f"package {name}", run=((status, err), (0, b"")), through_a_link=((folder / "another's").exists(), False))
-        packages.append(folder / name / out.decode().strip())
-    check("the same sources give the same package", same=(packages[0].read_bytes() == packages[1].read_bytes(), True))
+            (place / package.name).symlink_to(folder / "another's")
+        status, out, err = run([ROOT / "package", *words], cwd=place)
+        check(name, run=((status, err), (0, b"")), through_a_link=((folder / "another's").exists(), False))
+        packages.append(place / out.decode().strip())
+    check(f"{name}: the same twice", same=(packages[0].read_bytes() == packages[1].read_bytes(), True))
+    return packages[0]
+
+
+def test_package(folder: Path) -> None:
+    package = made_twice(folder)
+    if not package:
+        return
     if is_here("lintian", "the package by lintian"):
-        check("lintian finds nothing", run=(run(["lintian", "--allow-root", packages[0]]), (0, b"", b"")))
+        check("lintian finds nothing", run=(run(["lintian", "--allow-root", package]), (0, b"", b"")))
     target = folder / "target"
     target.mkdir(0o755)
     target.chmod(0o755)
-    unpacked = run(["dpkg-deb", "-x", packages[0], target])[0]
+    unpacked = run(["dpkg-deb", "-x", package, target])[0]
     check("unpacking it leaves the folder as it was", status=(unpacked, 0),
           mode=(oct(target.stat().st_mode & 0o777), "0o755"),
           inside=(sorted({oct(file.stat().st_mode & 0o777) for file in target.rglob("*") if file.is_dir()}), ["0o755"]))
@@ -293,17 +307,15 @@ def test_package(folder: Path) -> None:
           program=(sums["ntpaudit"], sum_of((target / "usr/bin/ntpaudit").read_bytes())),
           sources=(sums["sources"], sum_of_sources(ROOT)),
           crates=({part["name"] for part in made_of["packages"]}, {"ntpaudit", "sources", "toolchain", *crates}))
-    check("the package is installed", status=(run([*dpkg, "-i", packages[0]])[0], 0))
+    check("the package is installed", status=(run([*dpkg, "-i", package])[0], 0))
     users = root / "etc/passwd"
     if is_here("systemd-sysusers", "the package's user"):
         check("the package makes its user", user=(users.exists() and "ntpaudit" in users.read_text(), True))
-    listed = run([root / "usr/bin/ntpaudit", "list", DATA / "two-packets.pcap"])
-    check("its program runs", run=(listed, (0, (DATA / "two-packets.list.txt").read_bytes(), b"")))
+    check_program("the package's program", root / "usr/bin/ntpaudit")
     page = gzip.decompress((root / "usr/share/man/man1/ntpaudit.1.gz").read_bytes())
     check("its man page", same=(page == manual(), True))
-    bare = {name: value for name, value in os.environ.items() if name != "NTPAUDIT"}
     before = files_below(root / "usr")
-    said_by = run([root / "usr/bin/ntpaudit-dossier", "--version"], env=bare)
+    said_by = run([root / "usr/bin/ntpaudit-dossier", "--version"], env=BARE)
     check("its dossier runs, is compiled, and keeps nothing more beside itself", status=(said_by[0], 0),
           kept=(files_below(root / "usr"), before), modules=compiled(root / "usr/share/ntpaudit/dossier"))
     check("the package is removed", status=(run([*dpkg, "-r", "ntpaudit"])[0], 0),
@@ -311,37 +323,26 @@ def test_package(folder: Path) -> None:
 
 
 def test_rpm(folder: Path) -> None:
-    """The package for Red Hat: the same twice, clean by rpmlint, and put into an empty tree by rpm."""
-    if not is_at_hand("the rpm package") or not is_here("rpmbuild", "the rpm package"):
+    """The package for Red Hat: clean by rpmlint, and put into an empty tree by rpm."""
+    package = made_twice(folder, "--rpm")
+    if not package:
         return
-    if not (ROOT / ".git").exists():
-        skip("the rpm package", "the repository's history isn't here, and so not its time")
-        return
-    packages = []
-    for name in ("one", "two"):
-        (folder / name).mkdir()
-        status, out, err = run([ROOT / "package", "--rpm"], cwd=folder / name)
-        check(f"rpm package {name}", run=((status, err), (0, b"")))
-        packages.append(folder / name / out.decode().strip())
-    check("the same sources give the same rpm", same=(packages[0].read_bytes() == packages[1].read_bytes(), True))
     if is_here("rpmlint", "the package by rpmlint"):
-        linted = run(["rpmlint", "-c", ROOT / "redhat/rpmlint.toml", packages[0]])
+        linted = run(["rpmlint", "-c", ROOT / "redhat/rpmlint.toml", package])
         check("rpmlint finds nothing", status=(linted[0], 0), said=(b" 0 errors, 0 warnings" in linted[1], True))
     root = folder / "root"
     rpm = ["rpm", "--root", root, "--dbpath", "/db", "--nodeps", "--noscripts"]
     if os.geteuid():
         skip("the package put in place by rpm", "this isn't root")
         return
-    check("the rpm is installed", status=(run([*rpm, "-i", packages[0]])[0], 0))
+    check("the rpm is installed", status=(run([*rpm, "-i", package])[0], 0))
     run([ROOT / "install", folder / "usr"])
     wanted = {file for file in files_below(folder / "usr") if not file.endswith((".1", ".pyc", "/installed"))}
     check("its files are those of ./install and pages", missing=(wanted - set(files_below(root / "usr")), set()),
           files=(len(wanted), lambda count: count > 50),
           pages=((root / "usr/share/doc/ntpaudit/README.md").exists(), True))
-    check("its program runs", run=(run([root / "usr/bin/ntpaudit", "list", DATA / "two-packets.pcap"]),
-                                   (0, (DATA / "two-packets.list.txt").read_bytes(), b"")))
-    bare = {name: value for name, value in os.environ.items() if name != "NTPAUDIT"}
-    check("its dossier runs", status=(run([root / "usr/bin/ntpaudit-dossier", "--version"], env=bare)[0], 0))
+    check_program("the rpm's program", root / "usr/bin/ntpaudit")
+    check("its dossier runs", status=(run([root / "usr/bin/ntpaudit-dossier", "--version"], env=BARE)[0], 0))
     check("the rpm is removed", status=(run([*rpm, "-e", "ntpaudit"])[0], 0), left=(files_below(root / "usr"), []))
 
 

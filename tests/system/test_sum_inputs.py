@@ -1,25 +1,98 @@
-"""That what was summed is what is judged: inputs that come by pipes, that grow, and that change under the program; each
-byte of two packets' files, lengths around a block of SHA-256, and large inputs.
+"""`--sums`: that what was summed is what is judged, of inputs that come by pipes, that grow, and that change under the
+program; and what a file of sums may say, held to the plain reading of tests/second/sum_form.py, which refusal comes
+first, and the limit of size. (That the words of a file of sums are read so is proved of the program by a definition,
+which nothing but this reading and sha256sum hold to what sha256sum writes.)
 """
 import fcntl
+import hashlib
+import itertools
 import os
 import random
-import tempfile
+import re
+import shutil
 import threading
 import time
-from collections.abc import Callable, Iterable
+from collections.abc import Callable, Iterator
 from concurrent.futures import ThreadPoolExecutor
 from pathlib import Path
-from typing import IO
+from typing import IO, Any, NamedTuple
 
-from tests.support import check, DATA, Ran, run, SECONDS
+from tests.support import DATA, SECONDS, Ran, check, program, run
 from tests.second import sum_form
-from tests.system.sum_calls import Call, digest, fault, inputs_in, MOST, NOTHING, RANDOM
+from tests.second.commands import SECOND
+
+PROGRAM = program()
+MOST = 65_536
+"""The bytes of the greatest file of sums, and of the greatest claim."""
+NOTHING = hashlib.sha256().hexdigest().encode()
+RANDOM = random.Random(6)
 
 Block = bytes | Callable[[IO[bytes]], object]
 """What is put into a pipe, or what is done with it."""
 
 
+def fault(line: str, status: int = 2) -> Ran:
+    return status, b"", f"ntpaudit: {line}\n".encode()
+
+
+def digest(data: bytes) -> bytes:
+    return hashlib.sha256(data).hexdigest().encode()
+
+
+class Call(NamedTuple):
+    """A call in a folder: its command, and the texts of its operands."""
+
+    folder: Path
+    command: str
+    claim: str
+    capture: str
+    second: str = ""
+
+    @property
+    def words(self) -> list[str]:
+        return [PROGRAM, self.command, self.claim, self.capture, *filter(None, [self.second])]
+
+    @property
+    def inputs(self) -> dict[str, str]:
+        """The operands in the order in which they are read, each with what it is."""
+        given = {"claim": self.claim, SECOND.get(self.command, ""): self.second, "capture": self.capture}
+        return {kind: file for kind, file in given.items() if kind}
+
+    def plain(self) -> Ran:
+        """What it says without the option."""
+        return run(self.words, cwd=self.folder)
+
+    def by(self, sums: bytes, **how: Any) -> Ran:
+        """What it says with a file of sums, which comes by standard input."""
+        return run([*self.words, "--sums", "/dev/stdin"], sums, cwd=self.folder, **how)
+
+    def says(self, name: str, sums: bytes, wanted: Ran | str) -> None:
+        """A case: what it says with a file of sums, or the fault line."""
+        check(name, run=(self.by(sums), fault(wanted) if isinstance(wanted, str) else wanted))
+
+    def sums(self) -> bytes:
+        """What sha256sum writes of the operands."""
+        status, sums, _ = run(["sha256sum", "--", *self.inputs.values()], cwd=self.folder)
+        assert status == 0, "sha256sum"
+        return sums
+
+    def data(self, kind: str) -> bytes:
+        return (self.folder / self.inputs[kind]).read_bytes()
+
+
+def inputs_in(folder: Path, name: str = "clients-us", second: str = "clients-us.8.certificate.json",
+              command: str = "check") -> Call:
+    """A call on copies of a claim of data/, its capture, and a certificate or a refutation, if it takes one."""
+    folder.mkdir(exist_ok=True)
+    shutil.copy(DATA / f"{name}.pcap", folder / "f.pcap")
+    shutil.copy(DATA / f"{name}.claim.json", folder / "claim.json")
+    if command not in SECOND:
+        return Call(folder, command, "claim.json", "f.pcap")
+    shutil.copy(DATA / second, folder / "second.json")
+    return Call(folder, command, "claim.json", "f.pcap", "second.json")
+
+
+# ---- pipes, and files that change
 def fed(path: Path, *blocks: Block) -> threading.Thread:
     """A thread that opens a FIFO for writing and puts these blocks into it, a moment apart."""
     def feed() -> None:
@@ -34,24 +107,26 @@ def fed(path: Path, *blocks: Block) -> threading.Thread:
     return thread
 
 
+PLACE = "place"
+"""The folder in a call's own in which it is tried with FIFOs."""
+
+
 def by_fifo(call: Call, kinds: list[str], sums: bytes, feeds: dict[str, list[Block]] | None = None) -> Ran:
-    """A call whose inputs of these kinds are FIFOs, and its sums too if that is one of them."""
-    feeds = feeds or {}
-    data = {**{kind: call.data(kind) for kind in call.inputs}, "sums": sums}
-    with tempfile.TemporaryDirectory(prefix="ntpaudit-") as made:
-        place = Path(made)
-        for kind, file in call.inputs.items():
-            os.symlink(call.folder / file, place / file)
-        (place / "SUMS").write_bytes(sums)
-        names, threads = {**call.inputs, "sums": "SUMS"}, []
-        for kind in kinds:
-            (place / names[kind]).unlink()
-            os.mkfifo(place / names[kind])
-            threads.append(fed(place / names[kind], *feeds.get(kind, [data[kind]])))
-        found = run([*call._replace(folder=place).words, "--sums", "SUMS"], cwd=place)
-        for thread in threads:
-            thread.join(SECONDS)
-        return found
+    """A call on copies of its inputs, those of these kinds as FIFOs, and its sums too if that is one of them."""
+    feeds, place, names = feeds or {}, call.folder / PLACE, {**call.inputs, "sums": "SUMS"}
+    data, threads = {**{kind: call.data(kind) for kind in call.inputs}, "sums": sums}, []
+    shutil.rmtree(place, ignore_errors=True)
+    place.mkdir()
+    for kind, name in names.items():
+        if kind in kinds:
+            os.mkfifo(place / name)
+            threads.append(fed(place / name, *feeds.get(kind, [data[kind]])))
+        else:
+            (place / name).write_bytes(data[kind])
+    found = run([*call.words, "--sums", "SUMS"], cwd=place)
+    for thread in threads:
+        thread.join(SECONDS)
+    return found
 
 
 def pause(_: IO[bytes]) -> None:
@@ -67,9 +142,7 @@ def test_pipes(folder: Path) -> None:
     """Each input by a FIFO, alone and together, whole and in pieces: what is summed is what is judged."""
     for name, second, command in (("clients-us", "clients-us.8.certificate.json", "check"),
                                   ("era1-ns", "era1-ns.refutation.json", "refute"), ("clients-us", "", "settle")):
-        own = folder / command
-        own.mkdir()
-        call = inputs_in(own, name, second, command)
+        call = inputs_in(folder / command, name, second, command)
         sums, plain = call.sums(), call.plain()
         kinds = [*call.inputs, "sums"]
         for some in [[kind] for kind in kinds] + [list(call.inputs), kinds]:
@@ -88,7 +161,7 @@ def test_pipes(folder: Path) -> None:
                                                      fault(f"sums form line {len(kinds)}")))
         line = 'exec "$0" "$@" --sums <(sha256sum "${@:2}")'
         check(f"{command} with a process in place of a file",
-              run=(run(["bash", "-c", line, *call.words], cwd=own), plain))
+              run=(run(["bash", "-c", line, *call.words], cwd=call.folder), plain))
 
 
 def held_up(pipe: IO[bytes], data: bytes, then: Callable[[], None]) -> None:
@@ -99,141 +172,200 @@ def held_up(pipe: IO[bytes], data: bytes, then: Callable[[], None]) -> None:
     pipe.write(data[12_288:])
 
 
-def test_changing(folder: Path) -> None:
-    """Files that change while the program reads a FIFO: what was read before is judged as it was, and else as it is."""
-    call = inputs_in(folder, "chrony-ns", "chrony-ns.1.certificate.json")
-    whole = {kind: call.data(kind) for kind in call.inputs}
-    files = {kind: folder / file for kind, file in call.inputs.items()}
-    tight, empty = whole["claim"].replace(b'"bound_ns":5000000', b'"bound_ns":5000'), b'{"pieces":[]}'
-    check("a claim that is tighter", seen=(tight != whole["claim"], True))
-    sums, plain = call.sums(), call.plain()
-
-    def restored() -> None:
-        for kind, data in whole.items():
-            if not files[kind].exists() or not files[kind].is_file() or files[kind].read_bytes() != data:
-                files[kind].unlink(missing_ok=True)
-                files[kind].write_bytes(data)
-        (folder / "SUMS").write_bytes(sums)
-
-    def changed_under(fifo: str, kind: str, data: bytes, how: Callable[[Path, bytes], None],
-                      given: bytes = sums) -> Ran:
-        """What is said if an input changes while the program reads the FIFO that another is."""
-        restored()
-        (folder / "SUMS").write_bytes(given)
-        files[fifo].unlink()
-        os.mkfifo(files[fifo])
-        target = folder / "SUMS" if kind == "sums" else files[kind]
-        padded = whole[fifo].ljust(16_384) if fifo != "capture" else whole[fifo]
-        thread = fed(files[fifo], lambda pipe: held_up(pipe, padded, lambda: how(target, data)))
-        found = run([*call.words, "--sums", "SUMS"], cwd=folder)
-        thread.join(SECONDS)
-        restored()
-        return found
-
-    def over(path: Path, data: bytes) -> None:
-        """Writes in place, so that an open file shows it."""
+def over(data: bytes) -> Callable[[Path], None]:
+    """Writes in place, so that an open file shows it."""
+    def write(path: Path) -> None:
         with open(path, "r+b") as opened:
             opened.write(data)
             opened.truncate()
+    return write
 
-    def put(path: Path, data: bytes) -> None:
-        """Puts another file in its place: an open one stays as it was."""
-        other = path.with_suffix(".new")
-        other.write_bytes(data)
+
+def put(data: bytes) -> Callable[[Path], None]:
+    """Puts another file in its place: an open one stays as it was."""
+    def replace(path: Path) -> None:
+        (other := path.with_suffix(".new")).write_bytes(data)
         os.replace(other, path)
-    for how, name in ((over, "written over"), (put, "put there anew"), (lambda path, _: path.unlink(), "removed")):
-        for kind, data in (("claim", tight), ("certificate", empty), ("sums", b"")):
-            check(f"the {kind} is {name} after it was read", run=(changed_under("capture", kind, data, how), plain))
-    padded = whole["claim"].ljust(16_384)
-    of_padded = b"".join(sum_form.line_of(file.encode(), digest(padded if kind == "claim" else whole[kind]))
-                         for kind, file in call.inputs.items())
-    other = DATA.joinpath("clients-us.pcap").read_bytes()
-    mixed = whole["capture"][:-1] + bytes([whole["capture"][-1] ^ 1])
-    for kind, data in (("certificate", empty), ("capture", other), ("capture", mixed),
-                       ("capture", whole["capture"] + b"\0")):
+    return replace
+
+
+def remove(path: Path) -> None:
+    path.unlink()
+
+
+def changed_under(call: Call, fifo: str, kind: str, how: Callable[[Path], None], sums: bytes) -> Ran:
+    """What is said if an input changes while the program reads the FIFO that another is."""
+    changed = call.folder / PLACE / {**call.inputs, "sums": "SUMS"}[kind]
+    feeds: dict[str, list[Block]] = {fifo: [lambda pipe: held_up(pipe, call.data(fifo), lambda: how(changed))]}
+    return by_fifo(call, [fifo], sums, feeds)
+
+
+def test_changing(folder: Path) -> None:
+    """Files that change while the program reads a FIFO: what was read before is judged as it was, and else as it is."""
+    call = inputs_in(folder, "chrony-ns", "chrony-ns.1.certificate.json")
+    claim = call.data("claim")
+    tight, empty = claim.replace(b'"bound_ns":5000000', b'"bound_ns":5000'), b'{"pieces":[]}'
+    check("a claim that is tighter", seen=(tight != claim, True))
+    (folder / "claim.json").write_bytes(claim.ljust(16_384))
+    sums, plain = call.sums(), call.plain()
+    for kind, data in (("claim", tight), ("certificate", empty), ("sums", b"")):
+        for name, how in (("written over", over(data)), ("put there anew", put(data)), ("removed", remove)):
+            check(f"the {kind} is {name} after it was read",
+                  run=(changed_under(call, "capture", kind, how, sums), plain))
+    capture = call.data("capture")
+    for kind, data in (("certificate", empty), ("capture", DATA.joinpath("clients-us.pcap").read_bytes()),
+                       ("capture", capture[:-1] + bytes([capture[-1] ^ 1])), ("capture", capture + b"\0")):
         check(f"the {kind} is written over before it is read, {len(data)} bytes",
-              run=(changed_under("claim", kind, data, over, of_padded), fault(f"sums differ {kind}")))
+              run=(changed_under(call, "claim", kind, over(data), sums), fault(f"sums differ {kind}")))
         check(f"the {kind} is put there anew after it was opened, {len(data)} bytes",
-              run=(changed_under("claim", kind, data, put, of_padded), plain))
-        files[kind].write_bytes(data)
-        wanted = call.plain()
-        restored()
-        given = b"".join(sum_form.line_of(file.encode(), digest({"claim": padded, kind: data}.get(which, whole[which])))
-                         for which, file in call.inputs.items())
+              run=(changed_under(call, "claim", kind, put(data), sums), plain))
+        (own := folder / "own").mkdir(exist_ok=True)
+        for which, file in call.inputs.items():
+            (own / file).write_bytes(data if which == kind else call.data(which))
+        other = call._replace(folder=own)
         check(f"the {kind} becomes what its sum says before it is read, {len(data)} bytes",
-              run=(changed_under("claim", kind, data, over, given), wanted))
+              run=(changed_under(call, "claim", kind, over(data), other.sums()), other.plain()))
 
 
-def test_changes(folder: Path) -> None:
-    """Each byte of a claim and of a certificate changed, some of a capture, bytes put on and cut off."""
-    for command in ("check", "settle"):
-        try_changes(inputs_in(folder, "two-packets", "two-packets.certificate.json", command))
+# ---- what a file of sums says
+def wanted(call: Call, plain: Ran, text: bytes) -> Ran:
+    """What is said by these sums, by the plain reading; without any it says `plain`."""
+    said, number = sum_form.read(text)
+    if number:
+        return fault(f"sums form line {number}")
+    names = {kind: name.encode() for kind, name in call.inputs.items()}
+    missing = next((kind for kind, name in names.items() if name not in said), None)
+    differs = next((kind for kind, name in names.items() if said.get(name) != digest(call.data(kind))), None)
+    return fault(f"sums missing {missing}") if missing else fault(f"sums differ {differs}") if differs else plain
 
 
-def try_changes(call: Call) -> None:
-    folder, sums = call.folder, call.sums()
-    for kind, file in call.inputs.items():
-        whole = call.data(kind)
-        places: Iterable[int] = range(len(whole))
-        if kind == "capture":
-            places = sorted({0, 23, 24, 40, len(whole) - 1, *RANDOM.sample(range(len(whole)), 40)})
-        changed = {f"byte {at}": whole[:at] + bytes([whole[at] ^ 1]) + whole[at + 1 :] for at in places}
-        changed |= {"a byte more": whole + b" ", "a byte less": whole[:-1], "nothing": b"", "twice": whole * 2}
-        for name, data in changed.items():
-            (folder / file).write_bytes(data)
-            call.says(f"{call.command}: {name} of the {kind}", sums, f"sums differ {kind}")
-        (folder / file).write_bytes(whole)
+FORMS: dict[str, Callable[[bytes], bytes]] = {
+    "none": lambda sums: b"", "no last line feed": lambda sums: sums[:-1],
+    "carriage returns": lambda sums: sums.replace(b"\n", b"\r\n"),
+    "a carriage return": lambda sums: sums.replace(b"\n", b"\r\n", 1),
+    "binary": lambda sums: sums.replace(b"  ", b" *"),
+    "either case": lambda sums: re.sub(rb"(?m)^.{32}", lambda found: found[0].upper(), sums),
+    "lines twice": lambda sums: sums + sums.replace(b"  ", b" *"),
+    "another sum behind": lambda sums: sums + digest(b"other") + sums[64:],
+    "escaped without need": lambda sums: b"".join(b"\\" + line for line in sums.splitlines(keepends=True)),
+    "a name of 60,000 bytes": lambda sums: sums + sum_form.line_of(b"x" * 60_000, NOTHING),
+    "other names": lambda sums: b"".join(map(sum_form.line_of, (b"no\xffutf", b"a\0b", b"\r"), 3 * [NOTHING])) + sums}
+"""Files of sums, made of what sha256sum writes."""
+
+BROKEN = (b"", b"\r", b"# sums of today", b"SHA256 (claim.json) = @", b"@0  x", b" @  x", b"@ x", b"@  ", b"@ *",
+          b"@  \r", b"@", b"@\t x", b"@ +x", b"@ \tx", b"@**x", b"@@  x", b"d41d8cd98f00b204e9800998ecf8427e  x",
+          b"@\f x", b"@ ", b"\xef\xbb\xbf@  x", rb"\\@  x", rb"\@  ", rb"\@  a\tb", rb"\@  \x", rb"\@  a\0b",
+          b"\\@  x\\", b"\\@  x\\\\\\", rb'\@  x\"', b"\\@  x\\\r", rb"@\ x", b'{"claim.json": "@"}')
+"""Lines of other forms; a sum stands for @."""
+
+
+def spoiled(sums: bytes) -> bytes:
+    """The sums with some bytes changed, put in or left out."""
+    text = bytearray(sums if RANDOM.random() < 0.8 else sums + sums.replace(b"\n", b"\r\n"))
+    for _ in range(RANDOM.choice((1, 1, 1, 2, 3))):
+        at = RANDOM.randrange(len(text))
+        if RANDOM.random() < 0.5:  # (most of a line is digits: look at the rest of it as often)
+            at = RANDOM.choice([k for k, byte in enumerate(text) if byte not in b"0123456789abcdef"])
+        byte = RANDOM.choice((RANDOM.randrange(256), *b"\\\n\r *nr0aA"))
+        kind = RANDOM.choice("=+-~")
+        text[at : at + (kind in "=-~")] = b"" if kind == "-" else bytes(
+            [text[at] ^ 0x20]) if kind == "~" else bytes([byte])
+    return bytes(text)
+
+
+def texts(sums: bytes) -> Iterator[bytes]:
+    """Files of sums: in other words, in another order, without some, with a broken line at each place, and spoiled."""
+    yield from (form(sums) for form in FORMS.values())
     lines = sums.splitlines(keepends=True)
-    for number, kind in enumerate(call.inputs):
-        for at in range(64):
-            digits = bytearray(lines[number])
-            digits[at] = ord("0" if digits[at : at + 1] != b"0" else "f")
-            other = b"".join([*lines[:number], bytes(digits), *lines[number + 1 :]])
-            call.says(f"{call.command}: digit {at} of the sum of the {kind}", other, f"sums differ {kind}")
-    call.says(f"{call.command}: unchanged", sums, call.plain())
+    for number in range(len(lines) + 1):
+        yield from map(b"".join, itertools.permutations(lines, number))
+        yield from (b"".join([*lines[:number], line.replace(b"@", NOTHING) + b"\n", *lines[number:]])
+                    for line in BROKEN)
+    yield from (spoiled(sums) for _ in range(2000))
+    yield sums
+
+
+def test_lines(folder: Path) -> None:
+    """What is said by files of sums, of inputs with names that have to be escaped, is what a plain reading says."""
+    plain_names = inputs_in(folder, "two-packets", "two-packets.certificate.json")
+    call = plain_names._replace(claim="\\n *claim", second="se\\co\nnd\r", capture=" *#SHA256 (\u00fc) = \x1b\r\n")
+    for kind, name in plain_names.inputs.items():
+        os.rename(folder / name, folder / call.inputs[kind])
+    plain, tried = call.plain(), list(texts(call.sums()))
+    check("what sha256sum writes, by a plain reading", read=(sum_form.read(tried[-1])[1], 0))
+    said = [wanted(call, plain, text) for text in tried]
+    with ThreadPoolExecutor() as pool:
+        for text, told, seen in zip(tried, said, pool.map(call.by, tried)):
+            check(f"the sums {text[:300]!r}", run=(seen, told))
+    check("answers of each kind", kinds=(len({re.sub(rb" \d+\n", b"\n", error) for _, _, error in said}), 8))
+
+
+def test_size(folder: Path) -> None:
+    """The greatest file of sums, and one byte more."""
+    call = inputs_in(folder)
+    sums, plain = call.sums(), call.plain()
+    whole = sums + sum_form.line_of(b"n" * (MOST - len(sums) - 67), NOTHING)
+    check("the greatest file of sums", length=(len(whole), MOST), run=(call.by(whole), plain))
+    for name, text in {"a line feed": whole + b"\n", "that isn't of the form": b"\n" * (MOST + 1)}.items():
+        call.says(f"one byte more: {name}", text, "too-big sums")
+        (folder / "SUMS").write_bytes(text)
+        for file in ("SUMS", "/dev/zero"):
+            check(f"one byte more in {file}: {name}",
+                  run=(run([*call.words, "--sums", file], cwd=folder), fault("too-big sums")))
+
+
+# ---- what comes first
+FOLDER = "a folder"
+
+ORDER: tuple[tuple[str, int, dict[str, object]], ...] = (
+    ("device claim", 0, {"claim.json": None}), ("device certificate", 0, {"second.json": None}),
+    ("device capture", 0, {"f.pcap": None}), ("device sums", 0, {"SUMS": None}),
+    ("too-big sums", 0, {"SUMS": b"\n" * (MOST + 1)}), ("device sums", 0, {"SUMS": FOLDER}),
+    ("sums form line 1", 0, {"SUMS": b"#\n"}), ("sums missing claim", 0, {"SUMS": b""}),
+    ("too-big claim", 0, {"claim.json": bytes(MOST + 1)}), ("device claim", 0, {"claim.json": FOLDER}),
+    ("sums differ claim", 0, {}), ("device certificate", 1, {"second.json": FOLDER}),
+    ("sums differ certificate", 1, {}), ("device capture", 2, {"f.pcap": FOLDER}), ("sums differ capture", 2, {}),
+    ("claim 1 json", 3, {"claim.json": b"["}), ("certificate 1 json", 3, {"second.json": b"["}),
+    ("capture 1 torn-header", 3, {"f.pcap": b"["}))
+"""Each refusal in its order: how many of the three sums are right, and what is wrong with files beside."""
+
+
+def test_order(folder: Path) -> None:
+    """Each refusal is told where all that comes later is wrong too."""
+    for number, (line, right, _) in enumerate(ORDER):
+        call = inputs_in(folder / str(number))
+        files: dict[str, object] = {name: call.data(kind) for kind, name in call.inputs.items()}
+        for _, _, wrong in reversed(ORDER[number:]):
+            files |= wrong
+        sums = [digest(data) if isinstance(data, bytes) and k < right else NOTHING
+                for k, data in enumerate(map(files.get, call.inputs.values()))]
+        files.setdefault("SUMS", b"".join(map(sum_form.line_of, map(str.encode, call.inputs.values()), sums)))
+        for name, content in files.items():
+            (call.folder / name).unlink(missing_ok=True)
+            if isinstance(content, bytes):
+                (call.folder / name).write_bytes(content)
+            elif content == FOLDER:
+                (call.folder / name).mkdir()
+        ran = run([*call.words, "--sums", "SUMS"], cwd=call.folder)
+        check(f"{line} before what is later", run=(ran, fault(line, 4 if line.startswith("device") else 2)))
 
 
 # ---- SHA-256
-
-
 def test_lengths(folder: Path) -> None:
     """Bytes at random of each length up to five blocks, and of some beyond."""
     call = inputs_in(folder, "two-packets", "two-packets.certificate.json")
     rest = call.sums().splitlines(keepends=True)
-    lengths = [*range(330), *(1 << k for k in range(9, 17)), *((1 << k) + d for k in range(9, 17) for d in (-1, 1)),
-               65_526, 65_527, 65_528]
-    lengths = [length for length in lengths if length <= MOST]
 
     def tried(length: int) -> Ran:
         data = b"[" + random.Random(length).randbytes(length - 1) if length else b""
         name = f"message {length}"
         (folder / name).write_bytes(data)
-        return call.of(claim=name).by(sum_form.line_of(name.encode(), digest(data)) + rest[1] + rest[2])
+        return call._replace(claim=name).by(sum_form.line_of(name.encode(), digest(data)) + rest[1] + rest[2])
+    lengths = [*range(330), *(max(1, (1 << k) + d) for k in range(9, 17) for d in (-1, 0) if (1 << k) + d <= MOST)]
     with ThreadPoolExecutor() as pool:
         for length, seen in zip(lengths, pool.map(tried, lengths)):
             check(f"{length} bytes at random", run=(seen, fault("claim 1 json")))
-    for length in (3_000_001, 50_000_000):
-        data = RANDOM.randbytes(length)
-        for kind, field, refused in (("certificate", "second", "certificate 1 json"),
-                                     ("capture", "capture", "capture 2 magic")):
-            (folder / "large").write_bytes(b"[" + data)
-            large = call.of(**{field: "large"})
-            check(f"a {kind} of {length} bytes", run=(large.by(large.sums()), fault(refused)),
-                  other=(large.by(large.sums().replace(digest(b"[" + data), NOTHING)), fault(f"sums differ {kind}")))
-
-
-def test_large(folder: Path) -> None:
-    """A capture of many records, and one that memory doesn't hold."""
-    call = inputs_in(folder, "two-packets", "two-packets.certificate.json")
-    capture = call.data("capture")
-    (folder / "many.pcap").write_bytes(capture + capture[24:130] * 300_000)
-    many = call.of(capture="many.pcap")
-    check("a capture of 300,002 records", run=(many.by(many.sums()), many.plain()),
-          status=(many.plain()[0], lambda status: status in (0, 1)))
-    with open(folder / "hollow", "wb") as opened:
-        opened.truncate(400_000_000)
-    hollow = call.of(capture="hollow")
-    sums = hollow.sums()
-    hollow.says("a capture of 400,000,000 zeros", sums, "capture 2 magic")
-    limited = ["sh", "-c", 'ulimit -v 200000; exec "$0" "$@"', *hollow.words, "--sums", "/dev/stdin"]
-    check("a capture that memory doesn't hold", run=(run(limited, sums, cwd=folder), fault("memory", 3)))
+    (folder / "large").write_bytes(b"[" + RANDOM.randbytes(3_000_000))
+    for large, refused in ((call._replace(second="large"), "certificate 1 json"),
+                           (call._replace(capture="large"), "capture 2 magic")):
+        large.says(f"3 MB: {refused}", large.sums(), refused)

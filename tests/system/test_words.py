@@ -10,10 +10,10 @@ import shutil
 from collections.abc import Iterator
 from concurrent.futures import ThreadPoolExecutor
 from pathlib import Path
-from typing import Any, cast
+from typing import Any
 
 from tests.support import ROOT, check, nobody, program, run, skip
-from tests.second import claims
+from tests.second import claims, shown
 from tests.second.commands import CAPTURE, CLAIM, TIME
 from tests.system import sentences
 from tests.system.fault_lines import fault_lines, is_like
@@ -29,19 +29,12 @@ KINDS = {"client": "an IPv4 address", "servers": "an array of 1 to 32 IPv4 addre
 GOOD: dict[str, object] = {"client": "192.0.2.10", "servers": ["192.0.2.1", "192.0.2.2"], "from": TIME, "to": TIME,
                            "groups": [[0], [1]], **dict.fromkeys(claims.MOST, 0), "bound_ns": 10**6}
 
-TIMES = ("", "2001-09-09", "2001-09-09T01:46:40", "2001-09-09T01:46:40+00:00", "2001-09-09 01:46:40Z",
-         "2001-02-29T00:00:00Z")
-ADDRESSES = ("host", "192.0.2", "192.0.2.256", "192.0.2.010", "2001:db8::1", "")
-
 ELSEWHERE = ("capture 8 too-many", "exchanges over 1000000", "memory", "certificate 4 too-many-entries piece K",
              "certificate 5 too-many-pieces", "certificate 9 too-many-entries piece P", "certificate 7 too-many-pieces")
 """Fault lines that no transcript has room for: test_refused_memory.py or a test below has them."""
 
 NEVER = ("had a fault before", "read it again from its beginning")
 """Texts about a fault that no run ends with, since it ends with the fault before."""
-
-TURN = "\u061c\u200e\u200f\u202a\u202b\u202c\u202d\u202e\u2066\u2067\u2068\u2069"
-"""Unicode's Bidi_Control: characters that turn the direction in which others are shown."""
 
 Faulty = tuple[dict[str, object], str, str, str]
 """A claim, its fault line, the field that is named, and the end of what is said of it."""
@@ -53,60 +46,37 @@ def stands(value: object) -> str:
     return text if len(text) <= 40 else text[:40] + ".."
 
 
-def wrong_kinds(name: str) -> list[object]:
-    """Values of another kind than a field's."""
-    others: list[object] = [None, True, {}, 1.5, -1, {"a": "b" * 50}]
-    if isinstance(GOOD[name], str):
-        return [*others, 5, ["x"]]
-    if isinstance(GOOD[name], int):
-        return [*others, "5", "5 ms and quite a lot of other words behind it", [5]]
-    return [*others, "x", 5, [5 if name == "servers" else "x"], [None]]
-
-
-def faulty_fields() -> Iterator[Faulty]:
-    """Claims that lack a field, or have another kind in it."""
+def faulty() -> Iterator[Faulty]:
+    """Claims that lack a field, have another kind in it, or a value that may not stand there."""
     for code, name in enumerate(claims.Claim.__annotations__, 1):
         line = f"claim 2 field field {code}"
         if name in claims.Claim.__required_keys__:
             yield {key: value for key, value in GOOD.items() if key != name}, line, name, "is missing"
-        for value in wrong_kinds(name):
-            yield {**GOOD, name: value}, line, name, f"; it is {stands(value)}"
-
-
-def faulty_values() -> Iterator[Faulty]:
-    """Claims with a value of the right kind that may not stand there."""
+        for wrong in (None, 1.5, -1, {"a": "b" * 50}, [["x"]]):
+            yield {**GOOD, name: wrong}, line, name, f"; it is {stands(wrong)}"
     for name, most in claims.MOST.items():
-        for number in (most + 1, 2**64 - 1):
-            yield {**GOOD, name: number}, "claim 5 range", name, f"; it is {number}"
-    for name in ("from", "to"):
-        for value in TIMES:
-            yield {**GOOD, name: value}, "claim 4 time", name, f"; it is {stands(value)}"
-    late = "2001-09-09T01:46:41Z"
-    yield {**GOOD, "from": late}, "claim 5 range", "from", f"; it is {stands(late)}"
-    for value in ADDRESSES:
-        yield {**GOOD, "client": value}, "claim 3 address", "client", f"; it is {stands(value)}"
-        servers = cast(list[str], GOOD["servers"])
-        yield {**GOOD, "servers": [servers[0], value]}, "claim 3 address", "servers", f"; {stands(value)} is none"
-    for count in (0, 33):
-        servers = [f"192.0.2.{100 + k}" for k in range(count)]
-        yield {**GOOD, "servers": servers}, "claim 5 range", "servers", f"; it has {count}"
+        yield {**GOOD, name: most + 1}, "claim 5 range", name, f"; it is {most + 1}"
+    for name, line, values in (("from", "claim 4 time", ("", "2001-09-09T01:46:40", "2001-02-29T00:00:00Z")),
+                               ("to", "claim 4 time", ("2001-09-09 01:46:40Z",)),
+                               ("from", "claim 5 range", ("2001-09-09T01:46:41Z",)),
+                               ("client", "claim 3 address", ("host", "192.0.2", "192.0.2.010", "2001:db8::1", ""))):
+        for value in values:
+            yield {**GOOD, name: value}, line, name, f"; it is {stands(value)}"
+    yield {**GOOD, "servers": ["192.0.2.1", "host"]}, "claim 3 address", "servers", '; "host" is none'
+    yield {**GOOD, "servers": [f"192.0.2.{100 + k}" for k in range(33)]}, "claim 5 range", "servers", "; it has 33"
 
 
 def test_claims(folder: Path) -> None:
     """Each fault of a claim names its own field and file, what has to stand there and what does, and a remedy."""
-    file, seen = folder / "claim.json", 0
-    for claim, line, name, end in [*faulty_fields(), *faulty_values()]:
+    file = folder / "claim.json"
+    for claim, line, name, end in faulty():
         file.write_text(json.dumps(claim))
         status, _, error = run([PROGRAM, "settle", file, CAPTURE, "--human"])
-        plain = run([PROGRAM, "settle", file, CAPTURE])
         first, wrong, remedy, *more = [*error.decode().splitlines(), "", "", ""]
         begin = f'  {file}: "{name}" ' + ("" if end == "is missing" else f"has to be {KINDS[name]}")
         check(f"{line} of {name}, {end}", status=(status, 2), line=(first, f"ntpaudit: {line}"),
-              plain=(plain, (2, b"", f"ntpaudit: {line}\n".encode())), begin=(wrong[:len(begin)], begin),
-              end=(wrong[-len(end):], end), more=(any(more), False),
+              begin=(wrong[:len(begin)], begin), end=(wrong[-len(end):], end), more=(any(more), False),
               remedy=(remedy[:2] == "  " and len(remedy) > 2, True))
-        seen += 1
-    check("as many faults as there should be", seen=(seen, lambda count: count > 100))
     for name, most in claims.MOST.items():
         file.write_text(json.dumps({**GOOD, name: most}))
         check(f"a claim whose {name} is {most}", error=(run([PROGRAM, "settle", file, CAPTURE])[2], b""))
@@ -160,11 +130,10 @@ def test_long_inputs(folder: Path) -> None:
 
 def test_strange_names(folder: Path) -> None:
     """What stands in a name is escaped, so that nothing but two lines is written, and nothing that a terminal obeys."""
-    for name in ("a\nntpaudit: memory", "\x1b[31mred", "\r\x07", "\x9b2J", "\x7f", "  b ", TURN, "\u00e9\u4e2d",
-                 "\u061b\u061d\u200d\u2010\u2027\u202f\u2065\u206a"):
-        shown = "".join(f"\\u{{{ord(c):x}}}" if c < " " or "\x7f" <= c <= "\x9f" or c in TURN else c for c in name)
+    for name in ("a\nntpaudit: memory", "\x1b[31mred", "\r\x07", "\x9b2J", "\x7f", "  b ", shown.TURNING,
+                 "\u00e9\u4e2d", "\u061b\u061d\u200d\u2010\u2027\u202f\u2065\u206a"):
         check_told(f"a claim of the name {name!r}", ["settle", folder / name, CAPTURE], (
-            4, "device claim", f"{folder}/{shown}: can't be read: No such file or directory (os error 2)",
+            4, "device claim", f"{folder}/{shown.escaped(name)}: can't be read: No such file or directory (os error 2)",
             "see how its path is spelt, and in which folder you are: pwd"))
     refused: list[list[object]] = [["list", CAPTURE, "\x1b]0;a\x07"], ["--\x1b[2J"], ["\x1b[31m"],
                                    ["find", CLAIM, CAPTURE, "--step", "\x1b"]]
@@ -193,8 +162,8 @@ def test_second_look(folder: Path) -> None:
         check_told("a claim by a named pipe", ["settle", fifo, CAPTURE], (
             2, "claim 2 field field 1", f'{fifo}: "client" has to be an IPv4 address{piped}',
             'write an address as "192.0.2.1": no host name, no IPv6, no leading zeros'))
-    for name, shown in (("-", "standard input"), ("/dev/stdin", "/dev/stdin")):
-        check_told(f"{name} of a pipe", ["list", name], (2, line, f"{shown}: {wrong}{piped}", remedy), given=torn)
+    for name, called in (("-", "standard input"), ("/dev/stdin", "/dev/stdin")):
+        check_told(f"{name} of a pipe", ["list", name], (2, line, f"{called}: {wrong}{piped}", remedy), given=torn)
     (folder / "torn").write_bytes(torn)
     with open(folder / "torn", "rb") as given:
         check_told("- of a file", ["list", "-"], (
