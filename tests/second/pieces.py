@@ -23,16 +23,15 @@ NONE = -1 << 200
 
 
 class Side:
-    """The greatest low end over any piece of some windows, at a rate towards the piece's end and one towards its begin.
-    A window moves to the piece's farther end: where the rates are one, to the last one if twice its middle is at most
-    twice the piece's, and else to the first."""
+    """The greatest of a server's low ends over any piece. A window moves to the piece's farther end: the last one,
+    where twice its middle is at most twice the piece's, and else the first."""
 
-    def __init__(self, ppb: int, windows: Iterable[tuple[tuple[int, int], int]], onwards: int, back: int) -> None:
+    def __init__(self, ppb: int, windows: Iterable[tuple[tuple[int, int], int]]) -> None:
         by_middle = sorted(windows, key=lambda pair: sum(pair[0]))
-        self.ppb, self.onwards, self.back = ppb, onwards, back
+        self.ppb, self.rest = ppb, BILLION - ppb
         self.middles = [begin + end for (begin, end), _ in by_middle]
-        to_last = [onwards * low + ppb * begin for (begin, _), low in by_middle]
-        to_first = [back * low - ppb * end for (_, end), low in by_middle]
+        to_last = [self.rest * low + ppb * begin for (begin, _), low in by_middle]
+        to_first = [self.rest * low - ppb * end for (_, end), low in by_middle]
         self.to_last = [NONE, *rules.running(max, to_last)]
         self.to_first = [*rules.running(max, reversed(to_first))[::-1], NONE]
 
@@ -40,21 +39,6 @@ class Side:
         """What the first end of a piece with this middle is added to, and what the last is taken from."""
         at = bisect_right(self.middles, both)
         return self.to_first[at], self.to_last[at]
-
-    def end(self, begin: int, end: int) -> int:
-        """The end over a piece."""
-        both = 2 * (self.back * end + self.onwards * begin) // (self.back + self.onwards)
-        to_first, to_last = self.parts(both)
-        return max((to_last - self.ppb * end) // self.onwards, (to_first + self.ppb * begin) // self.back)
-
-
-def in_common(lows: list[int], highs: list[int], wanted: int) -> Hull:
-    """The hull of what as many as wanted of these intervals have in common. With the ends in order, a point lies in so
-    many if for some k as many and k more begin up to it, and at most k end before it."""
-    lows.sort()
-    highs.sort()
-    common = [both for both in zip(lows[wanted - 1:], highs) if both[0] <= both[1]]
-    return (common[0][0], common[-1][1]) if common else ()
 
 
 Parts = tuple[int, int, int, int]
@@ -73,11 +57,11 @@ class Hulls:
     def __init__(self, claim: Claim, samples: list[Sample], without: Iterable[int] = ()) -> None:
         left = [group for number, group in enumerate(rules.groups_of(claim)) if number not in set(without)]
         self.ppb, self.false_max = claim["drift_ppb"], claim["false_max"] - len(set(without))
-        self.sides, rest = {}, BILLION - self.ppb
+        self.sides = {}
         for server in sorted({sample.server for sample in samples} & {server for group in left for server in group}):
             own = [sample for sample in samples if sample.server == server]
-            self.sides[server] = (Side(self.ppb, [(s.sent, s.low) for s in own], rest, rest),
-                                  Side(self.ppb, [(s.received, -s.high) for s in own], rest, rest))
+            self.sides[server] = (Side(self.ppb, [(s.sent, s.low) for s in own]),
+                                  Side(self.ppb, [(s.received, -s.high) for s in own]))
         self.groups = [known for group in left if (known := [server for server in group if server in self.sides])]
         self.middles = sorted(middle for sides in self.sides.values() for side in sides for middle in side.middles)
         self.since = self.until = 0
@@ -101,7 +85,8 @@ class Hulls:
         self.parts = [greatest(self.of_servers[server] for server in group) for group in self.groups]
 
     def over(self, begin: int, end: int) -> Hull:
-        """The hull: None where it's unbounded, () where it's empty."""
+        """The hull: None where it's unbounded, () where it's empty. With the ends in order, a point lies in so many
+        intervals if for some k as many and k more begin up to it, and at most k end before it."""
         wanted = len(self.groups) - self.false_max
         if wanted <= 0:
             return None
@@ -116,7 +101,10 @@ class Hulls:
             if low <= high:
                 lows.append(low)
                 highs.append(high)
-        return in_common(lows, highs, wanted)
+        lows.sort()
+        highs.sort()
+        common = [both for both in zip(lows[wanted - 1:], highs) if both[0] <= both[1]]
+        return (common[0][0], common[-1][1]) if common else ()
 
 
 def bound_in_ticks(bound_ns: int) -> int:
@@ -230,15 +218,15 @@ def least(claim: Claim, samples: list[Sample], step: int) -> tuple[int, int] | N
         return None
     found = neediest(hulls, *span, 4 * len(samples) + 100)
     limit = min(rules.ceiling(found[0] * BILLION, TICKS), MOST_BOUND_NS) if found else 0
-    bound_ns = first_carried(is_carried, limit, MOST_BOUND_NS)
+    bound_ns = first_carried(is_carried, limit)
     return bound_ns, piece_of(claim, hulls, bound_ns, step)
 
 
-def first_carried(is_carried: Callable[[int], bool], limit: int, most: int) -> int:
+def first_carried(is_carried: Callable[[int], bool], limit: int) -> int:
     """A bound that is carried where one less isn't, from a limit on below which none is: the greatest is carried."""
     below, over, way = limit - 1, limit, 1
-    while over < most and not is_carried(over):
-        below, over, way = over, min(over + way, most), 2 * way
+    while over < MOST_BOUND_NS and not is_carried(over):
+        below, over, way = over, min(over + way, MOST_BOUND_NS), 2 * way
     while over - below > 1:
         middle = (below + over) // 2
         below, over = (below, middle) if is_carried(middle) else (middle, over)

@@ -182,7 +182,7 @@ def settle_wrong(question: Question, ran: Ran, kind: str) -> str:
 
 def found_by_covers(question: Question) -> ByCovers | None:
     bound = rules.bound_of(question.claim)
-    return by_covers.Search(question.claim, question.samples, question.conflicts).find(bound)
+    return by_covers.Search(question.claim, question.samples, question.conflicts).find(bound).certificate
 
 
 def carried(question: Question) -> str:

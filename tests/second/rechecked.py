@@ -50,9 +50,11 @@ def exchanges_of(samples: list[Sample]) -> list[Any]:
                             sample.distance) for k, sample in enumerate(samples)]
 
 
-def verdict(claim: Claim, samples: list[Sample], certificate: Certificate | ByCovers) -> str:
-    """What `check` has to say of a certificate, behind the word `verdict`."""
-    fault: str = MODULE.fault_of(MODULE.claim_of(claim), exchanges_of(samples), *MODULE.certificate_of(certificate))
+def verdict(claim: Claim, samples: list[Sample], certificate: Certificate | ByCovers, bound: int | None = None) -> str:
+    """What `check` has to say of a certificate, behind the word `verdict`; or with another bound, in ticks."""
+    read = MODULE.claim_of(claim)
+    fault: str = MODULE.fault_of(read if bound is None else read._replace(bound=bound), exchanges_of(samples),
+                                 *MODULE.certificate_of(certificate))
     return f"no{fault}" if fault else "yes"
 
 

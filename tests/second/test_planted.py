@@ -4,6 +4,7 @@ asks is asked of each copy too, until something sees it.
 """
 import multiprocessing
 import os
+import random
 import tempfile
 from collections.abc import Callable
 from concurrent.futures import ProcessPoolExecutor
@@ -11,9 +12,9 @@ from pathlib import Path
 from typing import Any
 
 from tests.support import count
-from tests.second import rechecked, test_recheck
-from tests.system import test_covers as by_covers
+from tests.second import rechecked, test_by_covers, test_recheck
 
+SYSTEMS = 1000
 SCENES = 60
 """How many scenes are tried beside what is directed."""
 
@@ -108,7 +109,7 @@ COVERS: list[Plant] = [
      "high + max(0, drift * (end - v) // up, drift * (v - begin) // down)"),
     ("the last case isn't looked at", "for groups, pieces in cases)", "for groups, pieces in cases[:-1])"),
 ]
-"""What could be wrong of certificates by covers: tests/system/test_covers.py has to see it."""
+"""What could be wrong of certificates by covers: test_by_covers.py has to see it."""
 SEEN = multiprocessing.Array("b", len(PLANTS))
 """Which plants something has seen."""
 
@@ -164,15 +165,10 @@ def test_plants() -> None:
 
 
 def sees(number: int) -> bool:
-    """Whether a certificate by covers shows this plant of COVERS."""
+    """Whether one of many systems of exchanges shows this plant of COVERS."""
     text = rechecked.RECHECK.read_text("utf-8")
     rechecked.MODULE = module_of(text.replace(COVERS[number][1], COVERS[number][2]))
-    try:
-        for seed in range(by_covers.CHECKED):
-            by_covers.try_checked(seed)
-    except AssertionError:
-        return True
-    return False
+    return any(test_by_covers.judged(random.Random(f"planted {k}"))[1] for k in range(SYSTEMS))
 
 
 def test_covers() -> None:

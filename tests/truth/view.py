@@ -34,10 +34,10 @@ class View:
 
     def unless_unseen(self, wrong: str) -> str:
         """Nothing if what went wrong can't be seen; if the answer says itself that the folder speaks against it; or if
-        it says `if so many were wrong`, and none was more than is granted."""
+        it says `if so many were wrong`, and more were, or none more than is granted."""
         spared = (self.entry.get("reason") or {}).get("count") if self.entry.get("moves") else 0
         if not wrong or self.verdict == "unsupported" and self.logged_against() or self.is_warned or \
-                spared and not self.too_many_wrong or \
+                spared and not self.of.false_max < self.number_wrong <= spared or \
                 self.verdict == "nothing fits" and self.most_agree:
             return ""
         return "" if self.excuse else wrong
@@ -151,8 +151,12 @@ class View:
         return any(one.server.is_wrong(one.sent_at) for one in counted(self.of) if one.server.address == address)
 
     @cached_property
+    def number_wrong(self) -> int:
+        return len(wrong_groups(self.of, counted(self.of)))
+
+    @property
     def too_many_wrong(self) -> bool:
-        return len(wrong_groups(self.of, counted(self.of))) > self.of.false_max
+        return self.number_wrong > self.of.false_max
 
     @property
     def is_warned(self) -> bool:
