@@ -320,8 +320,9 @@ class View:
         by_low, by_high = self.errors((asked, asked + SECOND)), self.errors((answered, answered + SECOND))
         self.sides |= {side for server, side, error in ((low, 1, least), (high, -1, most))
                        if side * error > self.of.bound and not self.is_ever_wrong(server)}
-        wrong = by_low and by_low[1] < least and not self.is_ever_wrong(low) or \
-            by_high and by_high[0] > most and not self.is_ever_wrong(high)
+        ever = 0, 1 << 62  # (conflicts are of whatever was recorded)
+        wrong = by_low and by_low[1] < least and not self.is_wrong_in(low, ever) or \
+            by_high and by_high[0] > most and not self.is_wrong_in(high, ever)
         return f"the errors were {by_low} and {by_high}" if wrong else ""
 
 
