@@ -7,7 +7,7 @@ from typing import Any
 from tests.truth.clock import SECOND
 from tests.truth.forms import Form, When, form_of
 from tests.truth.history import LEAP, civil
-from tests.truth.sight import MARGIN, near
+from tests.truth.sight import MARGIN, near, wrong_groups
 from tests.truth.view import Range, View, clock_time
 
 LEAP_DAY = civil(LEAP - SECOND)[:10]
@@ -112,7 +112,8 @@ def off_at_the_end(view: View) -> str:
 def see_who(view: View, since: int, until: int) -> str:
     """That the log of a time has the message of a step: it was stepped from a reading of it, or to one."""
     near = since - SECOND, until + SECOND
-    return unless(view.jumps(near) or view.fast(near) or view.too_many_wrong, f"the clock was stepped {view.steps}")
+    are_wrong = len(wrong_groups(view.of, view.of.exchanges)) > view.of.false_max
+    return unless(view.jumps(near) or view.fast(near) or are_wrong, f"the clock was stepped {view.steps}")
 
 
 def claim_a_part(view: View, spans: list[When]) -> str:
