@@ -31,6 +31,8 @@ ENOUGH = 8
 MOST_PARTS = 100
 ROUND = 8
 """Records for each server, of two for an exchange, in which each that isn't silent is asked and answers."""
+OFTEN = 6
+"""Exchanges of a server, of which two at each end of a stretch may be left out."""
 COARSE = 1000
 """Nanoseconds in the coarsest unit of a capture's times."""
 
@@ -128,9 +130,10 @@ class Parting:
         was stepped again: between records by which each group was asked before it, and had answered behind it. A step
         stays as it is if these rounds have one alone, with no server wrong."""
         one, (begin, _), (first, _), move = self.breaks[number], *self.ends()[number : number + 2], self.move(number)
-        wide = Break(begin + self.round(self.sides[number], -1), first + self.round(self.sides[number + 1], 0),
-                     one.is_met, bool(move and move.is_step))
-        is_clear = move and move.is_step and self.search.is_one(wide, replace(self.claim, groups=[], false_max=0))
+        is_step = bool(move and move.is_step)
+        wide = Break(begin + self.round(self.sides[number], -1, is_step),
+                     first + self.round(self.sides[number + 1], 0, is_step), one.is_met, is_step)
+        is_clear = is_step and self.search.is_one(wide, replace(self.claim, groups=[], false_max=0))
         return self.search.between_exchanges(one) if is_clear else wide
 
     def named(self, claim: Claim) -> str:
@@ -203,10 +206,11 @@ class Parting:
         rate = max(rate, self.claim.drift_ppb)
         return Move(before.last, behind.first, *size, rate, False, max(0, until), max(0, since))
 
-    def round(self, side: Side, place: int) -> int:
+    def round(self, side: Side, place: int, is_step: bool) -> int:
         """The record of a stretch behind which each server was asked once more (-1), or before which each had answered
-        (0); of one that was silent there for long none."""
-        records = [sorted(own)[place][0 if place else 1] for own in side.recording.by_address.values()]
+        (0); of one that was silent there for long none. Beside movement it is twice, of each that was asked often."""
+        records = [sorted(own)[place if is_step or len(own) < OFTEN else -2 if place else 1][0 if place else 1]
+                   for own in side.recording.by_address.values()]
         end = max(records) if place else min(records)
         near = [record for record in records if abs(end - record) <= ROUND * len(self.claim.servers)]
         return max(0, min(near) - 1) if place else min(len(side.recording.stamps) - 1, max(near) + 1)
@@ -265,10 +269,11 @@ class Parting:
                                    lambda end: self.hull(side, end - 1, end + 1)), *self.left_out(),
                          *(self.doubts(side, first, last, step) if self.is_spared else ())])
         for begin, end in doubts if len(doubts) <= FEW else [(first * SECOND, last * SECOND)]:
-            if first < begin // SECOND:
-                yield first, min(last, begin // SECOND)
+            until = min(last, begin // SECOND)
+            if first < until and side.first <= begin:  # (else only what came behind it speaks of these readings)
+                yield first, until
             first = max(first, ceil_div(end, SECOND))
-        if first < last or not doubts:
+        if first < last and side.last >= first * SECOND or not doubts:
             yield first, last
 
     def left_out(self) -> Iterator[Gap]:

@@ -311,8 +311,8 @@ def after_moves(entry: Entry) -> str:
 
 def claimable(entry: Entry) -> list[tuple[int, int]]:
     """The readings that were shown between two moves, and surely not before or behind these."""
-    spans = list[tuple[int, int]]()
-    for own in entry.parts if all(move.until and move.since for move in entry.moves) else ():
+    spans, is_spared = list[tuple[int, int]](), isinstance(entry.reason, Misfit) and entry.reason.count
+    for own in entry.parts if all(move.until and move.since for move in entry.moves) and not is_spared else ():
         others = [part for part in entry.parts if part.moves != own.moves]
         first = max([own.from_, *(move.since for move in entry.moves[: own.moves][-1:])])
         last = min([own.to, *(move.until for move in entry.moves[own.moves :][:1])])

@@ -12,7 +12,7 @@ from ..fault import MISSING, Fault, fault
 from ..folder import files
 from ..folder.answers import read_counts, read_envelope, read_settled
 from ..folder.claim import MOST_BOUND, Part
-from ..folder.entry import NO_EVIDENCE, NOTHING_FITS, REFUTED, YES, Entry, Gap, Silence
+from ..folder.entry import NO_EVIDENCE, NOTHING_FITS, REFUTED, YES, Entry, Gap, Move, Silence
 from ..folder.files import sum_of, sum_of_file
 from ..folder.placing import keep, make_private, move
 from ..folder.program import Program
@@ -80,7 +80,8 @@ class Settling:
                 if read_settled(texts.settled).answer == REFUTED else ()
             texts = texts._replace(parts=split(envelope, sorted([*gaps, *doubts]), claim))
         if is_fitted or texts.spared and not texts.moves:
-            texts = texts._replace(apart=self.seen_apart(texts, gaps))
+            apart = self.seen_apart(texts, gaps)
+            texts = texts._replace(apart=apart if are_steps(texts.moves) else apart._replace(wrong=[], some=[]))
         return judge(self.part, recording, beside, texts, self.step, self.left)
 
     def by_parts(self, parting: Parting, texts: Texts, own: str) -> Texts:
@@ -103,10 +104,10 @@ class Settling:
         more = search.told() if not parting.moves and search.whole.path == self.capture else []
         shown = read_shown(self.program, self.claim, self.capture, self.extent,
                            read_settled(texts.settled).conflicts + more)
-        are_steps = parting.moves and all(move.is_step for move in parting.moves)  # (else some may be on both sides)
         return texts._replace(moves=parting.moves, parts=parted.parts, conflicts=shown, spared=spared, gaps=parted.gaps,
                               apart=Apart([], parted.apart, *wrong_in(self.program, parting.claim, [
-                                  side.path for side in parting.sides if are_steps and not spared])))
+                                  side.path for side in parting.sides
+                                  if parting.moves and are_steps(parting.moves) and not spared])))
 
     def spared(self, parting: Parting) -> tuple[int, Parting]:
         """With how many wrong groups, fewer than half, a course of events fits, or it is known how the clock moved, and
@@ -233,6 +234,11 @@ class Settling:
                 if self.judged(*self.contested(name)).endswith(b"refuted yes\n"):
                     return self.earlier
         return self.keep(files.REFUTATION, text)
+
+
+def are_steps(moves: list[Move]) -> bool:
+    """Whether no move may be movement, some of which may lie in a stretch, where it would look like a wrong server."""
+    return all(move.is_step for move in moves)
 
 
 def do_many_miss(recording: Recording, servers: int) -> bool:
