@@ -233,7 +233,8 @@ def in_short(entry: Entry) -> str:
         return off_times(entry)
     if isinstance(cause, Gaps):
         more, gap = f", and {cause.count - 1:,} more times" if cause.count > 1 else "", longest(cause.gaps)
-        return f"no server heard {from_to(*inward(gap.after, gap.by))} UTC{more}"
+        what = "no reply of use" if gap.replies else "no server heard"
+        return f"{what} {from_to(*inward(gap.after, gap.by))} UTC{more}"
     if isinstance(cause, Misfit) and cause.apart:
         return f"{listed(cause.apart)} wrong, or the clock stepped or moved faster"
     if isinstance(cause, Silent):

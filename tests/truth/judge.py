@@ -228,6 +228,11 @@ def unheard(view: View, when: When, *_: int) -> str:
     return unless(not view.recorded(when, replies=True), "replies were recorded then")
 
 
+def useless(view: View, when: When, *_: int) -> str:
+    view.silences.append(when)
+    return view.silent_in(when, (1, 1))
+
+
 def outside(view: View, *_: Any) -> str:
     first, last = near(view.of)
     stamps = [packet.stamp for packet in view.packets if first <= packet.stamp <= last]  # (these count)
