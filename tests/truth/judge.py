@@ -83,7 +83,9 @@ def off_then(view: View, *values: Any) -> str:
 
 
 def mend(view: View) -> str:
-    return unless(view.worst > view.of.bound, view.unless_unseen("it was never beyond the bound"))
+    errors = [view.clock.error(one.sent_at) or 0 for one in view.of.exchanges]  # (the span may never have been shown)
+    worst = max(view.worst, *map(abs, errors))
+    return unless(worst > view.of.bound, view.unless_unseen("it was never beyond the bound"))
 
 
 # ---- steps and parts

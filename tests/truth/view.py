@@ -179,7 +179,8 @@ class View:
     @cached_property
     def has_broken(self) -> bool:
         """Whether a premise fails in what was recorded: a step, more drift, more wrong servers than are granted."""
-        return bool(self.clock.jumps or self.clock.fast or self.too_many_wrong or self.of.leap < self.of.end)
+        are_wrong = len(wrong_groups(self.of, self.of.exchanges)) > self.of.false_max
+        return bool(self.clock.jumps or self.clock.fast or are_wrong or self.of.leap < self.of.end)
 
     @property
     def worst(self) -> int:
