@@ -10,14 +10,14 @@ from tests.truth.use import CLEAN, TROUBLED
 NUMBER = 300
 ONCE_UNTRUE = 753, 844, 1300, 1541, 3040, 3183, 3418, 4404, 6534, 7153, 7203, 9004, 9005, 9108, 9128, 9239, \
     24136, 26168, 30264, 30531, 30585, 32267, 32454, 32702, 32765, 33763, 34748, 35867, 38516, 101908, 101998, \
-    106549, 107427, 121063, 121349
+    106549, 107427, 121063, 121349, 206899, 207848, 209569, 209617, 211373
 """Seeds of others. The clock is stepped to and fro, twice in ten seconds, or just before the end, and one server was
 asked there once; it moves fast, while servers are asked; they contradict themselves; one is right for a time; only the
 log of ntpdate has a step, or the log one that was back over the span, or another one beside; nobody answers where a
 recording begins, or ends; fast movement looks like a wrong server, or a wrong server like that; what is beside a step
 alone doesn't count; it is stepped just behind the begin, or moves past a leap second, which is next to the end; a
 server is right next to a gap; one is asked between two steps, or alone in the span; what nobody answers is recorded
-twice."""
+twice; a reply is of no use; more servers are wrong than is granted, and the clock is stepped."""
 
 ONCE_UNSAID = 4022, 4023, 4046, 4130, 30044
 """Seeds of others. A step isn't told where the clock's moves aren't known, nor on which side the clock was; nor a wrong
