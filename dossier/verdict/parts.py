@@ -213,6 +213,7 @@ class Parting:
                    for own in side.recording.by_address.values()]
         end = max(records) if place else min(records)
         near = [record for record in records if abs(end - record) <= ROUND * len(self.claim.servers)]
+        near = near if len(near) > self.claim.false_max else records  # (those alone may be wrong)
         return max(0, min(near) - 1) if place else min(len(side.recording.stamps) - 1, max(near) + 1)
 
     def is_seen(self, number: int) -> bool:

@@ -10,7 +10,7 @@ from tests.truth.use import CLEAN, TROUBLED
 NUMBER = 300
 ONCE_UNTRUE = 753, 844, 1300, 1541, 3040, 3183, 3418, 4404, 6534, 7153, 7203, 9004, 9005, 9108, 9128, 9239, \
     24136, 26168, 30264, 30531, 30585, 32267, 32454, 32702, 32765, 33763, 34748, 35867, 38516, 101908, 101998, \
-    106549, 107427, 121063, 121349, 206899, 207848, 209569, 209617, 211373
+    106549, 107427, 121063, 121349, 206899, 207848, 209569, 209617, 211373, 219374
 """Seeds of others. The clock is stepped to and fro, twice in ten seconds, or just before the end, and one server was
 asked there once; it moves fast, while servers are asked; they contradict themselves; one is right for a time; only the
 log of ntpdate has a step, or the log one that was back over the span, or another one beside; nobody answers where a
