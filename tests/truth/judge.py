@@ -84,7 +84,7 @@ def off_then(view: View, *values: Any) -> str:
 
 def mend(view: View) -> str:
     errors = [view.clock.error(one.sent_at) or 0 for one in view.of.exchanges]  # (the span may never have been shown)
-    worst = max(view.worst, *map(abs, errors))
+    worst = max([view.worst, *(abs(error) for error in errors)])
     return unless(worst > view.of.bound, view.unless_unseen("it was never beyond the bound"))
 
 
