@@ -84,7 +84,7 @@ def off_then(view: View, *values: Any) -> str:
 
 def mend(view: View) -> str:
     errors = [view.clock.error(one.sent_at) or 0 for one in view.of.exchanges]  # (the span may never have been shown)
-    worst = max(view.worst, *map(abs, errors))
+    worst = max([view.worst, *(abs(error) for error in errors)])
     return unless(worst > view.of.bound, view.unless_unseen("it was never beyond the bound"))
 
 
@@ -193,6 +193,10 @@ def was_wrong(view: View, servers: list[str]) -> str:
     view.named.update(servers)
     right = [server for server in servers if not view.is_wrong_in(server, (0, 1 << 62))]
     return view.unless_unseen(f"{', '.join(right)} was right" if right else "")
+
+
+def caught(view: View, server: str, *_: Any) -> str:
+    return was_wrong(view, [server])
 
 
 def some_wrong(view: View, servers: list[str]) -> str:
