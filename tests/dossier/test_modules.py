@@ -3,11 +3,12 @@ on none that comes after it.
 """
 import ast
 import dataclasses
+import runpy
 from collections.abc import Callable, Iterator
 from pathlib import Path
 from typing import Any
 
-from tests.support import ROOT, check, files_in, run
+from tests.support import ROOT, check, files_in
 
 OPENING = {"open", "os.open", "os.read", "os.pread", "os.scandir", "os.listdir", "os.stat", "os.lstat", "os.fstat",
            "mmap.mmap"}
@@ -79,21 +80,26 @@ def calls_in(path: Path, tree: ast.Module) -> Iterator[tuple[str, str]]:
     taken = {alias.name for node in ast.walk(tree) if isinstance(node, ast.ImportFrom) and node.level
              for alias in node.names}
     for own in ast.walk(tree):
-        if isinstance(own, ast.FunctionDef) and not any(isinstance(node, ast.FunctionDef) for node in ast.walk(own)
-                                                        if node is not own):
-            yield from ((node.func.id, f"called by {own.name} in {path.relative_to(ROOT)}:{own.lineno}")
-                        for node in ast.walk(own) if isinstance(node, ast.Call) and isinstance(node.func, ast.Name)
+        if isinstance(own, ast.FunctionDef):
+            inner = {node for part in ast.walk(own) if isinstance(part, ast.FunctionDef) and part is not own
+                     for node in ast.walk(part)}
+            yield from ((node.func.id, f"{path.relative_to(ROOT)}:{own.lineno}") for node in ast.walk(own)
+                        if isinstance(node, ast.Call) and isinstance(node.func, ast.Name) and node not in inner
                         and node.func.id in taken and node.func.id.islower())
 
 
 def test_calls() -> None:
     """`docs/callers` tells each call that Python's own reader finds."""
-    for path in files_in(ROOT / "dossier/verdict", "*.py"):
+    there = runpy.run_path(str(ROOT / "docs/callers"))
+    python, number = there["PYTHON"], 0
+    every = there["sources"](python)
+    told = {(item.name, getattr(caller, "place", "")) for source in every for item in there["items"](python, source)
+            for caller in there["callers"](python, item, every)}
+    for path in files_in(ROOT / "dossier", "**/*.py"):
         found = set(calls_in(path, ast.parse(path.read_text("utf-8"))))
-        names = sorted({name for name, _ in found})
-        told = run([ROOT / "docs/callers", *names])[1].decode() if names else ""
-        untold = sorted({call for _, call in found if call not in told})
-        check(f"docs/callers: what {path.name} calls", untold=(untold, []))
+        number += len(found)
+        check(f"docs/callers: what {path.name} calls", untold=(sorted(found - told), []))
+    check("docs/callers: calls that are looked for", number=(number, lambda number: 500 < number))
 
 
 def kind_by(module: Any) -> Any:

@@ -4,6 +4,7 @@ A call is read by its name: of a method it is any method of that name, of a func
 file takes from another. So more may count as called than is, never less. Laws are called by nothing.
 """
 import re
+import runpy
 from collections import defaultdict
 from typing import NamedTuple
 
@@ -84,6 +85,24 @@ def is_law(name: Name) -> bool:
     """Whether a crate has a law of this name."""
     laws = (ROOT / "crates" / name[0] / "src").glob("**/laws.rt")
     return any(f"fn {name[1]}(" in file.read_text("utf-8") for file in laws)
+
+
+def test_callers() -> None:
+    """`docs/callers` tells each call of a function by its name."""
+    there = runpy.run_path(str(ROOT / "docs/callers"))
+    rust, told = there["RUST"], defaultdict[Name, set[Name]](set)
+    every = there["sources"](rust)
+    for item in (item for source in every for item in there["items"](rust, source) if not item.owner):
+        told[item.source.room.name, item.name] |= {(one.source.room.name, one.name) for one in
+                                                   there["callers"](rust, item, every) if hasattr(one, "name")}
+    all_bodies, number, untold = bodies(), 0, []
+    for caller, own in all_bodies.items():
+        for called, taken in {(name, body.taken.get(name, caller[0])) for body in own for name in
+                              re.findall(r"(?<![.:\w])([a-z]\w+)(?:::<[^(]*>)?\(", body.text)}:
+            if any(not body.is_method for body in all_bodies.get((taken, called), ())) and caller != (taken, called):
+                number += 1
+                untold += [(caller, called)] if caller not in told[taken, called] else []
+    check("docs/callers: calls that are looked for", number=(number, lambda number: 1000 < number), untold=(untold, []))
 
 
 def test_functions() -> None:

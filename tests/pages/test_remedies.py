@@ -390,7 +390,7 @@ def test_dossier(place: Path) -> None:
             "XDG_STATE_HOME": str(place / "state")}
     (folder / "chrony.conf").write_text(f"port 0\npidfile {folder}/pid\ndriftfile {folder}/drift\nlocal\n"
                                         "bindcmdaddress /\nuser root\n")
-    lacks = "" if shutil.which("chronyd") else wanting("chronyd")
+    lacks = next((wanting(tool) for tool in ("chronyd", "chronyc") if not shutil.which(tool)), "")
     if run(["unshare", "-n", "true"])[0]:
         lacks = "there is no right to a network of its own"
     for code in sorted(code for code in own_codes() - NAMES if spelled(code) not in seen):
