@@ -1,14 +1,16 @@
 """What the commands with a claim print, restated by what rules.py, pieces.py and settlement.py say of the samples. A
 command has one function here, and its options are the words that it is typed with. Nothing is shared with the program.
 """
+import re
 from collections.abc import Callable, Iterator, Sequence
+from pathlib import Path
 from typing import NamedTuple
 
 from tests.second import pieces, rules, settlement
 from tests.second.claims import Claim
 from tests.second.columns import MOMENT, PIECE, PIECE_OF_SERVER, SAMPLE, TICKS, written
 from tests.second.pieces import Hulls
-from tests.second.rules import Hull, Intervals, Sample
+from tests.second.rules import Hull, Intervals, Sample, ceiling
 
 Answer = tuple[int, list[str]]
 """A status, and the lines on standard output."""
@@ -41,12 +43,47 @@ def samples(evidence: Evidence) -> Answer:
                          sample.high) for number, (sample, records) in rows), evidence.counts]
 
 
-def at(evidence: Evidence, time: str) -> Answer:
-    """The servers' intervals at a moment, and the hull."""
-    place = rules.ticks_of(time)
+def at(evidence: Evidence, *words: object) -> Answer:
+    """The servers' intervals at a moment, and the hull; or many readings."""
+    if words[0] == "--times":
+        return moments(evidence, Path(str(words[1])).read_text())
+    place = rules.ticks_of(str(words[0]))
     of_servers, hull = evidence.hulls.intervals(place, place), evidence.hulls.over(place, place)
     lines = [written(MOMENT, evidence.claim["servers"][server], *ends) for server, ends in of_servers.items()]
     return 0, [*lines, written(MOMENT, "hull", *rules.hull_fields(hull))]
+
+
+READING = re.compile(r"(?:(\d{4}-\d\d-\d\dT\d\d:\d\d:\d\d)|(\d{1,10}))(?:\.(\d{1,9}))?(Z?)", re.ASCII)
+"""A time in UTC or in Unix seconds, as `at --times` takes it."""
+
+
+def reading_of(text: str) -> tuple[int, int] | None:
+    """The first and the last tick of a reading, if a text is one: as long as its last digit stands, rounded outwards."""
+    said = READING.fullmatch(text)
+    if not said or bool(said[1]) != bool(said[4]):
+        return None
+    try:
+        second = int(said[2]) if said[2] else rules.ticks_of(said[1] + "Z") // TICKS
+    except ValueError:
+        return None
+    parts, digits = 10 ** len(said[3] or ""), int(said[3] or 0)
+    if not 0 <= second < 2**32 - 1:
+        return None
+    return second * TICKS + digits * TICKS // parts, second * TICKS + ceiling((digits + 1) * TICKS, parts)
+
+
+def moments(evidence: Evidence, text: str) -> Answer:
+    """Of each line, a reading, the hull over its ticks, and between which true time lay."""
+    lines = []
+    for number, line in enumerate(text.removesuffix("\n").split("\n") if text else [], 1):
+        if number > 1_000_000:
+            return 2, ["times 2 too-many"]
+        if not (ticks := reading_of(line)):
+            return 2, [f"times 1 time line {number}"]
+        hull = evidence.hulls.over(*ticks)
+        true = f" true {ticks[0] - hull[1]} {ticks[1] - hull[0]}" if hull else ""
+        lines.append(f"reading {line} hull {rules.hull_words(hull)}{true}")
+    return 0, lines
 
 
 class Drawn(NamedTuple):

@@ -23,8 +23,10 @@ PACKETS = (DATA / "two-packets.list.txt").read_bytes().splitlines(keepends=True)
 TIME = "2001-09-09T01:46:40Z"
 SECOND = {"check": "certificate", "refute": "refutation"}
 """What the second input of a command is, if it takes one."""
-OPERANDS: dict[str, Path | str] = {"<CERTIFICATE>": CERTIFICATE, "<REFUTATION>": REFUTATION, "<TIME>": TIME}
+OPERANDS: dict[str, Path | str] = {"CERTIFICATE": CERTIFICATE, "REFUTATION": REFUTATION, "TIME": TIME}
 """What stands for an operand behind claim and capture."""
+INSTEAD = {"at": ("--times", str(DATA / "two-packets.times.txt"))}
+"""What may stand in place of a command's operands."""
 
 
 class Command(NamedTuple):
@@ -128,8 +130,11 @@ def flags_of(name: str) -> list[tuple[str, str]]:
 
 def commands_of(name: str) -> Iterator[Command]:
     """A command without an option and with each that it has, and each of these for a person too."""
-    _, _, *operands = re.findall(r"<\w+>", help_of(name).split("Usage: ")[1].split("\n")[0])
+    _, _, *operands = re.findall(r"[<[](?!OPTIONS)(\w+)[]>]", help_of(name).split("Usage: ")[1].split("\n")[0])
     others = tuple(OPERANDS[word] for word in operands)
+    if instead := INSTEAD.get(name):
+        yield Command(name, partial(answered, name, instead), (), instead)
+        yield Command(name, partial(told, name, instead), (), (*instead, "--human"))
     for options in ((), *((word,) for _, word in flags_of(name) if word != "--human")):
         words = *others, *options
         yield Command(name, partial(answered, name, words), others, options)

@@ -33,6 +33,23 @@ def at(lines: list[str]) -> list[str]:
     return table(MOMENT, rows)
 
 
+def moments(lines: list[str]) -> list[str]:
+    """Readings as they are written, each with the hull and between which times true time lay."""
+    rows = [f"{'reading':>30} {'low error ms':>14} {'high error ms':>14} {'earliest true time':>30} "
+            f"{'latest true time':>30}"]
+    for line in lines:
+        _, written, _, low, *rest = line.split(" ")
+        if not rest:
+            rows.append(f"{written:>30} {low:>14}")
+            continue
+        high, earliest, latest = int(rest[0]), int(rest[2]), int(rest[3])
+        ends = milliseconds(int(low) * 10**9 // TICKS), milliseconds(-(-high * 10**9 // TICKS))
+        whens = [(earliest, earliest * 10**9 // TICKS), (latest, -(-latest * 10**9 // TICKS))]
+        shown = [moment(at) if 0 <= tick and at < 2**32 * 10**9 else str(tick) for tick, at in whens]
+        rows.append(" ".join([f"{written:>30}", *(f"{end:>14}" for end in ends), *shown]))
+    return rows
+
+
 def envelope(lines: list[str], servers: bool) -> list[str]:
     """A server's line has its piece's fields but the hull. The piece's own line comes after those of the servers."""
     at_end = [row for row in lines if row.startswith(("bound_ns ", "least_ns "))]
@@ -161,7 +178,9 @@ def of(words: Sequence[str], text: bytes, fits: bool = True, about: Sequence[str
     """What a command prints with `--human`, of its words and what it prints without. `fits` says whether any course
     fits the whole capture, and `about` what is said of the inputs."""
     command, lines = words[0], text.decode().splitlines()
-    if command in ("samples", "at") and lines:
+    if command == "at" and "--times" in words:
+        lines = moments(lines)
+    elif command in ("samples", "at") and lines:
         lines = {"samples": samples, "at": at}[command](lines)
     elif command == "envelope" and lines:
         lines = envelope(lines, "--servers" in words)

@@ -1,6 +1,7 @@
 """A plain reading of the theorem. It makes courses of events at random, writes their captures, and sees that
 
 - wherever `check` says yes the clock was within the bound in that course, and it says yes to what `find` gives
+- an event that the clock logged was between the true times that `at --times` has for what it logged
 - the hulls of `at` and `envelope` hold the clock's error, and the bound that `envelope` gives is the least for `find`
 - under the bound of `envelope --least` there is a certificate, one nanosecond below none
 - all of that holds where requests are stamped early and replies late, and not with the signs turned
@@ -21,7 +22,7 @@ from functools import partial
 from pathlib import Path
 
 from tests.support import Ran, program, run
-from tests.second import answers, marks, questions, rechecked, rules
+from tests.second import answers, columns, marks, questions, rechecked, rules
 from tests.second.answers import by_rules
 from tests.second.questions import Question, Way
 from tests.second.claims import Certificate, Piece, Refutation
@@ -114,6 +115,28 @@ def hulls_wrong(course: Course, samples: list[Sample], rng: random.Random) -> li
     return wrong
 
 
+def events_wrong(course: Course, samples: list[Sample], folder: str, capture: str, rng: random.Random) -> list[str]:
+    """What is wrong with `at --times` for events of the course, each logged by the clock with some digits: its lines, and
+    where true time isn't between the two."""
+    events = list[tuple[int, str]]()
+    for time, error in course.clock.error.items():
+        parts = 10 ** (digits := rng.randint(0, 9))
+        second, part = divmod((time + error) * parts // (TICKS * FINE), parts)
+        fraction = f".{part:0{digits}}" if digits else ""
+        if 0 <= second < 2**32 - 1:
+            whole = [str(second), columns.time(second).removesuffix("Z")]
+            events.append((time, rng.choice((whole[0] + fraction, whole[1] + fraction + "Z"))))
+    rng.shuffle(events)
+    text = "".join(f"{logged}\n" for _, logged in events)
+    status, lines = answers.moments(by_rules(course.claim(0), samples), text)
+    ran = run([PROGRAM, "at", written(folder, "claim", course.claim(0)), capture, "--times", "-"], given=text.encode())
+    if ran != (status, "".join(f"{line}\n" for line in lines).encode(), b""):
+        return [f"at --times: {ran} in place of {lines}"]
+    ends = [(time, line.split(" ")[-2:], line) for (time, _), line in zip(events, lines, strict=True)]
+    return [f"an event at {time} of 1/{FINE} tick: {line}" for time, (earliest, latest), line in ends
+            if latest == "empty" or earliest != "hull" and not FINE * int(earliest) <= time <= FINE * int(latest)]
+
+
 def happened(course: Course, rng: random.Random) -> list[Refutation]:
     """What the clock did in the course at some readings, as refutations with drift."""
     passed = [(second, error // FINE) for second, error in course.clock.at_second.items()
@@ -184,6 +207,7 @@ def try_course(seed: int) -> tuple[int, int, int, list[str]]:
                     wrong.append(f"an error of {course.worst()} and a yes for a bound of {bound}")
         wrong += answers_wrong(course, samples, folder, capture, bounds[:2])
         wrong += hulls_wrong(course, samples, rng)
+        wrong += events_wrong(course, samples, folder, capture, rng)
         wrong += try_drift(course, samples, folder, capture, certificate, rng)
         wrong += try_stamps(folder, rng)
     return yeses, near, len(course.clock.at_second), wrong

@@ -22,4 +22,5 @@ pub mod Showing
 pub mod VerdictShowing
 pub mod SearchShowing
 pub mod RefutationShowing
+pub mod TimesShowing
 pub mod FindRefutationShowing

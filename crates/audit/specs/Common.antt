@@ -111,7 +111,10 @@ pub use Rattle.report.specs.Input.{most_read}
 pub use Rattle.report.specs.Output.{IsReady, fresh_output}
 pub use Rattle.report.specs.Publication.{IsMadeFor, IsUnwritten, Publishes, PutsReady, Ready}
 pub use Rattle.report.specs.Reading.{IsFromOutside, Reads}
+pub use Rattle.reading_time.specs.Reading.{ReadingData}
+pub use Rattle.reading_time.specs.Times.{AreLawfulTimes, times_data}
 pub use Rattle.report.specs.RefutationInput.{max_refutation, refutation_read}
+pub use Rattle.report.specs.TimesInput.{max_times, times_read}
 pub use Rattle.report.specs.Reports.{CountsSink, GetsText, Report, is_capture, is_claim, is_device, is_second, refused}
 pub use Rattle.report.specs.Reports.{whole_text}
 pub use Rattle.report.specs.Run.{RunState, no_feed, run_state}
@@ -124,7 +127,7 @@ pub use Rattle.report.specs.declared.fault.Outcome.{Outcome}
 pub use Rattle.report.specs.declared.fault.Outcome.TheVariants.{No, Yes}
 pub use Rattle.report.specs.declared.fault.RunFault.{RunFault}
 pub use Rattle.report.specs.declared.fault.RunFault.TheVariants.{Capture, Certificate, Device, Exchanges, Memory}
-pub use Rattle.report.specs.declared.fault.RunFault.TheVariants.{Pieces, Refutation, TooBig}
+pub use Rattle.report.specs.declared.fault.RunFault.TheVariants.{Pieces, Refutation, Times, TooBig}
 pub use Rattle.sample_interval.specs.Moment.{IsInWindow, error_of}
 pub use Rattle.sample_interval.specs.Widening.{billion}
 pub use Rattle.sample_interval.specs.declared.kinds.Sample.{Sample}
@@ -139,3 +142,5 @@ pub use Rattle.std.specs.List.{AllZip, flat_map, range_with_len}
 pub use Rattle.std.specs.Net.Grammar.{IsDotted}
 pub use Rattle.std.specs.Option.{option_map}
 pub use Rattle.std.specs.Result.{result_map_both}
+pub use Rattle.true_time.specs.ReadingLine.{readings_text}
+pub use Rattle.true_time.specs.TrueTime.{HoldsTrueTime, hull_of}

@@ -17,6 +17,7 @@ mod check;
 mod envelope;
 mod find;
 mod find_refutation;
+mod readings;
 mod refute;
 mod samples;
 mod settle;
@@ -26,6 +27,7 @@ pub use crate::question::at::At;
 pub use crate::question::check::Check;
 use crate::question::envelope::EnvelopeFinding;
 pub use crate::question::find::Find;
+pub use crate::question::readings::Readings;
 pub use crate::question::refute::Refute;
 pub use crate::question::settle::Settle;
 use crate::question::settle::Settlement;
@@ -39,7 +41,7 @@ use std::alloc::Global;
 
 /// What is asked of a claim and a capture.
 pub trait Question: Copy {
-    /// The second input: a certificate, a refutation, or `()`.
+    /// The second input: a certificate, a refutation, readings, or `()`.
     type Second: SecondInput;
 
     /// What is found of the inputs before any of it is told: `()` if a text is all that is made.

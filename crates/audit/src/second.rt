@@ -1,13 +1,14 @@
-//! The second input of a question: none, a certificate of either form or a refutation.
+//! The second input of a question: none, a certificate of either form, a refutation or readings.
 
 ghost use Rattle.std.specs.Prelude.{◌≡◌, IfOk, IfErr, IfSome};
-ghost use Rattle.audit.specs.Common.{CountsFault, TakesAtMost, FeedState, IsReadable, IsFewOfAny, any_data, refutation_data, Reads, is_device, is_second, no_feed};
-ghost use Rattle.audit.specs.Second.{IsOfSecond, SecondData, SecondKind, most_second, second_read, no_second, certificate_second, refutation_second, nothing_said, certificate_said, refutation_said};
+ghost use Rattle.audit.specs.Common.{AreLawfulTimes, times_data, CountsFault, TakesAtMost, FeedState, IsReadable, IsFewOfAny, any_data, refutation_data, Reads, is_device, is_second, no_feed};
+ghost use Rattle.audit.specs.Second.{IsOfSecond, SecondData, SecondKind, most_second, second_read, no_second, certificate_second, refutation_second, times_second, nothing_said, certificate_said, refutation_said, times_said};
 
 use byte_stream::Feed;
 use certificate::Refutation;
 use cover_certificate::AnyCertificate;
-use report::{RunFault, read_certificate_from, read_refutation_from};
+use reading_time::Times;
+use report::{RunFault, read_certificate_from, read_refutation_from, read_times_from};
 use std::alloc::Global;
 
 /// What a second input says. A question without one has nothing, `()`.
@@ -44,6 +45,14 @@ impl SecondInput for Refutation {
     ghost said = { λ refutation. refutation_said (refutation_data refutation) };
 
     ghost IsLawful = { λ _. Unit {0} };
+}
+
+impl SecondInput for Times {
+    ghost kind = { times_second };
+
+    ghost said = { λ times. times_said (times_data times) };
+
+    ghost IsLawful = { AreLawfulTimes };
 }
 
 /// Where a second input comes from: a feed, or `()` if there is none.
@@ -85,5 +94,13 @@ impl<T: Feed> SecondSource<Refutation> for T {
 
     fn read_second(&mut self, alloc: Global) -> Result<Refutation, RunFault> {
         read_refutation_from(alloc, self)
+    }
+}
+
+impl<T: Feed> SecondSource<Times> for T {
+    ghost state = { T.state };
+
+    fn read_second(&mut self, alloc: Global) -> Result<Times, RunFault> {
+        read_times_from(alloc, self)
     }
 }

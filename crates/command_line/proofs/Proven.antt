@@ -77,7 +77,8 @@ not_cutting (inr envelope) = not_so _ refl envelope
 
 not_refused : (rows : List Row) (told : Text) → IsRefusable (codes "check") rows told → ⊥
 not_refused rows told (inl named) = true≢false named.0
-not_refused rows told (inr unstepped) = not_cutting unstepped.0
+not_refused rows told (inr (inl unstepped)) = not_cutting unstepped.0
+not_refused rows told (inr (inr untimed)) = not_so _ refl untimed.0
 
 abbrev places_at : Text → Text → Text → Option Text → Places
 places_at claim second capture sums = record {
@@ -130,6 +131,7 @@ module _ (G : Type 0) (places : Places) (before after : World) (response : Respo
       ∙ sym are) _ invocation once.misused once.lawful says
   by_called rows (calls.Judge (judgements.Refute drift) paths) invocation are is once says =
       absurd (not_so _ refl is.0.0)
+  by_called rows (calls.Judge judgements.Readings paths) invocation are is once says = absurd (not_so _ refl is.0.0)
   by_called rows (calls.Ask request paths) invocation are is once says = absurd (not_asked rows request is.0)
   by_called rows (calls.List listed) invocation are is once says = absurd (not_so _ refl is.0)
   by_called rows (calls.RefuseTime shown) invocation are is once says = absurd (not_so _ refl is.0)

@@ -1,5 +1,5 @@
 -- What the words of a command line call for.
-use Rattle.std.specs.Prelude.{◌≡◌, ◌≤◌, ◌⊎◌, ◌||◌, ℕ, Bool, true, false, List, [], Option, Some, None, String, IfSome, is_some, option_map, unwrap_or, codes, string_bytes}
+use Rattle.std.specs.Prelude.{◌≡◌, ◌≤◌, ◌⊎◌, ◌||◌, ⊤, ℕ, Bool, true, false, List, [], Option, Some, None, String, IfSome, IsSome, is_some, option_map, unwrap_or, codes, string_bytes}
 use Rattle.command_line.specs.Common.{bytes_eq, digits_value, without_leading_plus, IsNumeral, Global, time_of, Row, Text, first_of, found_of, one_of, rows_of, ArgMatches, Style, Human, Plain, Request, IsRefusedBy, is_human, Invocation, JudgedPaths, Judgement, Listed, Paths}
 use Rattle.audit.specs.declared.question.Request.TheVariants as requests
 use Rattle.program.specs.declared.invocation.Invocation.TheVariants as calls
@@ -58,6 +58,19 @@ pub record AreJudgedNamed (second : Text) (rows : List Row) (paths : JudgedPaths
 abbrev pub time_given : List Row → Option ℕ
 time_given rows = time_of (operand (codes "TIME") rows)
 
+-- neither of two is there, or both are
+abbrev pub AreNotOne : Option Text → Option Text → Type 0
+AreNotOne None None = ⊤
+AreNotOne (Some first) (Some second) = ⊤
+AreNotOne first second = ⊥
+
+-- a moment and a file of readings, or neither, are given
+abbrev pub HasNoTime : List Row → Type 0
+HasNoTime rows = AreNotOne (first_of (codes "TIME") rows) (first_of (codes "times") rows)
+
+abbrev pub no_time_text : Text
+no_time_text = codes "error: at takes a TIME, or --times FILE\n"
+
 -- whether a command has this name
 abbrev pub is_command : Text → Bool
 is_command name = bytes_eq name (codes "list") || bytes_eq name (codes "samples")
@@ -71,19 +84,20 @@ HasNoStep rows = IfSome (one_of (codes "step") rows) (λ text.
     IsNumeral 10 (without_leading_plus text) → 1 ≤ digits_value 10 (without_leading_plus text)
     → digits_value 10 (without_leading_plus text) ≤ 86400 → ⊥)
 
--- A command that cuts pieces is refused if it's given no length for them, and so is a name that is
--- no command's.
+-- A command that cuts pieces is refused if it's given no length for them, and one that asks about
+-- moments if it has none, or two kinds; and so is a name that is no command's.
 abbrev pub IsRefusable : Text → List Row → Text → Type 0
 IsRefusable name rows told =
     ((is_command name ≡ false) × (told ≡ codes "no command\n"))
     ⊎ (((name ≡ codes "find") ⊎ (name ≡ codes "envelope")) × HasNoStep rows
     × (told ≡ codes "no step\n"))
+    ⊎ ((name ≡ codes "at") × HasNoTime rows × (told ≡ no_time_text))
 
 -- what a command without a second input asks
 abbrev pub IsRequest : Text → List Row → Request → Type 0
 IsRequest name rows requests.Samples = name ≡ codes "samples"
-IsRequest name rows (requests.At at) =
-    (name ≡ codes "at") × (time_given rows ≡ Some at.unix_second)
+IsRequest name rows (requests.At at) = (name ≡ codes "at")
+    × (first_of (codes "times") rows ≡ None) × (time_given rows ≡ Some at.unix_second)
 IsRequest name rows requests.Settle = name ≡ codes "settle"
 IsRequest name rows (requests.Find find) =
     (name ≡ codes "find") × IsFlag (codes "refutation") rows false
@@ -99,15 +113,18 @@ abbrev pub IsAsking : Request → List Row → Invocation → Type 0
 IsAsking request rows (calls.Ask asked paths) = (asked ≡ request) × AreNamed rows paths
 IsAsking request rows invocation = ⊥
 
--- what a command with a second input judges, and which of its operands that input is
+-- what a command with a second input judges, and which of its operands or options names that input
 abbrev pub IsJudgement : Text → List Row → Judgement → Type 0
 IsJudgement name rows judgements.Check = name ≡ codes "check"
 IsJudgement name rows (judgements.Refute drift) =
     (name ≡ codes "refute") × IsFlag (codes "drift") rows drift
+IsJudgement name rows judgements.Readings = (name ≡ codes "at")
+    × (first_of (codes "TIME") rows ≡ None) × IsSome (first_of (codes "times") rows)
 
 abbrev pub second_operand : Judgement → Text
 second_operand judgements.Check = codes "CERTIFICATE"
 second_operand (judgements.Refute drift) = codes "REFUTATION"
+second_operand judgements.Readings = codes "times"
 
 -- what a command with these rows calls for
 abbrev pub IsCalled : Text → List Row → Invocation → Type 0
@@ -116,7 +133,8 @@ IsCalled name rows (calls.Ask request paths) = IsRequest name rows request × Ar
 IsCalled name rows (calls.Judge judgement paths) = IsJudgement name rows judgement
     × AreJudgedNamed (second_operand judgement) rows paths
 IsCalled name rows (calls.RefuseTime shown) =
-    (name ≡ codes "at") × (time_given rows ≡ None) × IsShownTime rows shown
+    (name ≡ codes "at") × (first_of (codes "times") rows ≡ None) × (time_given rows ≡ None)
+    × IsShownTime rows shown
 IsCalled name rows (calls.Refuse text) = IsRefusable name rows (string_bytes text)
 IsCalled name rows (calls.Show text) = ⊥
 

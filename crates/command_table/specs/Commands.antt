@@ -57,7 +57,8 @@ abbrev pub samples : Shape
 samples = on_claim (codes "samples") []
 
 abbrev pub at : Shape
-at = on_claim (codes "at") (required (codes "TIME") ∷ [])
+at = on_claim (codes "at")
+    (optional (codes "TIME") ∷ valued (codes "times") ∷ sums ∷ [])
 
 abbrev pub settle : Shape
 settle = on_claim (codes "settle") (output ∷ sums ∷ [])

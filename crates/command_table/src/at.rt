@@ -3,8 +3,8 @@
 ghost use Rattle.std.specs.Prelude.{IfOk};
 ghost use Rattle.command_table.specs.Commands as table;
 
-use crate::argument::required;
-use crate::evidence::evidence_command;
+use crate::argument::{optional, valued};
+use crate::evidence::{evidence_command, sums_option};
 use clap::Command;
 use std::alloc::{AllocError, Global};
 
@@ -12,7 +12,9 @@ const HELP: &str = "\
 Prints:   a line for each server that has a sample, `SERVER LO HI`: the clock's error, from LO to HI
           ticks of 2^-32 s, if this server is right; then `hull LO HI`, `hull unbounded` or
           `hull empty`: the clock's error if at most false_max groups of servers are wrong.
-          With --human milliseconds, in columns under a heading
+          With --times for each line, a time in UTC or in Unix seconds, with up to nine digits of a
+          fraction: `reading TIME hull LO HI true EARLIEST LATEST`, the last two in ticks since
+          1970: true time lay between them. With --human milliseconds, in columns under a heading
 Status:   0 done; 2 an input is refused; 3 out of memory; 4 a file or the output failed; 5 the
           command line is refused
 Example:  ntpaudit at claim.json recording.pcap 2026-11-22T06:46:09Z
@@ -23,6 +25,10 @@ pub(crate) fn declaration<'a>(alloc: Global) -> Result<Command<'a>, AllocError>
     ensures { IfOk result (table.IsDeclared table.at) }
 {
     let time = "The moment, as 2026-11-22T06:46:09Z; it may lie outside the claim's span";
-    let about = "Print what a capture says about the clock at one moment";
-    evidence_command(alloc, "at", about, HELP)?.arg(required(alloc, "TIME", time))
+    let times = "Tell of each line of FILE, or of standard input, -, when the clock showed it";
+    let about = "Print what a capture says about the clock at a moment, or at many";
+    evidence_command(alloc, "at", about, HELP)?
+        .arg(optional(alloc, "TIME", time))?
+        .arg(valued(alloc, "times", "FILE", times))?
+        .arg(sums_option(alloc))
 }

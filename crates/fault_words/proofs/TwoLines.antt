@@ -60,6 +60,7 @@ name_is_quiet called inputs.Claim quiet = quiet.claim
 name_is_quiet called inputs.Capture quiet = quiet.capture
 name_is_quiet called inputs.Certificate quiet = quiet.second
 name_is_quiet called inputs.Refutation quiet = quiet.second
+name_is_quiet called inputs.Times quiet = quiet.second
 name_is_quiet called inputs.Sums quiet = quiet.sums
 
 subject_is_quiet : (called : NamesData) (input : Option Input) → AreQuiet called → IsQuiet (subject called input)

@@ -8,7 +8,7 @@ use Rattle.report.specs.declared.fault.SumsFault.{SumsFault}
 use Rattle.report.specs.declared.fault.SumsFault.TheVariants as sums
 use Rattle.fault_words.specs.declared.subject.Names.{Names}
 
--- the names of the inputs; the second is a certificate or a refutation
+-- the names of the inputs; the second is a certificate, a refutation or readings
 pub record NamesData : Type 0 where
   pub claim : List ℕ
   pub capture : List ℕ
@@ -30,6 +30,7 @@ name_of names inputs.Claim = names.claim
 name_of names inputs.Capture = names.capture
 name_of names inputs.Certificate = names.second
 name_of names inputs.Refutation = names.second
+name_of names inputs.Times = names.second
 name_of names inputs.Sums = names.sums
 
 -- the input whose sum has a fault
@@ -44,6 +45,7 @@ input_of (faults.Capture fault) = Some inputs.Capture
 input_of (faults.Claim fault) = Some inputs.Claim
 input_of (faults.Certificate fault) = Some inputs.Certificate
 input_of (faults.Refutation fault) = Some inputs.Refutation
+input_of (faults.Times fault) = Some inputs.Times
 input_of faults.Exchanges = Some inputs.Capture
 input_of faults.Pieces = Some inputs.Claim
 input_of (faults.TooBig input) = Some input

@@ -9,6 +9,7 @@ use certificate::{CertificateFault, RefutationFault};
 use claim_file::ClaimFault;
 use cover_certificate::{AnyFault, CoverFault};
 use pcap_reader::CaptureFault;
+use reading_time::TimesFault;
 use report::{RunFault, SumsFault};
 
 /// What is said of a fault.
@@ -163,6 +164,21 @@ fn refutation_sentence(fault: &RefutationFault) -> Sentence
     }
 }
 
+/// That of each fault of readings.
+fn times_sentence(fault: &TimesFault) -> Sentence
+    ensures { IsSentence result }
+{
+    match fault {
+        TimesFault::Time(_) => says(
+            "has no time in that line",
+            "write each as 2026-11-22T06:46:09.25Z or 1795329969.25, from 1970 to 2106: no comma, \
+             no :60, no blank, no empty line, and line feeds without carriage returns",
+        ),
+        TimesFault::TooMany => says("has over 1000000 lines", "cut it: split -l 1000000 @ part-"),
+        TimesFault::Memory => no_memory(),
+    }
+}
+
 /// That of each fault of sums.
 fn sums_sentence(fault: &SumsFault) -> Sentence
     ensures { IsSentence result }
@@ -192,6 +208,7 @@ pub fn sentence_of(fault: &RunFault) -> Sentence
         RunFault::Claim(fault) => claim_sentence(fault),
         RunFault::Certificate(fault) => certificate_sentence(fault),
         RunFault::Refutation(fault) => refutation_sentence(fault),
+        RunFault::Times(fault) => times_sentence(fault),
         RunFault::Sums(fault) => sums_sentence(fault),
         RunFault::Exchanges => says(
             "has over 1000000 exchanges of the claim's client",

@@ -13,7 +13,7 @@ pub struct Names<'a> {
     pub claim: &'a str,
     /// The capture's.
     pub capture: &'a str,
-    /// That of the certificate or refutation, empty if there is none.
+    /// That of the certificate, refutation or readings, empty if there is none.
     pub second: &'a str,
     /// That of the file of sums, empty if there is none.
     pub sums: &'a str,
@@ -27,7 +27,7 @@ impl<'a> Names<'a> {
         match input {
             Input::Claim => self.claim,
             Input::Capture => self.capture,
-            Input::Certificate | Input::Refutation => self.second,
+            Input::Certificate | Input::Refutation | Input::Times => self.second,
             Input::Sums => self.sums,
         }
     }
@@ -52,6 +52,7 @@ pub fn input_of(fault: &RunFault) -> Option<Input>
         RunFault::Claim(_) | RunFault::Pieces => Some(Input::Claim),
         RunFault::Certificate(_) => Some(Input::Certificate),
         RunFault::Refutation(_) => Some(Input::Refutation),
+        RunFault::Times(_) => Some(Input::Times),
         RunFault::TooBig(input) | RunFault::Device(input) => Some(*input),
         RunFault::Sums(fault) => Some(sums_input(fault)),
         RunFault::Write(_) => None,

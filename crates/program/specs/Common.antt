@@ -1,10 +1,11 @@
 -- What the definitions and contracts of this crate name of others.
 pub use Rattle.audit.specs.Check.{check}
 pub use Rattle.audit.specs.Question.{AskedData, asked_of}
+pub use Rattle.audit.specs.Readings.{readings}
 pub use Rattle.audit.specs.Refute.{refute}
 pub use Rattle.audit.specs.Request.{question_of}
 pub use Rattle.audit.specs.Run.{AnswersFor, MayRun, RunsFor, RunsTwice, ShowsAt}
-pub use Rattle.audit.specs.Second.{certificate_second, no_second, refutation_second}
+pub use Rattle.audit.specs.Second.{certificate_second, no_second, refutation_second, times_second}
 pub use Rattle.audit.specs.Settle.{settle}
 pub use Rattle.audit.specs.declared.question.Request.{Request}
 pub use Rattle.byte_stream.specs.Fault.{CountsFault}
@@ -23,7 +24,7 @@ pub use Rattle.report.specs.Reports.{whole_text}
 pub use Rattle.report.specs.Run.{RunState, bare_state, capture_state, no_feed, run_state}
 pub use Rattle.report.specs.declared.conclusion.Conclusion.{Conclusion}
 pub use Rattle.report.specs.declared.fault.Input.{Input}
-pub use Rattle.report.specs.declared.fault.Input.TheVariants.{Capture, Certificate, Claim, Refutation, Sums}
+pub use Rattle.report.specs.declared.fault.Input.TheVariants.{Capture, Certificate, Claim, Refutation, Sums, Times}
 pub use Rattle.report.specs.declared.fault.Outcome.{Outcome}
 pub use Rattle.report.specs.declared.fault.Outcome.TheVariants.{Yes}
 pub use Rattle.report.specs.declared.fault.RunFault.{RunFault}

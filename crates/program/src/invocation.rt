@@ -61,7 +61,7 @@ pub struct Paths {
 pub struct JudgedPaths {
     /// All but that of the second input.
     pub evidence: Paths,
-    /// The path of the certificate or refutation.
+    /// The path of the certificate, the refutation or the readings.
     pub second: String,
 }
 
@@ -75,6 +75,8 @@ pub enum Judgement {
         /// Whether it may drift.
         drift: bool,
     },
+    /// Say when it was that the clock showed readings.
+    Readings,
 }
 
 impl Judgement {
@@ -85,6 +87,7 @@ impl Judgement {
         match self {
             Judgement::Check => Input::Certificate,
             Judgement::Refute { .. } => Input::Refutation,
+            Judgement::Readings => Input::Times,
         }
     }
 }
@@ -96,7 +99,7 @@ pub enum Invocation {
     List(Listed),
     /// Answer a question.
     Ask(Request, Paths),
-    /// Judge a certificate or a refutation.
+    /// Judge a certificate, a refutation or readings.
     Judge(Judgement, JudgedPaths),
     /// Show this text: help, or the version.
     Show(String),

@@ -12,7 +12,7 @@ use crate::about::{Called, about, asked_inputs, judged_inputs};
 use crate::asked::is_human;
 use crate::inputs::{Inputs, Opened};
 use crate::invocation::{JudgedPaths, Judgement, Paths};
-use audit::{Check, Outputs, Question, Refute, Request, Settle, Style, answer};
+use audit::{Check, Outputs, Question, Readings, Refute, Request, Settle, Style, answer};
 use byte_stream::Sink;
 use report::{Conclusion, Input, RunFault, conclude, read_input};
 use std::alloc::Global;
@@ -193,6 +193,9 @@ pub(crate) fn judge<N: NamedFeed + Drop, S: Sink, E: Sink, H: BuildHasher + Drop
                 Judgement::Refute { drift } => {
                     let refute = Refute { drift, about };
                     answer_by(alloc, refute, style, text, inputs, to, hasher)
+                }
+                Judgement::Readings => {
+                    answer_by(alloc, Readings, style, text, inputs, to, hasher)
                 }
             }
         }

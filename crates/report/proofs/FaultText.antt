@@ -13,6 +13,7 @@ use Rattle.certificate.specs.declared.fault.CertificateFault.TheVariants as cert
 use Rattle.cover_certificate.specs.declared.any.AnyFault.TheVariants.{OfPieces, ByCovers}
 use Rattle.cover_certificate.specs.declared.fault.CoverFault.TheVariants as covers
 use Rattle.certificate.specs.declared.refutation_fault.RefutationFault.TheVariants as refutations
+use Rattle.reading_time.specs.declared.fault.TimesFault.TheVariants as times
 use Rattle.report.specs.declared.fault.Input.TheVariants.{Claim}
 use Rattle.report.specs.declared.fault.RunFault.TheVariants as faults
 use Rattle.report.specs.declared.fault.SumsFault.TheVariants as sums
@@ -77,6 +78,7 @@ faults_are_plain (faults.Claim claims.Json) = (refl, refl)
 faults_are_plain (faults.Certificate (OfPieces certificates.Json)) = (refl, refl)
 faults_are_plain (faults.Certificate (ByCovers covers.Json)) = (refl, refl)
 faults_are_plain (faults.Refutation refutations.Json) = (refl, refl)
+faults_are_plain (faults.Times times.TooMany) = (refl, refl)
 faults_are_plain (faults.TooBig Claim) = (refl, refl)
 faults_are_plain (faults.Device Claim) = (refl, refl)
 faults_are_plain (faults.Sums (sums.Missing Claim)) = (refl, refl)

@@ -24,5 +24,9 @@ pub use Rattle.pcap_reader.specs.declared.fault.CaptureFault.{CaptureFault}
 pub use Rattle.pcap_reader.specs.declared.fault.CaptureFault.TheVariants.{BadFraction, Failed, Link, Magic, Memory}
 pub use Rattle.pcap_reader.specs.declared.fault.CaptureFault.TheVariants.{Read, TooLong, TooMany, TornHeader}
 pub use Rattle.pcap_reader.specs.declared.fault.CaptureFault.TheVariants.{TornRecord, Version}
+pub use Rattle.reading_time.specs.Fault.{number_of as times_number}
+pub use Rattle.reading_time.specs.Reading.{ReadingData}
+pub use Rattle.reading_time.specs.Times.{AreLawfulTimes, times_data, times_of}
+pub use Rattle.reading_time.specs.declared.fault.TimesFault.{TimesFault}
 pub use Rattle.std.specs.Io.KnownBytes.{Appends, Consumes, Keeps}
 pub use Rattle.std.specs.List.{concat}

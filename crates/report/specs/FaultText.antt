@@ -1,11 +1,12 @@
 -- The line of a run's fault, without its line feed.
 use Rattle.std.specs.Prelude.{ℕ, List, [], ◌∷◌, codes}
-use Rattle.report.specs.Common.{FieldData, fields_text, Word, Named, Number, Nothing, Plain, number_of as capture_number, CaptureFault, TornHeader, Magic, Version, Link, TornRecord, TooLong, BadFraction, TooMany, Read, Memory, Failed, claim_number, ClaimFault, certificate_number, AnyFault, CertificateFault, CoverFault, refutation_number, RefutationFault}
+use Rattle.report.specs.Common.{FieldData, fields_text, Word, Named, Number, Nothing, Plain, number_of as capture_number, CaptureFault, TornHeader, Magic, Version, Link, TornRecord, TooLong, BadFraction, TooMany, Read, Memory, Failed, claim_number, ClaimFault, certificate_number, AnyFault, CertificateFault, CoverFault, refutation_number, RefutationFault, times_number, TimesFault}
 use Rattle.claim_file.specs.declared.fault.ClaimFault.TheVariants as claims
 use Rattle.certificate.specs.declared.fault.CertificateFault.TheVariants as certificates
 use Rattle.certificate.specs.declared.refutation_fault.RefutationFault.TheVariants as refutations
 use Rattle.cover_certificate.specs.declared.any.AnyFault.TheVariants.{OfPieces, ByCovers}
 use Rattle.cover_certificate.specs.declared.fault.CoverFault.TheVariants as covers
+use Rattle.reading_time.specs.declared.fault.TimesFault.TheVariants as times
 use Rattle.report.specs.declared.fault.Input.TheVariants as inputs
 use Rattle.report.specs.declared.fault.Input.{Input}
 use Rattle.report.specs.declared.fault.RunFault.{RunFault}
@@ -74,6 +75,12 @@ refutation_said refutations.Json = Word (codes "json") ∷ Nothing ∷ []
 refutation_said refutations.Shape = Word (codes "shape") ∷ Nothing ∷ []
 refutation_said refutations.Memory = Word (codes "memory") ∷ Nothing ∷ []
 
+-- of a file of readings: its word, and the number of the line whose fault it is
+abbrev pub times_said : TimesFault → List FieldData
+times_said (times.Time line) = Word (codes "time") ∷ Named (codes "line") line ∷ []
+times_said times.TooMany = Word (codes "too-many") ∷ Nothing ∷ []
+times_said times.Memory = Word (codes "memory") ∷ Nothing ∷ []
+
 -- the word for an input
 abbrev pub input_word : Input → List ℕ
 input_word inputs.Claim = codes "claim"
@@ -81,6 +88,7 @@ input_word inputs.Capture = codes "capture"
 input_word inputs.Certificate = codes "certificate"
 input_word inputs.Refutation = codes "refutation"
 input_word inputs.Sums = codes "sums"
+input_word inputs.Times = codes "times"
 
 -- an input is refused: which one, its fault's number, and what is said of that
 abbrev pub refused : Input → ℕ → List FieldData → List FieldData
@@ -115,6 +123,7 @@ fault_fields (faults.Write sent) =
     Named (codes "ntpaudit: device output after") sent ∷ Nothing ∷ []
 fault_fields faults.Memory = Word (codes "ntpaudit: memory") ∷ Nothing ∷ []
 fault_fields (faults.Sums fault) = sums_fields fault
+fault_fields (faults.Times fault) = refused inputs.Times (times_number fault) (times_said fault)
 
 -- the line for each fault
 abbrev pub fault_text : RunFault → List ℕ

@@ -31,6 +31,7 @@ bytes_past inputs.Capture inputs.Capture = 1
 bytes_past inputs.Certificate inputs.Certificate = 1
 bytes_past inputs.Refutation inputs.Refutation = 1
 bytes_past inputs.Sums inputs.Sums = 1
+bytes_past inputs.Times inputs.Times = 1
 bytes_past which input = 0
 
 -- how many bytes are taken at most of an input that may have this many: one more only if the answer

@@ -12,6 +12,7 @@ pub mod Reading
 pub mod ClaimInput
 pub mod CertificateInput
 pub mod RefutationInput
+pub mod TimesInput
 pub mod Delivery
 pub mod Publication
 pub mod Runs

@@ -67,6 +67,7 @@ is_claim _ = false
 abbrev pub is_second : Input → Bool
 is_second inputs.Certificate = true
 is_second inputs.Refutation = true
+is_second inputs.Times = true
 is_second _ = false
 
 abbrev pub is_capture : Input → Bool

@@ -4,7 +4,7 @@ use Rattle.report.specs.Common.{Keeps, TakesAtMost, most_taken, capture_of}
 use Rattle.report.specs.declared.fault.Input.TheVariants as inputs
 use Rattle.report.specs.declared.fault.Outcome.{Outcome}
 use Rattle.report.specs.declared.fault.RunFault.{RunFault}
-use Rattle.report.specs.declared.fault.RunFault.TheVariants.{Claim, Certificate, Refutation, TooBig, Device, Memory}
+use Rattle.report.specs.declared.fault.RunFault.TheVariants.{Claim, Certificate, Refutation, Times, TooBig, Device, Memory}
 use Rattle.report.specs.ClaimInput.{claim_read, max_claim}
 use Rattle.report.specs.Input.{most_read}
 use Rattle.report.specs.Output.{IsWrite}
@@ -23,10 +23,12 @@ abbrev pub IsBeforeCapture : RunFault → Type 0
 IsBeforeCapture (Claim fault) = Unit {0}
 IsBeforeCapture (Certificate fault) = Unit {0}
 IsBeforeCapture (Refutation fault) = Unit {0}
+IsBeforeCapture (Times fault) = Unit {0}
 IsBeforeCapture (TooBig input) = Unit {0}
 IsBeforeCapture (Device inputs.Claim) = Unit {0}
 IsBeforeCapture (Device inputs.Certificate) = Unit {0}
 IsBeforeCapture (Device inputs.Refutation) = Unit {0}
+IsBeforeCapture (Device inputs.Times) = Unit {0}
 IsBeforeCapture _ = ⊥
 
 -- But for a fault of the sink itself, nothing is written if a run is given up.

@@ -2,12 +2,13 @@
 
 ghost use Rattle.std.specs.Prelude.{◌≡◌};
 ghost use Rattle.report.specs.declared.fault.RunFault.TheVariants.{Memory};
-ghost use Rattle.report.specs.Fault.{number_of, run_fault_of, claim_run_fault_of, certificate_run_fault_of, refutation_run_fault_of};
+ghost use Rattle.report.specs.Fault.{number_of, run_fault_of, claim_run_fault_of, certificate_run_fault_of, refutation_run_fault_of, times_run_fault_of};
 
 use certificate::{CertificateFault, RefutationFault};
 use claim_file::ClaimFault;
 use cover_certificate::{AnyFault, CoverFault};
 use pcap_reader::CaptureFault;
+use reading_time::TimesFault;
 use std::alloc::AllocError;
 use thiserror::Error;
 
@@ -33,6 +34,8 @@ pub enum Input {
     Refutation,
     /// The file of sums, to which the others are held.
     Sums,
+    /// The file of readings.
+    Times,
 }
 
 /// Why inputs can't be held to a file of sums.
@@ -86,10 +89,13 @@ pub enum RunFault {
     /// The inputs can't be held to their sums, or differ from them.
     #[error("the sums are refused: {0}")]
     Sums(SumsFault),
+    /// The file of readings is refused.
+    #[error("the times are refused: {0}")]
+    Times(TimesFault),
 }
 
 impl RunFault {
-    /// The fault's number, from 1 to 11 in the order of the variants.
+    /// The fault's number, from 1 to 12 in the order of the variants.
     pub fn number(&self) -> u8
         ensures { result ≡ number_of self.now }
     {
@@ -105,6 +111,7 @@ impl RunFault {
             RunFault::Write(_) => 9,
             RunFault::Memory => 10,
             RunFault::Sums(_) => 11,
+            RunFault::Times(_) => 12,
         }
     }
 }
@@ -156,6 +163,17 @@ impl From<RefutationFault> for RunFault {
         match fault {
             RefutationFault::Memory => RunFault::Memory,
             fault => RunFault::Refutation(fault),
+        }
+    }
+}
+
+impl From<TimesFault> for RunFault {
+    ghost from_gives = { λ fault e. e ≡ times_run_fault_of fault };
+
+    fn from(fault: TimesFault) -> RunFault {
+        match fault {
+            TimesFault::Memory => RunFault::Memory,
+            fault => RunFault::Times(fault),
         }
     }
 }

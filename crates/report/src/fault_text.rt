@@ -4,7 +4,7 @@ ghost use Rattle.std.specs.Prelude.{◌≡◌, ◌+◌, ◌≤◌, ◌++◌, [],
 ghost use Rattle.line_writer.specs.declared.line.TheConstants.{CAPACITY};
 ghost use Rattle.report.specs.Common.{Plain, Word, field_data, fields_text, most_of, room_of};
 ghost use Rattle.report.specs.FaultText as spec;
-ghost use Rattle.report.specs.FaultText.{capture_said, claim_said, certificate_said, covers_said, fault_text, pieces_said, refutation_said, refused};
+ghost use Rattle.report.specs.FaultText.{capture_said, claim_said, certificate_said, covers_said, fault_text, pieces_said, refutation_said, refused, times_said};
 
 use crate::fault::{Input, RunFault, SumsFault};
 use certificate::{CertificateFault, RefutationFault};
@@ -12,6 +12,7 @@ use claim_file::ClaimFault;
 use cover_certificate::{AnyFault, CoverFault};
 use line_writer::{Field, Line, Style, put_fields};
 use pcap_reader::CaptureFault;
+use reading_time::TimesFault;
 use std::alloc::{AllocError, Global};
 use std::str;
 
@@ -113,6 +114,18 @@ fn refutation_words(fault: &RefutationFault) -> (&'static str, Field<'static>)
     }
 }
 
+/// The word for a fault of a file of readings, and the number of the line whose fault it is.
+fn times_words(fault: &TimesFault) -> (&'static str, Field<'static>)
+    ensures said { (Word result.0.now ∷ field_data result.1 ∷ []) ≡ times_said fault.now }
+    ensures room { length result.0.now + most_of (field_data result.1) ≤ 70 }
+{
+    match fault {
+        TimesFault::Time(line) => ("time", Field::Named("line", *line)),
+        TimesFault::TooMany => ("too-many", Field::Nothing),
+        TimesFault::Memory => ("memory", Field::Nothing),
+    }
+}
+
 /// The word for an input.
 pub fn input_word(input: Input) -> &'static str
     ensures word { result.now ≡ spec.input_word input }
@@ -124,6 +137,7 @@ pub fn input_word(input: Input) -> &'static str
         Input::Certificate => "certificate",
         Input::Refutation => "refutation",
         Input::Sums => "sums",
+        Input::Times => "times",
     }
 }
 
@@ -178,6 +192,7 @@ pub(crate) fn put_fault(line: &mut Line, fault: &RunFault)
         RunFault::Refutation(f) => {
             put_refused(line, Input::Refutation, f.number(), refutation_words(f));
         }
+        RunFault::Times(f) => put_refused(line, Input::Times, f.number(), times_words(f)),
         RunFault::Exchanges => put_words(line, "ntpaudit: exchanges over 1000000", Field::Nothing),
         RunFault::Pieces => put_words(line, "ntpaudit: pieces over 100000", Field::Nothing),
         RunFault::TooBig(input) => put_words(line, "ntpaudit: too-big", word_of(input)),

@@ -34,6 +34,7 @@ mod output;
 mod publication;
 mod refusal;
 mod refutation_input;
+mod times_input;
 
 pub use certificate_input::{MAX_CERTIFICATE, read_certificate_from};
 pub use claim_input::{MAX_CLAIM, read_claim_from};
@@ -48,3 +49,4 @@ pub use output::{OUTPUT_CAPACITY, Output, output_buffer};
 pub use publication::{Made, publish};
 pub use refusal::{refuse, refuse_time};
 pub use refutation_input::{MAX_REFUTATION, read_refutation_from};
+pub use times_input::{MAX_TIMES, read_times_from};

@@ -7,7 +7,7 @@ pub use Rattle.audit.specs.Question.{AskedData, Finding, QuestionData, asked_of}
 pub use Rattle.audit.specs.Refute.{GiveRefutation, IsContestedOf, IsUncontestedOf, refute}
 pub use Rattle.audit.specs.Report.{report_of_bytes}
 pub use Rattle.audit.specs.Run.{MayRun, ShowsAt}
-pub use Rattle.audit.specs.Second.{IsOfSecond, SecondKind, certificate_second, most_second, no_second, refutation_second, second_read}
+pub use Rattle.audit.specs.Second.{IsOfSecond, SecondKind, certificate_second, most_second, no_second, refutation_second, second_read, times_second}
 pub use Rattle.audit.specs.Settle.{IsSettledBy, IsShownFromAny, settle}
 pub use Rattle.byte_stream.specs.Bytes.{IsBytes}
 pub use Rattle.byte_stream.specs.Fault.{CountsFault}
@@ -20,6 +20,7 @@ pub use Rattle.report.specs.Conclusion.{Answers, Concludes, conclusion_of}
 pub use Rattle.report.specs.Input.{read_failed}
 pub use Rattle.report.specs.Reading.{Reads}
 pub use Rattle.report.specs.RefutationInput.{max_refutation}
+pub use Rattle.report.specs.TimesInput.{max_times}
 pub use Rattle.report.specs.Reports.{is_capture, is_claim, is_device, is_second, is_sums}
 pub use Rattle.report.specs.Run.{RunState, run_state}
 pub use Rattle.report.specs.declared.conclusion.Conclusion.{Conclusion}

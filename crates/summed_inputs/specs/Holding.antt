@@ -1,6 +1,6 @@
 -- Inputs that are read whole and held to their sums.
 use Rattle.std.specs.Prelude.{◌≡◌, ◌≢◌, ◌⊎◌, ℕ, ◌+◌, ◌<◌, false, List, [], length, Option, Some, IfSome, IsSomeAnd, Result}
-use Rattle.summed_inputs.specs.Common.{IsBytes, CountsFault, TakesAtMost, FeedState, max_certificate, max_claim, max_refutation, is_capture, is_claim, is_device, is_second, is_sums, Input, RunFault, TooBig, Device, Memory, Sums as Refused, Differ, sha256, sum_given, SecondKind, no_second, option_map_or}
+use Rattle.summed_inputs.specs.Common.{IsBytes, CountsFault, TakesAtMost, FeedState, max_certificate, max_claim, max_refutation, max_times, is_capture, is_claim, is_device, is_second, is_sums, Input, RunFault, TooBig, Device, Memory, Sums as Refused, Differ, sha256, sum_given, SecondKind, no_second, option_map_or}
 use Rattle.report.specs.declared.fault.Input.TheVariants as inputs
 use Rattle.summed_inputs.specs.InputBytes.{InputBytesData}
 use Rattle.summed_inputs.specs.Sums.{AreGiven, Digests, IsOfSums, SumsData, second_input}
@@ -14,6 +14,7 @@ abbrev pub limit_of : Input → ℕ
 limit_of inputs.Claim = max_claim
 limit_of inputs.Certificate = max_certificate
 limit_of inputs.Refutation = max_refutation
+limit_of inputs.Times = max_times
 limit_of inputs.Capture = 17179869184
 limit_of inputs.Sums = 65536
 

@@ -1,7 +1,7 @@
 -- What a file of sums gives for the inputs of a run, under the names that a command line has for
 -- them.
 use Rattle.std.specs.Prelude.{◌≡◌, ◌⊎◌, ℕ, List, [], Option, Some, None, IsOk, IsSome, Err}
-use Rattle.summed_inputs.specs.Common.{Input, RunFault, Memory, Sums as Refused, Form, Missing, sum_given, sums_of, SecondKind, no_second, certificate_second, refutation_second}
+use Rattle.summed_inputs.specs.Common.{Input, RunFault, Memory, Sums as Refused, Form, Missing, sum_given, sums_of, SecondKind, no_second, certificate_second, refutation_second, times_second}
 use Rattle.report.specs.declared.fault.Input.TheVariants as inputs
 use Rattle.sum_file.specs.declared.fault.SumFault.TheVariants as lines
 
@@ -40,6 +40,7 @@ abbrev pub second_input : SecondKind → Option Input
 second_input no_second = None
 second_input certificate_second = Some inputs.Certificate
 second_input refutation_second = Some inputs.Refutation
+second_input times_second = Some inputs.Times
 
 -- each line of the text is lawful, and what was looked for in it isn't there
 abbrev pub IsMissing : List ℕ → Option (List ℕ) → Type 0

@@ -6,7 +6,9 @@ ghost use Rattle.summed_inputs.specs.Holding.{IsHeld, IsUnheld, limit_of};
 
 use crate::sums::MAX_SUMS;
 use byte_stream::Feed;
-use report::{Input, MAX_CERTIFICATE, MAX_CLAIM, MAX_REFUTATION, RunFault, SumsFault, read_onto};
+use report::{
+    Input, MAX_CERTIFICATE, MAX_CLAIM, MAX_REFUTATION, MAX_TIMES, RunFault, SumsFault, read_onto,
+};
 use sha2::{Digest, Sha256};
 use std::alloc::Global;
 
@@ -23,6 +25,7 @@ pub(crate) fn limit(which: Input) -> u64
         Input::Certificate => MAX_CERTIFICATE,
         Input::Refutation => MAX_REFUTATION,
         Input::Sums => MAX_SUMS,
+        Input::Times => MAX_TIMES,
     }
 }
 

@@ -12,6 +12,7 @@ use audit::{SecondInput, SecondSource};
 use byte_stream::Feed;
 use certificate::Refutation;
 use cover_certificate::AnyCertificate;
+use reading_time::Times;
 use report::{Input, RunFault};
 use std::alloc::Global;
 use sum_file::Sum;
@@ -45,6 +46,12 @@ impl SummedInput for AnyCertificate {
 
 impl SummedInput for Refutation {
     fn read_from<F: Feed>(alloc: Global, feed: &mut F) -> Result<Refutation, RunFault> {
+        feed.read_second(alloc)
+    }
+}
+
+impl SummedInput for Times {
+    fn read_from<F: Feed>(alloc: Global, feed: &mut F) -> Result<Times, RunFault> {
         feed.read_second(alloc)
     }
 }
@@ -133,5 +140,21 @@ impl<T: NamedFeed> SummedSource<Refutation> for T {
 
     fn hold(&mut self, alloc: Global, sum: &[u8; 32], read: &mut Vec<u8>) -> Result<(), RunFault> {
         read_held(alloc, self, Input::Refutation, sum, read)
+    }
+}
+
+impl<T: NamedFeed> SummedSource<Times> for T {
+    type Digest = [u8; 32];
+
+    ghost named = { T.named };
+
+    ghost digest = { λ digest. digest };
+
+    fn digest_in(&self, sums: &[Sum]) -> Result<[u8; 32], RunFault> {
+        digest_for(sums, Input::Times, self.name())
+    }
+
+    fn hold(&mut self, alloc: Global, sum: &[u8; 32], read: &mut Vec<u8>) -> Result<(), RunFault> {
+        read_held(alloc, self, Input::Times, sum, read)
     }
 }

@@ -17,7 +17,7 @@ pub(crate) fn is_given(words: &ArgMatches, name: &str) -> bool
 }
 
 /// The first value of an operand or option, as text.
-fn value<'a>(words: &ArgMatches<'a>, name: &str) -> Option<&'a str>
+pub(crate) fn value<'a>(words: &ArgMatches<'a>, name: &str) -> Option<&'a str>
     ensures { option_map (λ text. text.now) result ≡ first_of name.now (found_rows words.now) }
 {
     words.get_str(name)

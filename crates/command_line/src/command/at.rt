@@ -1,15 +1,19 @@
 //! The command `at`.
 
-ghost use Rattle.std.specs.Prelude.{◌≡◌, IfOk, codes};
+ghost use Rattle.std.specs.Prelude.{◌≡◌, IfOk, None, codes, is_some};
+ghost use Rattle.command_line.specs.Common.{first_of};
 ghost use Rattle.command_line.specs.Invocation.{IsCalled, IsShownTime, found_rows, time_given};
 
-use crate::command::argument::{is_given, operand};
-use crate::command::evidence::ask;
+use crate::command::argument::{is_given, operand, value};
+use crate::command::evidence::{ask, judged_paths};
 use audit::{At, Request};
 use claim_file::read_time;
 use clap::ArgMatches;
-use program::Invocation;
+use program::{Invocation, Judgement};
 use std::alloc::{AllocError, Global};
+
+/// Why it is refused that has no moment, or two kinds.
+const NO_TIME: &str = "error: at takes a TIME, or --times FILE\n";
 
 /// The moment that it is asked about, if its TIME is written as a claim's times are.
 fn time_of(words: &ArgMatches) -> Option<u32>
@@ -29,12 +33,34 @@ fn shown_time(alloc: Global, words: &ArgMatches) -> Result<Option<String>, Alloc
     }
 }
 
-/// What its words call for: its TIME is read before anything else is done.
-pub(crate) fn invocation(alloc: Global, words: &ArgMatches) -> Result<Invocation, AllocError>
+/// Whether an operand or option is there.
+fn is_there(words: &ArgMatches, name: &str) -> bool
+    ensures { result ≡ is_some (first_of name.now (found_rows words.now)) }
+{
+    value(words, name).is_some()
+}
+
+/// What the words with a TIME call for: it is read before anything else is done.
+fn asked_at(alloc: Global, words: &ArgMatches) -> Result<Invocation, AllocError>
+    requires { first_of (codes "times") (found_rows words.now) ≡ None }
     ensures { IfOk result (IsCalled (codes "at") (found_rows words.now)) }
 {
     match time_of(words) {
         Some(unix_second) => ask(alloc, Request::At(At { unix_second }), words),
         None => Ok(Invocation::RefuseTime(shown_time(alloc, words)?)),
+    }
+}
+
+/// What its words call for.
+pub(crate) fn invocation(alloc: Global, words: &ArgMatches) -> Result<Invocation, AllocError>
+    ensures { IfOk result (IsCalled (codes "at") (found_rows words.now)) }
+{
+    match (is_there(words, "TIME"), is_there(words, "times")) {
+        (true, false) => asked_at(alloc, words),
+        (false, true) => {
+            let paths = judged_paths(alloc, words, "times")?;
+            Ok(Invocation::Judge(Judgement::Readings, paths))
+        }
+        _ => Invocation::refusal(alloc, NO_TIME),
     }
 }

@@ -23,7 +23,7 @@ fn paths(alloc: Global, words: &ArgMatches) -> Result<Paths, AllocError>
     })
 }
 
-/// The same, with the second input that the operand of this name names.
+/// The same, with the second input that the operand or option of this name names.
 pub(crate) fn judged_paths(
     alloc: Global,
     words: &ArgMatches,

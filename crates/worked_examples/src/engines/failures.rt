@@ -46,7 +46,9 @@ fn fails(
             is_untouched(&mut ran.second, command.second().1)
                 && is_untouched(&mut ran.capture, asked.capture)
         }
-        Input::Certificate | Input::Refutation => is_untouched(&mut ran.capture, asked.capture),
+        Input::Certificate | Input::Refutation | Input::Times => {
+            is_untouched(&mut ran.capture, asked.capture)
+        }
         Input::Capture | Input::Sums => true,
     };
     let counts = (ran.faults(), out.faults(), out.bytes().len());
