@@ -105,6 +105,6 @@ pub use Rattle.audit.specs.Refute.{refuted_outcome}
 pub use Rattle.audit.specs.Report.{InputsData, IsOfMaking, IsUnfound, Tells, inputs_data, inputs_read, report_on}
 pub use Rattle.audit.specs.Report.{run_report, TellsOf}
 pub use Rattle.audit.specs.Second.{HasSecond, SecondData, SecondKind, certificate_said, certificate_second, most_second}
-pub use Rattle.audit.specs.Second.{no_second, nothing_said, refutation_said, refutation_second, second_read}
+pub use Rattle.audit.specs.Second.{no_second, nothing_said, refutation_said, refutation_second, second_read, times_second}
 pub use Rattle.audit.specs.Settle.{IsAnswerFrom, IsAnswerOf, IsSettledBy, IsSettledFrom, IsSettledOf, IsShownByCoversOf, IsShownOf, is_on_least, names_least}
 pub use Rattle.audit.specs.Settle.{report_of, settled_outcome, text_for, settle_report}

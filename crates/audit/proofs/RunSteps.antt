@@ -1,6 +1,6 @@
 -- A run, once its inputs are read.
 use Rattle.std.proofs.Common.{rules}
-use Rattle.audit.proofs.Common.{IfOk-weaker, IsFindingOf, ◌≡◌, ◌∙◌, ◌⊎◌, ℕ, List, Option, Some, None, Result, Ok, Err, refl, inl, inr, false, IfSome, IfErr, IfOk, FeedState, SinkState, Outcome, RunFault, claim_read, IsAnswerFor, IsMadeFor, IsUnwritten, Publishes, Ready, Report, GetsText, is_sums, is_device, refused, IsFromOutside, HasClaim, HasLawfulHeader, IsUnwrittenAt, Runs, capture_read, AreInputsOf, AskedData, Finding, EvidenceData, for_a_program, no_finding, HasSecond, SecondData, SecondKind, most_second, second_read, no_second, certificate_second, refutation_second, InputsData, IsOfMaking, Tells, inputs_data, inputs_read, report_on, run_report, Bool, option_map, IfSome_then, TakesAtMost, Input, most_read, RunState, BytesLaws, arith, ints, nat_tests}
+use Rattle.audit.proofs.Common.{IfOk-weaker, IsFindingOf, ◌≡◌, ◌∙◌, ◌⊎◌, ℕ, List, Option, Some, None, Result, Ok, Err, refl, inl, inr, false, IfSome, IfErr, IfOk, FeedState, SinkState, Outcome, RunFault, claim_read, IsAnswerFor, IsMadeFor, IsUnwritten, Publishes, Ready, Report, GetsText, is_sums, is_device, refused, IsFromOutside, HasClaim, HasLawfulHeader, IsUnwrittenAt, Runs, capture_read, AreInputsOf, AskedData, Finding, EvidenceData, for_a_program, no_finding, HasSecond, SecondData, SecondKind, most_second, second_read, no_second, certificate_second, refutation_second, times_second, InputsData, IsOfMaking, Tells, inputs_data, inputs_read, report_on, run_report, Bool, option_map, IfSome_then, TakesAtMost, Input, most_read, RunState, BytesLaws, arith, ints, nat_tests}
 use Rattle.report.specs.declared.fault.Input.TheVariants as inputs
 use Rattle.report.specs.declared.fault.RunFault.TheVariants as faults
 use Rattle.report.proofs.LinelessRefusal.{writes_nothing}
@@ -23,6 +23,7 @@ second_taken : {A B : Type 0} (kind : SecondKind) (read : Result A RunFault) (an
 second_taken no_second read answer same before after h = h
 second_taken certificate_second read answer same before after h = grind (arith, ints, nat_tests)
 second_taken refutation_second read answer same before after h = grind (arith, ints, nat_tests)
+second_taken times_second read answer same before after h = grind (arith, ints, nat_tests)
 
 module _ {T F A : Type 0} {kind : SecondKind} {before after : RunState} {second second' : T} {capture capture' : F}
   where
