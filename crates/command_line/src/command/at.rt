@@ -12,9 +12,6 @@ use clap::ArgMatches;
 use program::{Invocation, Judgement};
 use std::alloc::{AllocError, Global};
 
-/// Why it is refused that has no moment, or two kinds.
-const NO_TIME: &str = "error: at takes a TIME, or --times FILE\n";
-
 /// The moment that it is asked about, if its TIME is written as a claim's times are.
 fn time_of(words: &ArgMatches) -> Option<u32>
     ensures { result ≡ time_given (found_rows words.now) }
@@ -52,6 +49,7 @@ fn asked_at(alloc: Global, words: &ArgMatches) -> Result<Invocation, AllocError>
 }
 
 /// What its words call for.
+#[tactic(auto, using(crate::proofs::Moments::moments))]
 pub(crate) fn invocation(alloc: Global, words: &ArgMatches) -> Result<Invocation, AllocError>
     ensures { IfOk result (IsCalled (codes "at") (found_rows words.now)) }
 {
@@ -61,6 +59,8 @@ pub(crate) fn invocation(alloc: Global, words: &ArgMatches) -> Result<Invocation
             let paths = judged_paths(alloc, words, "times")?;
             Ok(Invocation::Judge(Judgement::Readings, paths))
         }
-        _ => Invocation::refusal(alloc, NO_TIME),
+        (true, true) | (false, false) => {
+            Invocation::refusal(alloc, "error: at takes a TIME, or --times FILE\n")
+        }
     }
 }
