@@ -51,6 +51,12 @@ def read_settled(text: bytes) -> Settled:
     return Settled(NOTHING_FITS, conflicts=conflicts)
 
 
+def read_caught(report: bytes) -> list[tuple[str, int, str, int]]:
+    """The conflicts in a report of `check` on a certificate by covers."""
+    lines = [line.split() for line in report.decode("ascii").splitlines()]
+    return [(words[1], int(words[2]), words[3], int(words[4])) for words in lines if words[0] == "conflict"]
+
+
 def read_advice(report: bytes) -> dict[str, str]:
     """The advice in a report of `check`: the number of sources, or the one reference, if there are too few."""
     lines = [line.split() for line in report.decode("ascii").splitlines()]

@@ -351,6 +351,17 @@ class ForATime:
 
 
 @dataclass(frozen=True)
+class Caught:
+    """A server that a certificate by covers leaves out throughout, the others that it contradicts, and when its
+    packets were recorded by which it does."""
+
+    kind: Literal["caught"]
+    servers: list[Address] = field(default_factory=list)
+    others: list[Address] = field(default_factory=list)
+    times: list[Nanoseconds] = field(default_factory=list)
+
+
+@dataclass(frozen=True)
 class Logged:
     """How many steps the client logged, and when the first was."""
 
@@ -391,7 +402,7 @@ class Unread:
 
 
 Alert = (Bare | Figure | OfServers | Between | Falls | Quiet | Far | LeapSeconds | ListEnds | OneReference | ForATime
-         | Logged | Torn | Again | Unread)
+         | Caught | Logged | Torn | Again | Unread)
 """A warning that stands beside a verdict."""
 OF_LEAPS = {"leap-second": "a leap second", "leap-ends": "the list of leap seconds has ended",
             "no-list": "no list of leap seconds"}

@@ -1,8 +1,8 @@
 """Warnings in words: what stands beside a verdict, for a reader who may not know the terms."""
 from collections.abc import Callable
 
-from ..folder.entry import (Again, Alert, Bare, Between, Falls, Far, Figure, ForATime, LeapSeconds, ListEnds, Logged,
-                            OfServers, OneReference, Quiet, Silence, Torn, Unread)
+from ..folder.entry import (Again, Alert, Bare, Between, Caught, Falls, Far, Figure, ForATime, LeapSeconds, ListEnds,
+                            Logged, OfServers, OneReference, Quiet, Silence, Torn, Unread)
 from ..premise import allowance
 from ..premise.premises import named
 from ..text import capital, count, is_or_are, listed, plain, reference
@@ -128,6 +128,11 @@ SERVERS: dict[str, Callable[[OfServers], str]] = {
 }
 
 
+def caught(alert: Caught) -> str:
+    times = [shown_time(time // SECOND) for time in alert.times]
+    return f"{listed(alert.servers)} was wrong: it contradicts {listed(alert.others)}, at {listed(times)}."
+
+
 def leap_seconds(alert: LeapSeconds) -> str:
     return (f"{capital(named(alert.seconds))} lies in the span or among the exchanges, by the "
             "list of leap seconds. No such span can be claimed.")
@@ -208,6 +213,8 @@ def warning_words(alert: Alert) -> str:
             return one_reference(alert)
         case ForATime():
             return apart_for_a_time(alert)
+        case Caught():
+            return caught(alert)
         case Logged():
             return step(alert) if alert.kind == "step" else other_step(alert)
         case Torn():

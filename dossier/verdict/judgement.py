@@ -11,9 +11,9 @@ from ..capture.traffic import Traffic, number_of
 from ..folder.answers import Envelope, Settled, read_advice, read_settled
 from ..folder.claim import MOST_DRIFT, OSCILLATOR, Claim, Part
 from ..folder.entry import (FEW, NO_EVIDENCE, NOTHING_FITS, OPEN, REFUTED, YES, Again, Alert, AtTick, Bare, Between,
-                            Cause, Conflict, Elsewhere, Entry, Falls, Far, Figure, ForATime, Gap, Gaps, Hull,
-                            LeapList, Misfit, Move, OfServers, OneReference, Piece, Quiet, Reason, Server, Silence,
-                            Silent, Stretch)
+                            Caught, Cause, Conflict, Elsewhere, Entry, Falls, Far, Figure, ForATime, Gap, Gaps,
+                            Hull, LeapList, Misfit, Move, OfServers, OneReference, Piece, Quiet, Reason, Server,
+                            Silence, Silent, Stretch)
 from ..premise.allowance import slip
 from ..premise.backing import Backing, against
 from ..premise.leap import entry_by, look_up, stretch
@@ -213,11 +213,22 @@ def warnings(claim: Claim, recording: Recording, texts: Texts, advice: dict[str,
     if texts.apart.always:
         yield OfServers("apart", texts.apart.always)
     yield from for_a_time(texts.apart.times)
-    named = {*texts.apart.always, *(time.server for time in texts.apart.times)}
+    caught = list(caught_in(texts))
+    yield from caught
+    named = {*texts.apart.always, *(time.server for time in texts.apart.times), *(one.servers[0] for one in caught)}
     if wrong := [server for server in texts.apart.wrong if server not in named]:
         yield OfServers("wrong", wrong)
     if texts.apart.some:
         yield OfServers("contrary", texts.apart.some)
+
+
+def caught_in(texts: Texts) -> Iterator[Caught]:
+    """The servers that were wrong in each course, by the conflicts of a certificate by covers."""
+    for server in texts.apart.wrong if read_settled(texts.settled).by_covers else ():
+        own = [(one.high, one.asked) for one in texts.conflicts if one.low == server] + \
+            [(one.low, one.answered) for one in texts.conflicts if one.high == server]
+        if others := sorted({other for other, _ in own} - {server}, key=number_of):
+            yield Caught("caught", [server], others, sorted({time for _, time in own})[:FEW])
 
 
 def for_a_time(times: list[Time]) -> Iterator[Alert]:

@@ -10,7 +10,7 @@ from ..capture.traffic import read_traffic
 from ..capture.twice import ONCE, repeated, without
 from ..fault import MISSING, Fault, fault
 from ..folder import files
-from ..folder.answers import read_counts, read_envelope, read_settled
+from ..folder.answers import read_caught, read_counts, read_envelope, read_settled
 from ..folder.claim import MOST_BOUND, Part
 from ..folder.entry import NO_EVIDENCE, NOTHING_FITS, REFUTED, YES, Entry, Gap, Move, Silence
 from ..folder.files import sum_of, sum_of_file
@@ -81,6 +81,9 @@ class Settling:
             texts = texts._replace(parts=split(envelope, sorted([*gaps, *doubts]), claim))
         if is_fitted or texts.spared and not texts.moves:
             apart = self.seen_apart(texts, gaps)
+            if read_settled(texts.settled).by_covers:
+                texts = texts._replace(conflicts=read_shown(self.program, self.claim, self.capture, self.extent,
+                                                            read_caught(texts.report)))
             texts = texts._replace(apart=apart if are_steps(texts.moves) else apart._replace(wrong=[], some=[]))
         return judge(self.part, recording, beside, texts, self.step, self.left)
 

@@ -242,7 +242,8 @@ def test_kinds(_: Path) -> None:
 
 KEPT: dict[str, object] = {"why": None, "kind": None, "file": "", "reference": "", "beside": "", "hull": "empty",
                            "recorded": [0, 0], "piece": None, **dict.fromkeys(
-                               ("gaps", "conflicts", "apart", "camps", "asking", "asked", "servers", "seconds"), [])}
+                               ("gaps", "conflicts", "apart", "camps", "asking", "asked", "servers", "seconds",
+                                "others", "times"), [])}
 """A value that a name may have."""
 
 

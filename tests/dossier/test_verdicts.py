@@ -230,6 +230,8 @@ def test_by_covers(place: Path) -> None:
     check("a yes by covers", status=(status, 0), verdict=(entry["verdict"], "yes"), least=(entry["least_ns"], None),
           line=(out.decode().endswith(": shown by covers, claimed 9.6 ms\n"), True),
           said=("what else the claim grants is true. This is shown by covers: " in page, True),
+          caught=("192.0.2.104 was wrong: it contradicts 192.0.2.101, 192.0.2.102 and 192.0.2.103, at 2023-11-14 "
+                  "22:31:28 and 2023-11-14 22:41:04." in page, True),
           verified=(dossier("verify", folder)[0], 0), lesser=("lesser bound" in page, False),
           judged=((folder / "report.txt").read_text().splitlines()[-2:], ["wrong 192.0.2.104", "verdict yes"]))
 

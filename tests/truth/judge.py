@@ -195,6 +195,10 @@ def was_wrong(view: View, servers: list[str]) -> str:
     return view.unless_unseen(f"{', '.join(right)} was right" if right else "")
 
 
+def caught(view: View, server: str, *_: Any) -> str:
+    return was_wrong(view, [server])
+
+
 def some_wrong(view: View, servers: list[str]) -> str:
     view.named.update(servers)
     return view.unless_unseen("" if any(view.is_wrong_in(server, (0, 1 << 62)) for server in servers)
