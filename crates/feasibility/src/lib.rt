@@ -50,7 +50,7 @@ mod sorted_marks;
 mod table;
 
 pub use conflicts::Conflicts;
-pub use contradiction::{Contradiction, first_contradiction};
+pub use contradiction::Contradiction;
 pub use fits::course_fits;
 pub use group_refutation::check_refutation_by_conflicts;
 pub use groups::Groups;

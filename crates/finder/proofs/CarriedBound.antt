@@ -5,8 +5,7 @@ use Rattle.checker.proofs.Comparison.{wider_bound}
 use Rattle.sweep.specs.declared.table.BestTable.{BestTable}
 use Rattle.finder.specs.declared.carried.LeastCarried.{LeastCarried}
 use Rattle.finder.specs.declared.reach.Reach.{Reach}
-use Rattle.finder.proofs.FewestAnswer.{finds_nothing, finds_too_long}
-use Rattle.finder.proofs.FewestPieces.{as_many_pieces, first_in_span, reached, yes_from}
+use Rattle.finder.proofs.FewestPieces.{as_many_pieces, first_in_span, none_if_stuck, none_if_too_long, reached, yes_from}
 use Rattle.finder.proofs.OneWay.{one_of_three}
 use Rattle.finder.proofs.OtherBounds.{same_hull}
 
@@ -108,16 +107,15 @@ module _ (samples : List Sample) (claim : ClaimData) (lawful : IsLawful claim)
       → StopsAt samples (with_bound claim m) tick → NoneOfFewIsAccepted samples (with_bound claim m)
   none_where_stopped m tick small never (inl (end, hull, stuck)) certificate few accepted =
       let bounded = with_bound claim m in
-      let finds = finds_nothing samples bounded (lawful_with claim m small lawful)
-      (samples_of_other samples claim m are) tick end hull stuck in
       let its_hull : hull_over samples claim tick (next_tick samples claim tick) ≡ hull =
       sym (stuck.its_hull ∙ ap (hull_over samples bounded tick) stuck.ends
       ∙ same_hull samples claim m (stretch_over tick (next_tick samples claim tick))) in
-      finds.none_accepted
-      (λ empty. never tick (stop_is_tick m tick (inl (end, hull, stuck))) (its_hull ∙ empty)) certificate accepted
+      none_if_stuck samples bounded (lawful_with claim m small lawful) (samples_of_other samples claim m are) tick end
+      hull stuck (λ empty. never tick (stop_is_tick m tick (inl (end, hull, stuck))) (its_hull ∙ empty)) certificate
+      accepted
   none_where_stopped m tick small never (inr (long, is)) certificate few accepted =
-      (finds_too_long samples (with_bound claim m) (lawful_with claim m small lawful)
-      (samples_of_other samples claim m are) long).too_many refl certificate few accepted
+      none_if_too_long samples (with_bound claim m) (lawful_with claim m small lawful)
+      (samples_of_other samples claim m are) long certificate few accepted
 
   -- ---- a certificate of longest pieces is accepted
 

@@ -88,10 +88,9 @@ pub use Rattle.finder.specs.Envelope.{IsFirstWithout, IsInside, IsLawfulEnvelope
 pub use Rattle.finder.specs.Envelope.{IsNotCertified, PieceHullData, envelope_to, least_of, nanoseconds_of}
 pub use Rattle.finder.specs.Envelope.{piece_hull_at, piece_hulls, reach_of, with_bound, with_need, with_piece}
 unfoldable pub use Rattle.finder.specs.Envelope.{envelope_of}
-pub use Rattle.finder.specs.Fewest.{AreLongest, IsLongest, IsNoWider, IsOfLongest, IsStuck, IsTooLong}
+pub use Rattle.finder.specs.Fewest.{AreLongest, IsLongest, IsNoWider, IsOfLongest, IsStuck, IsTooLong, NoneIsAccepted}
 pub use Rattle.finder.specs.Fewest.{NoneOfFewIsAccepted, end_after, hull_over, next_tick, piece_over, pieces_over}
 pub use Rattle.finder.specs.Fewest.{shows, stretch_over}
-pub use Rattle.finder.specs.FewestAnswer.{FindsFewest}
 pub use Rattle.finder.specs.Found.{IsFirstFailing, certificate, first_failing, found_without, hull_at, nothing, passes}
 pub use Rattle.finder.specs.Found.{piece_at, pieces_from}
 unfoldable pub use Rattle.finder.specs.Found.{found_of}

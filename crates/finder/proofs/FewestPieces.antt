@@ -1,5 +1,5 @@
 -- What the longest pieces say of certificates: theirs is accepted, and no accepted one has fewer pieces.
-use Rattle.finder.proofs.Common.{◌≡◌, ◌≢◌, ℕ, suc, ◌+◌, ◌<◌, ℤ, pos, ◌≤ℤ◌, int_lt, Bool, true, false, true≢false, cond, ◌||◌, inl, inr, ⊎_elim, ◌⊎◌, ◌<ℤ◌, List, [], ◌∷◌, ◌++◌, length, Option, Some, None, refl, sym, ap, ◌∙◌, subst, arith, slice_get, IsSomeAnd, nat_tests, ints, clamps, PieceData, CertificateData, ClaimData, IsLawful, Hull, Empty, Sample, is_inside, IsPiece, last_end, stretches_from, piece_fault, verdict_from, verdict_of, Yes, Why, Cut, best_entries, AreLongest, IsLongest, IsNoWider, IsStuck, end_after, hull_over, next_tick, piece_over, pieces_over, shows, stretch_over, HoldsWhole, AreSamplesOf, int_lt-false}
+use Rattle.finder.proofs.Common.{◌≡◌, ◌≢◌, ℕ, suc, ◌+◌, ◌<◌, ℤ, pos, ◌≤ℤ◌, int_lt, Bool, true, false, true≢false, cond, ◌||◌, inl, inr, ⊎_elim, ◌⊎◌, ◌<ℤ◌, List, [], ◌∷◌, ◌++◌, length, Option, Some, None, refl, sym, ap, ◌∙◌, subst, arith, slice_get, IsSomeAnd, nat_tests, ints, clamps, PieceData, CertificateData, ClaimData, IsLawful, Hull, Empty, Sample, is_inside, IsPiece, last_end, stretches_from, piece_fault, verdict_from, verdict_of, Yes, Why, Cut, best_entries, AreLongest, IsLongest, IsNoWider, IsStuck, IsTooLong, NoneIsAccepted, NoneOfFewIsAccepted, end_after, hull_over, next_tick, piece_over, pieces_over, shows, stretch_over, HoldsWhole, AreSamplesOf, int_lt-false}
 use Rattle.checker.proofs.PieceVerdict.{each_passes}
 use Rattle.checker.proofs.VerdictPieces.{yes_end}
 use Rattle.finder.proofs.Narrow.{no_wider_within, shows_as_much}
@@ -185,6 +185,19 @@ module _ (samples : List Sample) (claim : ClaimData) (lawful : IsLawful claim)
       (λ inside. true≢false (sym inside ∙ ap (is_inside claim.bound) (sym its_hull) ∙ fails))
       (shows_as_much samples claim outer.0 inner shown.entries lawful.drift_in_range are
       (piece_to p (next_tick samples claim p) is (next_later p is) (next_within p)) outer.2 shown.passes)
+
+  -- where they get stuck, none is accepted, unless the samples contradict each other there
+  pub none_if_stuck : (begin end : ℤ) (hull : Hull) → IsStuck samples claim begin end hull → hull ≢ Empty
+      → NoneIsAccepted samples claim
+  none_if_stuck begin end hull is =
+      let at = stuck_at samples claim begin end hull lawful.span_forward is in
+      none_accepted_over begin hull (omega (arith, ints, at.later, at.to_last)) at.later
+      (is.its_hull ∙ ap (hull_over samples claim begin) is.ends) is.fails
+
+  -- where as many as may be don't reach the end, none is accepted that may be written
+  pub none_if_too_long : IsTooLong samples claim → NoneOfFewIsAccepted samples claim
+  none_if_too_long is other few accepted =
+      absurd (omega (arith, is.as_many, few, more_of_accepted is.earlier is.longest other accepted))
 
   -- ---- halving
 

@@ -20,7 +20,6 @@ pub mod GapSearch
 pub mod FewestPieces
 pub mod Beyond
 pub mod LongestPiece
-pub mod FewestAnswer
 pub mod Bound
 pub mod SettlementAnswer
 pub mod CarriedBound

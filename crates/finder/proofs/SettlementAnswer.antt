@@ -1,5 +1,5 @@
 -- What settles a claim.
-use Rattle.finder.proofs.Common.{◌≡◌, ℕ, ◌<◌, ◌≤◌, ℤ, pos, ◌*ℤ◌, ◌≤ℤ◌, true, List, [], ◌∷◌, Ok, refl, sym, subst, unsigned_abs, arith, rules, ◌↔◌, All, IsTrue, ints, clamps, ClaimData, IsLawful, Exchange, CertificateData, RefutationData, Certificate, Hull, Sample, Course, IsObservedIn, samples_of, verdict_of, Yes, HasSmallCover, IsCover, SomeCourse, FindsFewest, AreHeld, NoneIsRefuted, nat_tests}
+use Rattle.finder.proofs.Common.{HoldsError, ◌≡◌, ℕ, ◌<◌, ◌≤◌, ℤ, pos, ◌*ℤ◌, ◌≤ℤ◌, true, List, [], ◌∷◌, Ok, refl, sym, subst, unsigned_abs, arith, rules, ◌↔◌, All, IsTrue, ints, clamps, ClaimData, IsLawful, Exchange, CertificateData, RefutationData, Certificate, Hull, Sample, Course, IsObservedIn, samples_of, verdict_from, verdict_of, Yes, HasSmallCover, IsCover, SomeCourse, AreHeld, NoneIsRefuted, nat_tests, AreSamplesOf, IsInHull, IsStuck, AreEnds, pieces_over, stretch_over, ◌++◌, ◌∙◌, ap, length-append}
 use Rattle.std.specs.Prelude.{Bool, length, option_map}
 use Rattle.pairing.specs.Exchange.{IsLawful as IsLawfulExchange}
 use Rattle.certificate.specs.Certificate.{data_of as certificate_data}
@@ -16,13 +16,13 @@ use Rattle.finder.specs.declared.neediest.Neediest.{Neediest}
 use Rattle.finder.proofs.Common.{◌+◌, take, take_all, holds, holds_false, IsBoundless, IsNeediest, NoneNeedsMore, need_of, tick_without}
 use Rattle.checker.proofs.Exchange.{are_samples}
 use Rattle.finder.proofs.CoverHull.{within_most}
-use Rattle.finder.proofs.FewestPieces.{stuck_at}
+use Rattle.finder.proofs.FewestPieces.{as_many_pieces, first_in_span, more_of_accepted, none_if_stuck, stuck_at, yes_from}
 use Rattle.finder.proofs.GapSearch.{more_enough}
 use Rattle.finder.proofs.HeldError.{held_one}
+use Rattle.finder.proofs.Verdict.{best_held}
 use Rattle.std.proofs.lemmas.List.Elements.{All-more, All-weaker}
 use Rattle.finder.specs.Settlement.{IsContestedBy, IsFitted, IsFittedByNone, IsHeard, IsLeftOpen, IsSettledAs, IsShownBy, IsUnheard, NoneIsBeyond}
 use Rattle.finder.specs.Settlement.{Settles, settled_data}
-use Rattle.finder.specs.declared.fewest.Fewest.TheVariants as found
 use Rattle.finder.specs.declared.settlement.Settled.{Settled}
 
 -- ---- limits
@@ -69,10 +69,29 @@ module _ (claim : ClaimData) (xs : List Exchange) where
       )
 
   -- a certificate that shows the claim
-  pub shown_by : (certificate : Certificate) → IsFitted claim xs
-      → FindsFewest (samples_of xs claim) claim (Ok (found.Certificate certificate))
+  pub shown_by : IsLawful claim → AreSamplesOf claim (samples_of xs claim) → (certificate : Certificate)
+      (ends : List ℤ) → IsFitted claim xs → AreEnds (samples_of xs claim) claim ends
+      → (certificate_data certificate).pieces ≡ pieces_over (samples_of xs claim) claim claim.first ends
       → IsShownBy claim xs (certificate_data certificate)
-  shown_by certificate courses finds = search rules
+  shown_by lawful are certificate ends courses is pieces =
+      let samples = samples_of xs claim in
+      let all = is.earlier ++ claim.last ∷ [] in
+      let e = pieces ∙ ap (pieces_over samples claim claim.first) is.are in
+      let span = first_in_span samples claim lawful are in
+      let count : length (certificate_data certificate).pieces ≡ length is.earlier + 1 =
+      ap length e ∙ as_many_pieces samples claim lawful are claim.first all
+      ∙ length-append is.earlier (claim.last ∷ []) in
+      let few = is.few in
+      record {
+        courses = courses;
+        longest = record { earlier = is.earlier; longest = is.longest; last = is.last; few = few; pieces = e };
+        accepted = ap (verdict_from samples claim 0 claim.first) e
+            ∙ yes_from samples claim lawful are 0 claim.first is.earlier span is.longest is.last;
+        fewest = λ other accepted.
+            let more = more_of_accepted samples claim lawful are is.earlier is.longest other accepted in
+            omega (arith, more, count);
+        few = omega (arith, count, few);
+      }
 
   -- a refutation that stands
   pub contested_by : (refutation : RefutationData) → IsHeard claim xs → SettlesWithDrift claim xs refutation true
@@ -86,25 +105,29 @@ module _ (claim : ClaimData) (xs : List Exchange) where
       omega (arith, ints, course.fineness, times_le begin end (course.fineness) forward)
 
   -- as some course fits, the samples don't contradict each other there, and so no certificate is accepted
-  pub left_open : (begin end : ℤ) (hull : Hull) (covers : ℕ) (most : Option ℤ) → claim.first ≤ℤ claim.last
-      → IsHeard claim xs → IsFitted claim xs
-      → FindsFewest (samples_of xs claim) claim (Ok (found.Nothing begin end hull))
-      → NoneIsRefuted claim xs → AreHeld claim xs (unsigned_abs begin ∷ unsigned_abs end ∷ []) covers
+  pub left_open : (begin end : ℤ) (hull : Hull) (covers : ℕ) (most : Option ℤ) → IsLawful claim
+      → AreSamplesOf claim (samples_of xs claim) → IsHeard claim xs → IsFitted claim xs
+      → IsStuck (samples_of xs claim) claim begin end hull → NoneIsRefuted claim xs → AreHeld claim xs (unsigned_abs begin ∷ unsigned_abs end ∷ []) covers
       → IfSome most (NoneIsBeyond claim xs) → IsLeftOpen claim xs begin end hull covers most
-  left_open begin end hull covers most in_order is_heard courses finds none_refuted bounded within = record {
-    heard = is_heard;
-    courses = courses;
-    stuck = finds.stuck;
-    none_accepted = finds.none_accepted (λ empty.
-        let at = courses begin in
-        let begins = stuck_at (samples_of xs claim) claim begin end hull in_order finds.stuck in
-        finds.contradiction empty xs at.0 refl at.1.fits
-        (observed begin end at.0 (omega (arith, ints, clamps, begins.to_last, finds.stuck.ends)) at.2));
-    none_refuted = none_refuted;
-    held = finds.held;
-    bounded = bounded;
-    within = within;
-  }
+  left_open begin end hull covers most lawful are is_heard courses stuck none_refuted bounded within =
+      let samples = samples_of xs claim in
+      let stretch = stretch_over begin end in
+      let holds_error : HoldsError claim samples stretch hull =
+      subst (HoldsError claim samples stretch) (sym stuck.its_hull) (best_held claim samples stretch lawful are) in
+      record {
+        heard = is_heard;
+        courses = courses;
+        stuck = stuck;
+        none_accepted = none_if_stuck samples claim lawful are begin end hull stuck (λ empty.
+            let at = courses begin in
+            let begins = stuck_at samples claim begin end hull lawful.span_forward stuck in
+            subst (IsInHull at.0) empty (holds_error xs at.0 refl at.1.fits
+            (observed begin end at.0 (omega (arith, ints, clamps, begins.to_last, stuck.ends)) at.2)));
+        none_refuted = none_refuted;
+        held = holds_error;
+        bounded = bounded;
+        within = within;
+      }
 
 -- ---- the most that the clock is off by
 

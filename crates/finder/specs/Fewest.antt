@@ -5,10 +5,8 @@
 -- unless the span is one moment, which is one piece. Where the hull over the one tick from a
 -- piece's begin isn't inside the bound, there is no such piece.
 use Rattle.std.specs.Prelude.{◌≡◌, ◌<◌, ◌≤◌, ℤ, pos, ◌+ℤ◌, ◌≤ℤ◌, ◌<ℤ◌, unsigned_abs, ⊤, Bool, true, false, List, [], ◌∷◌, ◌++◌, length}
-use Rattle.finder.specs.Common.{int_min, PieceData, CertificateData, certificate_data, max_pieces, ClaimData, Hull, Unbounded, Empty, Bounded, Sample, is_inside, Stretch, verdict_of, Yes}
+use Rattle.finder.specs.Common.{int_min, PieceData, CertificateData, max_pieces, ClaimData, Hull, Unbounded, Empty, Bounded, Sample, is_inside, Stretch, verdict_of, Yes}
 use Rattle.finder.specs.Entry.{best_entries, best_hull}
-use Rattle.finder.specs.declared.fewest.Fewest.{Fewest}
-use Rattle.finder.specs.declared.fewest.Fewest.TheVariants.{Certificate, Nothing}
 
 -- ---- hulls, one no wider than another
 
@@ -122,13 +120,3 @@ module _ (samples : List Sample) (claim : ClaimData) where
   abbrev pub NoneOfFewIsAccepted : Type 0
   NoneOfFewIsAccepted = (other : CertificateData) → length other.pieces ≤ max_pieces
       → ¬ (verdict_of samples claim other ≡ Yes)
-
--- if a certificate is found, this holds of it
-abbrev pub IfCertificate : Fewest → (CertificateData → Type 0) → Type 0
-IfCertificate (Certificate found) P = P (certificate_data found)
-IfCertificate (Nothing begin end hull) P = ⊤
-
--- if none is found, this holds of the piece of one tick, and of its hull
-abbrev pub IfNothing : Fewest → (ℤ → ℤ → Hull → Type 0) → Type 0
-IfNothing (Certificate found) P = ⊤
-IfNothing (Nothing begin end hull) P = P begin end hull

@@ -7,7 +7,6 @@
 use Rattle.std.specs.Prelude.{◌≡◌, ◌↔◌, ◌⊎◌, ℕ, ◌<◌, ◌≤◌, ◌==◌, ◌-◌, ◌^◌, ℤ, pos, neg_ℤ, ◌+ℤ◌, ◌*ℤ◌, ◌≤ℤ◌, ◌<ℤ◌, Bool, ◌||◌, true, false, List, length, Some, slice_get, All, Any, count_by}
 use Rattle.finder.specs.Common.{int_min, list_any, slice_index_or, Course, Fits, holds_false, are_different, ClaimData, RefutationData, group_of, servers_of, IsRefutedWithDrift, holds, AreLeastCovers, LieWithin, Groups, Interval, low_mark, high_mark, AreCompatible, Mark, Exchange, numbers_below, error_of}
 use Rattle.finder.specs.NearestRefutation.{IsErrorOf64Bits, greatest_error, least_error_below}
-use Rattle.finder.specs.declared.drift_refutation.Place.{Place}
 use Rattle.finder.specs.declared.side.Side.{Side}
 use Rattle.finder.specs.declared.side.Side.TheVariants.{Above, Below}
 
@@ -163,11 +162,6 @@ pub record AreHeld (claim : ClaimData) (xs : List Exchange) (readings : List ℕ
   pub in_all : covers < 64 → All (λ reading. (side : Side) →
       HoldsFor claim xs reading side (λ _. Unit {0})
       ⊎ Any (λ cover. IsRounded claim xs (holds cover) reading side) minimal) readings
-
--- so it is at each of these places, with its cover, to both sides
-abbrev pub ArePlacesHeld : ClaimData → List Exchange → List Place → Type 0
-ArePlacesHeld claim xs places =
-    All (λ place. (side : Side) → IsHeld claim xs (holds place.cover) place.reading side) places
 
 -- ---- the greatest of the leeways
 

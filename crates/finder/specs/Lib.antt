@@ -9,7 +9,6 @@ pub mod Envelope
 pub mod Fewest
 pub mod Reach
 pub mod Answer
-pub mod FewestAnswer
 pub mod Carried
 pub mod Settlement
 pub mod Room

@@ -1,9 +1,9 @@
 //! Refutations with drift that are found.
 
-ghost use Rattle.std.specs.Prelude.{◌≡◌, ◌≤ℤ◌, true, pos, length, map, All, IfNone, IfOk, IfSome, MatchOption};
-ghost use Rattle.finder.specs.Common.{int_min, refutation_data, data_of as claim_data, IsConflictTable, IsRefutedWithDrift, SettlesWithDrift, holds, IsLawful as IsLawfulExchange};
+ghost use Rattle.std.specs.Prelude.{◌≡◌, ◌≤ℤ◌, true, pos, length, map, All, IfNone, IfSome, MatchOption};
+ghost use Rattle.finder.specs.Common.{int_min, refutation_data, data_of as claim_data, IsConflictTable, SettlesWithDrift, holds, IsLawful as IsLawfulExchange};
 ghost use Rattle.feasibility.specs.ConflictsView.{data_of};
-ghost use Rattle.finder.specs.Leeway.{ArePlacesHeld, IsHeld, IsHeldAtAll, greatest_of, turned, IsBounded, IsMade};
+ghost use Rattle.finder.specs.Leeway.{IsHeld, IsHeldAtAll, greatest_of, turned, IsBounded, IsMade};
 ghost use Rattle.finder.specs.declared.side.Side.{Side};
 
 use crate::leeway::{false_groups, least_leeway, leeways_at};
@@ -11,59 +11,26 @@ use crate::nearest_refutation::{GREATEST_ERROR, LEAST_ERROR_BELOW};
 use crate::side::Side;
 use certificate::Refutation;
 use claim_file::Claim;
-use feasibility::{Conflicts, Groups, check_refutation_by_conflicts, conflicts_of};
+use feasibility::{Conflicts, Groups, check_refutation_by_conflicts};
 use pairing::ToExchange;
-use std::alloc::{AllocError, Global};
 
 /// Where a refutation is looked for.
 #[derive(Clone, Copy)]
-pub struct Place {
-    /// The groups that are taken for false: [`feasibility::Conflicts::covers`] has those to try.
-    pub cover: Groups,
+struct Place {
+    /// The groups that are taken for false.
+    cover: Groups,
     /// The reading, in Unix ticks. One outside the span finds none.
-    pub reading: u64,
-}
-
-/// Looks for a refutation of a claim with a clock that drifts as the claim grants.
-///
-/// At each place the groups of its cover are taken for false. As many more may be false as the
-/// claim allows: those that let least be at its reading. Then the error is the greatest that the
-/// other groups let be, to one side of zero or the other. If it is beyond the bound and the
-/// refutation stands, that is the answer; where 64 bits don't hold the error, with the greatest
-/// that they hold. So none may be found though there is one, if it lies elsewhere, or if its error
-/// is next to the bound.
-///
-/// The marks are gathered and held against each other once, with the memory of
-/// `feasibility::conflicts_of`. Then it looks twice at each exchange for each place and side.
-pub fn find_refutation_with_drift<X: ToExchange>(
-    alloc: Global,
-    exchanges: &[X],
-    claim: &Claim,
-    places: &[Place],
-) -> Result<Option<Refutation>, AllocError>
-    requires exchanges { All (IsLawfulExchange (length claim.now.servers.items))
-        (map X.shown exchanges.now) }
-    ensures found { IfOk result (λ result. IfSome result (λ found. IsRefutedWithDrift
-        (claim_data claim.now) (map X.shown exchanges.now) (refutation_data found))) }
-    ensures settles { IfOk result (λ result. IfSome result (λ found. SettlesWithDrift
-        (claim_data claim.now) (map X.shown exchanges.now) (refutation_data found) true)) }
-
-    // None is found only if at each place the bound holds in every course with its cover's groups
-    // false, but for rounding.
-    ensures held { IfOk result (λ result. IfNone result
-        (ArePlacesHeld (claim_data claim.now) (map X.shown exchanges.now) places.now)) }
-{
-    let conflicts = conflicts_of(alloc, exchanges, claim)?;
-    for place in places {
-        if let Some(found) = find_at(exchanges, claim, &conflicts, *place) {
-            return Ok(Some(found));
-        }
-    }
-    Ok(None)
+    reading: u64,
 }
 
 /// A refutation with these groups taken for false, at one of these readings, if one is found. It
-/// takes no memory.
+/// takes no memory, and looks twice at each exchange for each reading and side.
+///
+/// As many more groups may be false as the claim allows: those that let least be at the reading.
+/// Then the error is the greatest that the other groups let be, to one side of zero or the other.
+/// If it is beyond the bound and the refutation stands, that is the answer; where 64 bits don't
+/// hold the error, with the greatest that they hold. So none may be found though there is one, if
+/// it lies elsewhere, or if its error is next to the bound.
 pub(crate) fn find_with_cover<X: ToExchange>(
     exchanges: &[X],
     claim: &Claim,

@@ -3,16 +3,13 @@
 //! [`find`] cuts the span of a claim into pieces, takes the samples of each server that say most
 //! about each piece, and gives either a certificate, which the checker accepts, or the first piece
 //! about which they show too little. What it finds is a proposal: nothing rests on it before the
-//! checker has said yes. [`find_over`] does so over samples from any source. [`find_fewest_over`]
-//! makes each piece as long as the bound allows: no certificate that is accepted has fewer pieces,
-//! and where it finds none, none is accepted, unless the samples contradict each other.
+//! checker has said yes. [`find_over`] does so over samples from any source.
 //! [`find_envelope_over`] takes the pieces of [`find`], and gives the hull of each and the least
 //! bound that holds over all of them. [`least_bound`] gives the least bound with which a
 //! certificate of fewest pieces is found: where a course of events fits, no certificate carries a
 //! lesser one. [`best_parts`] gives what each server says at one tick. [`find_refutation`] gives a
-//! refutation, which the checker accepts, unless it accepts none, and
-//! [`find_refutation_with_drift`] one whose error may drift, if it finds one at the given places.
-//! [`settle`] gives a certificate of fewest pieces or a refutation with drift; or else the tick
+//! refutation, which the checker accepts, unless it accepts none. [`settle`] gives a certificate of
+//! fewest pieces, each as long as the bound allows, or a refutation with drift; or else the tick
 //! where such pieces stop, all conflicts if no course of events fits, or how few groups have a
 //! sample if no more do than may be false. [`laws`] has what holds of the definitions.
 //!
@@ -53,10 +50,8 @@ mod tick_parts;
 mod trial;
 
 pub use carried::{LeastCarried, least_bound, piece_holding};
-pub use drift_refutation::{Place, find_refutation_with_drift};
 pub use envelope::{Envelope, find_envelope_over};
 pub use fault::FindFault;
-pub use fewest::{Fewest, find_fewest_over};
 pub use found::{Found, find, find_over};
 pub use hull::parts;
 pub use least::LeastBound;

@@ -1,5 +1,5 @@
 use Rattle.finder.proofs.Common.{◌∙◌, inr, map, refl, to_z-of_z, w128, data_of as claim_data, samples_of}
-use Rattle.finder.proofs.FewestAnswer.{finds_certificate, finds_nothing, finds_too_long}
+use Rattle.finder.proofs.FewestPieces.{none_if_too_long}
 use Rattle.finder.proofs.LongestPiece.{pieces_to}
 use Rattle.finder.proofs.SettlementAnswer.{contested_by, left_open, settled_as, shown_by}
 use Rattle.finder.proofs.settlement.settle_heard.Goals as goal
@@ -19,11 +19,10 @@ returns-in-End g c =
     let xs = map g.X.ToExchange.shown c.args.exchanges.now in
     let same = c.exchange_samples-samples.ensures.samples in
     let tables = rw same at c.in_ok-tables.ensures in
-    settled_as claim xs _ (shown_by claim xs c.in_ok-certificate-in-End.certificate c.requires.courses
-    (finds_certificate (samples_of xs claim) claim c.args.claim.now.lawful
-    c.exchange_samples-samples.ensures.of_claim _ c.in-End.ends.items
+    settled_as claim xs _ (shown_by claim xs c.args.claim.now.lawful c.exchange_samples-samples.ensures.of_claim
+    c.in_ok-certificate-in-End.certificate c.in-End.ends.items c.requires.courses
     (rw c.in-End.is at c.in_ok-ends.ensures (samples_of xs claim) (rw c.deref.ensures.value tables))
-    (rw (same, c.as_slice.ensures.value) at c.in_ok-certificate-in-End.ensures)))
+    (rw (same, c.as_slice.ensures.value) at c.in_ok-certificate-in-End.ensures))
 
 pub returns-in-Found : goal.returns-in-Found
 returns-in-Found g c =
@@ -45,10 +44,9 @@ returns-in-Stuck g c =
       to_z-of_z w128 c.from.result (record { sfits = c.from.type_inv }) ∙ c.from.ensures,
       to_z-of_z w128 c.from-in-Nothing.result (record { sfits = c.from-in-Nothing.type_inv })
           ∙ c.from-in-Nothing.ensures,
-    ) (left_open claim xs _ _ c.in-Stuck.hull c.in-Nothing.covers c.in-Nothing.most c.args.claim.now.lawful.span_forward
-    c.requires.heard c.requires.courses (finds_nothing (samples_of xs claim) claim c.args.claim.now.lawful
-    c.exchange_samples-samples.ensures.of_claim _ _ _
-    (rw c.in-Stuck.is at c.in_ok-ends.ensures (samples_of xs claim) (rw c.deref.ensures.value tables)))
+    ) (left_open claim xs _ _ c.in-Stuck.hull c.in-Nothing.covers c.in-Nothing.most c.args.claim.now.lawful
+    c.exchange_samples-samples.ensures.of_claim c.requires.heard c.requires.courses
+    (rw c.in-Stuck.is at c.in_ok-ends.ensures (samples_of xs claim) (rw c.deref.ensures.value tables))
     searched.0 searched.1 searched.2))
 
 pub returns : goal.returns
@@ -66,8 +64,8 @@ returns g c =
           heard = c.requires.heard;
           courses = c.requires.courses;
           too_long = long;
-          none_accepted = (finds_too_long samples claim c.args.claim.now.lawful
-              c.exchange_samples-samples.ensures.of_claim long).too_many refl;
+          none_accepted = none_if_too_long samples claim c.args.claim.now.lawful
+              c.exchange_samples-samples.ensures.of_claim long;
           none_refuted = searched.0;
         },
       );
