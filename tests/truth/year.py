@@ -114,7 +114,7 @@ class Fleet:
         chunks = [folders[at:at + 100] for at in range(0, len(folders), 100)]
         with ThreadPoolExecutor(self.jobs) as pool:
             told = pool.map(lambda chunk: self.call(*words, *chunk, state=state), chunks)
-            lines = [line for text in told for line in text.splitlines() if "(signed" not in line]
+            lines = [line for text in told for line in text.splitlines() if ": (" not in f": {line}"]
             return Counter(line.split(": ", 1)[1] for line in lines)
 
     def key(self, name: str) -> Path:
