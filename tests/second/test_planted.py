@@ -51,6 +51,11 @@ SLIPS: list[Plant] = [
     ("the last of two equal requests counts", "None if key in requests else (number, units)", "(number, units)"),
     ("T3 may come before the request in a refutation", "left <= x.t2 + x.distance and left <= x.t3 + x.distance",
      "left <= x.t2 + x.distance"),
+    ("a reading is over before its last digit changes", "10 ** len(digits), 0)", "10 ** len(digits), -1)"),
+    ("the nearest distance of a reading", "place = bisect.bisect(middles, begin + end)",
+     "place = len(middles) - bisect.bisect(middles, begin + end)"),
+    ("the hull's ends exchanged in true time", "true {begin - hull[1]} {end - hull[0]}",
+     "true {begin - hull[0]} {end - hull[1]}"),
     ("a refutation at the bound", "abs(own[1]) <= claim.bound", "abs(own[1]) < claim.bound"),
 ]
 

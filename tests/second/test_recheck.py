@@ -92,6 +92,27 @@ class Trial:
         status, out = self.ask("samples")
         return [line.split() for line in out.decode().splitlines()[:-1]] if status == 0 else []
 
+    # ---- when readings were shown
+
+    def hold_readings(self, claim: Claim) -> None:
+        """Holds `recheck` to what `at --times` says of some readings, and to that with another digit or word."""
+        times = self.folder / "times"
+        times.write_text("".join(f"{reading}\n" for reading in scenes.readings(self.rng, claim)))
+        status, answer = self.ask("at", "--times", times)
+        if status != 0:
+            return
+        self.third.write_bytes(answer)
+        self.hold("readings", (0, "readings yes").__eq__)
+        lines = answer.decode().splitlines()
+        for k in self.rng.sample(range(len(lines)), 3):
+            begin = lines[k].index(" hull ") + 6
+            digits = [at for at in range(begin, len(lines[k])) if lines[k][at].isdigit()]
+            at = self.rng.choice(digits or [begin])
+            other = "1" if lines[k][at] != "1" else "2"
+            altered = [*lines[:k], lines[k][:at] + other + lines[k][at + 1:], *lines[k + 1:]]
+            self.third.write_text("".join(f"{line}\n" for line in altered))
+            self.hold("readings, altered", (1, f"readings no line {k + 1}").__eq__)
+
     # ---- answers in words
 
     def hold_words(self, claim: Claim, answer: bytes) -> None:
@@ -182,6 +203,7 @@ def scene(trial: Trial) -> None:
         near = int(rng.choice(bounds)) + rng.choice([0, 0, -1, 1, 1000, -1000, 100_000])
         claim = changed(claim, bound_ns=max(0, min(10**15, near)))
         trial.claim.write_text(json.dumps(claim))
+    trial.hold_readings(claim)
     samples = trial.samples()
     of_servers = [[int(row[0]) for row in samples if row[1] == server] for server in claim["servers"]]
     thirds = [out for status, out in (trial.ask("find", "--step", step), trial.ask("find", "--refutation"))
@@ -315,6 +337,7 @@ def tried(named: tuple[str, Job], kind: type[Trial] = Trial) -> tuple[str, dict[
 
 # What has to be met, or the comparison would have nothing in it.
 MET = ["verdict yes", "refuted yes", "refuted no", "nothing fits", "no evidence groups N of N false_max N", "refused",
+       "readings yes", "readings no line N",
        *(f"verdict no piece N {why}" for why in ("cut", "bad-sample", "mixed-servers", "repeated-server", "unbounded",
                                                  "contradiction", "exceeds", "uncovered"))]
 

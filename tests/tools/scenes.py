@@ -7,7 +7,7 @@ from collections.abc import Iterable
 from typing import Any
 
 from tests.second.claims import Certificate, Claim, Refutation
-from tests.second.columns import TICKS
+from tests.second.columns import TICKS, time
 from tests.second.rules import span_of
 from tests.tools.wire import records_of
 
@@ -25,6 +25,16 @@ def odd(rng: random.Random, capture: bytes) -> bytes:
     if rng.random() < .3:
         rng.shuffle(records)
     return capture[:24] + b"".join(records[rng.randrange(2):])
+
+
+def readings(rng: random.Random, claim: Claim) -> list[str]:
+    """What a clock may have shown about the span, and far from it, as logs have it: in UTC or in Unix seconds."""
+    first, last = (tick // TICKS for tick in span_of(claim))
+    seconds = [rng.randrange(max(0, first - 9), last + 9) for _ in range(8)] + [0, rng.randrange(2**32 - 1)]
+    fractions = ["." + "".join(rng.choices("0123456789", k=rng.randint(1, 9))) if rng.random() < .8 else ""
+                 for _ in seconds]
+    return [rng.choice((f"{second}{fraction}", f"{time(second)[:-1]}{fraction}Z"))
+            for second, fraction in zip(seconds, fractions)]
 
 
 def made_certificate(rng: random.Random, claim: Claim, of_servers: list[list[int]], samples: int) -> Certificate:
