@@ -31,6 +31,7 @@ pub(crate) struct Search<'a> {
 }
 
 /// Where the longest pieces of a case stop.
+#[derive(Clone, Copy)]
 pub(crate) enum Stop {
     /// At the span's end.
     End,
