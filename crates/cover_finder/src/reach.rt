@@ -1,6 +1,6 @@
 //! The longest pieces of a case.
 
-ghost use Rattle.std.specs.Prelude.{◌<◌, ◌≤◌};
+ghost use Rattle.std.specs.Prelude.{◌<◌, ◌≤◌, ◌≤ℤ◌, pos};
 
 use crate::table::{Table, said_over};
 use certificate::Piece;
@@ -21,13 +21,14 @@ fn stretch_of(begin: u64, end: u64) -> Stretch {
     }
 }
 
-/// A case: the groups that it leaves out, and the bound in ticks that its pieces have to show.
+/// A case: the groups that it leaves out, and how many ticks more than the claim's the bound is that
+/// its pieces have to show.
 #[derive(Clone, Copy)]
 pub(crate) struct Search<'a> {
     pub(crate) tables: &'a [Table],
     pub(crate) claim: &'a Claim,
     pub(crate) out: Groups,
-    pub(crate) bound: i128,
+    pub(crate) more: u8,
 }
 
 /// Where the longest pieces of a case stop.
@@ -60,6 +61,13 @@ fn trial(low: u64, high: u64, near: u64) -> u64
 }
 
 impl<'a> Search<'a> {
+    /// The bound, in ticks.
+    fn bound(&self) -> i128
+        ensures { pos 0 ≤ℤ result }
+    {
+        self.claim.bound.saturating_add(i128::from(self.more))
+    }
+
     /// The hull over a stretch of what the groups say that aren't left out.
     fn hull(&self, begin: u64, end: u64) -> Hull {
         let claim = self.claim;
@@ -76,7 +84,7 @@ impl<'a> Search<'a> {
         let Hull::Bounded { lo, hi } = hull else {
             return end;
         };
-        let room = self.bound.saturating_sub(hi.max(lo.saturating_neg()));
+        let room = self.bound().saturating_sub(hi.max(lo.saturating_neg()));
         let drift = i128::from(self.claim.drift_ppb);
         let Some(more) = room
             .saturating_mul(1_000_000_000 - drift)
@@ -101,7 +109,7 @@ impl<'a> Search<'a> {
                 looks += 1;
                 near = self.likely_end(end, hull);
             }
-            if is_inside(self.bound, hull) {
+            if is_inside(self.bound(), hull) {
                 low = end;
             } else {
                 high = end - 1;
@@ -122,7 +130,7 @@ impl<'a> Search<'a> {
         let mut pieces = Vec::new(alloc);
         for _ in 0..left {
             let next = begin.saturating_add(1).min(last);
-            if !is_inside(self.bound, self.hull(begin, next)) {
+            if !is_inside(self.bound(), self.hull(begin, next)) {
                 return Ok((pieces, Stop::Unshown([begin, next])));
             }
             let end = self.longest_end(begin, next, begin.saturating_add(length));

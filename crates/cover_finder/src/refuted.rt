@@ -1,6 +1,6 @@
 //! The search for a refutation, where the pieces of cases stop.
 
-ghost use Rattle.std.specs.Prelude.{◌≤◌, length, map, All, IfOk};
+ghost use Rattle.std.specs.Prelude.{◌≡◌, length, map, All, IfOk};
 ghost use Rattle.cover_finder.specs.Common.{claim_data, conflicts_data, IsConflictTable, IsLawful};
 ghost use Rattle.cover_finder.specs.Search.{IsRefutedIfFound};
 
@@ -17,7 +17,8 @@ use std::alloc::{AllocError, Global};
 /// reading there is beyond it. The marks' moves are rounded up, and the tick has two ends.
 const MOST_ROUNDING: u8 = 3;
 
-/// A refutation where the pieces of some case stop under this bound, if one is found.
+/// A refutation where the pieces of some case stop under a bound of so many ticks more, if one is
+/// found.
 fn refutation_under<X: ToExchange>(
     alloc: Global,
     exchanges: &[X],
@@ -25,7 +26,7 @@ fn refutation_under<X: ToExchange>(
     conflicts: &Conflicts,
     covers: &[Groups],
     tables: &[Table],
-    bound: i128,
+    more: u8,
 ) -> Result<Option<Refutation>, AllocError>
     requires exchanges { All (IsLawful (length claim.now.servers.items))
         (map X.shown exchanges.now) }
@@ -42,7 +43,7 @@ fn refutation_under<X: ToExchange>(
             tables,
             claim,
             out,
-            bound,
+            more,
         };
         let (pieces, stop) = search.longest_pieces(alloc, left)?;
         left = left.saturating_sub(pieces.len());
@@ -74,8 +75,7 @@ pub(crate) fn find_refutation<X: ToExchange>(
         (IsRefutedIfFound (claim_data claim.now) (map X.shown exchanges.now)) }
 {
     for more in 0..=MOST_ROUNDING {
-        let bound = claim.bound.saturating_add(i128::from(more));
-        let found = refutation_under(alloc, exchanges, claim, conflicts, covers, tables, bound)?;
+        let found = refutation_under(alloc, exchanges, claim, conflicts, covers, tables, more)?;
         if found.is_some() {
             return Ok(found);
         }

@@ -63,12 +63,12 @@ fn cases_of(
     let mut cases = Vec::new(alloc);
     let mut left = MAX_PIECES;
     for out in covers {
-        let (out, bound) = (*out, claim.bound);
+        let (out, more) = (*out, 0);
         let search = Search {
             tables,
             claim,
             out,
-            bound,
+            more,
         };
         let (pieces, Stop::End) = search.longest_pieces(alloc, left)? else {
             return Ok(None);
