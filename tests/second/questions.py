@@ -207,7 +207,9 @@ def refutable(question: Question, stop: Stop) -> str:
     """What is wrong where no refutation was found: that the reading has one."""
     if len(question.covers) > settlement.COVERS:
         return ""                              # (which of them are tried, nobody says)
-    found = settlement.refutation(question.claim, question.samples, question.covers[:COVERS], stop)
+    claim, samples = question.claim, question.samples
+    found = settlement.refutation(claim, samples, question.covers[:COVERS], stop) or settlement.refutation_by_covers(
+        claim, samples, by_covers.Search(claim, samples, question.conflicts))
     return f"it isn't refuted, and there is {found}" if found else ""
 
 

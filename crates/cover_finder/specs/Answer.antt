@@ -1,6 +1,6 @@
 -- What settles a claim, if certificates of either form are looked for.
 use Rattle.std.specs.Prelude.{◌≡◌, ◌⊎◌, List, Result, IfOk, IfErr}
-use Rattle.cover_finder.specs.Common.{certificate_data, ClaimData, CoverCertificateData, Exchange, FindFault, HasTooManyPieces, IsFitted, IsSettledAs, Memory, NoneOfFewIsAccepted, SettledData, TooManyPieces, samples_of, settled_data}
+use Rattle.cover_finder.specs.Common.{certificate_data, ClaimData, CoverCertificateData, Exchange, FindFault, HasTooManyPieces, IsFitted, IsHeard, IsSettledAs, Memory, NoneOfFewIsAccepted, SettledData, TooManyPieces, samples_of, settled_data}
 use Rattle.cover_finder.specs.Search.{IsCarriedBy}
 use Rattle.cover_finder.specs.declared.answer.Answer.{Answer}
 use Rattle.cover_finder.specs.declared.answer.Answer.TheVariants as the
@@ -16,9 +16,10 @@ answer_data (the.OfFinder settled) = of_finder (settled_data settled)
 answer_data (the.ShownByCovers certificate) = shown_by_covers (certificate_data certificate)
 
 module _ (claim : ClaimData) (xs : List Exchange) where
-  -- At each reading a course is observed that fits, and no certificate of pieces is accepted that
-  -- may be written.
+  -- More groups have a sample than may be false, at each reading a course is observed that fits,
+  -- and no certificate of pieces is accepted that may be written.
   pub record IsBeyondPieces : Type 0 where
+    pub heard : IsHeard claim xs
     pub courses : IsFitted claim xs
     pub none_accepted : NoneOfFewIsAccepted (samples_of xs claim) claim
 

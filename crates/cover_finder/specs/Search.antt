@@ -1,7 +1,9 @@
--- What a search for a certificate by covers gives.
-use Rattle.std.specs.Prelude.{List, Option, IfSome}
-use Rattle.cover_finder.specs.Common.{certificate_data, ClaimData, CoverCertificateData, Exchange, IsAccepted, IsFew}
+-- What a search by covers gives.
+use Rattle.std.specs.Prelude.{⊤, true, List, Option, IfSome}
+use Rattle.cover_finder.specs.Common.{certificate_data, refutation_data, ClaimData, CoverCertificateData, Exchange, IsAccepted, IsFew, Refutation, SettlesWithDrift}
 use Rattle.cover_certificate.specs.declared.cover_certificate.CoverCertificate.{CoverCertificate}
+use Rattle.cover_finder.specs.declared.search.Found.{Found}
+use Rattle.cover_finder.specs.declared.search.Found.TheVariants as found
 
 -- the certificate is accepted, and few enough of each to be read
 pub record IsCarriedBy (claim : ClaimData) (xs : List Exchange) (certificate : CoverCertificateData)
@@ -9,7 +11,20 @@ pub record IsCarriedBy (claim : ClaimData) (xs : List Exchange) (certificate : C
   pub accepted : IsAccepted claim xs certificate
   pub few : IsFew certificate
 
--- so it is with the one that is found
-abbrev pub Finds : ClaimData → List Exchange → Option CoverCertificate → Type 0
-Finds claim xs found =
+-- so it is with one that is found
+abbrev pub IsCarriedIfFound : ClaimData → List Exchange → Option CoverCertificate → Type 0
+IsCarriedIfFound claim xs found =
     IfSome found (λ certificate. IsCarriedBy claim xs (certificate_data certificate))
+
+-- a refutation that is found stands
+abbrev pub IsRefutedIfFound : ClaimData → List Exchange → Option Refutation → Type 0
+IsRefutedIfFound claim xs found =
+    IfSome found (λ refutation. SettlesWithDrift claim xs (refutation_data refutation) true)
+
+-- what is found is so
+abbrev pub Finds : ClaimData → List Exchange → Found → Type 0
+Finds claim xs (found.Certificate certificate) =
+    IsCarriedBy claim xs (certificate_data certificate)
+Finds claim xs (found.Refutation refutation) =
+    SettlesWithDrift claim xs (refutation_data refutation) true
+Finds claim xs found.Nothing = ⊤

@@ -4,7 +4,7 @@ ghost use Rattle.std.specs.Prelude.{◌≤◌, length, map, All, IsTrue};
 ghost use Rattle.cover_finder.specs.Answer.{Answers, IsBeyondPieces};
 ghost use Rattle.cover_finder.specs.Common.{claim_data, IsLawful, Settles};
 
-use crate::search::find_covers;
+use crate::search::{Found, find_by_covers};
 use claim_file::Claim;
 use cover_certificate::CoverCertificate;
 use finder::{FindFault, Settled};
@@ -35,8 +35,8 @@ fn is_open<X: ToExchange>(
     )
 }
 
-/// Settles a claim as [`finder::settle`] does, or by covers where that leaves it open, or would
-/// have too many pieces.
+/// Settles a claim as [`finder::settle`] does, or by what is found by covers where that leaves it
+/// open, or would have too many pieces.
 ///
 /// There are at most 1,000,000 exchanges. `TooManyPieces` comes if neither form has few enough
 /// pieces and no refutation is found, and `Memory` if none is left.
@@ -51,10 +51,14 @@ pub fn settle<X: ToExchange>(
     ensures { Answers (claim_data claim.now) (map X.shown exchanges.now) result }
 {
     let settled = finder::settle(alloc, exchanges, claim);
-    if is_open(exchanges, claim, &settled)
-        && let Some(certificate) = find_covers(alloc, exchanges, claim)?
-    {
-        return Ok(Answer::ShownByCovers(certificate));
+    if is_open(exchanges, claim, &settled) {
+        match find_by_covers(alloc, exchanges, claim)? {
+            Found::Certificate(certificate) => return Ok(Answer::ShownByCovers(certificate)),
+            Found::Refutation(refutation) => {
+                return Ok(Answer::OfFinder(Settled::Refuted(refutation)));
+            }
+            Found::Nothing => {}
+        }
     }
     Ok(Answer::OfFinder(settled?))
 }

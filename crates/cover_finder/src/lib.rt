@@ -1,8 +1,10 @@
-//! Finds certificates by covers.
+//! Finds certificates by covers, and the refutations of what they don't carry.
 //!
-//! [`find_covers`] names each conflict, takes each minimal cover for a case, and makes the pieces
-//! of each case as long as the bound allows, from left to right (reach.rt). It gives what the
-//! checker accepts, or nothing. [`settle`] asks for it where a claim stays open without covers.
+//! [`find_by_covers`] names each conflict, takes each minimal cover for a case, and makes the
+//! pieces of each case as long as the bound allows, from left to right (reach.rt). If the checker
+//! accepts what it makes, that is the answer. Where the pieces of a case stop, some course is beyond
+//! the bound, but for rounding: there it looks for a refutation, with the cover's groups false
+//! (refuted.rt). [`settle`] asks for it where a claim stays open without covers.
 //!
 //! The marks of each server are laid out in a table once (table.rt), which says by a few searches
 //! what the server says over any piece. A low mark's moved end is the lesser of what it has fallen
@@ -22,10 +24,11 @@
 
 mod answer;
 mod reach;
+mod refuted;
 mod ridge;
 mod search;
 mod side;
 mod table;
 
 pub use answer::{Answer, settle};
-pub use search::find_covers;
+pub use search::{Found, find_by_covers};

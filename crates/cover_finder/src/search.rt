@@ -1,13 +1,14 @@
-//! The search for a certificate by covers.
+//! The search by covers: for a certificate, or else a refutation.
 
 ghost use Rattle.std.specs.Prelude.{◌≡◌, ◌≤◌, length, map, All, IfOk, IsTrue};
 ghost use Rattle.cover_finder.specs.Common.{claim_data, certificate_data, conflicts_data, IsConflictTable, IsFew, IsLawful};
-ghost use Rattle.cover_finder.specs.Search.{Finds};
+ghost use Rattle.cover_finder.specs.Search.{Finds, IsCarriedIfFound};
 
-use crate::reach::longest_pieces;
+use crate::reach::{Search, Stop};
+use crate::refuted::find_refutation;
 use crate::table::{Table, tables_of};
 use arrayvec::ArrayVec;
-use certificate::MAX_PIECES;
+use certificate::{MAX_PIECES, Refutation};
 use claim_file::Claim;
 use cover_certificate::{Case, CoverCertificate, MAX_CASES, MAX_CONFLICTS};
 use cover_checker::{CoverVerdict, check_covers};
@@ -62,14 +63,19 @@ fn cases_of(
     let mut cases = Vec::new(alloc);
     let mut left = MAX_PIECES;
     for out in covers {
-        let Some(pieces) = longest_pieces(alloc, tables, claim, *out, left)? else {
+        let (out, more) = (*out, 0);
+        let search = Search {
+            tables,
+            claim,
+            out,
+            more,
+        };
+        let (pieces, Stop::End) = search.longest_pieces(alloc, left)? else {
             return Ok(None);
         };
         left = left.saturating_sub(pieces.len());
-        cases.push(Case {
-            groups: numbers_of(*out),
-            pieces,
-        })?;
+        let groups = numbers_of(out);
+        cases.push(Case { groups, pieces })?;
     }
     Ok(Some(cases))
 }
@@ -96,7 +102,7 @@ fn if_accepted<X: ToExchange>(
 ) -> Option<CoverCertificate>
     requires exchanges { All (IsLawful (length claim.now.servers.items))
         (map X.shown exchanges.now) }
-    ensures { Finds (claim_data claim.now) (map X.shown exchanges.now) result }
+    ensures { IsCarriedIfFound (claim_data claim.now) (map X.shown exchanges.now) result }
 {
     if !is_few(&certificate) {
         return None;
@@ -107,15 +113,52 @@ fn if_accepted<X: ToExchange>(
     }
 }
 
-/// Looks for a certificate by covers. It names all conflicts, its cases are the minimal covers, and
-/// each case's pieces are as long as the bound allows. What is found is accepted.
-///
-/// There are at most 1,000,000 exchanges. The one error is that no memory is left.
-pub fn find_covers<X: ToExchange>(
+/// What is found by covers.
+#[derive(Drop)]
+pub enum Found {
+    /// A certificate, which the checker accepts.
+    Certificate(CoverCertificate),
+    /// A refutation with drift, which stands.
+    Refutation(Refutation),
+    /// Neither.
+    Nothing,
+}
+
+/// The certificate that names all conflicts, and whose cases are these covers, if the checker
+/// accepts it.
+fn certificate_of<X: ToExchange>(
     alloc: Global,
     exchanges: &[X],
     claim: &Claim,
+    conflicts: &Conflicts,
+    covers: &[Groups],
+    tables: &[Table],
 ) -> Result<Option<CoverCertificate>, AllocError>
+    requires exchanges { All (IsLawful (length claim.now.servers.items))
+        (map X.shown exchanges.now) }
+    requires groups { (conflicts_data conflicts.now).groups ≡ length claim.now.groups.items }
+    requires table { IsConflictTable (claim_data claim.now) (map X.shown exchanges.now)
+        (conflicts_data conflicts.now).is_broken (conflicts_data conflicts.now).is_edge }
+    ensures { IfOk result
+        (IsCarriedIfFound (claim_data claim.now) (map X.shown exchanges.now)) }
+{
+    let Some(cases) = cases_of(alloc, tables, claim, covers)? else {
+        return Ok(None);
+    };
+    let conflicts = pairs_of(alloc, exchanges, claim, conflicts)?;
+    Ok(if_accepted(exchanges, claim, CoverCertificate { conflicts, cases }))
+}
+
+/// Looks for a certificate by covers. It names all conflicts, its cases are the minimal covers, and
+/// each case's pieces are as long as the bound allows. What is found is accepted. If there is none,
+/// a refutation is looked for where the pieces of a case stop; what is found stands.
+///
+/// There are at most 1,000,000 exchanges. The one error is that no memory is left.
+pub fn find_by_covers<X: ToExchange>(
+    alloc: Global,
+    exchanges: &[X],
+    claim: &Claim,
+) -> Result<Found, AllocError>
     requires exchanges { All (IsLawful (length claim.now.servers.items))
         (map X.shown exchanges.now) }
     requires few { length exchanges.now ≤ 1_000_000 }
@@ -123,10 +166,14 @@ pub fn find_covers<X: ToExchange>(
 {
     let conflicts = conflicts_of(alloc, exchanges, claim)?;
     let covers = conflicts.covers(claim.false_max);
-    let tables = tables_of(alloc, exchanges, claim)?;
-    let Some(cases) = cases_of(alloc, tables.as_slice(), claim, covers.as_slice())? else {
-        return Ok(None);
-    };
-    let conflicts = pairs_of(alloc, exchanges, claim, &conflicts)?;
-    Ok(if_accepted(exchanges, claim, CoverCertificate { conflicts, cases }))
+    let (covers, tables) = (covers.as_slice(), tables_of(alloc, exchanges, claim)?);
+    let tables = tables.as_slice();
+    let carried = certificate_of(alloc, exchanges, claim, &conflicts, covers, tables)?;
+    if let Some(certificate) = carried {
+        return Ok(Found::Certificate(certificate));
+    }
+    match find_refutation(alloc, exchanges, claim, &conflicts, covers, tables)? {
+        Some(refutation) => Ok(Found::Refutation(refutation)),
+        None => Ok(Found::Nothing),
+    }
 }

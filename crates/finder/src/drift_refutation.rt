@@ -23,15 +23,15 @@ struct Place {
     reading: u64,
 }
 
-/// A refutation with these groups taken for false, at one of these readings, if one is found. It
-/// takes no memory, and looks twice at each exchange for each reading and side.
+/// A refutation with drift with these groups taken for false, at one of these readings, if one is
+/// found. It takes no memory, and looks twice at each exchange for each reading and side.
 ///
 /// As many more groups may be false as the claim allows: those that let least be at the reading.
 /// Then the error is the greatest that the other groups let be, to one side of zero or the other.
 /// If it is beyond the bound and the refutation stands, that is the answer; where 64 bits don't
 /// hold the error, with the greatest that they hold. So none may be found though there is one, if
 /// it lies elsewhere, or if its error is next to the bound.
-pub(crate) fn find_with_cover<X: ToExchange>(
+pub fn find_with_cover<X: ToExchange>(
     exchanges: &[X],
     claim: &Claim,
     conflicts: &Conflicts,

@@ -8,7 +8,8 @@
 //! bound that holds over all of them. [`least_bound`] gives the least bound with which a
 //! certificate of fewest pieces is found: where a course of events fits, no certificate carries a
 //! lesser one. [`best_parts`] gives what each server says at one tick. [`find_refutation`] gives a
-//! refutation, which the checker accepts, unless it accepts none. [`settle`] gives a certificate of
+//! refutation, which the checker accepts, unless it accepts none, and [`find_with_cover`] one with
+//! drift at a reading. [`settle`] gives a certificate of
 //! fewest pieces, each as long as the bound allows, or a refutation with drift; or else the tick
 //! where such pieces stop, all conflicts if no course of events fits, or how few groups have a
 //! sample if no more do than may be false. [`laws`] has what holds of the definitions.
@@ -50,6 +51,7 @@ mod tick_parts;
 mod trial;
 
 pub use carried::{LeastCarried, least_bound, piece_holding};
+pub use drift_refutation::find_with_cover;
 pub use envelope::{Envelope, find_envelope_over};
 pub use fault::FindFault;
 pub use found::{Found, find, find_over};
