@@ -179,7 +179,8 @@ OPTIONS = [
            {"default": "given", "choices": ["given", "time", "earliest", "latest"]}),
     Option("events", "--split", "DIR", "write the log, the answer (answered.csv) and what `verify` takes (events.json) "
            "into DIR; the answer to standard output if it is left out"),
-    Option("events", "--page", "LENGTH", "a page too (index.html), with a timeline of a `second`, a `minute` or a `day`",
+    Option("events", "--page", "LENGTH",
+           "a page too (index.html), with a timeline of a `second`, a `minute` or a `day`",
            {"choices": ["second", "minute", "day"]}),
     Option("events", "--from", "TIME", "where the timeline begins; at the first event if it is left out",
            {"dest": "begin", "default": ""}),
@@ -412,7 +413,8 @@ def run_on_folders(given: argparse.Namespace, folders: list[str]) -> int:
         return write_page(folders, given, known, leaps, Verifier(program, known, leaps))
     from .fleet.signature import Signers
     from .verdict.second import find_second
-    verifier = Verifier(program, known, leaps, find_second() if given.second else None)
+    from .page.timeline import page_of
+    verifier = Verifier(program, known, leaps, find_second() if given.second else None, page_of)
     if (given.sample is None) != (given.seed is None):
         raise fault("--sample and --seed go together: who draws has to name what the days are drawn by", USAGE)
     if given.as_signed and given.signers is None:

@@ -13,7 +13,7 @@ from ..fault import NOT_SHOWN, fault, summed
 from ..folder.claim import Claim
 from ..folder.entry import DISPUTED, NOT_VERIFIED, REFUSED, LeapList, Refusal, read_record
 from ..folder.events import Asked, Events, Resting, read_events
-from ..folder.files import ANSWERED, AUDIT, CLAIM, EVENTS, LOG, Folder, absolute, sum_of
+from ..folder.files import ANSWERED, AUDIT, CLAIM, EVENTS, LOG, YEAR, Folder, absolute, sum_of
 from ..folder.jobs import T, Work, run_all
 from ..folder.log import ADDED, Event, Log, read_log
 from ..folder.program import Program
@@ -47,7 +47,7 @@ class EventsCall(NamedTuple):
     program: Program
     seconds: int
     jobs: int = 1
-    page: "Callable[[Answered, str], bytes] | None" = None
+    page: "PageOfEvents | None" = None
 
 
 class Row(NamedTuple):
@@ -131,13 +131,18 @@ def spans_of(machine: Machine) -> Spans:
     return Spans(spans)
 
 
+def latest_so_far(times: list[int]) -> list[int]:
+    """The greatest of some times up to each of them."""
+    return list(accumulate(times, lambda one, other: max(one, other)))
+
+
 class Where:
     """In which spans of a machine's folders a reading lies."""
 
     def __init__(self, spans: Spans):
         self.spans = sorted((first * SECOND, last * SECOND, name) for name, first, last in spans.folders)
         self.firsts = [first for first, _, _ in self.spans]
-        self.lasts = list(accumulate((last for _, last, _ in self.spans), max))
+        self.lasts = latest_so_far([last for _, last, _ in self.spans])
 
     def of(self, begin: int, end: int) -> list[str]:
         """The folders whose spans hold all of some nanoseconds."""
@@ -273,7 +278,15 @@ def stated(call: EventsCall, data: bytes, answer: Answered, made: str, place: st
     return Events(call.program.made, made, call.asked, sums[LOG], sums[ANSWERED], sums.get(INDEX), machines), files
 
 
+PageOfEvents = Callable[[Answered, str], bytes]
+"""Makes a page of an answer, as it was put together at a time."""
+
 # ---- verified
+
+
+def is_of_events(folder: Folder) -> bool:
+    """Whether a folder holds an answer to a log, and no audit or year."""
+    return folder.has(EVENTS) and not folder.has(AUDIT) and not folder.has(YEAR)
 
 
 def machine_at(folder: Folder, resting: Resting) -> Machine:

@@ -1,5 +1,5 @@
-"""A log of events, as CSV: of each row the machine, and what its clock showed. All other bytes of a row are kept as they
-are, so that it comes back the same.
+"""A log of events, as CSV: of each row the machine, and what its clock showed. All its bytes are kept, so that it comes
+back the same.
 """
 import csv
 import io
@@ -154,7 +154,7 @@ def read_log(data: bytes, machine: str, time: str) -> Log:
     text = data.decode("utf-8", "surrogateescape")
     mark = MARK if text.startswith(MARK) else ""
     rows = rows_of(text.removeprefix(MARK))
-    number, row, names = next(rows, (1, "", []))
+    number, row, names = next(rows, (1, "", list[str]()))
     if not names:
         raise fault("the log's first line names no columns")
     for name in ADDED:
@@ -176,4 +176,3 @@ def other_fields(log: Log, event: Event) -> list[str]:
     """What stands in the other columns of an event."""
     fields = next(csv.reader(io.StringIO(event.row, newline="")))
     return [field for number, field in enumerate(fields) if number not in log.columns]
-

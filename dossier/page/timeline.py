@@ -1,20 +1,19 @@
-"""A page of a log of events: a timeline of a second, a minute or a day, on which bars show between which times each was;
-those that overlap can't be told apart, and a line stands where all above it is proved to be before all below it.
+"""A page of a log of events: a timeline of a second, a minute or a day, on which bars show between which times each
+was. A line stands where all above it is proved to be before all below it.
 """
 import os
 from collections.abc import Iterator
-from itertools import accumulate
 from typing import NamedTuple
 
-from ..fault import USAGE, Fault, fault, summed
+from ..fault import USAGE, Fault, fault
 from ..fleet.days import days_among, is_day
-from ..fleet.events import INDEX, Answered, EventsCall, Row, Working, csv_of, machines_in, notes_of, stated
-from ..folder.events import Asked
+from ..fleet.events import (Answered, EventsCall, Row, Working, csv_of, latest_so_far, machines_in, notes_of,
+                            stated)
 from ..folder.files import EVENTS, data_named
 from ..folder.log import MOST_OF_A_LOG, other_fields, read_log, reading_of
 from ..schema import json_text
 from ..text import note
-from ..units import DAY, SECOND, TICKS, civil, earliest, latest, now, thousandths, ceil_div
+from ..units import DAY, SECOND, TICKS, ceil_div, civil, earliest, latest, now, thousandths
 from .figure import WIDTH, XMLNS, element, path
 from .names import Split
 from .templates import page, put, templates
@@ -68,8 +67,9 @@ def shown(answer: Answered, begin: int) -> list[Row]:
 
 def cuts(rows: list[Row]) -> list[bool]:
     """Of each row whether all above are proved to be before it and all below it."""
-    lasts = list(accumulate((row.time[1] for row in rows if row.time), max))
-    return [False, *(bool(row.time) and last < row.time[0] for last, row in zip(lasts, rows[1:]) if row.time)]
+    times = [row.time for row in rows if row.time]
+    lasts = latest_so_far([time[1] for time in times])
+    return [False, *(last < time[0] for last, time in zip(lasts, times[1:]))]
 
 
 def unclear(rows: list[Row]) -> list[list[int]]:
