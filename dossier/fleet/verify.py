@@ -219,6 +219,8 @@ def verify_all(folders: list[str], verifier: Verifier, signers: Signers, seconds
             if isinstance(refusal := plan.beside[path], Refusal):
                 raise Fault(refusal.line, refusal.status)
             return Compared(0, ["(a year's days are in it)"], is_same=True)
+        if path in plan.above and is_of_days(path):
+            return Compared(0, ["(folders of an answer to a log are in it)"], is_same=True)
         is_signed = files.absolute(path) in named or (how.as_signed and path not in plan.stated)
         who = signers if is_signed else Signers(None)
         return verify(verifier, signers, who, path, named, how._replace(answers=how.answers and path not in drawn))

@@ -91,7 +91,7 @@ def why_none(text: str) -> str:
     said = READING.fullmatch(text)
     if "," in text:
         return f"`{shown}` has a comma, and a point stands before the digits of a second"
-    if ":60" in text:
+    if re.search(r":\d\d:60", text):
         return f"`{shown}` is a second 60: of a leap second nothing can be said"
     if said and bool(said[1]) == bool(said[7]):
         return f"`{shown}` is no time from 1970-01-01T00:00:00Z to 2106-02-07T06:28:14Z"

@@ -1,5 +1,5 @@
-"""Pairs of histories with events of known true time, and what `ntpaudit-dossier events` says of a log of these: each time
-has to lie between the two that are told, and what is told to be first has to be.
+"""Pairs of histories with events of known true time, and what `ntpaudit-dossier events` says of a log of these: each
+time has to lie between the two that are told, and what is told to be first has to be.
 """
 import csv
 import io
