@@ -215,14 +215,16 @@ def test_verified(place: Path) -> None:
           last=(lines[-1], f"{out}: verified: its times follow from the log and from its machines' folders"),
           days=(sorted(lines[:-1]), [f"{folder}/2001-09-09: verified: yes" for folder in folders]),
           whole=(dossier("verify", out, place / "fleet")[0], 0))
-    check("one whose folders aren't named", run=(dossier("verify", out, folders[0])[0], 2))
+    status, said, _ = dossier("verify", out, folders[0])
+    check("one whose folders aren't named", status=(status > 1, True), told=(
+        f"{folders[1]}/2001-09-09 is in no folder that is named" in said.decode(), True))
     record = json.loads((out / "events.json").read_text())
     for name, old, new, words in (
             ("events.csv", b"web-9", b"web-8", "events.csv isn't the file that events.json names"),
             ("answered.csv", b"767Z", b"768Z", "answered.csv isn't what the log and the folders come to (line 2)"),
             ("index.html", b"Within ms", b"within ms", "index.html isn't what"),
             ("events.json", b'"latest"', b'"given"', "answered.csv isn't what"),
-            ("events.json", b'"machine": "', b'"machine": "x', "which has another name"),
+            ("events.json", b'web-1",', b'web-3",', "which has another name"),
             ("events.json", record["machines"][0]["days"]["2001-09-09"].encode(), b"0" * 64, "events.json: machines 0"),
             ("events.json", b'"made": "20', b'"made": "90', "events.json is dated in the future"),
             ("events.json", b'"log"', b'"lag"', "events.json isn't one that is taken")):
@@ -230,14 +232,14 @@ def test_verified(place: Path) -> None:
         (out / name).write_bytes(kept.replace(old, new, 1))
         status, said, _ = dossier("verify", out, *folders)
         check(f"{name} with {new[:20]!r}", changed=((out / name).read_bytes() == kept, False),
-              status=(status, lambda status: status in (1, 2)), told=(words in said.decode(), True))
+              status=(status, lambda status: status in (1, 2, 4)), told=(words in said.decode(), True))
         (out / name).write_bytes(kept)
+    (out / "index.html").unlink()
+    check("a page that is gone", told=(b"index.html isn't there" in dossier("verify", out, *folders)[1], True))
     changed = folders[0] / "2001-09-09" / "f.pcap"
     changed.write_bytes(changed.read_bytes() + b"\0")
     status, said, _ = dossier("verify", out, *folders)
     check("a folder that was changed", status=(status, 1), told=(b"2001-09-09: f.pcap isn't the file" in said, True))
-    (out / "index.html").unlink()
-    check("a page that is gone", told=(b"index.html isn't there" in dossier("verify", out, *folders)[1], True))
 
 
 def test_page(place: Path) -> None:
