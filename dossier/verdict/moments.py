@@ -1,9 +1,8 @@
 """When it was that a clock showed readings, by the audit of a folder: between which true times, as `at --times` says.
 
-It holds in every course of events that fits. So none is given where no course does, where what the folder has speaks
-against a premise, and, but on a day that is shown, where no server was heard for long. If the clock was stepped, only a
-reading that it can have shown between two moves alone has one, and by an audit of a claim of that time: this asks which
-stretch of the capture can have shown it.
+It holds in every course of events that fits. So none is given where no course does, and where what the folder has
+speaks against a premise. If the clock was stepped, only a reading that it can have shown between two moves alone has
+one, and by an audit of a claim of that time: this asks which stretch of the capture can have shown it.
 """
 from collections.abc import Iterator
 from typing import NamedTuple
@@ -27,7 +26,6 @@ OF_THE_BOUND = {"offset"}
 """What takes a yes away and speaks against no premise."""
 NO_SPAN = "in no span of its folder's audit"
 AGAINST_IT = "{} and a premise is spoken against"
-UNHEARD = "{} and no server was heard then"
 UNBOUNDED = "{} and nothing is known then"
 NEAR_A_MOVE = "{} and the clock may have been stepped then"
 BETWEEN = "{} as a whole and {} between {} and {}"
@@ -55,11 +53,6 @@ def is_spoken_against(entry: Entry) -> bool:
 def has_course(entry: Entry) -> bool:
     """Whether a course of events fits, and nothing speaks against the premises."""
     return entry.verdict in (YES, REFUTED, OPEN) and not is_spoken_against(entry)
-
-
-def is_heard(entry: Entry, reading: Reading) -> bool:
-    """Whether servers were heard about then, or the error is shown to be within the bound all the same."""
-    return entry.verdict == YES or any(is_in(reading, part.from_, part.to) for part in entry.parts)
 
 
 def windows(entry: Entry) -> Iterator[tuple[int, int]]:
@@ -94,18 +87,11 @@ class Moments:
     def of_entry(self, entry: Entry, readings: list[Reading]) -> list[Moment]:
         """What an entry says of readings in its span."""
         if has_course(entry):
-            return self.heard(entry, readings, entry.verdict)
+            return self.at(entry.claim, self.capture_of(entry), readings, entry.verdict)
         if entry.verdict == NOTHING_FITS and not is_spoken_against(entry):
             return self.between(entry, readings)
         words = AGAINST_IT.format(entry.verdict) if entry.verdict in (REFUTED, OPEN, NOTHING_FITS) else entry.verdict
         return [Moment(words)] * len(readings)
-
-    def heard(self, entry: Entry, readings: list[Reading], words: str, capture: str = "") -> list[Moment]:
-        """The same where a course fits."""
-        heard = [reading for reading in readings if is_heard(entry, reading)]
-        times = iter(self.at(entry.claim, capture or self.capture_of(entry), heard) if heard else ())
-        return [next(times).in_words(words) if is_heard(entry, reading) else Moment(UNHEARD.format(words))
-                for reading in readings]
 
     def between(self, entry: Entry, readings: list[Reading]) -> list[Moment]:
         """The same where none does, but the clock's moves may be known: by an audit of the time between two."""
@@ -116,7 +102,7 @@ class Moments:
                 own, capture = self.audited(replace(entry.claim, from_=civil(first), to=civil(last)))
                 if has_course(own):
                     words = BETWEEN.format(entry.verdict, own.verdict, own.claim.from_, own.claim.to)
-                    for k, moment in zip(inside, self.heard(own, [readings[k] for k in inside], words, capture)):
+                    for k, moment in zip(inside, self.at(own.claim, capture, [readings[k] for k in inside], words)):
                         found[k] = moment
         return found
 
@@ -144,27 +130,16 @@ class Moments:
             raise fault(f"{name} was changed since the audit")
         return path
 
-    def at(self, claim: Claim, capture: str, readings: list[Reading]) -> Iterator["Answer"]:
-        """What the program says of readings: one call for all of them."""
-        lines, number = list[str](), self.number
+    def at(self, claim: Claim, capture: str, readings: list[Reading], words: str) -> list[Moment]:
+        """What the program says of readings, in one call for all of them, with words of one's own."""
+        lines = list[str]()
         keep(TIMES, "".join(f"{reading.text}\n" for reading in readings).encode())
         keep(MOMENTS, claim.text)
         self.program.blocks(lambda block: lines.extend(block.decode("ascii").splitlines()), "at", MOMENTS, capture,
                             "--times", TIMES)
-        answers = [Answer(*read_moment(line), number) for line in lines]
-        if [answer.text for answer in answers] != [reading.text for reading in readings]:
+        answers = list(map(read_moment, lines))
+        if [text for text, _ in answers] != [reading.text for reading in readings]:
             raise fault("the program didn't answer as it was asked", MISSING)
         self.number += 1
-        return iter(answers)
-
-
-class Answer(NamedTuple):
-    """What the program says of a reading: its text, the ticks, if there are such, and the number of the call."""
-
-    text: str
-    ticks: tuple[int, int] | None
-    number: int
-
-    def in_words(self, words: str) -> Moment:
-        """The same with words, to which is added if nothing is known."""
-        return Moment(words, (*self.ticks, self.number)) if self.ticks else Moment(UNBOUNDED.format(words))
+        return [Moment(words, (*ticks, self.number)) if ticks else Moment(UNBOUNDED.format(words))
+                for _, ticks in answers]

@@ -132,9 +132,9 @@ def test_without(place: Path) -> None:
 
 
 def stepped(place: Path) -> Path:
-    """A day on which the clock is set ahead by a minute at noon."""
+    """A day on which the clock is set back by a minute just before noon."""
     words = [f"{server}:{low}..{low + 2000}@{FIRST + 64 * k}" for k in range(1350) for server in (1, 2, 3, 4)
-             for low in [-1000 if k < 675 else 60 * 2**32 - 1000]]
+             for low in [60 * 2**32 - 1000 if k < 675 else -1000]]
     span = {"from": "2001-09-09T00:00:00Z", "to": "2001-09-10T00:00:00Z", "drift_ppb": 100_000, "bound_ns": 10**8}
     return folder_of(place / "stepped", "2001-09-09", capture_of(place / "stepped.pcap", *words), **{**CLAIM, **span})
 
@@ -150,16 +150,16 @@ def test_verdicts(place: Path) -> None:
     check("days without a list of leap seconds", rows=(rows_of(dossier(
         "events", log, place / "refuted", env=none)[1])[0], ["", "", "refuted and a premise is spoken against"]))
     dossier("audit", folder := stepped(place))
-    times = ["2001-09-09T06:00:00Z", "2001-09-09T11:59:58Z", "2001-09-09T12:00:30Z", "2001-09-09T18:00:00Z"]
+    times = ["2001-09-09T06:00:00Z", "2001-09-09T11:59:00Z", "2001-09-09T12:00:30Z", "2001-09-09T18:00:00Z"]
     log = log_of(place, "machine,time\n" + "".join(f"stepped,{time}\n" for time in times))
     out = dossier("events", log, folder)[1]
-    first, at, between, last = rows_of(out)
+    first, *_, last = rows_of(out)
     check("a day with a step", words=([words.partition(" between")[0] for words in words_of(out)], [
-        "nothing fits as a whole and yes", *["nothing fits and the clock may have been stepped then"] * 2,
-        "nothing fits as a whole and refuted"]), none=((at[:2], between[:2]), (["", ""], ["", ""])),
-        before=(first[:2], lambda ends: ends[0] < times[0] < ends[1] < "2001-09-09T06:00:02Z"),
-        behind=(last[:2], lambda ends: "2001-09-09T17:58:58Z" < ends[0] < "2001-09-09T17:59:00Z" < ends[1] <
-                "2001-09-09T17:59:02Z"))
+        "nothing fits as a whole and refuted", "nothing fits and the clock may have been stepped then",
+        *["nothing fits as a whole and yes"] * 2]), none=(rows_of(out)[1][:2], ["", ""]),
+        before=(first[:2], lambda ends: "2001-09-09T05:58:58Z" < ends[0] < "2001-09-09T05:59:00Z" < ends[1] <
+                "2001-09-09T05:59:02Z"),
+        behind=(last[:2], lambda ends: "2001-09-09T17:59:58Z" < ends[0] < times[3] < ends[1] < "2001-09-09T18:00:02Z"))
 
 
 def test_audits(place: Path) -> None:
