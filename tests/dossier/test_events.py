@@ -150,7 +150,7 @@ def test_verdicts(place: Path) -> None:
     check("days without a list of leap seconds", rows=(rows_of(dossier(
         "events", log, place / "refuted", env=none)[1])[0], ["", "", "refuted and a premise is spoken against"]))
     dossier("audit", folder := stepped(place))
-    times = ["2001-09-09T06:00:00Z", "2001-09-09T11:59:00Z", "2001-09-09T12:00:30Z", "2001-09-09T18:00:00Z"]
+    times = ["2001-09-09T06:00:00Z", "2001-09-09T11:59:00Z", "2001-09-09T12:05:00Z", "2001-09-09T18:00:00Z"]
     log = log_of(place, "machine,time\n" + "".join(f"stepped,{time}\n" for time in times))
     out = dossier("events", log, folder)[1]
     first, *_, last = rows_of(out)
