@@ -93,10 +93,10 @@ def test_refused(place: Path) -> None:
         check(f"a log with {name}", run=((status, out), (2, b"")), told=(words in err.decode(), True),
               line=(err.count(b"\n"), 1), written=((place / "out").exists(), False))
     log = log_of(place, f"machine,time\nweb-1,{NOON}Z\n")
-    for name, options, words in (("a page alone", ["--page", "day"], b"--page takes --split"),
-                                 ("a begin that is none", ["--from", "noon"], b"--from names a time")):
+    for name, options, said in (("a page alone", ["--page", "day"], b"--page takes --split"),
+                                ("a begin that is none", ["--from", "noon"], b"--from names a time")):
         status, out, err = dossier("events", *options, log, *folders)
-        check(f"events with {name}", run=((status, out), (5, b"")), told=(words in err, True))
+        check(f"events with {name}", run=((status, out), (5, b"")), told=(said in err, True))
     check("no log", status=(dossier("events", place / "none", *folders)[0], 4))
 
 
@@ -216,7 +216,7 @@ def test_verified(place: Path) -> None:
           days=(sorted(lines[:-1]), [f"{folder}/2001-09-09: verified: yes" for folder in folders]),
           whole=(dossier("verify", out, place / "fleet")[0], 0))
     status, said, _ = dossier("verify", out, folders[0])
-    check("one whose folders aren't named", status=(status > 1, True), told=(
+    check("one whose folders aren't named", status=(status in (2, 4), True), told=(
         f"{folders[1]}/2001-09-09 is in no folder that is named" in said.decode(), True))
     record = json.loads((out / "events.json").read_text())
     for name, old, new, words in (
