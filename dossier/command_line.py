@@ -117,6 +117,7 @@ COMMANDS = {
     "sign": "sign audits with an ssh key",
     "keep": "keep audits for years: pack captures, and take away what was made of them",
     "year": "make a calendar of a year of machines, with statements to be signed",
+    "events": "say when the events of a log were, by the audits of its machines",
     "day": "make the folders of days from what a recorder left",
     "now": "say of the last minutes of a recording whether the clock is right",
     "record": "record an interface by tcpdump, which is watched, with evidence of its stamps",
@@ -167,6 +168,24 @@ OPTIONS = [
     Option("year", "-o --output", "FILE", OUTPUT, among="form"),
     Option("year", "--title", "TEXT", "the page's heading"),
     Option("year", "--jobs", (1, 4096), "machines side by side; as many as processors if it is left out", JOBS),
+    Option("events", "log", "EVENTS", "a log: CSV whose first line names columns"),
+    Option("events", "folders", "FOLDER", "folders of days, or of machines with such in them", {"nargs": "+"}),
+    Option("events", "--machine", "COLUMN", "the column that has the machine, called as its folder; `machine` if it is "
+           "left out", {"default": "machine"}),
+    Option("events", "--time", "COLUMN", "the column that has what the machine's clock showed; `time` if it is left "
+           "out", {"default": "time"}),
+    Option("events", "--sort", "ORDER", "`given`, as the log has it; `time`, by what clocks showed; `earliest` or "
+           "`latest`; given if it is left out",
+           {"default": "given", "choices": ["given", "time", "earliest", "latest"]}),
+    Option("events", "--split", "DIR", "write the log, the answer (answered.csv) and what `verify` takes (events.json) "
+           "into DIR; the answer to standard output if it is left out"),
+    Option("events", "--page", "LENGTH",
+           "a page too (index.html), with a timeline of a `second`, a `minute` or a `day`",
+           {"choices": ["second", "minute", "day"]}),
+    Option("events", "--from", "TIME", "where the timeline begins; at the first event if it is left out",
+           {"dest": "begin", "default": ""}),
+    Option("events", "--title", "TEXT", "the page's heading", {"default": "Events"}),
+    Option("events", "--jobs", (1, 4096), "folders side by side; as many as processors if it is left out", JOBS),
     Option("sign", "--key", "FILE", "a private key, or the public one of a key that an agent holds", REQUIRED),
     Option("page verify sign year", "--signers", "FILE",
            "who may sign, as ssh-keygen's file of allowed signers has it: signatures are checked, and a year counts "
@@ -179,7 +198,7 @@ OPTIONS = [
            "again and again, each 10 seconds if no number is given; on a terminal with a band of the last hour",
            {"metavar": "SECONDS", "nargs": "?", "const": 10}),
     Option("now", "--no-color", "", "no colours on a terminal"),
-    Option("audit page verify sign year now", "--leap-seconds", "FILE",
+    Option("audit page verify sign year now events", "--leap-seconds", "FILE",
            "the list of leap seconds; the system's if it is left out"),
     Option("verify", "--second", "", "have the second program, ntpaudit-recheck, judge each answer too"),
     Option("verify", "--answers", "",
@@ -194,10 +213,10 @@ OPTIONS = [
            "write what came of it to FILE too, for Prometheus, whole or not at all"),
     Option("keep", "--years", (1, 100), "take away folders whose span ended so many years ago; none if it is left out"),
     Option("keep", "--force", "", "take away as many folders as there are, whatever the clock did meanwhile"),
-    Option(f"{ON_FOLDERS} year", "--state", "DIR",
+    Option(f"{ON_FOLDERS} year events", "--state", "DIR",
            "where it is recorded which audits were made or verified here; else below $XDG_STATE_HOME, or "
            "~/.local/state"),
-    Option(f"{ON_FOLDERS} year", "--limit", (1, 1_000_000),
+    Option(f"{ON_FOLDERS} year events", "--limit", (1, 1_000_000),
            f"seconds for each folder, which is refused after them; {SECONDS} if it is left out", {"default": SECONDS}),
     Option("day", "--from", "DIR", "where the recorder's files are", REQUIRED | {"dest": "source"}),
     Option("day", "--to", "DIR", "where the days' folders are, with the claim of any day, and evidence",
@@ -313,6 +332,8 @@ def run(given: argparse.Namespace) -> int:
         print(filter_of(*ends_of(given.claim, [])))
         return 0
     program = find_program()
+    if given.command == "events":
+        return run_events(given, [tidy(folder) for folder in given.folders], program)
     if given.command == "now":
         return run_now(given, program)
     if given.version:
@@ -351,6 +372,18 @@ def run_year(given: argparse.Namespace, folders: list[str]) -> int:
     return write_year(folders, wanted, pages, given.limit, given.jobs)
 
 
+def run_events(given: argparse.Namespace, folders: list[str], program: Program) -> int:
+    """`events`: when the events of a log were."""
+    from .fleet.events import EventsCall
+    from .folder.events import Asked
+    from .page.timeline import page_of, write_events
+    from .premise.leap import read_list
+    asked = Asked(given.machine, given.time, given.sort, given.page, given.begin, given.title)
+    call = EventsCall(asked, Known(state_of(given.state), writes=False), read_list(given.leap_seconds), program,
+                      given.limit, given.jobs, page_of)
+    return write_events(given.log, folders, call, given.split)
+
+
 def run_on_folders(given: argparse.Namespace, folders: list[str]) -> int:
     """The commands on folders: each by its module of fleet, or by page."""
     if given.command == "page" and given.split and given.output:
@@ -380,7 +413,8 @@ def run_on_folders(given: argparse.Namespace, folders: list[str]) -> int:
         return write_page(folders, given, known, leaps, Verifier(program, known, leaps))
     from .fleet.signature import Signers
     from .verdict.second import find_second
-    verifier = Verifier(program, known, leaps, find_second() if given.second else None)
+    from .page.timeline import page_of
+    verifier = Verifier(program, known, leaps, find_second() if given.second else None, page_of)
     if (given.sample is None) != (given.seed is None):
         raise fault("--sample and --seed go together: who draws has to name what the days are drawn by", USAGE)
     if given.as_signed and given.signers is None:

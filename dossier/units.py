@@ -70,6 +70,22 @@ def civil(seconds: int) -> str:
     return (EPOCH + timedelta(seconds=seconds)).strftime(FORM)
 
 
+def civil_ns(nanoseconds: int) -> str:
+    """Unix nanoseconds in the same form, with nine digits behind the point."""
+    second, rest = divmod(nanoseconds, SECOND)
+    return f"{civil(second)[:-1]}.{rest:09}Z"
+
+
+def earliest(ticks: int) -> str:
+    """Unix ticks as a time, rounded down to the nanosecond."""
+    return civil_ns(ticks * SECOND // TICKS)
+
+
+def latest(ticks: int) -> str:
+    """Unix ticks as a time, rounded up to the nanosecond."""
+    return civil_ns(ceil_div(ticks * SECOND, TICKS))
+
+
 def now(more: int = 0) -> str:
     """The time, or one that comes so many seconds later."""
     return civil(int(time.time()) + more)

@@ -7,14 +7,17 @@ import json
 import os
 from collections import Counter
 from collections.abc import Collection, Iterator
+from contextlib import suppress
 from hashlib import sha256
 from zlib import compress, decompress
 from typing import NamedTuple
 
 from ..fault import Fault
 from ..folder.claim import Claim
-from ..folder.entry import DISPUTED, NOT_VERIFIED, REFUSED, WORST_FIRST, Entry, LeapList, Made, Record, read_record
+from ..folder.entry import (DISPUTED, NOT_VERIFIED, REFUSED, WORST_FIRST, Entry, LeapList, Made, Record, Refusal,
+                            read_record)
 from ..folder.files import AUDIT, CLAIM, SIGNATURE, Folder, absolute
+from ..folder.jobs import run_one
 from ..folder.registry import Known
 from ..folder.result import MISSING, MOST_FOLDERS, NOT_COUNTED, Told, Year
 from ..folder.table import Table
@@ -74,6 +77,19 @@ def machines_of(folders: list[str], others: Collection[str] = ()) -> dict[str, l
         else:
             machines.setdefault(folder, [])
     return machines
+
+
+def days_among(folders: list[str], seconds: int) -> list[str]:
+    """The folders that have an audit of their own, so that they are a day's and no machine's, whatever they are
+    called."""
+    def work(*_: object) -> list[str]:
+        paths = list[str]()
+        for path in folders:
+            with suppress(Fault), Folder(path) as folder:
+                paths += [path] * folder.has(AUDIT)
+        return paths
+    result = run_one("", work, list[str], seconds) if folders else []
+    return [] if isinstance(result, Refusal) else result
 
 
 def year_of(wanted: YearCall, machine: str, names: list[str]) -> Year:

@@ -11,7 +11,9 @@ from ..folder.entry import Refusal
 from ..folder.files import Folder
 from ..folder.jobs import run_all, run_one
 from ..folder.older import read_any
+from ..folder.result import Below
 from .days import is_day
+from .events import folders_of, is_of_events
 from .signature import signed_in
 from .statements import days_of, folders_above
 
@@ -21,22 +23,25 @@ MOST_DAYS_AT_ONCE = 1_000_000
 
 class Plan(NamedTuple):
     """The folders that are looked at, in order; those of days on which a year's statements rest, each with its name for
-    good; and of folders with a year's machines all days in them."""
+    good; of folders with a year's machines all days in them; and those in which are folders of an answer to a log."""
 
     every: list[str]
     stated: dict[str, str]
     beside: dict[str, list[str] | Refusal]
+    above: list[str] = []
 
 
 def planned(folders: list[str], named: set[str], seconds: int) -> Plan:
     """Which folders are verified, for what was named."""
-    stated, below = dict[str, str](), dict[str, list[str]]()
+    stated, below, of_events, above = dict[str, str](), dict[str, list[str]](), list[str](), set[str]()
     for folder in folders:
-        below[folder] = []
-        for line in days_below(folder, named, seconds):
-            name, day = line.split(" ", 1)
-            stated[day] = name
-            below[folder].append(day)
+        found = days_below(folder, named, seconds)
+        below[folder] = [day for day in found.days if not found.is_of_events or files.absolute(day) not in named]
+        if found.is_of_events:
+            of_events.append(folder)
+            above.update(path for day in found.days for path in folders_above(day) if path != files.absolute(day))
+        else:
+            stated.update(found.days)
     machines = dict[str, list[str]]()
     for machine in {os.path.dirname(day) for day in stated}:
         for path in named & folders_above(machine):
@@ -50,7 +55,9 @@ def planned(folders: list[str], named: set[str], seconds: int) -> Plan:
             below[folder] += others
             counted.update(map(files.absolute, others))
             result.clear()
-    return Plan([each for folder in folders for each in (*below[folder], folder)], stated, beside)
+    every = [each for folder in folders for each in (*below[folder], folder) if each not in of_events]
+    every = list(dict.fromkeys(every)) + of_events if of_events else every
+    return Plan(every, stated, beside, [folder for folder in folders if files.absolute(folder) in above])
 
 
 def names_of(plan: Plan, seconds: int) -> dict[str, str]:
@@ -63,15 +70,17 @@ def names_of(plan: Plan, seconds: int) -> dict[str, str]:
                           if isinstance(name, str) and name}
 
 
-def days_below(path: str, named: set[str], seconds: int) -> list[str]:
-    """The names for good of the days on which a year's statements rest, if there are such in a folder, each with its
-    folder, if that is there."""
-    def work(path: str, _: int) -> list[str]:
+def days_below(path: str, named: set[str], seconds: int) -> Below:
+    """The days on which a year's statements rest, or an answer to a log of events, if there are such in a folder, as
+    far as they are there."""
+    def work(path: str, _: int) -> Below:
         with Folder(path) as folder:
+            if is_of_events(folder):
+                return Below({day: name for day, name in folders_of(folder, named).items() if is_there(day)}, True)
             days = days_of(folder, named) if signed_in(folder) == files.YEAR else {}
-            return [f"{name} {day}" for day, name in days.items() if is_there(day)]
-    result = run_one(path, work, list[str], seconds)
-    return [] if isinstance(result, Refusal) else result
+            return Below({day: name for day, name in days.items() if is_there(day)})
+    result = run_one(path, work, Below, seconds)
+    return Below({}) if isinstance(result, Refusal) else result
 
 
 def days_beside(path: str, machines: list[str], seconds: int) -> list[str] | Refusal:

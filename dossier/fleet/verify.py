@@ -7,8 +7,9 @@ from .. import VERSION
 from ..fault import DEVICE, NOT_SHOWN, Fault, fault, summed
 from ..folder import files
 from ..folder.entry import DISPUTED, OPEN, UNSUPPORTED, YES, Entry, LeapList, Record, Refusal, is_made_anew, read_record
+from ..folder.events import Asked
 from ..folder.files import Folder, own, sum_of
-from ..folder.jobs import run_all
+from ..folder.jobs import SECONDS, run_all
 from ..folder.older import differs as differs_from_older, form_of, read_any
 from ..folder.program import Program
 from ..folder.registry import Known
@@ -23,6 +24,7 @@ from ..verdict.second import Second
 from ..verdict.sentences import reason
 from .audit import change_of, counted_once
 from .drawing import drawn_of, likelihoods
+from .events import EventsCall, PageOfEvents, difference as difference_of_events, folders_of, is_of_events
 from .judging import ONLY_MADE, Judging, Unjudgeable
 from .planning import is_of_days, names_of, planned
 from .signature import GOOD, NONE, UNSEEN, Signers, in_words, signed_in
@@ -63,8 +65,9 @@ class How(NamedTuple):
 class Verifier:
     """Verifies folders, and records those that are. The second program judges their answers too, if there is one."""
 
-    def __init__(self, program: Program, known: Known, leaps: LeapList, second: Second | None = None):
-        self.program, self.known, self.leaps, self.second = program, known, leaps, second
+    def __init__(self, program: Program, known: Known, leaps: LeapList, second: Second | None = None,
+                 page: PageOfEvents | None = None):
+        self.program, self.known, self.leaps, self.second, self.page = program, known, leaps, second, page
 
     def verify(self, folder: Folder) -> Verified:
         """What the inputs of a folder come to, by one's own list of leap seconds, and how that differs from what stands
@@ -216,6 +219,8 @@ def verify_all(folders: list[str], verifier: Verifier, signers: Signers, seconds
             if isinstance(refusal := plan.beside[path], Refusal):
                 raise Fault(refusal.line, refusal.status)
             return Compared(0, ["(a year's days are in it)"], is_same=True)
+        if path in plan.above and is_of_days(path):
+            return Compared(0, ["(folders of an answer to a log are in it)"], is_same=True)
         is_signed = files.absolute(path) in named or (how.as_signed and path not in plan.stated)
         who = signers if is_signed else Signers(None)
         return verify(verifier, signers, who, path, named, how._replace(answers=how.answers and path not in drawn))
@@ -284,6 +289,8 @@ def verify(verifier: Verifier, signers: Signers, who: Signers, path: str, named:
     notes: list[str] = []
     try:
         with Folder(path) as folder:
+            if is_of_events(folder):
+                return answer_compared(verifier, folder, named)
             signature = who.signature_of(folder)
             if signature.state in (GOOD, UNSEEN):
                 notes.append(in_words(signature))
@@ -315,6 +322,18 @@ def verify(verifier: Verifier, signers: Signers, who: Signers, path: str, named:
     status, captures = (made.status, sorted(made.recordings)) if made else (NOT_SHOWN, [])
     return Compared(NOT_SHOWN if findings else status, lines, not findings, list(verdicts),
                     [entry.claim for entry in made.entries] if made else [], captures, sum="" if findings else data)
+
+
+def answer_compared(verifier: Verifier, folder: Folder, named: set[str]) -> Compared:
+    """What verifying an answer to a log of events comes to: it is made again, by what is known now of its folders."""
+    verifier.known.renew()
+    folders_of(folder, named)
+    call = EventsCall(Asked(), verifier.known, verifier.leaps, verifier.program, SECONDS, page=verifier.page)
+    differs = difference_of_events(folder, call)
+    return Compared(NOT_SHOWN if differs else 0, [differs or EVENTS_SAME], not differs)
+
+
+EVENTS_SAME = "verified: its times follow from the log and from its machines' folders"
 
 
 def year_words(known: Known) -> str:

@@ -15,6 +15,17 @@ def read_hull(words: list[str]) -> Hull:
     return "unbounded" if words[0] == "unbounded" else (int(words[0]), int(words[1]))
 
 
+def read_moment(line: str) -> tuple[str, tuple[int, int] | None]:
+    """A line of `at --times`: the reading as it is written, and the Unix ticks between which true time lay then, if the
+    hull has ends."""
+    words = line.split(" ")
+    if len(words) < 8:
+        return words[1], None
+    low, high, earliest, latest = (int(words[at]) for at in (3, 4, 6, 7))
+    more = in_era((earliest + high) // TICKS, low, high)[0] - low
+    return words[1], (earliest - more, latest - more)
+
+
 def read_counts(line: str) -> dict[str, int]:
     """The counts line: a name and a number, one after the other."""
     words = line.split()

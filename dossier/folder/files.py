@@ -26,6 +26,8 @@ CLAIM_OF_DRIFT = "more-drift.claim.json"
 AUDIT = "audit.json"
 SIGNATURE = f"{AUDIT}.sig"
 YEAR = "year.json"
+EVENTS, LOG, ANSWERED = "events.json", "events.csv", "answered.csv"
+"""On what an answer to a log of events rests, the log as it was given, and the same with the answer."""
 JOINED = "joined.pcap"
 LEFT = frozenset({CERTIFICATE, REPORT, ENVELOPE, PARTS, REFUTATION, CLAIM_OF_0, CLAIM_OF_DRIFT, JOINED})
 """What an audit leaves of each claim."""

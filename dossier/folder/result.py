@@ -3,7 +3,7 @@ from collections import Counter
 from typing import Annotated
 
 from ..records import dataclass, field
-from ..schema import Address, Count, Nanoseconds, Sum, Text, Ticks, length, matching
+from ..schema import Address, Count, Nanoseconds, Seconds, Sum, Text, Ticks, length, matching
 from ..units import bound_ticks
 from .claim import Claim
 from .entry import NOTHING_FITS, WORST_FIRST, YES, Day, Made, Move, Piece, side_of
@@ -268,6 +268,34 @@ class Days:
     shown: list[tuple[str, str]]
     earlier: list[str] = field(default_factory=list)
     status: Count = 0
+
+
+@dataclass(frozen=True)
+class Spans:
+    """The folders of a machine that have a claim, each with its span in Unix seconds."""
+
+    folders: Annotated[list[tuple[str, Seconds, Seconds]], length(0, MOST_FOLDERS)]
+
+
+@dataclass(frozen=True)
+class Timed:
+    """Of readings of a folder's clock a word for each, and the Unix ticks between which true time lay, if that is
+    known, with the number of the claim and capture by which it is; and the folder's name for good, and what its claims
+    presume."""
+
+    words: list[Text]
+    times: list[tuple[Ticks, Ticks, Count] | None]
+    name: Annotated[str, matching("[0-9a-f]{64}|")] = ""
+    premises: list[Text] = field(default_factory=list)
+
+
+@dataclass(frozen=True)
+class Below:
+    """The days on which what stands in a folder rests, each with its name for good, and whether that is an answer to a
+    log of events."""
+
+    days: dict[str, str]
+    is_of_events: bool = False
 
 
 @dataclass(frozen=True)

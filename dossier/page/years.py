@@ -2,16 +2,15 @@
 statements to sign, and kept so that these can be signed."""
 import os
 from collections.abc import Iterator, Sequence
-from contextlib import suppress
 from itertools import groupby
 from typing import NamedTuple
 
-from ..fault import Fault, fault
-from ..fleet.days import Twins, YearCall, is_day, machines_of, packed, unpacked, year_of
+from ..fault import fault
+from ..fleet.days import Twins, YearCall, days_among, is_day, machines_of, packed, unpacked, year_of
 from ..fleet.statements import lines_of, stated_of, statement
 from ..folder.entry import YES, Refusal
-from ..folder.files import AUDIT, YEAR, Folder
-from ..folder.jobs import run_all, run_one
+from ..folder.files import YEAR
+from ..folder.jobs import run_all
 from ..folder.result import Told, Year
 from ..folder.year import Stated, Statements
 from ..schema import json_text
@@ -91,19 +90,6 @@ def row_of(link: str, year: Year) -> MachineRow:
     signed = sum(day.verdict == YES for day in year.days if day.by)
     return MachineRow(link, year.machine, len(year.days), year.counts, year.signers, signed, year.gap, year.worst,
                       year.unknown, year.off, year.twins, year.alike, strip(year))
-
-
-def days_among(folders: list[str], seconds: int) -> list[str]:
-    """The folders that have an audit of their own, so that they are a day's and no machine's, whatever they are
-    called."""
-    def work(*_: object) -> list[str]:
-        paths = list[str]()
-        for path in folders:
-            with suppress(Fault), Folder(path) as folder:
-                paths += [path] * folder.has(AUDIT)
-        return paths
-    result = run_one("", work, list[str], seconds) if folders else []
-    return [] if isinstance(result, Refusal) else result
 
 
 def write_year(folders: list[str], wanted: YearCall, pages: Pages, seconds: int, jobs: int) -> int:

@@ -17,15 +17,16 @@ def log_uniform(rng: random.Random, low: float, high: float) -> int:
 
 
 class Drawn(History):
-    """A history of troubles that are drawn."""
+    """A history of troubles that are drawn, and of when it begins, if that isn't given."""
 
-    def __init__(self, seed: int):
+    def __init__(self, seed: int, then: int | None = None):
         rng = random.Random(seed)
         kinds = rng.choices(list(KINDS), list(KINDS.values()), k=rng.choice((0, 1, 1, 2, 2, 2, 3, 3)))
         poll, number = rng.choice((16, 16, 32, 64, 64, 64, 128, 256, 1024)), rng.choice((20, 40, 60, 90))
         length, has_leap = poll * number * SECOND, "leap" in kinds
         begin = (LEAP if has_leap else rng.randint(20_000, 20_500) * DAY) + rng.choice(
             (0, -length * rng.randint(0, 100) // 100, 0 if has_leap else rng.randrange(DAY)))
+        begin = begin if then is None else then
         super().__init__(seed, begin, poll, number, rng.choice((1, 2, 3, 4, 4, 4, 5, 6)), rng.choice((0.05, 0.3, 1.0)))
         self.rng, self.kinds, self.more = rng, list(dict.fromkeys(kinds)), random.Random(f"more {seed}")
         self.first = self.whole(self.begin + self.length * rng.choice((-1, 0, 1, 5, 15, 30)) // 100)

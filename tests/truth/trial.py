@@ -78,12 +78,17 @@ class Read(NamedTuple):
     fault: str = ""
 
 
+def env_of(place: Path) -> dict[str, str]:
+    """The user's record and list of leap seconds, below a folder."""
+    return {"XDG_STATE_HOME": f"{place}/state",
+            "NTPAUDIT_LEAP_SECONDS": str(leap_list(place / "leaps", LATER, (LEAP // SECOND, 11)))}
+
+
 def read(histories: dict[Path, tuple[History, Logs | None]], step: Sequence[object] = (), has_page: bool = True,
          verifies: bool = False) -> Iterator[Read]:
     """Has histories audited in their folders, as a user would: the lines, and a page of all of them; and verified."""
     place = next(iter(histories)).parent
-    env = {"XDG_STATE_HOME": f"{place}/state",
-           "NTPAUDIT_LEAP_SECONDS": str(leap_list(place / "leaps", LATER, (LEAP // SECOND, 11)))}
+    env = env_of(place)
     for folder, (history, logs) in histories.items():
         leave(history, logs, folder)
         if logs and logs.is_drafted:
@@ -118,8 +123,8 @@ def tried(seeds: range, place: Path, has_page: bool = True) -> Iterator[Judged]:
                      use_of(one.view) if one.view.verdict != "refused" else Use(OTHER, []))
 
 
-def drawn(seed: int) -> tuple[History, Logs | None]:
-    history = Drawn(seed)
+def drawn(seed: int, begin: int | None = None) -> tuple[History, Logs | None]:
+    history = Drawn(seed, begin)
     return history, Logs(history) if history.rng.random() < 0.2 else None
 
 
@@ -160,7 +165,11 @@ def main(words: list[str]) -> int:
     parser.add_argument("--folder", help="where the histories are left; else they are taken away")
     parser.add_argument("--lines", action="store_true", help="only the lines of audit, and no page")
     parser.add_argument("--count", action="store_true", help="of what use the answers were, and which were of none")
+    parser.add_argument("--events", action="store_true", help="so many pairs of histories with a log of events")
     given = parser.parse_args(words)
+    if given.events:
+        from tests.truth.moments import trials
+        return trials(given.seed, given.number, given.jobs)
     seeds = range(given.seed, given.seed + given.number)
     batches = [seeds[at : at + BATCH] for at in range(0, len(seeds), BATCH)]
     if given.folder:

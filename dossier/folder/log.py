@@ -1,0 +1,178 @@
+"""A log of events, as CSV: of each row the machine, and what its clock showed. All its bytes are kept, so that it comes
+back the same.
+"""
+import csv
+import io
+import re
+from collections.abc import Iterator
+from datetime import date
+from functools import cache
+from typing import NamedTuple
+
+from ..fault import fault
+from ..text import count, plain
+from ..units import DAY, LAST_SECOND, SECOND
+
+ADDED = "earliest", "latest", "verdict"
+"""The columns that an answer has behind those of the log."""
+MOST_OF_A_LOG, MOST_EVENTS = 1 << 28, 1_000_000
+"""Bytes and rows of a log."""
+MARK = "\ufeff"
+"""What some programs write before a text, a byte order mark."""
+READING = re.compile(r"(?:(\d{4}-\d\d-\d\d)T(\d\d):(\d\d):(\d\d)|(\d{1,10}))(?:\.(\d{1,9}))?(Z?)", re.ASCII)
+"""A time in UTC or in Unix seconds, as `ntpaudit at --times` takes it."""
+SHOWN = 60
+"""Characters of a log that are told in a fault."""
+
+
+class Reading(NamedTuple):
+    """What a clock showed, as it is written, and the Unix nanoseconds between which it did, as long as its last digit
+    stood."""
+
+    text: str
+    begin: int
+    end: int
+
+
+class Event(NamedTuple):
+    """A row: its first line's number, its machine, what the clock showed, and all of the row but its line end."""
+
+    line: int
+    machine: str
+    reading: Reading
+    row: str
+
+
+class Log(NamedTuple):
+    """A log: its first row, which names the columns, and the end of that line; its events, and the line end of each;
+    and which columns have the machine and what its clock showed."""
+
+    head: str
+    end: str
+    events: list[Event]
+    ends: list[str]
+    columns: tuple[int, int]
+
+
+@cache
+def days_before(text: str) -> int:
+    """Days from 1970 to a date; a ValueError if it is none."""
+    return date.fromisoformat(text).toordinal() - date(1970, 1, 1).toordinal()
+
+
+def reading_of(text: str) -> Reading | None:
+    """The reading that a text is; None if it is none of a second that a claim can have."""
+    said = READING.fullmatch(text)
+    if not said or bool(said[1]) != bool(said[7]):
+        return None
+    if said[1]:
+        hour, minute, second = int(said[2]), int(said[3]), int(said[4])
+        try:
+            whole = days_before(said[1]) * DAY + hour * 3600 + minute * 60 + second
+        except ValueError:
+            return None
+        if hour > 23 or minute > 59 or second > 59:
+            return None
+    else:
+        whole = int(said[5])
+    if not 0 <= whole < LAST_SECOND:
+        return None
+    digits = said[6] or ""
+    unit: int = 10 ** (9 - len(digits))
+    begin = whole * SECOND + int(digits or 0) * unit
+    return Reading(text, begin, begin + unit)
+
+
+def why_none(text: str) -> str:
+    """Why a text is no reading."""
+    if not text:
+        return "it has no time"
+    shown = plain(text[:SHOWN])
+    said = READING.fullmatch(text)
+    if "," in text:
+        return f"`{shown}` has a comma, and a point stands before the digits of a second"
+    if re.search(r":\d\d:60", text):
+        return f"`{shown}` is a second 60: of a leap second nothing can be said"
+    if said and bool(said[1]) == bool(said[7]):
+        return f"`{shown}` is no time from 1970-01-01T00:00:00Z to 2106-02-07T06:28:14Z"
+    return f"`{shown}` is no reading, such as 2026-11-22T07:03:40.5Z, or Unix seconds: 1795331020.5"
+
+
+def rows_of(text: str) -> Iterator[tuple[int, str, list[str]]]:
+    """Of each row the number of its first line, all that stands in it, and its fields."""
+    taken = list[str]()
+
+    def lines() -> Iterator[str]:
+        for line in io.StringIO(text, newline="\n"):
+            taken.append(line)
+            yield line
+    reader, number = csv.reader(lines(), strict=True), 1
+    while True:
+        try:
+            fields = next(reader, None)
+        except csv.Error as error:
+            raise fault(f"line {number} of the log is no CSV ({error})") from None
+        if fields is None:
+            return
+        yield number, "".join(taken), fields
+        number += len(taken)
+        taken.clear()
+
+
+def parted(number: int, row: str) -> tuple[str, str]:
+    """A row and its line end."""
+    end = "\r\n" if row.endswith("\r\n") else "\n" if row.endswith("\n") else ""
+    row = row[:len(row) - len(end)]
+    if row.endswith("\r"):
+        raise fault(f"line {number} of the log ends with a carriage return alone")
+    return row, end
+
+
+def column_of(name: str, fields: list[str], option: str) -> int:
+    """The number of the one column of a name."""
+    if fields.count(name) != 1:
+        many = "no column" if name not in fields else count(fields.count(name), "column")
+        raise fault(f"the log's first line has {many} `{plain(name)}`: {option} names another one")
+    return fields.index(name)
+
+
+def event_of(number: int, row: str, fields: list[str], head: list[str], columns: tuple[int, int]) -> Event:
+    """The event of a row; a fault if it is none."""
+    if not fields:
+        raise fault(f"line {number} of the log is blank")
+    if len(fields) != len(head):
+        raise fault(f"line {number} of the log has {count(len(fields), 'field')}, and the first line {len(head)}")
+    machine, written = (fields[column] for column in columns)
+    reading = reading_of(written)
+    if reading is None:
+        raise fault(f"line {number} of the log: {why_none(written)}")
+    return Event(number, machine, reading, row)
+
+
+def read_log(data: bytes, machine: str, time: str) -> Log:
+    """The events of a log, by the columns that have the machine and what its clock showed."""
+    text = data.decode("utf-8", "surrogateescape")
+    mark = MARK if text.startswith(MARK) else ""
+    rows = rows_of(text.removeprefix(MARK))
+    number, row, names = next(rows, (1, "", list[str]()))
+    if not names:
+        raise fault("the log's first line names no columns")
+    for name in ADDED:
+        if name in names:
+            raise fault(f"the log has a column `{name}` already")
+    columns = column_of(machine, names, "--machine"), column_of(time, names, "--time")
+    head, end = parted(number, row)
+    events, ends = list[Event](), list[str]()
+    for number, row, fields in rows:
+        body, own = parted(number, row)
+        if len(events) == MOST_EVENTS:
+            raise fault(f"line {number} of the log is that of more than {MOST_EVENTS:,} events: give a part of it")
+        events.append(event_of(number, body, fields, names, columns))
+        ends.append(own)
+    return Log(mark + head, end or "\n", events, ends, columns)
+
+
+def other_fields(log: Log, event: Event) -> list[str]:
+    """What stands in the other columns of an event."""
+    fields = next(csv.reader(io.StringIO(event.row, newline="")))
+    return [field for number, field in enumerate(fields) if number not in log.columns]
