@@ -2,6 +2,7 @@
 each there are cases: what was tried, and what is wrong with it.
 """
 import json
+import random
 from collections.abc import Callable, Iterator
 from functools import cached_property
 from pathlib import Path
@@ -16,7 +17,7 @@ from tests.second.commands import plain_commands
 from tests.second.marks import Conflicts
 from tests.second.pieces import Hulls, Pieces, Stop
 from tests.second.rules import Sample
-from tests.tools import families
+from tests.tools import families, scenes
 
 SOME = 3000
 """As many pieces are made by the reading where not all of them have to be."""
@@ -341,11 +342,14 @@ def find_case(question: Question, step: int | None = None) -> Iterator[Case]:
 
 
 def at_case(question: Question) -> Iterator[Case]:
-    """`at` of the first and the last moment, one between them, and some before and behind."""
+    """`at` of the first and the last moment, one between them, and some before and behind; and of many readings."""
     begin, last = (place // TICKS for place in question.span)
     far = max(0, begin - 300 * 86_400), max(0, begin - 1), min(last + 5 * 3600, 2**32 - 1)
     for time in map(families.spelled, sorted({begin, (begin + last) // 2, last, *far})):
         yield f"at {time}", differs(question.call("at", time), *answers.at(question.evidence, time))
+    times = "".join(f"{reading}\n" for reading in scenes.readings(random.Random(str(question.span)), question.claim))
+    ran = question.call("at", "--times", "-", given=times.encode())
+    yield f"at --times of {times.split()}", differs(ran, *answers.moments(question.evidence, times))
 
 
 def plain_case(question: Question) -> Iterator[Case]:

@@ -116,7 +116,7 @@ def hulls_wrong(course: Course, samples: list[Sample], rng: random.Random) -> li
 
 
 def events_wrong(course: Course, samples: list[Sample], folder: str, capture: str, rng: random.Random) -> list[str]:
-    """What is wrong with `at --times` for events of the course, each logged by the clock with some digits: its lines, and
+    """What is wrong with `at --times` for events of the course, which the clock logged with some digits: its lines, and
     where true time isn't between the two."""
     events = list[tuple[int, str]]()
     for time, error in course.clock.error.items():

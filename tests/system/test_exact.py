@@ -25,7 +25,7 @@ from tests.tools.families import BEGIN, Exchanges, Row, Setting, write
 
 CAPTURES, SHARES = int(os.environ.get("NTPAUDIT_CLAIMS", "1000")), 10
 ABOVE, BELOW = 3, 4
-"""How many ticks above the greatest error, and below the greatest whole one at a whole reading, a claim may stay open."""
+"""How many ticks above the greatest error, or below the greatest whole one at a whole reading, a claim may be open."""
 WANTED = {"unfitted": "nothing fits", "unbounded": "no evidence"}
 
 PROGRAM = program()
@@ -39,6 +39,18 @@ def row(rng: random.Random, server: int, seconds: int, error: Callable[[int], in
     return server, sent, sent + away, low, low + half + (rng.randrange(half, 2 * half + 1) if half > 0 else half)
 
 
+def error_of(rng: random.Random, seconds: int, scale: int, ppb: int) -> Callable[[int], int]:
+    """What a server says of the clock's error, so many nanoseconds behind a span's begin: true, off, or creeping."""
+    far, middle, part = rng.randrange(-9, 10) * scale, rng.randrange(seconds + 1) * BILLION, rng.choice((1, 2, -1))
+    how = rng.choice(("true", "true", "true", "off", "off later", "creeping"))
+
+    def error(at: int) -> int:
+        off = {"true": 0, "off": far, "off later": far * (at > middle),
+               "creeping": far * at // BILLION // max(1, seconds)}[how]
+        return ppb * at // (2 * BILLION) * TICKS // BILLION // part + off
+    return error
+
+
 def made(rng: random.Random) -> tuple[Claim, Exchanges]:
     """A claim of few groups, and exchanges."""
     groups = rng.choice((1, 2, 3, 3, 4, 4, 4, 5, 6))
@@ -46,14 +58,7 @@ def made(rng: random.Random) -> tuple[Claim, Exchanges]:
     seconds, scale = rng.choice((0, 1, 3, 60, 3000)), rng.choice((10, 10**3, 10**5, 10**8))
     ppb, rows = rng.choice((0, 1, 1000, 100_000, 600_000, 10**7, 83_333_333, 500_000_000)), list[Row]()
     for server in range(len(group)):
-        far, middle, part = rng.randrange(-9, 10) * scale, rng.randrange(seconds + 1) * BILLION, rng.choice((1, 2, -1))
-        shift: Callable[[int], int] = rng.choice((
-            lambda at: 0, lambda at: 0, lambda at: 0, lambda at, far=far: far,
-            lambda at, far=far, middle=middle: far * (at > middle),
-            lambda at, far=far: far * at // BILLION // max(1, seconds)))
-
-        def error(at: int) -> int:
-            return ppb * at // (2 * BILLION) * TICKS // BILLION // part + shift(at)
+        error = error_of(rng, seconds, scale, ppb)
         rows += [row(rng, server, seconds, error, scale) for _ in range(rng.choice((0, 1, 2, 2, 3)))]
     few = rng.randrange(groups + 1) if rng.random() < .3 else rng.randrange((groups + 1) // 2 + 1)
     setting = Setting(len(group), few, ppb, seconds, BEGIN, rng.choice((0, 0, 1, 1000)))

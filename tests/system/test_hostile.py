@@ -145,5 +145,6 @@ def together(told: list[Told]) -> None:
     print("; ".join(f"{number} {kind}" for kind, number in kinds.most_common()))
     every = {"no evidence", "nothing fits", "open", "refuted", "shown"}
     check("answers of each kind", missing=(every - {*kinds}, set()))
-    check("each command is called", missing=({command.title for command in plain_commands()} - {
-        word for one in told for word in one.called}, set()))
+    check("each command is called", missing=({
+        " ".join((command.name, *(word for word in command.options if word.startswith("--"))))
+        for command in plain_commands()} - {word for one in told for word in one.called}, set()))
