@@ -1,6 +1,7 @@
 //! The text of true time, behind what the servers say of one reading.
 
 ghost use Rattle.std.specs.Prelude.{◌≡◌, ◌≤◌, ◌++◌, ◌^◌, unsigned_abs, IfOk};
+ghost use Rattle.true_time.specs.Common.{line_of};
 ghost use Rattle.true_time.specs.TrueText as spec;
 ghost use Rattle.true_time.specs.TrueText.{true_line, true_text};
 ghost use Rattle.true_time.specs.TrueTime.{reading_over};
@@ -24,7 +25,35 @@ fn true_front(style: Style) -> &'static [u8]
     }
 }
 
-/// Adds the true times of a reading of these ticks, whose hull has these ends.
+/// Adds what stands before the two times.
+fn add_front(text: &mut Vec<u8>, style: Style) -> Result<(), AllocError>
+    ensures { IfOk result (λ _. text.new.items ≡ text.old.items ++ spec.true_front style) }
+{
+    text.extend_from_slice(true_front(style))
+}
+
+/// Adds the two times of a reading of these ticks, whose hull has these ends.
+fn add_both(
+    text: &mut Vec<u8>,
+    style: Style,
+    begin: u64,
+    end: u64,
+    low: i128,
+    high: i128,
+) -> Result<(), AllocError>
+    requires low { unsigned_abs low ≤ 2 ^ 100 }
+    requires high { unsigned_abs high ≤ 2 ^ 100 }
+    ensures { IfOk result (λ _. text.new.items ≡ text.old.items
+        ++ line_of style (spec.true_fields (reading_over begin end) low high)) }
+{
+    let fields = [
+        Field::TimeBelow(less(begin, high)),
+        Field::TimeAbove(less(end, low)),
+    ];
+    add_fields(text, style, &fields)
+}
+
+/// Adds the same behind what stands before them.
 #[tactic(auto, unfolding(crate::specs::TrueText::true_line))]
 fn add_true_line(
     text: &mut Vec<u8>,
@@ -39,12 +68,8 @@ fn add_true_line(
     ensures { IfOk result (λ _. text.new.items ≡
         text.old.items ++ true_line style (reading_over begin end) low high) }
 {
-    text.extend_from_slice(true_front(style))?;
-    let fields = [
-        Field::TimeBelow(less(begin, high)),
-        Field::TimeAbove(less(end, low)),
-    ];
-    add_fields(text, row_style(style), &fields)
+    add_front(text, style)?;
+    add_both(text, row_style(style), begin, end, low, high)
 }
 
 /// Adds the earliest and the latest true time of a reading that stands for these ticks of 2^-32 s
