@@ -77,7 +77,7 @@ READING = re.compile(r"(?:(\d{4}-\d\d-\d\dT\d\d:\d\d:\d\d)|(\d{1,10}))(?:\.(\d{1
 
 
 def reading_of(text: str) -> tuple[int, int] | None:
-    """The first and the last tick of a reading, if a text is one: as long as its last digit stands, rounded outwards."""
+    """The first and the last tick of a reading, if a text is one: as long as its last digit is, rounded outwards."""
     said = READING.fullmatch(text)
     if not said or bool(said[1]) != bool(said[4]):
         return None
