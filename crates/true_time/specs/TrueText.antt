@@ -15,10 +15,13 @@ true_front style =
 abbrev pub true_fields : ReadingData → ℤ → ℤ → List FieldData
 true_fields r low high = TimeBelow (earliest r high) ∷ TimeAbove (latest r low) ∷ []
 
+-- their line
+unfoldable pub times_line : Style → ReadingData → ℤ → ℤ → List ℕ
+times_line style r low high = line_of style (true_fields r low high)
+
 -- the text of a reading whose hull has these ends
 unfoldable pub true_line : Style → ReadingData → ℤ → ℤ → List ℕ
-true_line style r low high =
-    true_front style ++ line_of (row_style style) (true_fields r low high)
+true_line style r low high = true_front style ++ times_line (row_style style) r low high
 
 -- the text of a reading: nothing, if its hull has no ends or they aren't near
 abbrev pub true_text : Style → ReadingData → Hull → List ℕ

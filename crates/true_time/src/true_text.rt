@@ -1,9 +1,8 @@
 //! The text of true time, behind what the servers say of one reading.
 
 ghost use Rattle.std.specs.Prelude.{◌≡◌, ◌≤◌, ◌++◌, ◌^◌, unsigned_abs, IfOk};
-ghost use Rattle.true_time.specs.Common.{line_of};
 ghost use Rattle.true_time.specs.TrueText as spec;
-ghost use Rattle.true_time.specs.TrueText.{true_line, true_text};
+ghost use Rattle.true_time.specs.TrueText.{times_line, true_line, true_text};
 ghost use Rattle.true_time.specs.TrueTime.{reading_over};
 
 use crate::reading_line::{add_fields, are_near, less, row_style};
@@ -32,7 +31,8 @@ fn add_front(text: &mut Vec<u8>, style: Style) -> Result<(), AllocError>
     text.extend_from_slice(true_front(style))
 }
 
-/// Adds the two times of a reading of these ticks, whose hull has these ends.
+/// Adds the line of the two times of a reading of these ticks, whose hull has these ends.
+#[tactic(auto, unfolding(crate::specs::TrueText::times_line))]
 fn add_both(
     text: &mut Vec<u8>,
     style: Style,
@@ -43,8 +43,8 @@ fn add_both(
 ) -> Result<(), AllocError>
     requires low { unsigned_abs low ≤ 2 ^ 100 }
     requires high { unsigned_abs high ≤ 2 ^ 100 }
-    ensures { IfOk result (λ _. text.new.items ≡ text.old.items
-        ++ line_of style (spec.true_fields (reading_over begin end) low high)) }
+    ensures { IfOk result (λ _. text.new.items ≡
+        text.old.items ++ times_line style (reading_over begin end) low high) }
 {
     let fields = [
         Field::TimeBelow(less(begin, high)),
