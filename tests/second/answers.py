@@ -44,17 +44,36 @@ def samples(evidence: Evidence) -> Answer:
 
 
 def at(evidence: Evidence, *words: object) -> Answer:
-    """The servers' intervals at a moment, and the hull; or many readings."""
+    """The servers' intervals at a moment, and the hull; while the clock shows a reading, and between which true time
+    lay; or many readings."""
     if words[0] == "--times":
         return moments(evidence, Path(str(words[1])).read_text())
-    place = rules.ticks_of(str(words[0]))
-    of_servers, hull = evidence.hulls.intervals(place, place), evidence.hulls.over(place, place)
-    lines = [written(MOMENT, evidence.claim["servers"][server], *ends) for server, ends in of_servers.items()]
-    return 0, [*lines, written(MOMENT, "hull", *rules.hull_fields(hull))]
+    time = str(words[0])
+    if MOMENT_OF_CLAIM.fullmatch(time):
+        return 0, intervals(evidence, rules.ticks_of(time), rules.ticks_of(time))
+    if not (ticks := reading_of(time)):
+        return 5, []
+    hull = evidence.hulls.over(*ticks)
+    return 0, [*intervals(evidence, *ticks), *([true_times(ticks, hull)] if hull else [])]
 
+
+def intervals(evidence: Evidence, begin: int, end: int) -> list[str]:
+    """What each server says of some ticks, and the hull."""
+    of_servers, hull = evidence.hulls.intervals(begin, end), evidence.hulls.over(begin, end)
+    lines = [written(MOMENT, evidence.claim["servers"][server], *ends) for server, ends in of_servers.items()]
+    return [*lines, written(MOMENT, "hull", *rules.hull_fields(hull))]
+
+
+def true_times(ticks: tuple[int, int], hull: tuple[int, int]) -> str:
+    """The first and the last tick of a reading less the error: between these true time lay."""
+    return f"true {ticks[0] - hull[1]} {ticks[1] - hull[0]}"
+
+
+MOMENT_OF_CLAIM = re.compile(r"\d{4}-\d\d-\d\dT\d\d:\d\d:\d\dZ", re.ASCII)
+"""A time as a claim has it, which is a moment."""
 
 READING = re.compile(r"(?:(\d{4}-\d\d-\d\dT\d\d:\d\d:\d\d)|(\d{1,10}))(?:\.(\d{1,9}))?(Z?)", re.ASCII)
-"""A time in UTC or in Unix seconds, as `at --times` takes it."""
+"""A time in UTC or in Unix seconds, as `at --times` takes it, and `at` if a claim doesn't have it so."""
 
 
 def reading_of(text: str) -> tuple[int, int] | None:
@@ -81,7 +100,7 @@ def moments(evidence: Evidence, text: str) -> Answer:
         if not (ticks := reading_of(line)):
             return 2, [f"times 1 time line {number}"]
         hull = evidence.hulls.over(*ticks)
-        true = f" true {ticks[0] - hull[1]} {ticks[1] - hull[0]}" if hull else ""
+        true = f" {true_times(ticks, hull)}" if hull else ""
         lines.append(f"reading {line} hull {rules.hull_words(hull)}{true}")
     return 0, lines
 

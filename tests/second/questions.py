@@ -342,10 +342,13 @@ def find_case(question: Question, step: int | None = None) -> Iterator[Case]:
 
 
 def at_case(question: Question) -> Iterator[Case]:
-    """`at` of the first and the last moment, one between them, and some before and behind; and of many readings."""
+    """`at` of the first and the last moment, one between them, some before and behind, and of readings."""
     begin, last = (place // TICKS for place in question.span)
     far = max(0, begin - 300 * 86_400), max(0, begin - 1), min(last + 5 * 3600, 2**32 - 1)
-    for time in map(families.spelled, sorted({begin, (begin + last) // 2, last, *far})):
+    moments = map(families.spelled, sorted({begin, (begin + last) // 2, last, *far}))
+    second = min(begin, 2**32 - 2)
+    readings = f"{second}", f"{second}.25", f"{families.spelled(second)[:-1]}.123456789Z"
+    for time in (*moments, *readings):
         yield f"at {time}", differs(question.call("at", time), *answers.at(question.evidence, time))
     times = "".join(f"{reading}\n" for reading in scenes.readings(random.Random(str(question.span)), question.claim))
     ran = question.call("at", "--times", "-", given=times.encode())

@@ -28,25 +28,33 @@ def samples(lines: list[str]) -> list[str]:
 
 
 def at(lines: list[str]) -> list[str]:
-    rows = [read(MOMENT, row) for row in lines]
+    """The servers and the hull, and if it was a reading with ends of the hull, between which times true time lay."""
+    when = [line.split(" ")[1:] for line in lines if line.startswith("true ")]
+    rows = [read(MOMENT, row) for row in lines[:len(lines) - len(when)]]
     assert [row["SERVER"] for row in rows].index("hull") == len(rows) - 1, lines
-    return table(MOMENT, rows)
+    return [*table(MOMENT, rows), *(line for ends in when for line in (TRUE_TIMES, " ".join(true_times(*ends))))]
+
+
+TRUE_TIMES = f"{'earliest true time':>30} {'latest true time':>30}"
+"""The headings of the columns of true time."""
+
+
+def true_times(earliest: str, latest: str) -> list[str]:
+    """Two Unix ticks, the first rounded down and the second up."""
+    whens = [(int(earliest), int(earliest) * 10**9 // TICKS), (int(latest), -(-int(latest) * 10**9 // TICKS))]
+    return [moment(at) if 0 <= tick and at < 2**32 * 10**9 else str(tick) for tick, at in whens]
 
 
 def moments(lines: list[str]) -> list[str]:
     """Readings as they are written, each with the hull and between which times true time lay."""
-    rows = [f"{'reading':>30} {'low error ms':>14} {'high error ms':>14} {'earliest true time':>30} "
-            f"{'latest true time':>30}"]
+    rows = [f"{'reading':>30} {'low error ms':>14} {'high error ms':>14} {TRUE_TIMES}"]
     for line in lines:
         _, written, _, low, *rest = line.split(" ")
         if not rest:
             rows.append(f"{written:>30} {low:>14}")
             continue
-        high, earliest, latest = int(rest[0]), int(rest[2]), int(rest[3])
-        ends = milliseconds(int(low) * 10**9 // TICKS), milliseconds(-(-high * 10**9 // TICKS))
-        whens = [(earliest, earliest * 10**9 // TICKS), (latest, -(-latest * 10**9 // TICKS))]
-        shown = [moment(at) if 0 <= tick and at < 2**32 * 10**9 else str(tick) for tick, at in whens]
-        rows.append(" ".join([f"{written:>30}", *(f"{end:>14}" for end in ends), *shown]))
+        ends = milliseconds(int(low) * 10**9 // TICKS), milliseconds(-(-int(rest[0]) * 10**9 // TICKS))
+        rows.append(" ".join([f"{written:>30}", *(f"{end:>14}" for end in ends), *true_times(*rest[2:])]))
     return rows
 
 

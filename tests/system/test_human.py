@@ -43,10 +43,11 @@ def does_fit(claim: Path | str, capture: Path | str) -> bool:
 
 # ---- the captures of data/
 def moments_of(claim: Claim) -> list[str]:
-    """The first and the last moment of a claim, one between them, and two far away."""
+    """The first and the last moment of a claim, one between them, and two far away; and two readings of the first."""
     begin, end = (datetime.fromisoformat(time.replace("Z", "+00:00")) for time in (claim["from"], claim["to"]))
     moments = (begin, begin + (end - begin) // 2, end, EPOCH, EPOCH + timedelta(seconds=2**32 - 1))
-    return [moment.strftime("%Y-%m-%dT%H:%M:%SZ") for moment in moments]
+    readings = begin.strftime("%Y-%m-%dT%H:%M:%S.5Z"), f"{begin.timestamp():.0f}"
+    return [*(moment.strftime("%Y-%m-%dT%H:%M:%SZ") for moment in moments), *readings]
 
 
 def calls_on(claim: Path, folder: Path) -> list[tuple[str, Words]]:

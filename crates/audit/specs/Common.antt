@@ -65,7 +65,7 @@ pub use Rattle.feasibility.specs.DriftTest.{is_refuted_with_drift}
 pub use Rattle.finder.specs.Answer.{FindsEnvelope}
 pub use Rattle.finder.specs.Carried.{FindsLeastBound, IsCarried, piece_holding}
 pub use Rattle.finder.specs.Envelope.{EnvelopeData, IsLeast, envelope_of, with_bound}
-pub use Rattle.finder.specs.Fewest.{NoneOfFewIsAccepted}
+pub use Rattle.finder.specs.Fewest.{NoneOfFewIsAccepted, stretch_over}
 pub use Rattle.finder.specs.Found.{FoundData, certificate, data_of as found_data, found_of, hull_at, nothing}
 pub use Rattle.finder.specs.NearestRefutation.{IsNearestRefutation, NoneIsRefuted, nearest_refutation}
 pub use Rattle.finder.specs.Piece.{IsStep, count_of, stretch_at}
@@ -136,6 +136,7 @@ pub use Rattle.serde_json.specs.Find.{get}
 pub use Rattle.serde_json.specs.View.{items_of}
 pub use Rattle.span_cover.specs.Group.{piece_hull}
 pub use Rattle.span_cover.specs.Piece.{IsPiece}
+pub use Rattle.span_cover.specs.declared.part.Part.{Part}
 pub use Rattle.span_cover.specs.declared.stretch.Stretch.{Stretch}
 pub use Rattle.std.specs.Int.{int_max}
 pub use Rattle.std.specs.List.{AllZip, flat_map, range_with_len}
@@ -143,4 +144,5 @@ pub use Rattle.std.specs.Net.Grammar.{IsDotted}
 pub use Rattle.std.specs.Option.{option_map}
 pub use Rattle.std.specs.Result.{result_map_both}
 pub use Rattle.true_time.specs.ReadingLine.{readings_text}
-pub use Rattle.true_time.specs.TrueTime.{HoldsTrueTime, hull_of}
+pub use Rattle.true_time.specs.TrueText.{true_text}
+pub use Rattle.true_time.specs.TrueTime.{HoldsTrueTime, hull_of, parts_of, reading_over}

@@ -4,6 +4,7 @@ pub mod Evidence
 pub mod Samples
 pub mod Second
 pub mod At
+pub mod Reading
 pub mod Readings
 pub mod Check
 pub mod Find

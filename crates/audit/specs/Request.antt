@@ -6,6 +6,7 @@ use Rattle.audit.specs.Envelope.{IsEnvelopeFor, envelope, envelope_finding}
 use Rattle.audit.specs.Find.{IsFoundBy, find}
 use Rattle.audit.specs.FindRefutation.{find_refutation}
 use Rattle.audit.specs.Evidence.{EvidenceData}
+use Rattle.audit.specs.Reading.{at_reading}
 use Rattle.audit.specs.Question.{Finding, QuestionData, no_finding}
 use Rattle.audit.specs.Samples.{samples}
 use Rattle.audit.specs.Settle.{IsEnoughFor, finding_of, settle}
@@ -35,6 +36,7 @@ IsFoundFor request style e found = Unit {0}
 abbrev pub question_of : Request → QuestionData
 question_of requests.Samples = samples
 question_of (requests.At asked) = at asked.unix_second
+question_of (requests.Reading asked) = at_reading asked.begin asked.end
 question_of requests.Settle = settle []
 question_of (requests.Find asked) = find asked.step.seconds
 question_of requests.FindRefutation = find_refutation

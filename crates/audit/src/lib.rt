@@ -38,5 +38,7 @@ pub use engine::{Outputs, answer, run, run_twice};
 pub use envelope_text::{EnvelopeOptions, PLAIN_ENVELOPE, Step};
 pub use evidence::Evidence;
 pub use line_writer::Style;
-pub use question::{At, Check, Find, Question, Readings, Refute, Request, RequestFinding, Settle};
+pub use question::{
+    At, AtReading, Check, Find, Question, Readings, Refute, Request, RequestFinding, Settle,
+};
 pub use second::{SecondInput, SecondSource};

@@ -17,6 +17,7 @@ mod check;
 mod envelope;
 mod find;
 mod find_refutation;
+mod reading;
 mod readings;
 mod refute;
 mod samples;
@@ -27,6 +28,7 @@ pub use crate::question::at::At;
 pub use crate::question::check::Check;
 use crate::question::envelope::EnvelopeFinding;
 pub use crate::question::find::Find;
+pub use crate::question::reading::AtReading;
 pub use crate::question::readings::Readings;
 pub use crate::question::refute::Refute;
 pub use crate::question::settle::Settle;
@@ -103,6 +105,8 @@ pub enum Request {
     Samples,
     /// What does each server say about the clock at a moment?
     At(At),
+    /// What does each server say about the clock while it shows a reading, and when was that?
+    Reading(AtReading),
     /// Is the claim shown, refuted, fitted by no course of events, or does it stay open? Nothing is
     /// told about the inputs.
     Settle,
@@ -159,9 +163,9 @@ impl Question for Request {
                 let found = envelope.find(alloc, style, second, evidence)?;
                 Ok(RequestFinding::Envelope(found))
             }
-            Request::Samples | Request::At(_) | Request::FindRefutation => {
-                Ok(RequestFinding::Nothing)
-            }
+            Request::Samples | Request::At(_) | Request::Reading(_) | Request::FindRefutation => Ok(
+                RequestFinding::Nothing,
+            ),
         }
     }
 
@@ -178,6 +182,7 @@ impl Question for Request {
         match (self, found) {
             (Request::Samples, _) => samples::tell(alloc, style, evidence, out),
             (Request::At(asked), _) => at::tell(alloc, asked, style, evidence, out),
+            (Request::Reading(asked), _) => reading::tell(alloc, asked, style, evidence, out),
             (Request::FindRefutation, _) => find_refutation::tell(alloc, style, evidence, out),
             (Request::Settle, RequestFinding::Settlement(found)) => {
                 unnamed.tell(alloc, style, second, evidence, found, out)

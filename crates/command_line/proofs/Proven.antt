@@ -66,6 +66,7 @@ not_so name other same = true≢false (subst (λ (n : Text). bytes_eq (codes "ch
 not_asked : (rows : List Row) (request : Request) → IsRequest (codes "check") rows request → ⊥
 not_asked rows requests.Samples is = not_so _ refl is
 not_asked rows (requests.At at) is = not_so _ refl is.0
+not_asked rows (requests.Reading reading) is = not_so _ refl is.0
 not_asked rows requests.Settle is = not_so _ refl is
 not_asked rows (requests.Find find) is = not_so _ refl is.0
 not_asked rows requests.FindRefutation is = not_so _ refl is.0

@@ -1,6 +1,7 @@
 -- What the definitions and contracts of this crate name of others.
 pub use Rattle.audit.specs.Second.{certificate_second}
 pub use Rattle.audit.specs.declared.question.Request.{Request}
+pub use Rattle.audit.specs.declared.question.reading.AtReading.{AtReading}
 pub use Rattle.byte_stream.specs.State.{FeedState, IsWritable, SinkState}
 pub use Rattle.claim_file.specs.Time.{time_of}
 pub use Rattle.clap.specs.Kinds.{IsAmong, Kinds}
@@ -24,6 +25,7 @@ pub use Rattle.program.specs.declared.invocation.Judgement.{Judgement}
 pub use Rattle.program.specs.declared.invocation.Listed.{Listed}
 pub use Rattle.program.specs.declared.invocation.Paths.{Paths}
 pub use Rattle.program.specs.declared.run.Response.{Response}
+pub use Rattle.reading_time.specs.Reading.{ReadingData, reading_of}
 pub use Rattle.report.specs.Conclusion.{Concludes, conclusion_of}
 pub use Rattle.report.specs.declared.fault.Input.TheVariants.{Certificate}
 pub use Rattle.report.specs.declared.fault.RunFault.TheVariants.{Memory}

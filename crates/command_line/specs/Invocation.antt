@@ -1,6 +1,6 @@
 -- What the words of a command line call for.
 use Rattle.std.specs.Prelude.{◌≡◌, ◌≤◌, ◌⊎◌, ◌||◌, ⊤, ℕ, Bool, true, false, List, [], Option, Some, None, String, IfSome, IsSome, is_some, option_map, unwrap_or, codes, string_bytes}
-use Rattle.command_line.specs.Common.{bytes_eq, digits_value, without_leading_plus, IsNumeral, Global, time_of, Row, Text, first_of, found_of, one_of, rows_of, ArgMatches, Style, Human, Plain, Request, IsRefusedBy, is_human, Invocation, JudgedPaths, Judgement, Listed, Paths}
+use Rattle.command_line.specs.Common.{bytes_eq, digits_value, without_leading_plus, IsNumeral, Global, AtReading, ReadingData, reading_of, time_of, Row, Text, first_of, found_of, one_of, rows_of, ArgMatches, Style, Human, Plain, Request, IsRefusedBy, is_human, Invocation, JudgedPaths, Judgement, Listed, Paths}
 use Rattle.audit.specs.declared.question.Request.TheVariants as requests
 use Rattle.program.specs.declared.invocation.Invocation.TheVariants as calls
 use Rattle.program.specs.declared.invocation.Judgement.TheVariants as judgements
@@ -58,6 +58,14 @@ pub record AreJudgedNamed (second : Text) (rows : List Row) (paths : JudgedPaths
 abbrev pub time_given : List Row → Option ℕ
 time_given rows = time_of (operand (codes "TIME") rows)
 
+-- the ticks of a reading
+abbrev pub ticks_of : ReadingData → AtReading
+ticks_of r = record { begin = r.begin; end = r.end }
+
+-- those of the operand TIME, if it is written as a reading
+abbrev pub ticks_given : List Row → Option AtReading
+ticks_given rows = option_map ticks_of (reading_of (operand (codes "TIME") rows))
+
 -- neither of two is there, or both are
 abbrev pub AreNotOne : Option Text → Option Text → Type 0
 AreNotOne None None = ⊤
@@ -98,6 +106,9 @@ abbrev pub IsRequest : Text → List Row → Request → Type 0
 IsRequest name rows requests.Samples = name ≡ codes "samples"
 IsRequest name rows (requests.At at) = (name ≡ codes "at")
     × (first_of (codes "times") rows ≡ None) × (time_given rows ≡ Some at.unix_second)
+IsRequest name rows (requests.Reading reading) =
+    (name ≡ codes "at") × (first_of (codes "times") rows ≡ None) × (time_given rows ≡ None)
+    × (ticks_given rows ≡ Some reading)
 IsRequest name rows requests.Settle = name ≡ codes "settle"
 IsRequest name rows (requests.Find find) =
     (name ≡ codes "find") × IsFlag (codes "refutation") rows false
@@ -134,7 +145,7 @@ IsCalled name rows (calls.Judge judgement paths) = IsJudgement name rows judgeme
     × AreJudgedNamed (second_operand judgement) rows paths
 IsCalled name rows (calls.RefuseTime shown) =
     (name ≡ codes "at") × (first_of (codes "times") rows ≡ None) × (time_given rows ≡ None)
-    × IsShownTime rows shown
+    × (ticks_given rows ≡ None) × IsShownTime rows shown
 IsCalled name rows (calls.Refuse text) = IsRefusable name rows (string_bytes text)
 IsCalled name rows (calls.Show text) = ⊥
 

@@ -12,9 +12,11 @@ const HELP: &str = "\
 Prints:   a line for each server that has a sample, `SERVER LO HI`: the clock's error, from LO to HI
           ticks of 2^-32 s, if this server is right; then `hull LO HI`, `hull unbounded` or
           `hull empty`: the clock's error if at most false_max groups of servers are wrong.
-          With --times for each line, a time in UTC or in Unix seconds, with up to nine digits of a
-          fraction: `reading TIME hull LO HI true EARLIEST LATEST`, the last two in ticks since
-          1970: true time lay between them. With --human milliseconds, in columns under a heading
+          TIME may also have up to nine digits of a fraction, as 2026-11-22T06:46:09.5Z, or be Unix
+          seconds, as 1795329969.5: it stands for as long as its last digit does, the lines are of
+          that time, and `true EARLIEST LATEST` ends them, in ticks since 1970: true time lay
+          between the two. With --times for each line, such a TIME, `reading TIME hull LO HI true
+          EARLIEST LATEST`. With --human milliseconds, in columns under a heading
 Status:   0 done; 2 an input is refused; 3 out of memory; 4 a file or the output failed; 5 the
           command line is refused
 Example:  ntpaudit at claim.json recording.pcap 2026-11-22T06:46:09Z

@@ -1,3 +1,4 @@
 pub mod Common
 pub mod TrueTime
 pub mod ReadingLine
+pub mod TrueText

@@ -3,12 +3,22 @@
 -- The hull over the ticks for which the reading stands holds the clock's error in every course of
 -- events that fits. True time is the reading less the error: so it was no earlier than the first of
 -- these ticks less the hull's high end, and no later than the last one less its low end.
-use Rattle.std.specs.Prelude.{◌≡◌, ℤ, pos, ◌-ℤ◌, ⊤, List}
-use Rattle.true_time.specs.Common.{Course, Fits, IsObservedIn, samples_of, ClaimData, best_hull, stretch_over, Hull, Bounded, Empty, Unbounded, Exchange, ReadingData, IsInWindow, Sample}
+use Rattle.std.specs.Prelude.{◌≡◌, ℕ, ℤ, pos, ◌-ℤ◌, ⊤, List, []}
+use Rattle.true_time.specs.Common.{Course, Fits, IsObservedIn, samples_of, ClaimData, best_entries, best_hull, parts_named, stretch_over, Hull, Bounded, Empty, Unbounded, Exchange, ReadingData, IsInWindow, Sample, Part}
 
 -- the hull over the ticks for which a reading stands
 abbrev pub hull_of : List Sample → ClaimData → ReadingData → Hull
 hull_of samples claim r = best_hull samples claim (stretch_over (pos r.begin) (pos r.end))
+
+-- what each server that has a sample says over them, in the order of the servers
+abbrev pub parts_of : List Sample → ClaimData → ReadingData → List Part
+parts_of samples claim r =
+    let stretch = stretch_over (pos r.begin) (pos r.end) in
+    parts_named samples claim stretch (best_entries samples claim stretch)
+
+-- a reading that stands for these ticks, however it is written
+abbrev pub reading_over : ℕ → ℕ → ReadingData
+reading_over begin end = record { text = []; begin = begin; end = end }
 
 -- the earliest true time, in Unix ticks, if the error is at most so many ticks
 abbrev pub earliest : ReadingData → ℤ → ℤ

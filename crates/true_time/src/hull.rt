@@ -2,6 +2,7 @@
 
 ghost use Rattle.std.specs.Prelude.{◌≡◌, ◌<◌, ◌≤◌, ◌^◌, pos, List, length, All, IfOk};
 ghost use Rattle.true_time.specs.Common.{AreSamplesOf, AreTablesFor, IsTabled, OfTables, Sample, best_entries, best_hull, data_of, parts_named, stretch_over};
+ghost use Rattle.true_time.specs.TrueTime.{parts_of, reading_over};
 
 use arrayvec::ArrayVec;
 use claim_file::Claim;
@@ -61,4 +62,28 @@ pub(crate) fn hull_over(
 {
     let parts = parts_over(tables, places, claim, begin, end);
     piece_hull(parts.as_slice(), claim.groups.as_slice(), claim.false_max)
+}
+
+/// What each server that has a sample says over these ticks of 2^-32 s of the Unix epoch, in the
+/// order of the servers: the interval of its best samples there. They may lie outside the span.
+///
+/// The samples are at most 1,000,000, and of the claim.
+pub fn parts_at<S: SampleSource>(
+    alloc: Global,
+    samples: S,
+    claim: &Claim,
+    begin: u64,
+    end: u64,
+) -> Result<ArrayVec<Part, 32>, AllocError>
+    requires samples { AreSamplesOf (data_of claim.now) (S.samples samples) }
+    requires few { length (S.samples samples) ≤ 1_000_000 }
+    requires in_order { begin ≤ end }
+    ensures exact { IfOk result (λ parts. parts.items ≡
+        parts_of (S.samples samples) (data_of claim.now) (reading_over begin end)) }
+    ensures listed { IfOk result (λ parts.
+        All (λ part. part.server < length claim.now.servers.items) parts.items) }
+{
+    let tables = tables_for(alloc, samples, claim)?;
+    let mut places = Places::default();
+    Ok(parts_over(tables.as_slice(), &mut places, claim, begin, end))
 }

@@ -2,7 +2,8 @@
 //! its error.
 //!
 //! [`readings_text`] gives the text for many readings: the samples are laid out in tables once, and
-//! a hull is a search in them. [`laws`] say that true time lies between the two.
+//! a hull is a search in them. [`laws`] say that true time lies between the two. For one reading
+//! [`parts_at`] gives what each server says, and [`add_true_time`] adds the two to a text.
 //!
 //! The line of a reading, as `add_readings` of `true_time/src/reading_line.rt` makes it, with its
 //! proof:
@@ -17,5 +18,8 @@
 mod hull;
 pub mod laws;
 mod reading_line;
+mod true_text;
 
+pub use hull::parts_at;
 pub use reading_line::readings_text;
+pub use true_text::add_true_time;

@@ -24,7 +24,7 @@ const HEADING: &str = "                       reading   low error ms  high error
 earliest true time               latest true time\n";
 
 /// The style of the fields.
-fn row_style(style: Style) -> Style
+pub(crate) fn row_style(style: Style) -> Style
     ensures { result ≡ spec.row_style style }
 {
     if is_plain(style) {
@@ -67,7 +67,11 @@ fn add_written(text: &mut Vec<u8>, style: Style, written: &[u8]) -> Result<(), A
 }
 
 /// Adds a line of these fields.
-fn add_fields(text: &mut Vec<u8>, style: Style, fields: &[Field<'_>]) -> Result<(), AllocError>
+pub(crate) fn add_fields(
+    text: &mut Vec<u8>,
+    style: Style,
+    fields: &[Field<'_>],
+) -> Result<(), AllocError>
     requires { room_of (map field_data fields.now) + 1 ≤ CAPACITY }
     ensures { IfOk result (λ _. text.new.items ≡
         text.old.items ++ line_of style (map field_data fields.now)) }
@@ -79,7 +83,7 @@ fn add_fields(text: &mut Vec<u8>, style: Style, fields: &[Field<'_>]) -> Result<
 }
 
 /// Whether both ends are within 2^100 ticks of zero.
-fn are_near(low: i128, high: i128) -> bool
+pub(crate) fn are_near(low: i128, high: i128) -> bool
     ensures exact { result ≡ spec.are_near low high }
     ensures low { IsTrue result → unsigned_abs low ≤ 2 ^ 100 }
     ensures high { IsTrue result → unsigned_abs high ≤ 2 ^ 100 }
@@ -88,7 +92,7 @@ fn are_near(low: i128, high: i128) -> bool
 }
 
 /// A tick less an error.
-fn less(tick: u64, error: i128) -> i128
+pub(crate) fn less(tick: u64, error: i128) -> i128
     requires { unsigned_abs error ≤ 2 ^ 100 }
     ensures { result ≡ pos tick -ℤ error }
 {

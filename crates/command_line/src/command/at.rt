@@ -2,14 +2,15 @@
 
 ghost use Rattle.std.specs.Prelude.{◌≡◌, IfOk, None, codes, is_some};
 ghost use Rattle.command_line.specs.Common.{first_of};
-ghost use Rattle.command_line.specs.Invocation.{IsCalled, IsShownTime, found_rows, time_given};
+ghost use Rattle.command_line.specs.Invocation.{IsCalled, IsShownTime, found_rows, ticks_given, time_given};
 
 use crate::command::argument::{is_given, operand, value};
 use crate::command::evidence::{ask, judged_paths};
-use audit::{At, Request};
+use audit::{At, AtReading, Request};
 use claim_file::read_time;
 use clap::ArgMatches;
 use program::{Invocation, Judgement};
+use reading_time::read_reading;
 use std::alloc::{AllocError, Global};
 
 /// The moment that it is asked about, if its TIME is written as a claim's times are.
@@ -17,6 +18,17 @@ fn time_of(words: &ArgMatches) -> Option<u32>
     ensures { result ≡ time_given (found_rows words.now) }
 {
     read_time(operand(words, "TIME"))
+}
+
+/// The ticks of the reading that it is asked about, if its TIME is written as one.
+fn ticks_of(words: &ArgMatches) -> Option<AtReading>
+    ensures { result ≡ ticks_given (found_rows words.now) }
+{
+    let reading = read_reading(operand(words, "TIME").as_bytes())?;
+    Some(AtReading {
+        begin: reading.begin,
+        end: reading.end,
+    })
 }
 
 /// The TIME that is refused, if a person is told of it.
@@ -37,6 +49,18 @@ fn is_there(words: &ArgMatches, name: &str) -> bool
     value(words, name).is_some()
 }
 
+/// What the words with a TIME that isn't written as a claim's times call for.
+fn asked_over(alloc: Global, words: &ArgMatches) -> Result<Invocation, AllocError>
+    requires alone { first_of (codes "times") (found_rows words.now) ≡ None }
+    requires no_moment { time_given (found_rows words.now) ≡ None }
+    ensures { IfOk result (IsCalled (codes "at") (found_rows words.now)) }
+{
+    match ticks_of(words) {
+        Some(reading) => ask(alloc, Request::Reading(reading), words),
+        None => Ok(Invocation::RefuseTime(shown_time(alloc, words)?)),
+    }
+}
+
 /// What the words with a TIME call for: it is read before anything else is done.
 fn asked_at(alloc: Global, words: &ArgMatches) -> Result<Invocation, AllocError>
     requires { first_of (codes "times") (found_rows words.now) ≡ None }
@@ -44,7 +68,7 @@ fn asked_at(alloc: Global, words: &ArgMatches) -> Result<Invocation, AllocError>
 {
     match time_of(words) {
         Some(unix_second) => ask(alloc, Request::At(At { unix_second }), words),
-        None => Ok(Invocation::RefuseTime(shown_time(alloc, words)?)),
+        None => asked_over(alloc, words),
     }
 }
 
