@@ -5,7 +5,7 @@ import re
 from tests.support import ROOT
 
 TABLES = {"capture": ["Fault lines"], "claim": ["Claims"], "certificate": ["Certificates", "Certificates by covers"],
-          "refutation": ["Refutations"]}
+          "refutation": ["Refutations"], "times": ["A moment"]}
 """The sections that have the numbers and words of an input's faults."""
 
 VARYING = re.compile(r"\b(PLACE|CODE|INPUT|K|N|P)\b")
