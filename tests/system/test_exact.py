@@ -2,8 +2,8 @@
 servers that are off, always or for a while, or creep away.
 
 `nothing fits` and `no evidence` are said just where it is so, no claim is shown that a course breaks, none is refuted
-that all keep, and none stays open but by rounding: a few ticks about the greatest error. NTPAUDIT_CLAIMS captures are
-made, in shares.
+that all keep, and none stays open but by rounding: within two ticks of the greatest error. NTPAUDIT_CLAIMS captures
+are made, in shares.
 """
 import json
 import os
@@ -24,7 +24,7 @@ from tests.second.settlement import kind_of
 from tests.tools.families import BEGIN, Exchanges, Row, Setting, write
 
 CAPTURES, SHARES = int(os.environ.get("NTPAUDIT_CLAIMS", "1000")), 10
-ABOVE, BELOW = 3, 4
+ABOVE, BELOW = 1, 1
 """How many ticks above the greatest error, or below the greatest whole one at a whole reading, a claim may be open."""
 WANTED = {"unfitted": "nothing fits", "unbounded": "no evidence"}
 
