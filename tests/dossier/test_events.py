@@ -254,19 +254,28 @@ def test_page(place: Path) -> None:
                 *folders)
         text = (place / unit / "index.html").read_text()
         page = check_page(f"the page of a {unit}", text)
-        cells = [row.split("<td")[-1].partition(">")[2].partition("<")[0].strip() for row in text.split("</tr>")[1:-1]]
         check(f"a {unit}", rows=(text.count('class="bar"'), rows), title=("A <log>" in unescape(text), True),
               beside=(beside in text, True), others=("<b>" in text, False), words=(words_in(page), True),
-              cells=(cells[:5], ["3", "2, 4", "3", "none", "none"]), cuts=(text.count('class="cut"'), rows - 3))
+              cells=(cells_of(text)[:5], ["3", "2, 4", "3", "none", "none"]),
+              cuts=(text.count('class="cut"'), rows - 3))
     dossier("events", "--split", place / "own", "--page", "second", log, *folders)
     check("a timeline that begins with the first event", begin=(
         "the second from 2001-09-09T11:59:59Z on" in (place / "own" / "index.html").read_text(), True))
+    within = log_of(place, f"machine,time\nweb-1,{NOON}.7Z\nweb-1,{NOON}.75Z\nweb-1,{NOON}.8Z\n")
+    dossier("events", "--split", place / "within", "--page", "second", "--from", f"{NOON}Z", within, *folders)
+    check("readings of one clock, of which one lies in another", cells=(
+        cells_of((place / "within" / "index.html").read_text()), ["3", "2", "none"]))
     many = log_of(place, "machine,time\n" + "".join(f"web-{1 + k % 2},{NOON}.{k:03}Z\n" for k in range(600)))
     dossier("events", "--split", place / "many", "--page", "minute", "--from", f"{NOON}Z", many, *folders)
     text = (place / "many" / "index.html").read_text()
     check("a page of many", rows=(text.count('class="bar"'), 500), left=("100 more events aren&#39;t drawn" in text
                                                                          or "100 more events aren't drawn" in text,
                                                                          True))
+
+
+def cells_of(text: str) -> list[str]:
+    """Of each row from which others it can't be told."""
+    return [row.split("<td")[-1].partition(">")[2].partition("<")[0].strip() for row in text.split("</tr>")[1:-1]]
 
 
 def words_in(page: Outline) -> bool:
