@@ -23,7 +23,7 @@ def test_form() -> None:
         check("flake8 finds nothing", run=(run(words, cwd=ROOT)[:2], (0, b"")))
 
 
-WIDTHS = {"src": (100, 10), "specs": (100, 4), "proofs": (120, 37)}
+WIDTHS = {"src": (100, 8), "specs": (100, 4), "proofs": (120, 35)}
 """How wide a line is in each folder of a crate, and how many at most are wider: they stand in crates on which others
 stand, whose proofs they would cost. Lists of what a file takes (`use`) have no width."""
 

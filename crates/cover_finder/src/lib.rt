@@ -2,9 +2,9 @@
 //!
 //! [`find_by_covers`] names each conflict, takes each minimal cover for a case, and makes the
 //! pieces of each case as long as the bound allows, from left to right (reach.rt). If the checker
-//! accepts what it makes, that is the answer. Where the pieces of a case stop, some course is beyond
-//! the bound, but for rounding: there it looks for a refutation, with the cover's groups false
-//! (refuted.rt). [`settle`] asks for it where a claim stays open without covers.
+//! accepts what it makes, that is the answer. Where the pieces of a case stop, some course is
+//! beyond the bound, but for rounding: there it looks for a refutation, with the cover's groups
+//! false (refuted.rt). [`settle`] asks for it where a claim stays open without covers.
 //!
 //! The marks of each server are laid out in a table once (table.rt), which says by a few searches
 //! what the server says over any piece. A low mark's moved end is the lesser of what it has fallen

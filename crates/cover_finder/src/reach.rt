@@ -21,8 +21,8 @@ fn stretch_of(begin: u64, end: u64) -> Stretch {
     }
 }
 
-/// A case: the groups that it leaves out, and how many ticks more than the claim's the bound is that
-/// its pieces have to show.
+/// A case: the groups that it leaves out, and how many ticks more than the claim's the bound is
+/// that its pieces have to show.
 #[derive(Clone, Copy)]
 pub(crate) struct Search<'a> {
     pub(crate) tables: &'a [Table],
@@ -95,8 +95,8 @@ impl<'a> Search<'a> {
         u64::try_from(i128::from(end).saturating_add(more)).unwrap_or(end)
     }
 
-    /// Where the longest piece from `begin` ends, if the one to `next` shows the bound. It is looked
-    /// for at `near` first, and then where the hulls that are seen say, a few times.
+    /// Where the longest piece from `begin` ends, if the one to `next` shows the bound. It is
+    /// looked for at `near` first, and then where the hulls that are seen say, a few times.
     fn longest_end(&self, begin: u64, next: u64, near: u64) -> u64 {
         let mut low = next;
         let mut high = (self.claim.last as u64).max(next);

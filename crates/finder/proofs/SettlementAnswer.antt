@@ -107,7 +107,8 @@ module _ (claim : ClaimData) (xs : List Exchange) where
   -- as some course fits, the samples don't contradict each other there, and so no certificate is accepted
   pub left_open : (begin end : ℤ) (hull : Hull) (covers : ℕ) (most : Option ℤ) → IsLawful claim
       → AreSamplesOf claim (samples_of xs claim) → IsHeard claim xs → IsFitted claim xs
-      → IsStuck (samples_of xs claim) claim begin end hull → NoneIsRefuted claim xs → AreHeld claim xs (unsigned_abs begin ∷ unsigned_abs end ∷ []) covers
+      → IsStuck (samples_of xs claim) claim begin end hull → NoneIsRefuted claim xs
+      → AreHeld claim xs (unsigned_abs begin ∷ unsigned_abs end ∷ []) covers
       → IfSome most (NoneIsBeyond claim xs) → IsLeftOpen claim xs begin end hull covers most
   left_open begin end hull covers most lawful are is_heard courses stuck none_refuted bounded within =
       let samples = samples_of xs claim in

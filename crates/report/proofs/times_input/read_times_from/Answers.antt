@@ -5,7 +5,8 @@ use Rattle.report.proofs.Reading.{input_is_read, input_refused, input_unread}
 use Rattle.report.proofs.times_input.read_times_from.Goals as goal
 
 pub returns-clause-known : goal.returns-clause-known
-returns-clause-known g c = input_unread times_data _ _ _ _ _ c.in-Err.fault c.in-Err.ensures.fault c.in-Err.ensures.whole
+returns-clause-known g c =
+    input_unread times_data _ _ _ _ _ c.in-Err.fault c.in-Err.ensures.fault c.in-Err.ensures.whole
 
 pub returns-in-Ok-read_times-clause-known : goal.returns-in-Ok-read_times-clause-known
 returns-in-Ok-read_times-clause-known g c =
