@@ -3,9 +3,10 @@ and judge the answers that it left."""
 import os
 import shutil
 from collections.abc import Iterator
+from contextlib import suppress
 from typing import NamedTuple
 
-from ..fault import MISSING, fault
+from ..fault import MISSING, Fault, fault
 from ..folder.entry import NO_EVIDENCE, NOTHING_FITS, REFUTED, YES, Entry
 from ..folder.files import CERTIFICATE, CLAIM, CLAIM_OF_0, REFUTATION, REPORT, own_data, sum_of_file
 from ..folder.jobs import ENVIRONMENT, stream
@@ -23,27 +24,40 @@ class OtherProgram(NamedTuple):
     name: str
     path: str
     sha256: str
+    takes_several: bool = False
+    """Whether it judges several answers at a call, for which it reads the capture once."""
 
     def disputes(self, entry: Entry, capture: str) -> Iterator[str]:
         """What it disputes of an audit's answers, whose files are in the current folder. What it doesn't judge is a
         fault."""
-        for claim, answer, wanted in answers_of(entry):
-            status, said = self.says(claim, capture, answer)
+        answers = list(answers_of(entry))
+        if self.takes_several and len(answers) > 1 and self.accepts(answers, capture):
+            return
+        for claim, answer, wanted in answers:
+            status, said = self.says(capture, answer, claim, answer)
             if said != wanted or status != (0 if wanted.endswith(" yes") else 1):
                 yield f'of {answer} the program says "{wanted}", and the {self.name} "{said}" (status {status})'
 
-    def says(self, claim: str, capture: str, answer: str) -> tuple[int, str]:
-        """The status and the line that it gives."""
+    def accepts(self, answers: list[tuple[str, str, str]], capture: str) -> bool:
+        """Whether it says at one call what it has to of each answer, and all are yes. Else each is asked by itself."""
+        files = [file for claim, answer, _ in answers for file in (claim, answer)]
+        with suppress(Fault):
+            return self.says(capture, " and ".join(files[1::2]), *files) == \
+                (0, plain("\n".join(wanted for _, _, wanted in answers)))
+        return False
+
+    def says(self, capture: str, what: str, claim: str, *answers: str) -> tuple[int, str]:
+        """The status and what it prints of answers, each but the first behind its claim."""
         said = bytearray()
 
         def take(block: bytes) -> None:
             said.extend(block)
             if len(said) > MOST_OF_A_LINE:
-                raise fault(f"the {self.name} says more of {answer} than a line")
-        status, error = stream([self.path, claim, capture, answer, "--drift"], take)
+                raise fault(f"the {self.name} says more of {what} than a line")
+        status, error = stream([self.path, claim, capture, *answers, "--drift"], take)
         if status not in (0, 1):
             why = plain((lines_of(error) or [f"status {status}, and no line"])[0][:MOST_OF_A_LINE])
-            raise fault(f"the {self.name} doesn't judge {answer} ({why})")
+            raise fault(f"the {self.name} doesn't judge {what} ({why})")
         return status, plain(said.decode("utf-8", "replace").removesuffix("\n"))
 
 
@@ -92,7 +106,7 @@ def find_second() -> Second:
     path, judge = path_of(NAME, "NTPAUDIT_SECOND", "second/recheck"), path_of(JUDGE, "NTPAUDIT_JUDGE", "")
     if not path or not os.access(path, os.X_OK):
         raise fault(f"the second program, {NAME}, isn't there: NTPAUDIT_SECOND is the path to it", MISSING)
-    programs = [OtherProgram("second program", path, sum_of_file(path))]
+    programs = [OtherProgram("second program", path, sum_of_file(path), takes_several=True)]
     if judge:
         if not os.access(judge, os.X_OK):
             raise fault(f"the judge, {JUDGE}, isn't there: NTPAUDIT_JUDGE is the path to it", MISSING)

@@ -164,6 +164,19 @@ def test_no_second(place: Path) -> None:
         check(f"what else it says: {text}", said=(why in told, True))
 
 
+def test_at_one_call(place: Path) -> None:
+    """The answers of a yes are judged at one call, for which the second reads the capture once. One that takes an
+    answer alone, as an older one does, is asked of each."""
+    yes = folder_of(place, "yes")
+    dossier("audit", "--state", place / "state", yes)
+    for name, takes, wanted in (("this", "", [6]), ("older", "[ $# -le 4 ] || exit 2\n", [6, 4, 4])):
+        calls = place / f"{name}.calls"
+        env = scripted(place / name, f"#!/bin/sh\necho $# >> '{calls}'\n{takes}exec '{RECHECK}' \"$@\"\n")
+        ran = dossier("verify", "--state", place / "state", "--second", yes, env=env)
+        check(f"at one call: {name}", run=((ran[0], b"(judged by two programs)" in ran[1]), (0, True)),
+              words=(list(map(int, calls.read_text().split())), wanted))
+
+
 def test_second_on_the_path(place: Path) -> None:
     """The second program is found beside the dossier where that is installed, else in an absolute entry of PATH."""
     prefix, folder = place / "prefix", folder_of(place, "host")

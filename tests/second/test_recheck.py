@@ -14,6 +14,7 @@ import tempfile
 from collections import Counter
 from collections.abc import Callable, Iterator
 from functools import partial
+from itertools import permutations
 from pathlib import Path
 
 from tests.support import DATA, ROOT, Ran, count, files_in, program, run
@@ -303,7 +304,27 @@ def answer_again(asked: Trial) -> None:
     asked.compare("transcript", *drift)
 
 
+def several(trial: Trial) -> None:
+    """Answers at one call have the lines that each has by itself, and the status that all of them have."""
+    capture, claim = DATA / "chrony-ns.pcap", json.loads((DATA / "chrony-ns.claim.json").read_text())
+    for name, other in (("as it is", {}), ("bound 0", {"bound_ns": 0}), ("reading", {"reading_ns": 1})):
+        (trial.folder / name).write_text(json.dumps({**claim, **other}))
+    asked = [(trial.folder / of, DATA / f"chrony-ns.{answer}") for of in ("as it is", "bound 0")
+             for answer in ("1.certificate.json", "settle.txt", "tight.settle.txt")]
+    alone = {one: recheck(one[0], capture, one[1], "--drift") for one in asked}
+    for one, other in permutations(asked, 2):
+        together = max(alone[one][0], alone[other][0])
+        ran = recheck(one[0], capture, one[1], *other, "--drift")
+        trial.seen[f"several: status {together}"] += 1
+        if ran[:2] != (together, alone[one][1] + alone[other][1]):
+            trial.wrong.append(f"{one} and {other} at one call: {ran}")
+    ran = recheck(*asked[0][:1], capture, asked[0][1], trial.folder / "reading", asked[0][1])
+    if ran != (2, b"", b"recheck: claim: claims that differ in client, servers or reading_ns\n"):
+        trial.wrong.append(f"claims of other exchanges: {ran}")
+
+
 def jobs() -> Iterator[tuple[str, Job]]:
+    yield "several at a call", several
     for name in transcript.cases():
         if name.split("/")[0] in ("check", "refute", "settle", "inputs") and name != PASSED_OVER:
             yield name, partial(typed, name)

@@ -1,8 +1,8 @@
 """A fleet's year: days of histories whose truth is known, laid on each date of each machine, are audited, kept, signed,
 brought together, put into a calendar, and verified in each way that there is.
 
-usage: python3 -m tests.truth.year FOLDER [--machines N] [--days N] [--poll SECONDS] [--jobs N] [--changes N]
-       [STAGE]..
+usage: python3 -m tests.truth.year FOLDER [--machines N] [--first N] [--days N] [--poll SECONDS] [--jobs N]
+       [--changes N] [STAGE]..
 
 A stage goes on where it was stopped, and says the processor seconds that it took. All of them, in their order:
 
@@ -20,11 +20,13 @@ import resource
 import shutil
 import subprocess
 import sys
+from array import array
 from collections import Counter
-from collections.abc import Callable, Iterator
+from collections.abc import Callable, Iterable, Iterator
 from concurrent.futures import ThreadPoolExecutor
 from datetime import datetime, timedelta, timezone
 from functools import partial
+from operator import add
 from pathlib import Path
 
 from tests.support import ROOT
@@ -74,32 +76,34 @@ def address_of(machine: int) -> str:
 def laid(recorded: bytes, machine: int, day: int) -> bytes:
     """A capture of the first date, as it would be of another machine on another date."""
     body = bytearray(recorded[24:] + bytes(-(len(recorded) - 24) % LENGTH))
-    are_replies = [first == 0x24 for first in body[NTP::LENGTH]]
+    days = [day * SECONDS] * (len(body) // LENGTH)
+    of_replies = [day * SECONDS * (first == 0x24) for first in body[NTP::LENGTH]]
 
-    def later(at: int, order: Callable[[int], int], which: list[bool]) -> None:
-        columns = [body[at + order(k)::LENGTH] for k in range(4)]
-        values = [(a | b << 8 | c << 16 | d << 24) + day * SECONDS * is_in
-                  for a, b, c, d, is_in in zip(*columns, which)]
-        for k in range(4):
-            body[at + order(k)::LENGTH] = bytes(value >> 8 * k & 255 for value in values)
+    def changed(at: int, order: tuple[int, ...], change: "Callable[[array[int]], Iterable[int]]") -> None:
+        """Changes the number of four bytes that each record has there, in this order from the least."""
+        column = bytearray(4 * len(days))
+        for k, place in enumerate(order):
+            column[k::4] = body[at + place::LENGTH]
+        own = array("I", change(array("I", bytes(column)))).tobytes()
+        for k, place in enumerate(order):
+            body[at + place::LENGTH] = own[k::4]
 
-    later(0, lambda k: k, [True] * len(are_replies))
+    least_first = (0, 1, 2, 3)
+    changed(0, least_first, partial(map, add, days))
     for at in (16, 32, 40):  # (the reference, receive and transmit timestamps)
-        later(NTP + at, lambda k: 3 - k, are_replies)
-    old, new = (bytes(map(int, text.split("."))) for text in (CLIENT, address_of(machine)))
+        changed(NTP + at, least_first[::-1], partial(map, add, of_replies))
+    old, new = (int.from_bytes(map(int, text.split(".")), "little") for text in (CLIENT, address_of(machine)))
     for at in (42, 46):
-        addresses = zip(*(body[at + k::LENGTH] for k in range(4)))
-        rows = [new if bytes(row) == old else bytes(row) for row in addresses]
-        for k in range(4):
-            body[at + k::LENGTH] = bytes(row[k] for row in rows)
+        changed(at, least_first, lambda column: [new if one == old else one for one in column])
     return recorded[:24] + bytes(body[:len(recorded) - 24])
 
 
 class Fleet:
-    def __init__(self, place: Path, machines: int, days: int, poll: int, jobs: int, changes: int):
+    def __init__(self, place: Path, machines: range, days: int, poll: int, jobs: int, changes: int):
         self.place, self.machines, self.days, self.poll, self.jobs = place, machines, days, poll, jobs
         self.changes = changes
-        self.histories: dict[int, History] = {}
+        self.claims: dict[int, dict[str, object]] = {}
+        self.captures: dict[int, dict[str, bytes]] = {}
         self.verdicts: dict[int, str] = {}
         place.mkdir(parents=True, exist_ok=True)
 
@@ -127,39 +131,42 @@ class Fleet:
     def known(self) -> None:
         """Makes the histories, and holds what is said of each to it."""
         number = RIGHT + len(KINDS) - 2
-        self.histories = {seed: Whole(seed, self.poll, kinds_of(seed)) for seed in range(number)}
+        histories = {seed: Whole(seed, self.poll, kinds_of(seed)) for seed in range(number)}
         place = self.place / "histories"
         shutil.rmtree(place, ignore_errors=True)
         place.mkdir()
-        told = read({place / f"{seed:03}": (history, None) for seed, history in self.histories.items()})
+        told = read({place / f"{seed:03}": (history, None) for seed, history in histories.items()})
         for seed, one in enumerate(told):
             self.verdicts[seed] = one.view.verdict
             for wrong in [one.fault] * bool(one.fault) + untrue(one):
                 print(f"history {seed} {kinds_of(seed)}: {wrong}", flush=True)
         shutil.rmtree(place)
+        self.claims = {seed: history.claim for seed, history in histories.items()}
+        self.captures = {seed: {recorder.name: capture(history, recorder) for recorder in history.recorders}
+                         for seed, history in histories.items()}
 
     def date(self, day: int) -> str:
         return f"{datetime(YEAR, 1, 1) + timedelta(day):%Y-%m-%d}"
 
     def make(self, machine: int, day: int) -> Path:
         """The folder of a machine's day, as its recorder and a person leave it."""
-        history = self.histories[of_date(machine, day, self.days)]
+        seed = of_date(machine, day, self.days)
         folder = self.place / "machines" / f"web-{machine}" / self.date(day)
         folder.mkdir(parents=True)
-        claim = {**history.claim, "client": address_of(machine), "from": f"{self.date(day)}T00:00:00Z",
+        claim = {**self.claims[seed], "client": address_of(machine), "from": f"{self.date(day)}T00:00:00Z",
                  "to": f"{self.date(day + 1)}T00:00:00Z"}
         (folder / "claim.json").write_text(json.dumps(claim))
-        for recorder in history.recorders:
-            (folder / recorder.name).write_bytes(laid(capture(history, recorder), machine, day))
+        for name, recorded in self.captures[seed].items():
+            (folder / name).write_bytes(laid(recorded, machine, day))
         return folder
 
     def machine(self, machine: int) -> list[str]:
-        """A machine's days, a week at a time: what isn't as it is known to be."""
+        """A machine's days, four weeks at a time: what isn't as it is known to be."""
         wrong, done = [], self.place / "done" / str(machine)
         done.parent.mkdir(exist_ok=True)
         begin = int(done.read_text()) if done.exists() else 0
-        for week in range(begin, self.days, 7):
-            days = range(week, min(week + 7, self.days))
+        for first in range(begin, self.days, 28):
+            days = range(first, min(first + 28, self.days))
             for day in days:
                 shutil.rmtree(self.place / "machines" / f"web-{machine}" / self.date(day), ignore_errors=True)
             folders = [self.make(machine, day) for day in days]
@@ -182,14 +189,14 @@ class Fleet:
         self.known()
         print(f"histories: {Counter(self.verdicts.values())}", flush=True)
         with ThreadPoolExecutor(self.jobs) as pool:
-            wrong = [line for lines in pool.map(self.machine, range(self.machines)) for line in lines]
+            wrong = [line for lines in pool.map(self.machine, self.machines) for line in lines]
         print("\n".join(wrong[:20]))
         return f"{len(self.days_of('machines'))} days, {len(wrong)} not as they are known to be"
 
     def stage_fleet(self) -> str:
         """Links stand for what rsync brings over."""
         signers = self.place / "signers"
-        names = [f"web-{machine}" for machine in range(self.machines)]
+        names = [f"web-{machine}" for machine in self.machines]
         signers.write_text("".join(f"{name} {self.key(name).with_suffix('.pub').read_text()}" for name in names)
                            + f"auditor {self.key('auditor').with_suffix('.pub').read_text()}")
         for name in names:
@@ -257,11 +264,11 @@ def stages() -> Iterator[str]:
 def main() -> int:
     parser = argparse.ArgumentParser(usage=(__doc__ or "").partition("usage: ")[2])
     parser.add_argument("folder", type=lambda text: Path(text).resolve())
-    for name, number in (("machines", 50), ("days", 365), ("poll", 16), ("jobs", 4), ("changes", 5000)):
+    for name, number in (("machines", 50), ("first", 0), ("days", 365), ("poll", 16), ("jobs", 4), ("changes", 5000)):
         parser.add_argument(f"--{name}", type=int, default=number)
     parser.add_argument("stages", nargs="*", default=[], metavar="STAGE")
     given = parser.parse_intermixed_args()
-    fleet = Fleet(given.folder, given.machines, given.days, given.poll, given.jobs, given.changes)
+    fleet = Fleet(given.folder, range(given.first, given.first + given.machines), given.days, given.poll, given.jobs, given.changes)
     for name in given.stages or stages():
         before = resource.getrusage(resource.RUSAGE_CHILDREN)
         said = getattr(fleet, f"stage_{name}")()
