@@ -307,8 +307,8 @@ def answer_again(asked: Trial) -> None:
 def several(trial: Trial) -> None:
     """Answers at one call have the lines that each has by itself, and the status that all of them have."""
     capture, claim = DATA / "chrony-ns.pcap", json.loads((DATA / "chrony-ns.claim.json").read_text())
-    for name, other in (("as it is", {}), ("bound 0", {"bound_ns": 0}), ("reading", {"reading_ns": 1})):
-        (trial.folder / name).write_text(json.dumps({**claim, **other}))
+    for name, changes in (("as it is", "{}"), ("bound 0", '{"bound_ns": 0}'), ("reading", '{"reading_ns": 1}')):
+        (trial.folder / name).write_text(json.dumps({**claim, **json.loads(changes)}))
     asked = [(trial.folder / of, DATA / f"chrony-ns.{answer}") for of in ("as it is", "bound 0")
              for answer in ("1.certificate.json", "settle.txt", "tight.settle.txt")]
     alone = {one: recheck(one[0], capture, one[1], "--drift") for one in asked}

@@ -28,6 +28,7 @@ from datetime import datetime, timedelta, timezone
 from functools import partial
 from operator import add
 from pathlib import Path
+from typing import Any
 
 from tests.support import ROOT
 from tests.truth.clock import SECOND
@@ -89,9 +90,9 @@ def laid(recorded: bytes, machine: int, day: int) -> bytes:
             body[at + place::LENGTH] = own[k::4]
 
     least_first = (0, 1, 2, 3)
-    changed(0, least_first, partial(map, add, days))
+    changed(0, least_first, lambda column: map(add, column, days))
     for at in (16, 32, 40):  # (the reference, receive and transmit timestamps)
-        changed(NTP + at, least_first[::-1], partial(map, add, of_replies))
+        changed(NTP + at, least_first[::-1], lambda column: map(add, column, of_replies))
     old, new = (int.from_bytes(map(int, text.split(".")), "little") for text in (CLIENT, address_of(machine)))
     for at in (42, 46):
         changed(at, least_first, lambda column: [new if one == old else one for one in column])
@@ -102,7 +103,7 @@ class Fleet:
     def __init__(self, place: Path, machines: range, days: int, poll: int, jobs: int, changes: int):
         self.place, self.machines, self.days, self.poll, self.jobs = place, machines, days, poll, jobs
         self.changes = changes
-        self.claims: dict[int, dict[str, object]] = {}
+        self.claims: dict[int, dict[str, Any]] = {}
         self.captures: dict[int, dict[str, bytes]] = {}
         self.verdicts: dict[int, str] = {}
         place.mkdir(parents=True, exist_ok=True)
@@ -268,7 +269,8 @@ def main() -> int:
         parser.add_argument(f"--{name}", type=int, default=number)
     parser.add_argument("stages", nargs="*", default=[], metavar="STAGE")
     given = parser.parse_intermixed_args()
-    fleet = Fleet(given.folder, range(given.first, given.first + given.machines), given.days, given.poll, given.jobs, given.changes)
+    machines = range(given.first, given.first + given.machines)
+    fleet = Fleet(given.folder, machines, given.days, given.poll, given.jobs, given.changes)
     for name in given.stages or stages():
         before = resource.getrusage(resource.RUSAGE_CHILDREN)
         said = getattr(fleet, f"stage_{name}")()
