@@ -307,8 +307,9 @@ def answer_again(asked: Trial) -> None:
 def several(trial: Trial) -> None:
     """Answers at one call have the lines that each has by itself, and the status that all of them have."""
     capture, claim = DATA / "chrony-ns.pcap", json.loads((DATA / "chrony-ns.claim.json").read_text())
-    for name, changes in (("as it is", "{}"), ("bound 0", '{"bound_ns": 0}'), ("reading", '{"reading_ns": 1}')):
-        (trial.folder / name).write_text(json.dumps({**claim, **json.loads(changes)}))
+    claims = {"as it is": claim, "bound 0": {**claim, "bound_ns": 0}, "reading": {**claim, "reading_ns": 1}}
+    for name, own in claims.items():
+        (trial.folder / name).write_text(json.dumps(own))
     asked = [(trial.folder / of, DATA / f"chrony-ns.{answer}") for of in ("as it is", "bound 0")
              for answer in ("1.certificate.json", "settle.txt", "tight.settle.txt")]
     alone = {one: recheck(one[0], capture, one[1], "--drift") for one in asked}
