@@ -7,7 +7,7 @@ from collections.abc import Iterator
 from html import unescape
 from pathlib import Path
 
-from tests.support import check, files_in
+from tests.support import DATA, check, files_in
 from tests.dossier.audits import ENVIRONMENT, KEEP, Outline, capture_of, check_page, dossier, folder_of, stand_in
 from tests.dossier.test_verdicts import CLAIM
 from tests.dossier.test_years import FIRST, RIGHT, WIDE, day
@@ -271,6 +271,20 @@ def test_page(place: Path) -> None:
     check("a page of many", rows=(text.count('class="bar"'), 500), left=("100 more events aren&#39;t drawn" in text
                                                                          or "100 more events aren't drawn" in text,
                                                                          True))
+
+
+def test_example(place: Path) -> None:
+    """Of the log of data/events four pairs can't be told apart, each of two machines; two events of one machine can,
+    whose times overlap."""
+    shutil.copytree(DATA / "events", place / "events")
+    folders = [place / "events" / "web-1", place / "events" / "web-2"]
+    dossier("audit", *folders)
+    ran = dossier("events", "--split", place / "out", "--page", "minute", place / "events" / "log.csv", *folders)
+    cells = cells_of((place / "out" / "index.html").read_text())
+    rows = rows_of((place / "out" / "answered.csv").read_bytes())
+    check("the example", run=(ran, (0, b"", b"")), rows=(len(cells), 20), overlap=(rows[4][1] > rows[5][0], True),
+          pairs=({line: cell for line, cell in enumerate(cells, 2) if cell != "none"},
+                 {8: "9", 9: "8", 10: "11", 11: "10", 16: "17", 17: "16", 19: "20", 20: "19"}))
 
 
 def cells_of(text: str) -> list[str]:
