@@ -3,6 +3,7 @@
 It is one of ssh-keygen, beside audit.json. Who may sign stands in a file of allowed signers, as ssh-keygen has it.
 """
 import re
+from base64 import b64decode
 from contextlib import suppress
 from datetime import datetime
 from typing import NamedTuple
@@ -20,6 +21,7 @@ NAMESPACE = "ntpaudit-dossier"
 
 NONE, UNSEEN, GOOD, UNFIT, STRANGER = "none", "unseen", "good", "unfit", "stranger"
 KEY = re.compile(r"with (\S+) key (\S+)")
+PLAIN_NAME = re.compile(rb"[A-Za-z0-9][A-Za-z0-9@._-]*")
 NO_KEYGEN = "ssh-keygen isn't installed, which makes signatures and looks at them"
 SIGNED, SIGNERS = "signed", "signers"
 """Private copies of what was signed, and of who may sign."""
@@ -61,28 +63,47 @@ class Signers:
             return Signature(UNSEEN, at)
         for name, text in ((SIGNED, data), (SIGNATURE, signature), (SIGNERS, self.given)):
             keep(name, text)
-        return self.looked_at(at)
+        on = ["-O", f"verify-time={local(at)}"] if is_time(at) else []
+        holder = holder_of(self.given, signature)
+        status, said, _ = self.verify(holder, on) if holder else (1, "", "")
+        if not status and (key := KEY.search(said)):
+            return Signature(GOOD, at, holder, f"{key[1]} {key[2]}")
+        return self.looked_at(at, on)
 
-    def looked_at(self, at: str) -> Signature:
+    def looked_at(self, at: str, on: list[str]) -> Signature:
         """What `ssh-keygen` says of a private copy of a signature that was made at this time."""
         status, said, _ = self.keygen("check-novalidate", "-n", NAMESPACE)
         key = KEY.search(said)
         if status or not key:
             return Signature(UNFIT, at)
         signature = Signature(STRANGER, at, key=f"{key[1]} {key[2]}")
-        on = ["-O", f"verify-time={local(at)}"] if is_time(at) else []
         _, named, error = self.keygen("find-principals", *on, "-f", SIGNERS)
         for signer in named.splitlines():
-            status, _, error = self.keygen("verify", *on, "-f", SIGNERS, "-I", signer, "-n", NAMESPACE)
+            status, _, error = self.verify(signer, on)
             if not status:
                 return signature._replace(state=GOOD, signer=signer)
         lines = [line for line in error.splitlines() if line]
         return signature._replace(why=lines[0] if lines else "")
 
+    def verify(self, signer: str, on: list[str]) -> tuple[int, str, str]:
+        return self.keygen("verify", *on, "-f", SIGNERS, "-I", signer, "-n", NAMESPACE)
+
     def keygen(self, *words: str) -> tuple[int, str, str]:
         tool = find_tool("ssh-keygen", NO_KEYGEN)
         status, said, error = run([tool, "-Y", *words, "-s", SIGNATURE], SIGNED)
         return status, said.decode("utf-8", "replace"), error.decode("utf-8", "replace")
+
+
+def holder_of(signers: bytes, signature: bytes) -> str:
+    """Whose key is in a signature, by a file of allowed signers, if a line of it alone has that key, and a plain name;
+    else nothing. With that name one call of `ssh-keygen` tells what else takes three."""
+    with suppress(ValueError):
+        within = b64decode(b"".join(signature.split(b"\n")[1:-1]).partition(b"-")[0], validate=True)
+        lines = [words for words in map(bytes.split, signers.splitlines())
+                 if any(word.startswith(b"AAAA") and b64decode(word) in within for word in words)]
+        if len(lines) == 1 and PLAIN_NAME.fullmatch(lines[0][0]):
+            return lines[0][0].decode()
+    return ""
 
 
 def signed_in(folder: Folder) -> str:

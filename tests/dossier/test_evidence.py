@@ -154,6 +154,29 @@ def bare_path(place: Path) -> dict[str, str]:
     return {**ENVIRONMENT, "PATH": str(place / "bin")}
 
 
+def test_calls_of_keygen(place: Path) -> None:
+    """A good signature takes one call of ssh-keygen, if a line of the signers alone has its key, and a plain name; and
+    what else is said of it is as by more."""
+    if not is_here("ssh-keygen", "calls of ssh-keygen"):
+        return
+    (key, line), (_, other) = key_of(place, "alice"), key_of(place, "mallory")
+    folder, calls, keygen = audited(place, "folder"), place / "calls", shutil.which("ssh-keygen")
+    dossier("sign", "--key", key, folder)
+    runnable(place / "ssh-keygen", f"#!/bin/sh\necho \"$2\" >> '{calls}'\nexec {keygen} \"$@\"\n")
+    one, three = ["verify"], ["check-novalidate", "find-principals", "verify"]
+    ended = line.replace(" ", ' valid-before="20200101" ', 1)
+    for name, text, wanted, said in (
+            ("alone", line + other, one, " by alice@example.org, "),
+            ("twice", line + line, three, " by alice@example.org, "),
+            ("several names", f"bob,{line}", three, " by "), ("a pattern", line.replace("alice", "*"), three, " by "),
+            ("ended", ended, ["verify", *three[:2]], "may not sign"), ("another", other, three[:2], "may not sign")):
+        (place / "signers").write_text(text)
+        calls.write_text("")
+        out = dossier("verify", "--signers", place / "signers", folder,
+                      env={**ENVIRONMENT, "PATH": f"{place}:{ENVIRONMENT['PATH']}"})[1].decode()
+        check(f"calls of ssh-keygen: {name}", calls=(calls.read_text().split(), wanted), words=(said in out, True))
+
+
 def test_signing_again(place: Path) -> None:
     """A signed folder is audited again only with --again; what can't be signed isn't."""
     if not is_here("ssh-keygen", "signing again"):
