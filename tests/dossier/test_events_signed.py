@@ -8,7 +8,7 @@ from pathlib import Path
 from typing import Any
 
 from tests.support import check, is_here, run, sum_of
-from tests.dossier.audits import ENVIRONMENT, KEEP, dossier, parts_left
+from tests.dossier.audits import ENVIRONMENT, KEEP, dossier, parts_left, rows
 from tests.dossier.test_events import NOON, TIMES, fleet_of, log_of, rows_of, words_of
 from tests.dossier.test_evidence import key_of
 from tests.dossier.test_fleets import days_of, signed_fleet
@@ -29,7 +29,7 @@ def signed_answer(place: Path) -> tuple[list[object], Path, Path, Path]:
     return asked, out, key, place / "signers"
 
 
-def as_signed(place: Path, *folders: Path, **how: Any) -> tuple[int, str]:
+def as_signed(place: Path, *folders: Path, **how: Any) -> tuple[int | str, str]:
     """What `verify --as-signed` says of some folders, or of the answer and its fleet."""
     named = folders or (place / "answer", place / "fleet")
     status, out, _ = dossier("verify", "--as-signed", "--signers", place / "signers", *named, **how)
@@ -61,6 +61,8 @@ def test_signed(place: Path) -> None:
     check("verify it as signed", status=(status, 0), last=(
         text.splitlines()[-1], "all is as it was signed; not shown: nothing, all is shown"))
     before = contents(out)
+    check("audit a signed answer", run=(dossier("audit", out)[:2], (5, (
+        f"refused       {out}: ntpaudit-dossier: events.json is signed, so nothing is written beside it\n").encode())))
     for name, words in (("events", asked), ("year", ["year", "--split", out, asked[-1]]),
                         ("page", ["page", "--split", out, place / "fleet" / "web-1" / DAY])):
         status, _, err = dossier(*words)
@@ -105,9 +107,9 @@ def test_changed(place: Path) -> None:
     status, text = as_signed(place)
     check("another order of the log's rows", status=(status, 1), told=(
         "events.csv isn't the file that events.json names" in text, True))
-    for name, changes in (("with its sum", {"log": sum_of((out / "events.csv").read_bytes())}),
-                          ("with another time", {"signed": "2020-01-01T00:00:00Z"}),
-                          ("with another option", {"asked": {**record["asked"], "sort": "given"}})):
+    for name, changes in rows(("with its sum", {"log": sum_of((out / "events.csv").read_bytes())}),
+                              ("with another time", {"signed": "2020-01-01T00:00:00Z"}),
+                              ("with another option", {"asked": {**record["asked"], "sort": "given"}})):
         (out / "events.json").write_text(json.dumps({**record, **changes}, indent=1) + "\n")
         status, text = as_signed(place)
         check(f"the same {name}", status=(status, 1), told=("the signature doesn't fit" in text, True))
@@ -150,10 +152,10 @@ def test_machines(place: Path) -> None:
     check("days without signers", words=(words_of(dossier("events", log, one, two, env=here)[1]),
                                          ["yes", *["not verified"] * 3]))
     dossier("events", *words, log, one, two, env=here)
-    rows, text = rows_of((out / "answered.csv").read_bytes()), (out / "index.html").read_text()
-    check("days by their signers", words=([words for *_, words in rows], [
+    told, text = rows_of((out / "answered.csv").read_bytes()), (out / "index.html").read_text()
+    check("days by their signers", words=([words for *_, words in told], [
         "yes", "refuted as signed by web-1", "yes as signed by web-2", "not verified"]),
-        times=(rows[2][:2], TIMES.decode().split(",")[1:3]), page=([said in text for said in (
+        times=(told[2][:2], TIMES.decode().split(",")[1:3]), page=([said in text for said in (
             "<br>yes as signed by web-2", "Some days are as web-2 signed them: nobody made them again")], [True] * 2),
         by=([machine.get("by") for machine in json.loads((out / "events.json").read_text())["machines"]],
             [{"2001-09-10": "web-1"}, {DAY: "web-2"}]))
