@@ -177,8 +177,8 @@ OPTIONS = [
     Option("events", "--sort", "ORDER", "`given`, as the log has it; `time`, by what clocks showed; `earliest` or "
            "`latest`; given if it is left out",
            {"default": "given", "choices": ["given", "time", "earliest", "latest"]}),
-    Option("events", "--split", "DIR", "write the log, the answer (answered.csv) and what `verify` takes (events.json) "
-           "into DIR; the answer to standard output if it is left out"),
+    Option("events", "--split", "DIR", "write the log, the answer (answered.csv) and what `sign` and `verify` take "
+           "(events.json) into DIR; the answer to standard output if it is left out"),
     Option("events", "--page", "LENGTH",
            "a page too (index.html), with a timeline of a `second`, a `minute` or a `day`",
            {"choices": ["second", "minute", "day"]}),
@@ -187,9 +187,9 @@ OPTIONS = [
     Option("events", "--title", "TEXT", "the page's heading", {"default": "Events"}),
     Option("events", "--jobs", (1, 4096), "folders side by side; as many as processors if it is left out", JOBS),
     Option("sign", "--key", "FILE", "a private key, or the public one of a key that an agent holds", REQUIRED),
-    Option("page verify sign year", "--signers", "FILE",
-           "who may sign, as ssh-keygen's file of allowed signers has it: signatures are checked, and a year counts "
-           "days that are signed by their machine"),
+    Option("page verify sign year events", "--signers", "FILE",
+           "who may sign, as ssh-keygen's file of allowed signers has it: signatures are checked, and `year` and "
+           "`events` count days that are signed by their machine"),
     Option("now", "--from", "DIR", "where recorders write", REQUIRED | {"dest": "source"}),
     Option("now", "--claim", "FILE", "the claim of any day: its span doesn't matter", REQUIRED),
     Option("now", "--minutes", (1, 1440), "how many; 10 if left out", {"default": 10}),
@@ -375,12 +375,13 @@ def run_year(given: argparse.Namespace, folders: list[str]) -> int:
 def run_events(given: argparse.Namespace, folders: list[str], program: Program) -> int:
     """`events`: when the events of a log were."""
     from .fleet.events import EventsCall
+    from .fleet.signature import Signers
     from .folder.events import Asked
     from .page.timeline import page_of, write_events
     from .premise.leap import read_list
     asked = Asked(given.machine, given.time, given.sort, given.page, given.begin, given.title)
     call = EventsCall(asked, Known(state_of(given.state), writes=False), read_list(given.leap_seconds), program,
-                      given.limit, given.jobs, page_of)
+                      given.limit, given.jobs, page_of, Signers(given.signers))
     return write_events(given.log, folders, call, given.split)
 
 
@@ -396,8 +397,9 @@ def run_on_folders(given: argparse.Namespace, folders: list[str]) -> int:
     leaps = read_list(given.leap_seconds)
     if given.command == "sign":
         from .fleet.signature import Signers
-        from .fleet.signing import sign_all
-        return sign_all(folders, given.key, known, given.limit, leaps, Signers(given.signers))
+        from .fleet.signing import SignCall, sign_all
+        from .page.timeline import page_of
+        return sign_all(folders, given.key, SignCall(known, leaps, Signers(given.signers), page_of), given.limit)
     if given.command == "page" and not given.verify:
         from .page.page import write_page
         return write_page(folders, given, known, leaps)

@@ -24,6 +24,7 @@ from ..verdict.making import Making, sums_of_inputs
 from ..verdict.sentences import line_of, refusal_of
 from .days import is_day
 from .metrics import Sample, of_record, of_verdict, write_metrics
+from .signature import signed_in
 
 
 @dataclass(frozen=True)
@@ -80,6 +81,8 @@ def audited_anew(wanted: AuditCall, path: str, old: Record | None) -> Audited:
     with Folder(path) as folder:
         if is_signed and not wanted.again:
             raise fault(SIGNED, USAGE)
+        if (name := signed_in(folder)) != files.AUDIT and folder.has(files.SIGNATURES[name]):
+            raise fault(f"{name} is signed, so nothing is written beside it", USAGE)
         for day in folders_of_days(folder, wanted.options):
             if folder.has(f"{day}/{files.AUDIT}"):
                 raise fault(f"{day} has an audit of its own, which --days would overwrite")

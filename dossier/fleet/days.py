@@ -16,7 +16,7 @@ from ..fault import Fault
 from ..folder.claim import Claim
 from ..folder.entry import (DISPUTED, NOT_VERIFIED, REFUSED, WORST_FIRST, Entry, LeapList, Made, Record, Refusal,
                             read_record)
-from ..folder.files import AUDIT, CLAIM, SIGNATURE, Folder, absolute
+from ..folder.files import AUDIT, CLAIM, SIGNATURE, Folder
 from ..folder.jobs import run_one
 from ..folder.registry import Known
 from ..folder.result import MISSING, MOST_FOLDERS, NOT_COUNTED, Told, Year
@@ -27,7 +27,7 @@ from ..schema import is_time, said, typed
 from ..text import plain
 from ..units import DAY, day_of, seconds_of
 from ..verdict.sentences import reason
-from .signature import GOOD, Signers
+from .signature import Signers
 from .twins import few_of
 
 OTHER = "another claim or client than most days have"
@@ -199,15 +199,12 @@ def day_folders(wanted: YearCall, folder: Folder, name: str) -> Iterator[DayFold
 
 
 def signer_of(signers: Signers, folder: Folder, name: str) -> str:
-    """Who signed a day that isn't known here, if that is its machine: called like its folder, or `..@` that."""
-    machine = os.path.basename(absolute(folder.path))
+    """Who signed a day that isn't known here, if that is its machine."""
     if signers.given is None or not folder.has(f"{name}/{SIGNATURE}"):
         return ""
     with Folder(os.path.join(folder.path, name)) as day:
-        signature = signers.signature_of(day)
-        is_same = day.sum(AUDIT) == folder.sum(f"{name}/{AUDIT}")
-    is_its_own = signature.signer == machine or signature.signer.endswith(f"@{machine}")
-    return signature.signer if signature.state == GOOD and is_same and is_its_own else ""
+        signer = signers.machine_of(day, folder.path)
+        return signer if day.sum(AUDIT) == folder.sum(f"{name}/{AUDIT}") else ""
 
 
 def told_of(name: str, entry: Entry, record: Record, by: str, dispute: str) -> DayFolder:

@@ -11,9 +11,9 @@ from typing import NamedTuple
 
 from ..fault import NOT_SHOWN, fault, summed
 from ..folder.claim import Claim
-from ..folder.entry import DISPUTED, NOT_VERIFIED, REFUSED, LeapList, Refusal, read_record
+from ..folder.entry import DISPUTED, NOT_VERIFIED, REFUSED, LeapList, Record, Refusal, read_record
 from ..folder.events import Asked, Events, Resting, read_events
-from ..folder.files import ANSWERED, AUDIT, CLAIM, EVENTS, LOG, YEAR, Folder, absolute, sum_of
+from ..folder.files import ANSWERED, AUDIT, CLAIM, EVENTS, LOG, Folder, absolute, sum_of
 from ..folder.jobs import T, Work, run_all
 from ..folder.log import ADDED, Event, Log, read_log
 from ..folder.program import Program
@@ -26,6 +26,7 @@ from ..text import count, label, plain
 from ..units import SECOND, earliest, latest
 from ..verdict.moments import Moments
 from .days import is_day
+from .signature import Signers, signed_in
 from .statements import folders_above, may_be, premises_of
 
 INDEX = "index.html"
@@ -33,13 +34,17 @@ NO_MACHINE = "no folder of this machine"
 NO_FOLDER = "no folder of this time"
 TWICE = "in two folders of this machine"
 NAMESAKES = "two machines have this name"
+AS_SIGNED = "{} as signed by {}"
+NOT_MADE = "Some days are as {} signed them: nobody made them again where this was put together."
+NO_SIGNERS = "days count in it by their machines' signatures: --signers names who may sign"
 MOST_NOTES = 20
 """Lines that are told of events without a folder."""
 
 
 class EventsCall(NamedTuple):
     """What is asked for, by what is known here, a list of leap seconds and a program; how many seconds each folder has,
-    how many are worked on side by side, and what makes a page."""
+    how many are worked on side by side, and what makes a page; who may have signed what isn't known here, and the
+    folders that count by that in an answer that is to be verified."""
 
     asked: Asked
     known: Known
@@ -48,6 +53,8 @@ class EventsCall(NamedTuple):
     seconds: int
     jobs: int = 1
     page: "PageOfEvents | None" = None
+    signers: Signers = Signers(None)
+    signed: frozenset[str] = frozenset()
 
 
 class Row(NamedTuple):
@@ -78,18 +85,20 @@ class Machine(NamedTuple):
 
 
 Days = dict[str, dict[str, str]]
-"""Of each machine, by the path of its folder, the folders that hold events, with their names for good."""
+"""Of each machine, by the path of its folder, the folders that hold events, with their names for good, or signers."""
 
 
 class Answered(NamedTuple):
-    """An answer: what was asked for, the log, its rows, the machines that it names, and their folders that hold events;
-    what the claims of these presume; and the faults of folders, with the worst status."""
+    """An answer: what was asked for, the log, its rows, the machines that it names, and their folders that hold events,
+    and who signed those that count by that; what the claims of these presume; and the faults of folders, with the worst
+    status."""
 
     asked: Asked
     log: Log
     rows: list[Row]
     machines: list[Machine]
     days: Days
+    by: Days
     premises: list[str]
     faults: list[str]
     status: int
@@ -154,13 +163,20 @@ class Where:
         return found
 
 
-def timed(call: EventsCall, path: str, events: list[Event]) -> Timed:
-    """What is said of the events of a folder, if its audit is known here."""
+def known_of(call: EventsCall, machine: str, folder: Folder, written: Record) -> tuple[Record | None, str]:
+    """The record of a folder as it is known here; else as its machine signed it, and who did."""
+    record = call.known.shown(folder.sum(AUDIT), written)
+    by = call.signers.machine_of(folder, machine) if not record or folder.path in call.signed else ""
+    record = written if by and not record else record
+    is_of_claim = record and (record.refusal or folder.sum(CLAIM) == record.inputs.get(CLAIM))
+    return (record, by) if is_of_claim else (None, "")
+
+
+def timed(call: EventsCall, machine: str, path: str, events: list[Event]) -> Timed:
+    """What is said of the events of a folder, if its audit is known here, or signed by its machine."""
     with Folder(path) as folder:
         written = read_record(folder.data(AUDIT)) if folder.has(AUDIT) else None
-        record = call.known.shown(folder.sum(AUDIT), written) if written else None
-        if written and record and not record.refusal and folder.sum(CLAIM) != record.inputs.get(CLAIM):
-            record = None
+        record, by = known_of(call, machine, folder, written) if written else (None, "")
         verdict = NOT_VERIFIED if not record else REFUSED if record.refusal else \
             DISPUTED if call.known.dispute(record) else ""
         name = written.name if written else ""
@@ -168,8 +184,9 @@ def timed(call: EventsCall, path: str, events: list[Event]) -> Timed:
             return Timed([verdict] * len(events), [None] * len(events), name)
         record = record_by(call.leaps, record)
         moments = Moments(folder, record, call.program, call.leaps).of([event.reading for event in events])
-        return Timed([moment.words for moment in moments], [moment.time for moment in moments], name,
-                     sorted({premises_of(entry.claim) for entry in record.entries}))
+        words = [AS_SIGNED.format(moment.words, by) if by else moment.words for moment in moments]
+        premises = {premises_of(entry.claim) for entry in record.entries} | ({NOT_MADE.format(by)} if by else set())
+        return Timed(words, [moment.time for moment in moments], name, sorted(premises), by)
 
 
 class Working:
@@ -183,6 +200,7 @@ class Working:
                 self.by_name.setdefault(name, []).append(machine)
         self.wanted = {machine.path: machine for event in log.events for machine in self.by_name.get(event.machine, ())}
         self.days: Days = {path: {} for path in self.wanted}
+        self.by: Days = {path: {} for path in self.wanted}
         self.own, self.premises = dict[str, list[int]](), set[str]()
         """The numbers of the rows of each folder that holds some, and what their claims presume."""
 
@@ -199,16 +217,17 @@ class Working:
                   self.run(list(self.wanted), lambda path, _: spans_of(self.wanted[path]), Spans)}
         rows = [self.placed(number, event, places) for number, event in enumerate(self.log.events)]
         paths = {path_in(machine, name): (machine, name) for machine, names in self.days.items() for name in names}
-        for path, came in self.run(list(self.own), self.timed, Timed):
+        for path, came in self.run(list(self.own), lambda path, _: self.timed(paths[path][0], path), Timed):
             own, (machine, name) = self.own[path], paths[path]
             came = came or Timed([REFUSED] * len(own), [None] * len(own))
             self.days[machine][name] = came.name
+            self.by[machine].update({name: came.by} if came.by else {})
             self.premises.update(came.premises if own else ())
             for k, words, time in zip(own, came.words, came.times):
                 rows[k] = rows[k]._replace(words=words, time=time)
         status = summed(self.status, NOT_SHOWN) if any(not row.time for row in rows) else self.status
-        return Answered(self.call.asked, self.log, rows, list(self.wanted.values()), self.days, sorted(self.premises),
-                        self.faults, status)
+        return Answered(self.call.asked, self.log, rows, list(self.wanted.values()), self.days, self.by,
+                        sorted(self.premises), self.faults, status)
 
     def placed(self, number: int, event: Event, places: dict[str, Where]) -> Row:
         """An event with the folder that speaks of it, or why there is none."""
@@ -225,8 +244,8 @@ class Working:
         self.own[path_in(path, found[0])].append(number)
         return Row(event, "", path_in(path, found[0]))
 
-    def timed(self, path: str, _: int) -> Timed:
-        return timed(self.call, path, [self.log.events[k] for k in self.own[path]])
+    def timed(self, machine: str, path: str) -> Timed:
+        return timed(self.call, machine, path, [self.log.events[k] for k in self.own[path]])
 
 
 def path_in(machine: str, name: str) -> str:
@@ -272,8 +291,8 @@ def stated(call: EventsCall, data: bytes, answer: Answered, made: str, place: st
     if call.asked.page and call.page:
         files[INDEX] = call.page(answer, made)
     here = absolute(place)
-    machines = [Resting(machine.named, os.path.relpath(absolute(machine.path), here), answer.days[machine.path])
-                for machine in answer.machines]
+    machines = [Resting(machine.named, os.path.relpath(absolute(machine.path), here), answer.days[machine.path],
+                        answer.by[machine.path]) for machine in answer.machines]
     sums = {name: sum_of(file) for name, file in files.items()}
     return Events(call.program.made, made, call.asked, sums[LOG], sums[ANSWERED], sums.get(INDEX), machines), files
 
@@ -286,7 +305,7 @@ PageOfEvents = Callable[[Answered, str], bytes]
 
 def is_of_events(folder: Folder) -> bool:
     """Whether a folder holds an answer to a log, and no audit or year."""
-    return folder.has(EVENTS) and not folder.has(AUDIT) and not folder.has(YEAR)
+    return signed_in(folder) == EVENTS
 
 
 def machine_at(folder: Folder, resting: Resting) -> Machine:
@@ -313,11 +332,13 @@ def folders_of(folder: Folder, named: set[str]) -> dict[str, str]:
 def difference(folder: Folder, call: EventsCall) -> str:
     """The first difference between what stands in a folder and what its log and the folders of machines come to."""
     kept = read_events(folder.data(EVENTS))
-    data = folder.data(LOG)
+    data, machines = folder.data(LOG), [machine_at(folder, resting) for resting in kept.machines]
     if sum_of(data) != kept.log:
         return f"{LOG} isn't the file that {EVENTS} names"
-    call = call._replace(asked=kept.asked)
-    machines = [machine_at(folder, resting) for resting in kept.machines]
+    signed = {path_in(machine.path, name) for machine, own in zip(machines, kept.machines) for name in own.by}
+    if signed and call.signers.given is None:
+        return NO_SIGNERS
+    call = call._replace(asked=kept.asked, signed=frozenset(signed))
     answer = Working(call, read_log(data, kept.asked.machine, kept.asked.time), machines).answer()
     made, files = stated(call, data, answer, kept.made, folder.path)
     for name, file in files.items():
@@ -325,7 +346,9 @@ def difference(folder: Folder, call: EventsCall) -> str:
             return f"{name} isn't there"
         if folder.data(name) != file:
             return f"{name} isn't what the log and the folders come to{where(folder.data(name), file)}"
-    differs = first_difference(said(kept), said(replace(made, program=kept.program)))
+    if INDEX not in files and folder.has(INDEX):
+        return f"{INDEX} isn't of this answer"
+    differs = first_difference(said(kept), said(replace(made, program=kept.program, signed=kept.signed)))
     return f"{EVENTS}:{differs[0]} isn't what the log and the folders come to" if differs else ""
 
 

@@ -23,19 +23,23 @@ MOST_DAYS_AT_ONCE = 1_000_000
 
 class Plan(NamedTuple):
     """The folders that are looked at, in order; those of days on which a year's statements rest, each with its name for
-    good; of folders with a year's machines all days in them; and those in which are folders of an answer to a log."""
+    good; of folders with a year's machines all days in them; those in which are folders of an answer to a log; and the
+    days on which a year or an answer rests, for which a signature of that is one."""
 
     every: list[str]
     stated: dict[str, str]
     beside: dict[str, list[str] | Refusal]
     above: list[str] = []
+    resting: frozenset[str] = frozenset()
 
 
 def planned(folders: list[str], named: set[str], seconds: int) -> Plan:
     """Which folders are verified, for what was named."""
     stated, below, of_events, above = dict[str, str](), dict[str, list[str]](), list[str](), set[str]()
+    resting = set[str]()
     for folder in folders:
         found = days_below(folder, named, seconds)
+        resting.update(found.days)
         below[folder] = [day for day in found.days if not found.is_of_events or files.absolute(day) not in named]
         if found.is_of_events:
             of_events.append(folder)
@@ -57,7 +61,8 @@ def planned(folders: list[str], named: set[str], seconds: int) -> Plan:
             result.clear()
     every = [each for folder in folders for each in (*below[folder], folder) if each not in of_events]
     every = list(dict.fromkeys(every)) + of_events if of_events else every
-    return Plan(every, stated, beside, [folder for folder in folders if files.absolute(folder) in above])
+    above_of = [folder for folder in folders if files.absolute(folder) in above]
+    return Plan(every, stated, beside, above_of, frozenset(resting))
 
 
 def names_of(plan: Plan, seconds: int) -> dict[str, str]:

@@ -1,19 +1,23 @@
-"""The signature of a folder: whether there is one, whether it fits audit.json, and who made it.
+"""The signature of a folder: whether there is one, whether it fits what is signed of it, and who made it.
 
-It is one of ssh-keygen, beside audit.json. Who may sign stands in a file of allowed signers, as ssh-keygen has it.
+It is one of ssh-keygen, beside that. Who may sign stands in a file of allowed signers, as ssh-keygen has it.
 """
+import os
 import re
 from base64 import b64decode
+from collections.abc import Callable
 from contextlib import suppress
 from datetime import datetime
 from typing import NamedTuple
 
 from ..fault import Fault
-from ..folder.files import AUDIT, SIGNATURE, YEAR, Folder, data_named
+from ..folder.entry import Record
+from ..folder.events import Events, read_events
+from ..folder.files import AUDIT, EVENTS, SIGNATURE, SIGNATURES, YEAR, Folder, absolute, data_named
 from ..folder.jobs import find_tool, run
 from ..folder.older import read_any
 from ..folder.placing import keep
-from ..folder.year import read_statements
+from ..folder.year import Statements, read_statements
 from ..schema import is_time
 
 NAMESPACE = "ntpaudit-dossier"
@@ -25,6 +29,9 @@ PLAIN_NAME = re.compile(rb"[A-Za-z0-9][A-Za-z0-9@._-]*")
 NO_KEYGEN = "ssh-keygen isn't installed, which makes signatures and looks at them"
 SIGNED, SIGNERS = "signed", "signers"
 """Private copies of what was signed, and of who may sign."""
+READERS: dict[str, Callable[[bytes], Record | Statements | Events]] = {
+    AUDIT: read_any, YEAR: read_statements, EVENTS: read_events}
+"""What reads each that is signed."""
 
 
 class Signature(NamedTuple):
@@ -32,9 +39,9 @@ class Signature(NamedTuple):
 
     state: str
     """`none`: there is none. `unseen`: there is one, and it wasn't looked at. `good`: it fits, and its key may sign.
-    `unfit`: it isn't one of this audit.json. `stranger`: it fits, and its key may not sign."""
+    `unfit`: it isn't one of what stands there. `stranger`: it fits, and its key may not sign."""
     at: str = ""
-    """When it was made, as audit.json says."""
+    """When it was made, as that says."""
     signer: str = ""
     key: str = ""
     """The key's kind and its sum."""
@@ -52,13 +59,13 @@ class Signers:
             raise error.of("the file of signers") from None
 
     def signature_of(self, folder: Folder) -> Signature:
-        """The signature of a folder, over the very bytes of audit.json that are read of it. It is looked at if there
-        are signers; whether a key may sign is asked of the time at which audit.json says that it was made."""
+        """The signature of a folder, over the very bytes that are read of what is signed of it. It is looked at if
+        there are signers; whether a key may sign is asked of the time at which these bytes say that it was made."""
         signed = signed_in(folder)
-        if not folder.has(f"{signed}.sig"):
+        if not folder.has(SIGNATURES[signed]):
             return Signature(NONE)
-        signature, data = folder.data(f"{signed}.sig"), folder.data(signed) if folder.has(signed) else b""
-        at = time_of(data)
+        signature, data = folder.data(SIGNATURES[signed]), folder.data(signed) if folder.has(signed) else b""
+        at = time_of(signed, data)
         if self.given is None:
             return Signature(UNSEEN, at)
         for name, text in ((SIGNED, data), (SIGNATURE, signature), (SIGNERS, self.given)):
@@ -69,6 +76,13 @@ class Signers:
         if not status and (key := KEY.search(said)):
             return Signature(GOOD, at, holder, f"{key[1]} {key[2]}")
         return self.looked_at(at, on)
+
+    def machine_of(self, day: Folder, path: str) -> str:
+        """Who signed a day, if that is its machine, whose folder's path is given: called like that folder, or `..@`
+        that. Nothing if it isn't."""
+        signature, machine = self.signature_of(day), os.path.basename(absolute(path))
+        is_its_own = signature.signer == machine or signature.signer.endswith(f"@{machine}")
+        return signature.signer if signature.state == GOOD and is_its_own else ""
 
     def looked_at(self, at: str, on: list[str]) -> Signature:
         """What `ssh-keygen` says of a private copy of a signature that was made at this time."""
@@ -107,16 +121,14 @@ def holder_of(signers: bytes, signature: bytes) -> str:
 
 
 def signed_in(folder: Folder) -> str:
-    """What is signed of a folder: its audit.json, or a year's statements."""
-    return YEAR if folder.has(YEAR) and not folder.has(AUDIT) else AUDIT
+    """What is signed of a folder: its audit.json, a year's statements, or on what an answer to a log rests."""
+    return next(filter(folder.has, SIGNATURES), AUDIT)
 
 
-def time_of(data: bytes) -> str:
-    """When a record was signed, as it says, or a year; nothing if it is neither."""
+def time_of(name: str, data: bytes) -> str:
+    """When one of these was signed, as it says; nothing if it isn't one."""
     with suppress(Fault):
-        return str(read_any(data).signed)
-    with suppress(Fault):
-        return str(read_statements(data).signed)
+        return READERS[name](data).signed
     return ""
 
 
@@ -135,7 +147,7 @@ def in_words(signature: Signature) -> str:
         NONE: "nobody signed it",
         UNSEEN: f"signed{at}, it says; the signature wasn't looked at (--signers FILE does)",
         GOOD: f"signed{at} by {signature.signer}, with the key {signature.key}",
-        UNFIT: f"the signature doesn't fit: {SIGNATURE} isn't of this {AUDIT}, so one of them was changed",
+        UNFIT: "the signature doesn't fit: it isn't of what stands beside it, so one of them was changed",
         STRANGER: f"signed{at} with a key that may not sign by the file of signers: {signature.key}",
     }[signature.state]
     return f"{by} ({signature.why})" if signature.why else by

@@ -221,7 +221,7 @@ def verify_all(folders: list[str], verifier: Verifier, signers: Signers, seconds
             return Compared(0, ["(a year's days are in it)"], is_same=True)
         if path in plan.above and is_of_days(path):
             return Compared(0, ["(folders of an answer to a log are in it)"], is_same=True)
-        is_signed = files.absolute(path) in named or (how.as_signed and path not in plan.stated)
+        is_signed = files.absolute(path) in named or (how.as_signed and path not in plan.resting)
         who = signers if is_signed else Signers(None)
         return verify(verifier, signers, who, path, named, how._replace(answers=how.answers and path not in drawn))
     for path, came in run_all([path for path in plan.every if not is_left(path)], work, Compared, seconds):
@@ -289,19 +289,16 @@ def verify(verifier: Verifier, signers: Signers, who: Signers, path: str, named:
     notes: list[str] = []
     try:
         with Folder(path) as folder:
-            if is_of_events(folder):
-                return answer_compared(verifier, folder, named)
             signature = who.signature_of(folder)
             if signature.state in (GOOD, UNSEEN):
                 notes.append(in_words(signature))
             elif signature.state != NONE or who.given is not None:
                 findings.append(in_words(signature))
-            if signed_in(folder) == files.YEAR:
+            if (signed := signed_in(folder)) in RESTS:
                 verifier.known.renew()
-                days_of(folder, named)
-                differs, hidden = year_compared(folder, verifier.known, verifier.leaps, signers)
+                differs, hidden = difference_of_days(verifier, folder, named, signers)
                 findings += filter(None, [differs])
-                lines = [*(findings or [year_words(verifier.known)]), *(f"({n})" for n in notes)]
+                lines = [*(findings or [words_of(signed, verifier.known)]), *(f"({n})" for n in notes)]
                 return Compared(NOT_SHOWN if findings else 0, lines, not findings, hidden=hidden)
             earlier = before(verifier, folder, how) if how.known else None
             difference, others, made, is_judged = \
@@ -324,20 +321,25 @@ def verify(verifier: Verifier, signers: Signers, who: Signers, path: str, named:
                     [entry.claim for entry in made.entries] if made else [], captures, sum="" if findings else data)
 
 
-def answer_compared(verifier: Verifier, folder: Folder, named: set[str]) -> Compared:
-    """What verifying an answer to a log of events comes to: it is made again, by what is known now of its folders."""
-    verifier.known.renew()
-    folders_of(folder, named)
-    call = EventsCall(Asked(), verifier.known, verifier.leaps, verifier.program, SECONDS, page=verifier.page)
-    differs = difference_of_events(folder, call)
-    return Compared(NOT_SHOWN if differs else 0, [differs or EVENTS_SAME], not differs)
+def difference_of_days(verifier: Verifier, folder: Folder, named: set[str], signers: Signers) -> tuple[str, list[str]]:
+    """The first difference between a year's statements, or an answer to a log, and what their days come to, by what is
+    known of these now; and the days of a year that aren't shown."""
+    if is_of_events(folder):
+        folders_of(folder, named)
+        call = EventsCall(Asked(), verifier.known, verifier.leaps, verifier.program, SECONDS, page=verifier.page,
+                          signers=signers)
+        return difference_of_events(folder, call), []
+    days_of(folder, named)
+    return year_compared(folder, verifier.known, verifier.leaps, signers)
 
 
-EVENTS_SAME = "verified: its times follow from the log and from its machines' folders"
+RESTS = {files.YEAR: ("its statements follow from", "its days"),
+         files.EVENTS: ("its times follow from the log and from", "its machines' folders")}
 
 
-def year_words(known: Known) -> str:
-    """What is said of a year's statements, by what is known of its days."""
+def words_of(name: str, known: Known) -> str:
+    """What is said of a year's statements, or of an answer to a log, by what is known of the days."""
+    follow, days = RESTS[name]
     if known.believes:
-        return "its statements follow from what its days say of themselves, of which some were made again"
-    return "verified: its statements follow from its days" + (", by their answers" if known.believed else "")
+        return f"{follow} what {days} say of themselves, of which some were made again"
+    return f"verified: {follow} {days}" + (", by their answers" if known.believed else "")

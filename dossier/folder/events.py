@@ -3,7 +3,7 @@ from typing import Annotated, Literal
 
 from ..fault import fault
 from ..records import dataclass, field
-from ..schema import Sum, Text, Time, length, matching, read_typed
+from ..schema import Name, Sum, Text, Time, is_time, length, matching, or_nothing, read_typed
 from ..units import now
 from .entry import SKEW, Made
 from .files import EVENTS
@@ -39,12 +39,14 @@ class Asked:
 
 @dataclass(frozen=True)
 class Resting:
-    """A machine as it was named, and its folder, seen from that of the answer; and of each of its folders that holds
-    an event, by its path from there, its name for good, nothing if that isn't known."""
+    """A machine as it was named, and its folder, seen from that of the answer; and of each folder in it that holds an
+    event, `.` for that itself, its name for good, nothing if that isn't known."""
 
     machine: Path
     path: Path
-    days: dict[Path, Annotated[str, matching("[0-9a-f]{64}|")]] = field(default_factory=dict)
+    days: dict[Name, Annotated[str, matching("[0-9a-f]{64}|")]] = field(default_factory=dict)
+    by: dict[Name, Text] = field(default_factory=dict)
+    """Who signed those of them that count by that, since nobody made them again where the answer was made."""
 
 
 @dataclass(frozen=True)
@@ -59,10 +61,12 @@ class Events:
     answer: Sum
     page: Sum | None
     machines: Annotated[list[Resting], length(0, 100_000)] = field(default_factory=list)
+    signed: Annotated[str, or_nothing(is_time)] = ""
+    """When this was signed, as the signer says; nothing if it wasn't."""
 
 
 def read_events(data: bytes) -> Events:
     events: Events = read_typed(EVENTS, Events, data)
-    if events.made > now(SKEW):
+    if max(events.made, events.signed) > now(SKEW):
         raise fault(f"{EVENTS} is dated in the future")
     return events

@@ -24,10 +24,12 @@ REFUTATION = "refutation.json"
 CLAIM_OF_0 = "bound-0.claim.json"
 CLAIM_OF_DRIFT = "more-drift.claim.json"
 AUDIT = "audit.json"
-SIGNATURE = f"{AUDIT}.sig"
 YEAR = "year.json"
 EVENTS, LOG, ANSWERED = "events.json", "events.csv", "answered.csv"
 """On what an answer to a log of events rests, the log as it was given, and the same with the answer."""
+SIGNATURES = {name: f"{name}.sig" for name in (AUDIT, YEAR, EVENTS)}
+"""The signature of each that is signed. The first of them that a folder has says what the folder is."""
+SIGNATURE = SIGNATURES[AUDIT]
 JOINED = "joined.pcap"
 LEFT = frozenset({CERTIFICATE, REPORT, ENVELOPE, PARTS, REFUTATION, CLAIM_OF_0, CLAIM_OF_DRIFT, JOINED})
 """What an audit leaves of each claim."""
@@ -38,8 +40,9 @@ CAPTURE = re.compile(r"[^.].*\.(pcap|pcapng|cap)[0-9]*(\.(gz|zst))?", re.DOTALL)
 """Names of captures: also `f.pcap1` and so on, as `tcpdump -C` writes them, and packed ones."""
 
 SMALL, JSON, LARGE = 1 << 16, 1 << 24, 1 << 30
-LIMITS = {CLAIM: SMALL, EVIDENCE: SMALL, CLAIM_OF_0: SMALL, CLAIM_OF_DRIFT: SMALL, REFUTATION: SMALL, SIGNATURE: SMALL,
-          REPORT: JSON, AUDIT: JSON, CERTIFICATE: 1 << 27, ENVELOPE: LARGE, PARTS: LARGE}
+LIMITS = {CLAIM: SMALL, EVIDENCE: SMALL, CLAIM_OF_0: SMALL, CLAIM_OF_DRIFT: SMALL, REFUTATION: SMALL,
+          REPORT: JSON, AUDIT: JSON, CERTIFICATE: 1 << 27, ENVELOPE: LARGE, PARTS: LARGE,
+          **dict.fromkeys(SIGNATURES.values(), SMALL)}
 """Bytes that a file may have by its name."""
 MOST_OF_A_CAPTURE, MOST_NAMES = 1 << 32, 100_000
 """The program holds a capture in memory for as long as it takes to hold it to its sum."""

@@ -280,13 +280,14 @@ class Spans:
 @dataclass(frozen=True)
 class Timed:
     """Of readings of a folder's clock a word for each, and the Unix ticks between which true time lay, if that is
-    known, with the number of the claim and capture by which it is; and the folder's name for good, and what its claims
-    presume."""
+    known, with the number of the claim and capture by which it is; and the folder's name for good, what its claims
+    presume, and who signed its audit, if that was neither made nor verified here."""
 
     words: list[Text]
     times: list[tuple[Ticks, Ticks, Count] | None]
     name: Annotated[str, matching("[0-9a-f]{64}|")] = ""
     premises: list[Text] = field(default_factory=list)
+    by: Text = ""
 
 
 @dataclass(frozen=True)

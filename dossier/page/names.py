@@ -8,7 +8,7 @@ import re
 
 from ..fault import USAGE, Fault, fault
 from ..folder.entry import line_of_sum
-from ..folder.files import AUDIT, YEAR, Folder, sum_of
+from ..folder.files import SIGNATURES, Folder, sum_of
 from ..folder.placing import take_away
 from ..schema import is_name
 from .templates import put
@@ -35,7 +35,7 @@ class Split:
         self.path, self.before, self.left = path, dict[str, str](), dict[str, str]()
         try:
             with Folder(path) as folder:
-                signed = next(filter(folder.has, (f"{YEAR}.sig", f"{AUDIT}.sig")), "")
+                signed = next(filter(folder.has, SIGNATURES.values()), "")
                 if folder.has(LIST):
                     lines = map(LINE.fullmatch, folder.data(LIST).decode("utf-8", "replace").splitlines())
                     self.before = {line[2]: line[1] for line in lines if line and is_name(line[2])}

@@ -7,7 +7,7 @@ one, and by an audit of a claim of that time: this asks which stretch of the cap
 from collections.abc import Iterator
 from typing import NamedTuple
 
-from ..fault import MISSING, fault
+from ..fault import MISSING, Fault, fault
 from ..folder.answers import read_moment
 from ..folder.claim import Claim
 from ..folder.entry import AGAINST, NOTHING_FITS, OPEN, REFUTED, YES, Entry, LeapList, Options, Record
@@ -68,6 +68,10 @@ def windows(entry: Entry) -> Iterator[tuple[int, int]]:
                 yield first, last
 
 
+def changed_since(name: str) -> Fault:
+    return fault(f"{name} was changed since the audit")
+
+
 class Moments:
     """The readings of a folder, by the audit that its record is of. All is done in the current folder, which is one's
     own."""
@@ -109,6 +113,8 @@ class Moments:
     def audited(self, claim: Claim) -> tuple[Entry, str]:
         """What an audit of the folder's captures by another claim comes to, and the capture by which it does."""
         taken = take_inputs(self.folder, self.record)
+        if changed := sorted(name for name, _ in taken.sums.items() ^ self.record.inputs.items()):
+            raise changed_since(changed[0])
         keep(CLAIM, claim.text)
         taken.sums[CLAIM] = sum_of(claim.text)
         backed, options = backing(self.folder, taken.sums), Options(self.record.options.step)
@@ -127,7 +133,7 @@ class Moments:
             path = making.capture_of(entry)
             sum_ = sum_of_file(path)
         if sum_ != sums[name]:
-            raise fault(f"{name} was changed since the audit")
+            raise changed_since(name)
         return path
 
     def at(self, claim: Claim, capture: str, readings: list[Reading], words: str) -> list[Moment]:

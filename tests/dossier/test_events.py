@@ -160,6 +160,10 @@ def test_verdicts(place: Path) -> None:
         before=(first[:2], lambda ends: "2001-09-09T05:58:58Z" < ends[0] < "2001-09-09T05:59:00Z" < ends[1] <
                 "2001-09-09T05:59:02Z"),
         behind=(last[:2], lambda ends: "2001-09-09T17:59:58Z" < ends[0] < times[3] < ends[1] < "2001-09-09T18:00:02Z"))
+    (folder / "f.pcap").write_bytes((folder / "f.pcap").read_bytes()[:-3000])
+    status, out, err = dossier("events", log, folder)
+    check("a day with a step that was changed", words=(words_of(out), ["refused"] * 4),
+          told=(b"f.pcap was changed since the audit" in err, True))
 
 
 def test_audits(place: Path) -> None:

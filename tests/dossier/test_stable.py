@@ -1,5 +1,5 @@
 """Holds what docs/STABILITY.md promises: folders that older versions audited (data/older) are read, verified and shown,
-and their texts are today's, byte for byte. The schema of audit.json is what the dossier reads.
+and their texts are today's, byte for byte. The schemas of audit.json and events.json are what the dossier reads.
 """
 import json
 import os
@@ -132,7 +132,7 @@ def test_changed(place: Path) -> None:
     check("the folder itself", same=((OLDER / "0.8.0/yes/audit.json").read_text() == record, True))
 
 
-# ---- the form of audit.json
+# ---- the forms of audit.json and events.json
 KINDS: dict[str, tuple[type, ...]] = {"integer": (int,), "number": (int, float), "string": (str,), "null": (NoneType,),
                                       "array": (list,), "object": (dict,), "boolean": (bool,)}
 
@@ -193,9 +193,8 @@ def spoilt(record: Any) -> Iterator[tuple[str, Any]]:
 
 def test_schema(place: Path) -> None:
     """docs/audit.schema.json is what the types say; all that is read is valid by it, and what isn't is refused too."""
-    text = (ROOT / "docs/audit.schema.json").read_text()
-    check("docs/audit.schema.json", printed=(run([ROOT / "docs/schema"]), (0, text.encode(), b"")))
-    schema = json.loads(text)
+    from dossier.folder.entry import read_record
+    schema = schema_of("audit")
     made = [Path(shutil.copytree(kept, place / kept.name)) for kept in folders(max(FORMS))]
     dossier("audit", "--again", *made)
     folder = Path(shutil.copytree(made[2], place / "audited"))
@@ -203,22 +202,49 @@ def test_schema(place: Path) -> None:
     newest = [record_of(kept) for kept in (*made, folder)]
     check("records by the schema", valid=([is_valid(schema, record, schema["$defs"]) for record in newest],
                                           [True] * len(newest)))
-    seen, record = 0, newest[-1]
-    for what, wrong in spoilt({**record, "entries": record["entries"][:1]}):
-        (folder / "audit.json").write_text(json.dumps(wrong))
-        is_right = is_valid(schema, wrong, schema["$defs"])
-        seen += not is_right
-        if not is_right:
-            check(f"a record{what}", refused=(is_read(folder / "audit.json"), False))
-    check("spoilt records", seen=(seen, lambda seen: seen > 100))
+    record = newest[-1]
+    check("spoilt records", seen=(refused(schema, {**record, "entries": record["entries"][:1]}, read_record),
+                                  lambda seen: seen > 100))
 
 
-def is_read(path: Path) -> bool:
-    """Whether the dossier takes this audit.json."""
-    from dossier.folder.entry import read_record
+def test_events(place: Path) -> None:
+    """docs/events.schema.json likewise, of an answer as it is made, with all that it may have."""
+    from dossier.folder.events import read_events
+    schema, kept = schema_of("events"), Path(shutil.copytree(folders(max(FORMS))[2], place / "web-1"))
+    dossier("audit", "--again", kept)
+    (place / "log.csv").write_text(f"machine,time\nweb-1,{json.loads((kept / 'claim.json').read_text())['from']}\n")
+    dossier("events", "--sort", "time", "--split", place / "out", place / "log.csv", kept)
+    made = json.loads((place / "out" / "events.json").read_text())
+    full = {**made, "signed": made["made"], "machines": [{**made["machines"][0], "by": {".": "web-1"}}]}
+    check("answers by the schema", valid=([is_valid(schema, each, schema["$defs"]) for each in (made, full)],
+                                          [True] * 2), days=(list(made["machines"][0]["days"]), ["."]),
+          read=(bool(read_events(json.dumps(full).encode())), True))
+    check("spoilt answers", seen=(refused(schema, full, read_events), lambda seen: seen > 20))
+    wrong = json.dumps({**full, "signed": "9999-01-01T00:00:00Z"}).encode()
+    check("an answer that was signed in the future", read=(is_read(wrong, read_events), False))
+
+
+def schema_of(name: str) -> Any:
+    """A schema that is kept, which is what docs/schema prints."""
+    text = (ROOT / f"docs/{name}.schema.json").read_text()
+    words = [name] * (name != "audit")
+    check(f"docs/{name}.schema.json", printed=(run([ROOT / "docs/schema", *words]), (0, text.encode(), b"")))
+    return json.loads(text)
+
+
+def refused(schema: Any, record: Any, read: Callable[[bytes], object]) -> int:
+    """Has each spoilt record that isn't valid refused by what reads it, and says how many there were."""
+    wrong = [(what, each) for what, each in spoilt(record) if not is_valid(schema, each, schema["$defs"])]
+    for what, each in wrong:
+        check(f"a record{what}", refused=(is_read(json.dumps(each).encode(), read), False))
+    return len(wrong)
+
+
+def is_read(data: bytes, read: Callable[[bytes], object]) -> bool:
+    """Whether the dossier takes this."""
     from dossier.fault import Fault
     try:
-        return bool(read_record(path.read_bytes()))
+        return bool(read(data))
     except Fault:
         return False
 

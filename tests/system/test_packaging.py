@@ -348,8 +348,8 @@ def test_rpm(folder: Path) -> None:
 
 def hold_links(pages: Path) -> None:
     """A link of a packed page to one of the repository's root or of docs/ that is packed too leads to it, and so does
-    one to the schema."""
-    packed = {*files_below(pages), "audit.schema.json"}
+    one to a schema."""
+    packed = {*files_below(pages), "audit.schema.json", "events.schema.json"}
     for page in sorted(pages.glob("*.md")):
         links = [link.split("/") for link in re.findall(r"\]\(([^)#:]+)", page.read_text("utf-8"))]
         lost = ["/".join(parts) for parts in links if parts[-1] in packed and {*parts[:-1]} <= {"..", "docs"}
