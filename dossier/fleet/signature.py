@@ -79,7 +79,9 @@ class Signers:
 
     def machine_of(self, day: Folder, path: str) -> str:
         """Who signed a day, if that is its machine, whose folder's path is given: called like that folder, or `..@`
-        that. Nothing if it isn't."""
+        that. Nothing if it isn't, or if nobody is named who may sign."""
+        if self.given is None:
+            return ""
         signature, machine = self.signature_of(day), os.path.basename(absolute(path))
         is_its_own = signature.signer == machine or signature.signer.endswith(f"@{machine}")
         return signature.signer if signature.state == GOOD and is_its_own else ""
