@@ -188,7 +188,7 @@ def change_signers(place: Path, out: Path, machine: Path, env: dict[str, Any]) -
     check("a day whose signature is gone", told=("answered.csv isn't what" in as_signed(place, env=env)[1], True))
     run(["mkfifo", signature])
     log, nobody = log_of(place, f"machine,time\nweb-2,{NOON}Z\n"), {**env, "XDG_STATE_HOME": str(place / "nobody")}
-    for options, words in (([], "not verified"), (["--signers", place / "signers"], "refused")):
+    for options, words in rows(([], "not verified"), (["--signers", place / "signers"], "refused")):
         check(f"a FIFO for a signature: {words}", words=(
             words_of(dossier("events", *options, log, machine, env=nobody)[1]), [words]))
 
