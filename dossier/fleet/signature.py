@@ -102,6 +102,7 @@ class Signers:
         return signature._replace(why=lines[0] if lines else "")
 
     def verify(self, signer: str, on: list[str]) -> tuple[int, str, str]:
+        """Whether the signature stands as that of one who may sign, at a time."""
         return self.keygen("verify", *on, "-f", SIGNERS, "-I", signer, "-n", NAMESPACE)
 
     def keygen(self, *words: str) -> tuple[int, str, str]:

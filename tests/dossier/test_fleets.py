@@ -89,6 +89,9 @@ def sign_fleet(place: Path, signers: Path, machines: list[Path], here: dict[str,
     again = dossier("year", "--year", "2001", "--split", place / "pages", one, env=here)
     check("what is signed isn't replaced", status=(again[0], 5),
           said=(b"is signed, so nothing is replaced" in again[2], True))
+    beside = dossier("audit", place / "pages", env=here)
+    check("nothing is written beside it", status=(beside[0], 5), left=((place / "pages/audit.json").exists(), False),
+          said=(b"year.json is signed, so nothing is written beside it" in beside[1], True))
     words_, named = ["verify", "--signers", signers, "--as-signed"], [place / "pages", place / "fleet"]
     status, out, _ = dossier(*words_, *named, env={**here, "XDG_STATE_HOME": str(place / "auditor")})
     last = out.decode().splitlines()[-1]

@@ -4,7 +4,8 @@ brought together, put into a calendar, and verified in each way that there is.
 usage: python3 -m tests.truth.year FOLDER [--machines N] [--first N] [--days N] [--poll SECONDS] [--jobs N]
        [--changes N] [STAGE]..
 
-A stage goes on where it was stopped, and says the processor seconds that it took. All of them, in their order:
+Machines are numbered from --first on, so that a fleet that is too large for a day is tried in parts. A stage goes on
+where it was stopped, and says the processor seconds that it took. All of them, in their order:
 
   days     each machine's days are made, audited, kept and signed, and held to what is known of them
   fleet    they are brought to one place, a calendar is made of them, and signed
