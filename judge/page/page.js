@@ -195,16 +195,23 @@ const WHY = {
   contradiction: "whichever groups are taken for wrong, the others contradict each other",
   exceeds: "its samples leave room for an error beyond the bound",
   uncovered: "the pieces end before the span does",
+  "left-out": "an entry is of a server that its case takes for wrong",
+  "no-conflict": "its two exchanges agree, or the capture doesn't have them", "no-case": "it has no case",
+  "too-many-groups": "more groups are wrong in it than may be", "no-group": "it names a group that there isn't",
+  "repeated-group": "it names a group twice", "repeated-case": "a case before it names the same groups",
+  unanswered: "there is a choice of wrong groups that it has no case for",
 };
 const FAULTS = {
   json: "it is no JSON text in UTF-8", address: "an address isn't written as four numbers with dots",
   time: "a time isn't of the form 2026-11-22T06:46:09Z, or doesn't exist", range: "a number is out of its limits",
   "repeated-server": "a server stands there twice, or is the client", groups: "the groups don't hold each server once",
-  top: "it has no name \"pieces\" alone", shape: "it isn't of the form", field: "a name is missing, strange, or of another kind",
+  top: "it has neither the name \"pieces\" alone nor \"cases\" and \"conflicts\"", shape: "it isn't of the form", field: "a name is missing, strange, or of another kind",
   "torn-header": "it ends within its header", "torn-record": "it ends within a record",
   magic: "it is no classic pcap file (editcap -F pcap converts pcapng)", version: "its version isn't 2.4",
   link: "its packets aren't Ethernet frames", "too-long": "a record is longer than 262,144 bytes",
   "bad-fraction": "a record's time has a fraction of a second or more", "too-many": "it has more than 4,000,000 records",
+  "too-many-conflicts": "it has more than 528 conflicts", conflicts: "a conflict isn't two numbers",
+  "too-many-cases": "it has more than 64 cases", case: "a case isn't of the form",
   "too-many-pieces": "it has more than 100,000 pieces", "too-many-entries": "a piece has more than 32 entries",
 };
 
@@ -237,12 +244,9 @@ function wordsOf(result) {
     return ["yes", "Yes", `The clock of ${claim.client} was ${within(claim)}, by its own time: in every course of events
       that fits the exchanges which the certificate names, whatever the delays, if the premises below are true.`,
     premises(result)];
-  if (words[0] === "verdict") {
-    const number = Number(words[3]), piece = pieceOf(answer, number, claim);
+  if (words[0] === "verdict")
     return ["no", "No", `This certificate doesn't show that the clock of ${claim.client} was ${within(claim)}.
-      ${words[4] === "uncovered" ? `It has ${plural(number, "piece", "pieces")}, and ` : `Piece ${number}${piece} fails: `}
-      ${WHY[words[4]]}.`, element("p.soft", "That the clock was off, it doesn't say.")];
-  }
+      ${failed(words.slice(2), parsed(answer), claim)}.`, element("p.soft", "That the clock was off, it doesn't say.")];
   if (words[0] === "refuted") return [status ? "no" : "yes", status ? "It doesn't stand" : "It stands", refuted(result), ""];
   if (words[0] === "not") return ["no", "Not right", `The capture doesn't bear out “${line.slice(11)}”.`, ""];
   if (words[0] === "nothing")
@@ -262,8 +266,19 @@ function refuted({status, claim, answer, isZero}) {
     ${inMs(claim.bound_ns)}. So nothing in this capture can show the claim. The clock needn't have been off by so much.${wrong}`;
 }
 
+// The test that fails: of a certificate, or of one of its cases.
+function failed([what, number, ...rest], answer, claim) {
+  if (what === "case" && rest.length > 1)
+    return `In case ${number}: ${failed(rest, answer?.cases?.[number], claim)}`;
+  const text = WHY[rest[0] || what];
+  if (rest[0] === "uncovered") return `It has ${plural(Number(number), "piece", "pieces")}, and ${text}`;
+  if (!rest.length) return `It fails: ${text}`;
+  const piece = what === "piece" ? pieceOf(answer, Number(number), claim) : "";
+  return `${what[0].toUpperCase()}${what.slice(1)} ${number}${piece} fails: ${text}`;
+}
+
 function pieceOf(answer, number, claim) {
-  const pieces = parsed(answer)?.pieces;
+  const pieces = answer?.pieces;
   if (!pieces?.[number]) return "";
   const begin = number ? pieces[number - 1].upto : Date.parse(claim.from) / 1000 * TICKS;
   return ` (${timeOf(begin)} to ${timeOf(pieces[number].upto)})`;

@@ -12,7 +12,10 @@ let number = Whole.to_string
 
 let why_word = function
   | Cut -> "cut" | BadSample -> "bad-sample" | MixedServers -> "mixed-servers" | RepeatedServer -> "repeated-server"
-  | Unbounded -> "unbounded" | Contradiction -> "contradiction" | Exceeds -> "exceeds" | Uncovered -> "uncovered"
+  | LeftOut -> "left-out" | Unbounded -> "unbounded" | Contradiction -> "contradiction" | Exceeds -> "exceeds" | Uncovered -> "uncovered"
+let case_word = function
+  | TooManyGroups -> "too-many-groups" | NoGroup -> "no-group" | RepeatedGroup -> "repeated-group"
+  | RepeatedCase -> "repeated-case"
 let input_word = function
   | Claim -> "claim" | Certificate -> "certificate" | Refutation -> "refutation" | Capture -> "capture"
 
@@ -23,24 +26,49 @@ let words = function
   | Refutation -> ["json"; "shape"]
   | Capture -> ["torn-header"; "magic"; "version"; "link"; "torn-record at "; "too-long at "; "bad-fraction at "; "too-many"]
 
-let fault input found place =
-  let word = List.nth (words input) (Whole.to_int found - 1) in
+let words_of_covers = ["json"; "top"; "too-many-conflicts"; "conflicts"; "too-many-cases"; "case "; "too-many-pieces";
+                       "shape piece "; "too-many-entries piece "]
+
+let fault_of words input found place =
+  let word = List.nth words (Whole.to_int found - 1) in
   let place = if word.[String.length word - 1] = ' ' then number place else "" in
   String.concat " " [input_word input; number found; word ^ place]
+
+let fault input = fault_of (words input) input
 
 let refusal_line = function
   | Too_big input -> "too-big " ^ input_word input
   | Claim_fault (found, code) -> fault Claim found code
   | Certificate_fault (found, piece) -> fault Certificate found piece
+  | Covers_fault (found, place) -> fault_of words_of_covers Certificate found place
   | Refutation_fault found -> fault Refutation found Whole.zero
   | Capture_fault (found, place) -> fault Capture found place
   | Too_many_exchanges -> "exchanges over 1000000"
 
 let told line_of = function Refused refusal -> Unjudged (refusal_line refusal) | Judged answer -> line_of answer
 
-let verdict_line = function
-  | Yes -> Line (0, "verdict yes")
-  | No (piece, why) -> Line (1, String.concat " " ["verdict no piece"; number piece; why_word why])
+let yes = Line (0, "verdict yes")
+let no words = Line (1, String.concat " " ("verdict no" :: words))
+
+let verdict_line = function Yes -> yes | No (piece, why) -> no ["piece"; number piece; why_word why]
+
+let covers_line = function
+  | Accepted -> yes
+  | NoConflict pair -> no ["conflict"; number pair; "no-conflict"]
+  | NoCase -> no ["no-case"]
+  | BadCase (case, why) -> no ["case"; number case; case_word why]
+  | Unanswered -> no ["unanswered"]
+  | BadPiece (case, piece, why) -> no ["case"; number case; "piece"; number piece; why_word why]
+
+(* A certificate is one of pieces, or where its top has another shape, one by covers. *)
+let check_line parse claim capture certificate =
+  let is_top = Whole.equal (Whole.of_int 2) in
+  match check parse claim capture certificate with
+  | Refused (Certificate_fault (found, _)) as refused when is_top found -> (
+    match check_covers parse claim capture certificate with
+    | Refused (Covers_fault (found, _)) when is_top found -> told verdict_line refused
+    | answer -> told covers_line answer)
+  | answer -> told verdict_line answer
 
 let refuted_line stands = if stands then Line (0, "refuted yes") else Line (1, "refuted no")
 
@@ -90,13 +118,9 @@ let in_words parse claim capture text =
 
 (* ---- any of them *)
 
-let has name = function
-  | Some (Members members) -> List.mem_assoc (Json.byte_list name) members
-  | _ -> false
-
 (* A refutation has no such name, and fewer bytes. *)
 let is_certificate third = function
-  | Some (Members _) as value -> has "pieces" value
+  | Some (Members members) -> List.exists (fun name -> List.mem_assoc (Json.byte_list name) members) ["pieces"; "cases"]
   | _ -> Whole.ltb (Whole.of_int most_refutation) third.size
 
 let said ~drift claim capture third =
@@ -110,6 +134,5 @@ let said ~drift claim capture third =
     let most = Whole.of_int 134_217_728 in
     let value = if Whole.ltb most third.size then None else Json.parse third in
     let parse bytes = if bytes == third then value else Json.parse bytes in
-    if has "cases" value then Unjudged "answer by covers, which this judge doesn't know"
-    else if is_certificate third value then told verdict_line (check parse claim capture third)
+    if is_certificate third value then check_line parse claim capture third
     else told refuted_line (refute parse drift claim capture third)

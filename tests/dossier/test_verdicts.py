@@ -10,7 +10,8 @@ from pathlib import Path
 from typing import Any
 
 from tests.support import DATA, ROOT, check, run
-from tests.dossier.audits import PROGRAM, called, capture_of, check_page, dossier, folder_of, record_of, rows, table
+from tests.dossier.audits import (ENVIRONMENT, PROGRAM, called, capture_of, check_page, dossier, folder_of, record_of,
+                                  rows, table)
 from tests.dossier.leaps import LATER, leap_list
 
 FIRST = 1_000_000_000
@@ -234,6 +235,10 @@ def test_by_covers(place: Path) -> None:
                   "22:31:28 and 2023-11-14 22:41:04." in page, True),
           verified=(dossier("verify", folder)[0], 0), lesser=("lesser bound" in page, False),
           judged=((folder / "report.txt").read_text().splitlines()[-2:], ["wrong 192.0.2.104", "verdict yes"]))
+    three = {**ENVIRONMENT, "NTPAUDIT_JUDGE": str(ROOT / "dist/ntpaudit-judge")}
+    run_of_three = dossier("verify", "--second", folder, env=three)
+    check("a yes by covers, by three programs", run=(run_of_three[0], 0),
+          said=(b"judged by three programs" in run_of_three[1], True))
 
 
 def test_many_together(place: Path) -> None:

@@ -5,6 +5,7 @@ line, number, word and place.
 NTPAUDIT_SCENES=2400 NTPAUDIT_SEED=.. asks for more scenes, of another seed: of 2400, some 50,000 answers.
 """
 import os
+import re
 from collections import Counter
 from collections.abc import Callable, Iterator
 from functools import partial
@@ -14,13 +15,18 @@ from tests.judge.made import made, missing
 from tests.second import test_recheck
 from tests.second.claims import Claim
 from tests.second.test_recheck import Answer, Job, MET, Trial, is_not_right
+from tests.system.test_covers import said_of_altered
 from tests.tools import scenes
 
 SEED, SCENES = os.environ.get("NTPAUDIT_SEED", "judge"), int(os.environ.get("NTPAUDIT_SCENES", "60"))
 FAULTS = [*(f"claim {number}" for number in (1, 2, 3, 4, 5, 6, 8)),
-          *(f"certificate {number}" for number in (2, 3, 4, 5)), "refutation 1", "refutation 2",
+          *(f"certificate {number}" for number in (2, 3, 4, 5, 6, 8)), "refutation 1", "refutation 2",
           *(f"capture {number}" for number in range(1, 8)), "too-big claim", "too-big refutation"]
 """What has to be refused somewhere."""
+OF_COVERS = ["conflict N no-conflict", "no-case", "unanswered", *(f"case N {why}" for why in (
+    "too-many-groups", "no-group", "repeated-group", "repeated-case", *(f"piece N {word}" for word in (
+        "cut", "bad-sample", "mixed-servers", "repeated-server", "left-out", "unbounded", "exceeds", "uncovered"))))]
+"""What a certificate by covers has to be refused for."""
 
 
 class Judged(Trial):
@@ -36,10 +42,7 @@ class Judged(Trial):
         return self.heard
 
     def compare(self, label: str, *drift: str) -> None:
-        """Of what both refuse, one of the two lines with which `check` and `refute` do. The judge knows no covers."""
-        if b'"cases"' in self.third.read_bytes():
-            self.wrong += [f"{label}: judged, though by covers"] * (self.says(*drift)[0] != 2)
-            return
+        """Of what both refuse, one of the two lines with which `check` and `refute` do."""
         super().compare(label, *drift)
         if self.heard[0] == 2:
             line = self.heard[2].removeprefix(b"ntpaudit-judge: ")
@@ -71,6 +74,11 @@ def tried(job: tuple[str, Job]) -> Counter[str]:
     return Counter(seen)
 
 
+def tried_by_covers(seed: int) -> Counter[str]:
+    return Counter(f"by covers: verdict {re.sub('[0-9]+', 'N', said)}"
+                   for said in said_of_altered(seed, made("ntpaudit-judge")))
+
+
 def cases() -> Iterator[tuple[str, Callable[[], Counter[str]]]]:
     if tool := missing():
         yield "judge.answers.none", partial(skip, "the judge's answers", wanting(tool))  # type: ignore
@@ -78,6 +86,8 @@ def cases() -> Iterator[tuple[str, Callable[[], Counter[str]]]]:
     made("ntpaudit-judge")
     for job in [*test_recheck.jobs(), *test_recheck.scenes_of(SEED, SCENES)]:
         yield f"judge.answers.{job[0]}", partial(tried, job)
+    for seed in range(SCENES):
+        yield f"judge.answers.by covers {seed}", partial(tried_by_covers, seed)
 
 
 def together(seen: list[Counter[str]]) -> None:
@@ -86,7 +96,8 @@ def together(seen: list[Counter[str]]) -> None:
     for name, number in found.items():
         answers[name.split(": ", 1)[1]] += 0 if name.startswith("fault: ") else number
     print(f"{answers.total()} answers compared")
-    for answer in (answer for answer in MET if not answer.startswith("readings")):
+    for answer in (*(f"verdict no {why}" for why in OF_COVERS),
+                   *(answer for answer in MET if not answer.startswith("readings"))):
         count(f"something is {answer}", "" if answers[answer] else "never")
     for fault in FAULTS:
         is_met = any(name.startswith(f"fault: {fault}") for name in found)

@@ -1,4 +1,4 @@
-"""The judge on lists of conflicts that are made to be slow: a search over all sets of groups would take years."""
+"""The judge on conflicts that are made to be slow: a search over all sets of groups would take years."""
 import json
 import resource
 from pathlib import Path
@@ -23,13 +23,21 @@ def test_conflicts(folder: Path) -> None:
     hostile = families.conflicting(families.Setting(GROUPS, 0, 50_000, 3600), GROUPS)
     claim, capture, answer = folder / "claim", folder / "capture", folder / "answer"
     families.write(hostile.exchanges, capture)
+
+    def judged(label: str, most: int, text: str, said: bytes) -> None:
+        claim.write_text(json.dumps({**hostile.claims["none"], "false_max": most}))
+        answer.write_text(text)
+        before = resource.getrusage(resource.RUSAGE_CHILDREN).ru_utime
+        ran = run([judge, claim, capture, answer])
+        seconds = resource.getrusage(resource.RUSAGE_CHILDREN).ru_utime - before
+        check(f"{label}, {most} wrong", run=(ran, (1, said, b"")), within_a_second=(seconds < 1, True))
+
     for name, (pairs, fewest) in LISTS.items():
         lines = [f"conflict 192.0.2.{101 + max(pair)} {2 * max(pair)} 192.0.2.{101 + min(pair)} {2 * min(pair) + 1}\n"
                  for pair in pairs]
-        answer.write_text("".join(lines) + "nothing fits\n")
         for most, said in ((fewest - 1, b"nothing fits\n"), (fewest, b"not right: nothing fits\n")):
-            claim.write_text(json.dumps({**hostile.claims["none"], "false_max": most}))
-            before = resource.getrusage(resource.RUSAGE_CHILDREN).ru_utime
-            ran = run([judge, claim, capture, answer])
-            seconds = resource.getrusage(resource.RUSAGE_CHILDREN).ru_utime - before
-            check(f"{name}, {most} wrong", run=(ran, (1, said, b"")), within_a_second=(seconds < 1, True))
+            judged(name, most, "".join(lines) + "nothing fits\n", said)
+        # Each choice of groups has one of the last pair, which is looked at last.
+        by_covers = {"conflicts": [[max(pair), min(pair)] for pair in pairs],
+                     "cases": [{"groups": [group], "pieces": []} for group in pairs[-1]]}
+        judged(f"{name}, by covers", GROUPS - 1, json.dumps(by_covers), b"verdict no case 0 piece 0 uncovered\n")

@@ -131,6 +131,33 @@ def test_chromium(folder: Path) -> None:
 
 
 @needs("chromium")
+def test_by_covers(folder: Path) -> None:
+    """A yes by covers, and in words what fails of another."""
+    claim, capture, answer = files = folder / "claim.json", folder / "f.pcap", folder / "certificate.json"
+    capture.write_bytes(run([ROOT / "tests/tools/creeping", "33"])[1])
+    said = {"client": "192.0.2.10", "servers": [f"192.0.2.{k}" for k in (101, 102, 103, 104)], "false_max": 1,
+            "from": "2023-11-14T22:13:20Z", "to": "2023-11-14T22:47:28Z", "bound_ns": 9_600_000, "drift_ppb": 15_000,
+            "reading_ns": 0}
+    claim.write_text(json.dumps(said))
+    answer.write_bytes(run([program(), "settle", claim, capture])[1])
+    whole = json.loads(answer.read_text())
+    with browser.chromium() as page:
+        for changes, certificate, verdict, words in (
+                ({}, whole, "Yes", "The clock of 192.0.2.10 was within 9.6 ms of UTC"),
+                ({"bound_ns": 1000}, whole, "No", "In case 0: Piece 0 (2023-11-14 22:13:20 UTC to "),
+                ({}, {**whole, "cases": []}, "No", "It fails: it has no case."),
+                ({}, {**whole, "conflicts": []}, "No", "there is a choice of wrong groups that it has no case for"),
+                ({}, {**whole, "conflicts": [[0, 0]]}, "No", "Conflict 0 fails: its two exchanges agree"),
+                ({"false_max": 0}, whole, "No", "Case 0 fails: more groups are wrong in it than may be."),
+                ({}, {"cases": [{}], "conflicts": []}, "Not judged", "is refused: a case isn't of the form")):
+            claim.write_text(json.dumps({**said, **changes}))
+            answer.write_text(json.dumps(certificate))
+            judge(page, files)
+            seen = verdicts(page)
+            check(f"by covers: {words}", verdict=(seen, [verdict]), said=(words in text(page), True))
+
+
+@needs("chromium")
 def test_many_servers(folder: Path) -> None:
     """As many servers as a claim's bytes hold end no stack."""
     claim, path = json.loads(YES[0].read_text()), folder / "claim.json"

@@ -12,6 +12,7 @@ import shutil
 import tempfile
 from collections.abc import Callable
 from concurrent.futures import ProcessPoolExecutor
+from itertools import product
 from pathlib import Path
 from typing import Any
 
@@ -19,9 +20,10 @@ from tests.support import ROOT, count, run, skip, wanting
 from tests.judge.made import missing
 from tests.judge.test_answers import Judged
 from tests.second import test_recheck
+from tests.system.test_covers import said_of_altered
 
-SCENES = 40
-"""How many scenes are tried beside what is directed."""
+SCENES, ALTERED = 40, 80
+"""How many scenes are tried beside what is directed, and how many claims with certificates by covers."""
 
 Edit = tuple[str, str, str]
 """A file, what stands in it, and what stands there then."""
@@ -69,8 +71,8 @@ PLANTS: dict[str, list[Edit]] = {
     "an empty hull is within every bound": [
         ("Verdict", "| HullEmpty => Some Contradiction", "| HullEmpty => None")],
     "a server may be named twice": [
-        ("Definitions", "Forall2 (IsPart c xs p q) es parts /\\ NoDup (map fst parts)",
-         "Forall2 (IsPart c xs p q) es parts"),
+        ("Definitions", "Forall2 (IsPart xs y p q) es parts /\\ NoDup (map fst parts)",
+         "Forall2 (IsPart xs y p q) es parts"),
         ("Verdict", "if among (server x) before then inl RepeatedServer", "if false then inl RepeatedServer")],
     "the nearest distance": [
         ("Definitions", "Z.max (q - request_begin c x) (request_end c x - p)",
@@ -81,6 +83,15 @@ PLANTS: dict[str, list[Edit]] = {
     "the pieces needn't reach the span's end": [
         ("Definitions", "| is_uncovered k p : k = 0 \\/ p < last c ->", "| is_uncovered k p : k = 0 ->"),
         ("Verdict", "if (k =? 0) || (p <? last c) then No k Uncovered", "if k =? 0 then No k Uncovered")],
+    "as many may be wrong beside a case's groups": [
+        ("Definitions", "false_max := false_max c - Z.of_nat (length C);", "false_max := false_max c;")],
+    "the two rates exchanged": [
+        ("Definitions", "(ceiling (ppb * falling) (billion - ppb)) (ceiling (ppb * rising) (billion + ppb))",
+         "(ceiling (ppb * falling) (billion + ppb)) (ceiling (ppb * rising) (billion - ppb))")],
+    "a case may name more groups than may be wrong": [
+        ("Definitions", "Definition AreFew c (gs : list Z) := Z.of_nat (length gs) <= false_max c.",
+         "Definition AreFew c (gs : list Z) := Z.of_nat (length gs) <= false_max c + 1."),
+        ("ByCovers", "if false_max c <? long gs then", "if Z.succ (false_max c) <? long gs then")],
     "the last fragment holds a datagram": [
         ("Definitions", "flags mod 16384 = 0", "flags / 8192 mod 2 = 0"),
         ("Reading", "(high16 b (ip + 6) mod 16384 =? 0)", "((high16 b (ip + 6) / (128 * 64)) mod 2 =? 0)")]}
@@ -117,7 +128,16 @@ BUGS: dict[str, Edit] = {
     "33 entries": ("Texts", "if 32 <? long l then inr 4", "if Z.succ 32 <? long l then inr 4"),
     "a lie more than granted": ("Verdict", "is 0 <=? f", "is 0 <=? Z.succ f"),
     "the greatest low end": ("Verdict", "Some e => fst i <? e", "Some e => e <? fst i"),
-    "a high end by the other exchange": ("Verdict", "moved_high c p q y", "moved_high c p q x"),
+    "a high end by the other exchange": ("Verdict", "high_end how p q z", "high_end how p q x"),
+    "an entry of a group that is left out": ("Verdict", "if has (server x) (left_out how) then inl LeftOut else", ""),
+    "65 cases": ("Texts", "if 64 <=? k then inr (5, 0)", "if Z.succ 64 <=? k then inr (5, 0)"),
+    "two exchanges of which one isn't possible": (
+        "ByCovers", "((fst pair =? snd pair) && negb (is_possible c x))", "negb (is_possible c x)"),
+    "a group named twice": ("ByCovers", "if has g before then Some RepeatedGroup else", ""),
+    "groups among those of another case": (
+        "ByCovers", "includes gs (its_groups l) && includes (its_groups l) gs", "includes gs (its_groups l)"),
+    "a choice of groups without a case": (
+        "ByCovers", "if is_answered v then pieces_fault 0 (cases v) else Unanswered", "pieces_fault 0 (cases v)"),
     "the last piece may end early": ("Verdict", "(k =? 0) || (p <? last c)", "k =? 0"),
     "each piece begins with the span": (
         "Verdict", "verdict_from (Z.succ k) (upto x) rest", "verdict_from (Z.succ k) p rest"),
@@ -215,6 +235,13 @@ def share(numbers: tuple[int, int, list[Path]]) -> list[str]:
     for job in [*jobs, *test_recheck.scenes_of("planted", SCENES)][k::n]:
         if not all(SEEN[number] for number in range(len(PLANTS))):
             wrong += test_recheck.tried(job, Watched)[2]
+    for seed, (number, path) in product(range(k, ALTERED, n), enumerate(Watched.planted)):
+        if not SEEN[number]:
+            try:
+                said_of_altered(seed, path)
+            except AssertionError:
+                SEEN[number] = 1
+                print(f"{[*PLANTS][number]}: by covers, {seed}", flush=True)
     return wrong
 
 
