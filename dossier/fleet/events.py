@@ -11,7 +11,7 @@ from typing import NamedTuple
 
 from ..fault import NOT_SHOWN, fault, summed
 from ..folder.claim import Claim
-from ..folder.entry import DISPUTED, NOT_VERIFIED, REFUSED, LeapList, Record, Refusal, read_record
+from ..folder.entry import AGAINST, DISPUTED, NOT_VERIFIED, REFUSED, LeapList, Record, Refusal, read_record
 from ..folder.events import Asked, Events, Resting, read_events
 from ..folder.files import ANSWERED, AUDIT, CLAIM, EVENTS, LOG, Folder, absolute, sum_of
 from ..folder.jobs import T, Work, run_all
@@ -59,12 +59,14 @@ class EventsCall(NamedTuple):
 
 class Row(NamedTuple):
     """An event, what is said of it in words, and the folder by which, if there is one; the Unix ticks between which it
-    was, with the number of the claim and capture in that folder, if they are known."""
+    was, with the number of the claim and capture in that folder, if they are known, and else what speaks against the
+    premises there."""
 
     event: Event
     words: str
     folder: str = ""
     time: tuple[int, int, int] | None = None
+    against: str = ""
 
     def is_before(self, other: "Row") -> bool:
         """Whether it is proved that it was before another one: by true time; or by one clock, which doesn't go
@@ -186,7 +188,8 @@ def timed(call: EventsCall, machine: str, path: str, events: list[Event]) -> Tim
         moments = Moments(folder, record, call.program, call.leaps).of([event.reading for event in events])
         words = [AS_SIGNED.format(moment.words, by) if by else moment.words for moment in moments]
         premises = {premises_of(entry.claim) for entry in record.entries} | ({NOT_MADE.format(by)} if by else set())
-        return Timed(words, [moment.time for moment in moments], name, sorted(premises), by)
+        against = {AGAINST[alert.kind] for entry in record.entries for alert in entry.warnings if alert.kind in AGAINST}
+        return Timed(words, [moment.time for moment in moments], name, sorted(premises), sorted(against), by)
 
 
 class Working:
@@ -224,7 +227,7 @@ class Working:
             self.by[machine].update({name: came.by} if came.by else {})
             self.premises.update(came.premises if own else ())
             for k, words, time in zip(own, came.words, came.times):
-                rows[k] = rows[k]._replace(words=words, time=time)
+                rows[k] = rows[k]._replace(words=words, time=time, against="" if time else "; ".join(came.against))
         status = summed(self.status, NOT_SHOWN) if any(not row.time for row in rows) else self.status
         return Answered(self.call.asked, self.log, rows, list(self.wanted.values()), self.days, self.by,
                         sorted(self.premises), self.faults, status)
@@ -253,11 +256,12 @@ def path_in(machine: str, name: str) -> str:
 
 
 def notes_of(rows: list[Row]) -> list[str]:
-    """What is told of events without a folder: of each machine and reason the first line, and how many others."""
+    """What is told of events without a time: of each machine and reason the first line, and how many others."""
     lines = dict[tuple[str, str], list[int]]()
     for row in rows:
-        if not row.folder:
-            lines.setdefault((row.event.machine, row.words), []).append(row.event.line)
+        if not row.time:
+            words = plain(row.words + (f" ({row.against})" if row.against else ""))
+            lines.setdefault((row.event.machine, words), []).append(row.event.line)
     notes = [f"line {own[0]}{f' and {count(len(own) - 1, others)}' if own[1:] else ''}: {label(machine)}: {words}"
              for (machine, words), own in lines.items() for others in ["other"]]
     more = len(notes) - MOST_NOTES

@@ -281,12 +281,13 @@ class Spans:
 class Timed:
     """Of readings of a folder's clock a word for each, and the Unix ticks between which true time lay, if that is
     known, with the number of the claim and capture by which it is; and the folder's name for good, what its claims
-    presume, and who signed its audit, if that was neither made nor verified here."""
+    presume and what speaks against that, and who signed its audit, if that was neither made nor verified here."""
 
     words: list[Text]
     times: list[tuple[Ticks, Ticks, Count] | None]
     name: Annotated[str, matching("[0-9a-f]{64}|")] = ""
     premises: list[Text] = field(default_factory=list)
+    against: list[Text] = field(default_factory=list)
     by: Text = ""
 
 

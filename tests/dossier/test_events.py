@@ -112,7 +112,8 @@ def test_without(place: Path) -> None:
     status, out, err = dossier("events", log, own, other, own, twin.parent)
     check("events without a time", status=(status, 1), told=(err.decode().splitlines(), [
         "line 2 and 1 other: web-3: no folder of this machine", "line 4: web-1: no folder of this time",
-        "line 5: web-1: in two folders of this machine", "line 6: web-2: two machines have this name"]),
+        "line 5: web-1: in two folders of this machine", "line 6: web-2: two machines have this name",
+        "line 7: web-1: not verified"]),
         words=(words_of(out), [*["no folder of this machine"] * 2, "no folder of this time",
                                "in two folders of this machine", "two machines have this name", "not verified", "yes"]),
         times=([bool(first or last) for first, last, _ in rows_of(out)], [False] * 6 + [True]))
@@ -147,8 +148,10 @@ def test_verdicts(place: Path) -> None:
     check("days that aren't shown", status=(status, 1), rows=(rows_of(out), [
         ["2001-09-09T11:59:59.998000000Z", "2001-09-09T12:00:01.002000000Z", "refuted"], ["", "", "no evidence"]]))
     none = {**ENVIRONMENT, "NTPAUDIT_LEAP_SECONDS": str(place / "none")}
-    check("days without a list of leap seconds", rows=(rows_of(dossier(
-        "events", log, place / "refuted", env=none)[1])[0], ["", "", "refuted and a premise is spoken against"]))
+    _, out, err = dossier("events", log, place / "refuted", env=none)
+    words = "refuted and a premise is spoken against"
+    check("days without a list of leap seconds", rows=(rows_of(out)[0], ["", "", words]),
+          told=(err.decode().splitlines()[0], f"line 2: refuted: {words} (no list of leap seconds)"))
     dossier("audit", folder := stepped(place))
     times = ["2001-09-09T06:00:00Z", "2001-09-09T11:59:00Z", "2001-09-09T12:05:00Z", "2001-09-09T18:00:00Z"]
     log = log_of(place, "machine,time\n" + "".join(f"stepped,{time}\n" for time in times))
