@@ -41,7 +41,7 @@ CAPTURE = re.compile(r"[^.].*\.(pcap|pcapng|cap)[0-9]*(\.(gz|zst))?", re.DOTALL)
 
 SMALL, JSON, LARGE = 1 << 16, 1 << 24, 1 << 30
 LIMITS = {CLAIM: SMALL, EVIDENCE: SMALL, CLAIM_OF_0: SMALL, CLAIM_OF_DRIFT: SMALL, REFUTATION: SMALL,
-          REPORT: JSON, AUDIT: JSON, CERTIFICATE: 1 << 27, ENVELOPE: LARGE, PARTS: LARGE,
+          REPORT: JSON, AUDIT: JSON, EVENTS: 1 << 28, CERTIFICATE: 1 << 27, ENVELOPE: LARGE, PARTS: LARGE,
           **dict.fromkeys(SIGNATURES.values(), SMALL)}
 """Bytes that a file may have by its name."""
 MOST_OF_A_CAPTURE, MOST_NAMES = 1 << 32, 100_000

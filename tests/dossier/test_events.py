@@ -241,6 +241,9 @@ def test_verified(place: Path) -> None:
         check(f"{name} with {new[:20]!r}", changed=((out / name).read_bytes() == kept, False),
               status=(status, lambda status: status in (1, 2, 4)), told=(words in said.decode(), True))
         (out / name).write_bytes(kept)
+    with open(out / "events.json", "ab") as opened:
+        opened.write(b" " * 2**24)
+    check("an events.json as large as that of 200,000 days", status=(dossier("verify", out, *folders)[0], 0))
     (out / "index.html").unlink()
     check("a page that is gone", told=(b"index.html isn't there" in dossier("verify", out, *folders)[1], True))
     changed = folders[0] / "2001-09-09" / "f.pcap"
