@@ -182,8 +182,11 @@ def day_folders(wanted: YearCall, folder: Folder, name: str) -> Iterator[DayFold
             return
         written, by = read_record(folder.data(f"{name}/{AUDIT}")), wanted.signed.get(f"{folder.path}/{name}", "")
         record = wanted.known.shown(folder.sum(f"{name}/{AUDIT}"), written)
-        if not record and (signer := signer_of(wanted.signers, folder, name)) and by in ("", signer):
+        signer = signer_of(wanted.signers, folder, name) if by or not record else ""
+        if not record and signer and by in ("", signer):
             record, by = written, signer
+        if by and by != signer and wanted.signers.given is not None:
+            record = None  # (it is said to count by a signature)
         if record and not record.refusal and folder.sum(f"{name}/{CLAIM}") != record.inputs.get(CLAIM):
             record = None
     except Fault as error:

@@ -17,18 +17,18 @@ SHARES = (1, 5)
 def likelihoods(drawn: int, days: int) -> str:
     """How likely one bad day would have been drawn, if there were so many."""
     said = [f"had {share} % of all been bad ({max(1, days * share // 100):,}), one would have been drawn with "
-            f"{percent(likelihood(drawn, days, max(1, days * share // 100)))}" for share in SHARES]
+            f"{percent(missed(drawn, days, max(1, days * share // 100)))}" for share in SHARES]
     return f"({drawn:,} of {count(days, 'day')} were drawn and made again: {'; '.join(said)})"
 
 
-def likelihood(drawn: int, days: int, bad: int) -> float:
-    """That of so many days that are drawn one is bad, if so many of all are."""
-    missed = 1.0
+def missed(drawn: int, days: int, bad: int) -> float:
+    """How likely it is that of so many days that are drawn none is bad, if so many of all are."""
+    part = 1.0
     for k in range(min(bad, days)):
-        missed *= max(0, days - drawn - k) / (days - k)
-    return 1 - missed if days else 0.0
+        part *= max(0, days - drawn - k) / (days - k)
+    return part
 
 
 def percent(part: float) -> str:
-    """A part in per cent, rounded down."""
-    return f"{int(part * 1000) / 10} %" if part < 1 else "certainty"
+    """What is left of a part, in per cent and rounded down; certainty only if nothing of it is there."""
+    return f"{min(999, int((1 - part) * 1000)) / 10} %" if part else "certainty"

@@ -7,12 +7,11 @@ course that fits the whole capture: a certificate may leave out what contradicts
 from itertools import pairwise
 from typing import NamedTuple
 
-from ..capture.captures import audited
 from ..capture.classic import Classic, do_rise
 from ..fault import REFUSED, Fault
-from ..folder.answers import read_counts
+from ..folder.answers import read_counts, read_settled
 from ..folder.claim import Claim
-from ..folder.entry import AGAINST, REFUTED, UNSUPPORTED, YES, Entry, LeapList, Record, Refutation
+from ..folder.entry import AGAINST, REFUTED, UNSUPPORTED, YES, Elsewhere, Entry, LeapList, Record, Refutation
 from ..folder.files import CERTIFICATE, CLAIM, CLAIM_OF_0, JOINED, REFUTATION, REPORT, Folder, own_data, sum_of
 from ..folder.files import sum_of_file
 from ..folder.placing import copy_of
@@ -21,10 +20,10 @@ from ..premise.backing import against, backing
 from ..premise.leap import alerts_of, look_up
 from ..records import replace
 from ..schema import read_typed
-from ..verdict.making import Inputs, take_inputs
+from ..verdict.making import Inputs, take_inputs, whole_of
 from .audit import change_of
 
-ONLY_MADE = "envelopes, least bounds and warnings were held to their sums, not made again"
+ONLY_MADE = "envelopes were held to their sums, not made again; bounds, warnings and reasons are as audit.json has them"
 ANSWERS = CERTIFICATE, CLAIM_OF_0, REFUTATION, REPORT
 """What is copied: of the report it is seen that the program says it again."""
 
@@ -37,8 +36,8 @@ class Judged(NamedTuple):
 
 
 class Unjudgeable(Exception):
-    """What can't be judged by itself, and has to be made again: another capture than all of them together, days, a
-    refusal, another form."""
+    """What can't be judged by itself, and has to be made again: another capture than all of them together, one in which
+    packets were recorded twice, days, a refusal, another form, or no evidence but beside the span."""
 
 
 class Judging:
@@ -54,11 +53,13 @@ class Judging:
         entry, = record.entries
         if entry.answer == YES and (entry.moves or not entry.refutation):
             raise Unjudgeable  # (`check` says neither that the moves are so, nor that a course fits the whole capture)
+        if isinstance(entry.reason, Elsewhere):
+            raise Unjudgeable  # (that the refutation is of another time)
         taken = take_inputs(self.folder, record)
         if changed := change_of(self.folder, record, taken.sums):
             return Judged(changed, "")
-        capture = self.capture_of(record, taken)
         claim: Claim = read_typed(CLAIM, Claim, own_data(CLAIM))
+        capture = self.capture_of(record, taken, claim)
         if claim != entry.claim:
             return Judged(f"the claim of audit.json isn't that of {CLAIM}", capture)
         for name in ANSWERS:
@@ -76,16 +77,21 @@ class Judging:
                           f"seconds {own}", capture)
         return Judged(self.difference(entry, capture, record), capture)
 
-    def capture_of(self, record: Record, taken: Inputs) -> str:
-        """The capture that was audited: the one input, or all of them joined."""
-        whole = audited(taken.copies, self.program)
+    def capture_of(self, record: Record, taken: Inputs, claim: Claim) -> str:
+        """The capture that was audited: the one input, or all of them joined. How far the stamps of what was recorded
+        twice differ may take a yes away."""
+        entry, = record.entries
+        whole = whole_of(taken, claim, self.program)
         if (JOINED if whole.is_made else next(iter(taken.copies))) != record.capture:
             raise Unjudgeable
-        entry, = record.entries  # (a certificate's capture is held to its sum when it is judged)
+        if any(alert.kind == "twice" or alert not in entry.warnings for alert in whole.alerts):
+            raise Unjudgeable
+        # (a certificate's capture is held to its sum when it is judged)
         if whole.is_made and entry.answer != YES and sum_of_file(JOINED) != entry.outputs.get(JOINED):
             raise Unjudgeable
         self.whole = Classic(whole.path, whole.extent)
-        return whole.path
+        path: str = whole.path
+        return path
 
     def verdict_of(self, entry: Entry, taken: Inputs) -> str:
         """What a yes is by the folder's own evidence and one's own list of leap seconds, over all that was recorded."""
@@ -114,6 +120,8 @@ class Judging:
             text = self.program.run("refute", CLAIM, capture, REFUTATION, "--drift").text
         else:
             text = self.program.run("settle", CLAIM, capture).text
+            if read_settled(text).answer != entry.answer:
+                return f"the verdict of audit.json is {entry.verdict}, and what `settle` says is another"
         if sum_of(text) != entry.outputs.get(REPORT):
             return f"{REPORT} isn't what the program says now"
         if (entry.answer == REFUTED or entry.refutation) and not self.is_refuted(entry, capture):

@@ -17,7 +17,7 @@ from ..folder.result import Compared
 from ..premise.leap import record_by
 from ..records import replace
 from ..schema import first_difference, said
-from ..text import label, plain
+from ..text import count, label, plain
 from ..units import now
 from ..verdict.making import Making
 from ..verdict.second import Second
@@ -209,7 +209,7 @@ def verify_all(folders: list[str], verifier: Verifier, signers: Signers, seconds
     names = names_of(plan, seconds) if how.sample is not None else {}
     drawn = drawn_of(names, how.sample or 0, how.seed)
     verifier.known.believes = how.sample is not None and not how.answers
-    told, seen = Tally(how.as_signed), SeenFolders(len(plan.every))
+    told, seen = Tally(how.as_signed, verifier.known.believes), SeenFolders(len(plan.every))
 
     def is_left(path: str) -> bool:
         return how.sample is not None and not how.answers and path in names and path not in drawn
@@ -223,7 +223,9 @@ def verify_all(folders: list[str], verifier: Verifier, signers: Signers, seconds
             return Compared(0, ["(folders of an answer to a log are in it)"], is_same=True)
         is_signed = files.absolute(path) in named or (how.as_signed and path not in plan.resting)
         who = signers if is_signed else Signers(None)
-        return verify(verifier, signers, who, path, named, how._replace(answers=how.answers and path not in drawn))
+        is_drawn = path in drawn
+        return verify(verifier, signers, who, path, named, how._replace(
+            answers=how.answers and not is_drawn, known=how.known and not is_drawn))
     for path, came in run_all([path for path in plan.every if not is_left(path)], work, Compared, seconds):
         result = Compared(came.status, [came.line]) if isinstance(came, Refusal) else came
         if how.answers and result.sum and result.is_same:
@@ -240,8 +242,8 @@ def verify_all(folders: list[str], verifier: Verifier, signers: Signers, seconds
 class Tally:
     """What is printed of folders, and what comes of all."""
 
-    def __init__(self, as_signed: bool):
-        self.as_signed, self.worst = as_signed, 0
+    def __init__(self, as_signed: bool, is_of_some: bool):
+        self.as_signed, self.is_of_some, self.worst, self.before = as_signed, is_of_some, 0, 0
         self.others, self.of_years = list[str](), list[str]()
         self.hidden: dict[bool, list[str]] = {False: [], True: []}
 
@@ -256,29 +258,40 @@ class Tally:
         self.worst = summed(self.worst, status)
         if not result.is_same:
             self.others.append(label(path))
+        self.before += f"({BEFORE})" in result.lines
         self.of_years += result.hidden
         if verdicts := {verdict for verdict in result.verdicts if verdict != YES}:
             self.hidden[path in stated].append(f"{label(path)} {' and '.join(sorted(verdicts))}")
 
     def end(self) -> int:
         """The status. With `--as-signed` the last line says whether all is as it was signed, and what isn't shown."""
+        if self.before:
+            self.say(f"({count(self.before, 'folder')} counted as found before: no program looked at them again)")
         if self.as_signed:
-            hidden = [*(self.of_years or self.hidden[True]), *self.hidden[False]]
-            first = f"not as it was signed: {', '.join(self.others)}" if self.others else AS_SIGNED
-            self.say(f"{first}; not shown: {', '.join(hidden) or 'nothing, all is shown'}")
+            is_by_days = self.others or not self.of_years  # (a year that differs says of none)
+            hidden = [*self.of_years, *(self.hidden[True] if is_by_days else []), *self.hidden[False]]
+            first = f"not as it was signed: {', '.join(self.others)}" if self.others else \
+                AS_SIGNED.format("what was made again" if self.is_of_some else "all")
+            nothing = "nothing else" if self.others else "nothing of it" if self.is_of_some else "nothing, all is shown"
+            self.say(f"{first}; not shown: {', '.join(hidden) or nothing}")
+        elif self.of_years:
+            self.worst = summed(self.worst, NOT_SHOWN)
         return self.worst
 
 
-AS_SIGNED = "all is as it was signed"
+AS_SIGNED, BEFORE = "{} is as it was signed", "that was here before"
+PAGES = "its pages weren't looked at: `year --split` makes them again"
 
 
 def before(verifier: Verifier, folder: Folder, how: How) -> Verified | None:
     """What an earlier call made of a folder's audit.json, if that is enough."""
     record, sum_ = read_record(audit_json(folder)), sum_of(audit_json(folder))
+    if record_by(verifier.leaps, record).verdicts != record.verdicts:
+        return None
     if verifier.known.shown(sum_, record):
-        return Verified("", ["that was here before"], record)
+        return Verified("", [BEFORE], record)
     if how.answers and verifier.known.answers.of(sum_):
-        return Verified("", ["that was here before"], record, is_judged=True)
+        return Verified("", [BEFORE], record, is_judged=True)
     return None
 
 
@@ -298,6 +311,7 @@ def verify(verifier: Verifier, signers: Signers, who: Signers, path: str, named:
                 verifier.known.renew()
                 differs, hidden = difference_of_days(verifier, folder, named, signers)
                 findings += filter(None, [differs])
+                notes += [PAGES] if signed == files.YEAR else []
                 lines = [*(findings or [words_of(signed, verifier.known)]), *(f"({n})" for n in notes)]
                 return Compared(NOT_SHOWN if findings else 0, lines, not findings, hidden=hidden)
             earlier = before(verifier, folder, how) if how.known else None

@@ -8,7 +8,7 @@ import time
 from collections.abc import Collection
 
 from .. import VERSION
-from ..capture.captures import (around, audited, cut, falls_in, sum_of_unpacked, thinned, unpacked,
+from ..capture.captures import (AuditedCapture, around, audited, cut, falls_in, sum_of_unpacked, thinned, unpacked,
                                 unpacked_at_once)
 from ..capture.classic import Classic
 from ..capture.twice import once
@@ -113,13 +113,18 @@ def take_inputs(folder: Folder, record: Record | None) -> Inputs:
     return taken
 
 
+def whole_of(taken: Inputs, claim: Claim, program: Program) -> AuditedCapture:
+    """The capture that is audited: all that were recorded, each packet once."""
+    return once(thinned(audited(taken.copies, program), claim, program), program)
+
+
 def make(taken: Inputs, options: Options, leaps: LeapList, backed: Backing, program: Program,
          earlier: dict[str, bytes]) -> list[Entry]:
     """All answers, and their files in the current folder. Of a part that has an earlier refutation it may be taken."""
     name, copy = next(iter(taken.copies.items()))
     claim = read_claim(program, copy)
     parts = list(parts_of(claim, options.days))
-    whole = once(thinned(audited(taken.copies, program), claim, program), program)
+    whole = whole_of(taken, claim, program)
     if size_of(whole.path) > MOST_OF_A_CAPTURE:
         raise too_big(JOINED, MOST_OF_A_CAPTURE)
     taken.capture = JOINED if whole.is_made else name

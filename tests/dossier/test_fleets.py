@@ -7,6 +7,7 @@ import os
 import random
 import re
 import shutil
+import sys
 from fractions import Fraction
 from math import comb
 from pathlib import Path
@@ -16,6 +17,7 @@ from tests.support import ROOT, check, is_here, run
 from tests.dossier.audits import ENVIRONMENT, called, capture_of, dossier, match_of, stand_in
 from tests.dossier.test_evidence import key_of
 from tests.dossier.test_years import DAY, FIRST, RIGHT, WIDE, day
+from tests.tools.wire import records_of
 
 CHANGES = int(os.environ.get("CHANGES", 120))
 """How many random bytes of a signed year are changed; 5,000 by hand."""
@@ -92,12 +94,23 @@ def sign_fleet(place: Path, signers: Path, machines: list[Path], here: dict[str,
     beside = dossier("audit", place / "pages", env=here)
     check("nothing is written beside it", status=(beside[0], 5), left=((place / "pages/audit.json").exists(), False),
           said=(b"year.json is signed, so nothing is written beside it" in beside[1], True))
-    words_, named = ["verify", "--signers", signers, "--as-signed"], [place / "pages", place / "fleet"]
+    words_: list[str | Path] = ["verify", "--signers", signers, "--as-signed"]
+    named = [place / "pages", place / "fleet"]
     status, out, _ = dossier(*words_, *named, env={**here, "XDG_STATE_HOME": str(place / "auditor")})
     last = out.decode().splitlines()[-1]
     check("as it was signed", status=(status, 0), last=(last.partition(";")[0], "all is as it was signed"),
           bad=([f"{one} 2001-09-10 refuted" in last, f"{two} 2001-09-11 refuted" in last,
                 f"{two} 2001-09-12 .. 2001-12-31 missing" in last], [True] * 3))
+    by = two / "2001-09-10" / "audit.json.sig"
+    kept = by.read_bytes()
+    for name, signature in (("none", None), ("another machine's", (one / "2001-09-10/audit.json.sig").read_bytes())):
+        by.unlink() if signature is None else by.write_bytes(signature)
+        for more in ("", "--known", "--answers", "--sample 1 --seed x"):
+            status, out, _ = dossier(*words_, *more.split(), *named,
+                                     env={**here, "XDG_STATE_HOME": str(place / "auditor")})
+            check(f"a day that counts by its signature, with {name} {more}", status=(status, 1), said=(
+                f"{two}/2001-09-10 is signed by web-2" in out.decode(), True))
+        by.write_bytes(kept)
     with open(two / "2001-09-10" / "report.txt", "ab") as opened:
         opened.write(b"\n")
     status, out, _ = dossier(*words_, *named, env=here)
@@ -126,12 +139,19 @@ def test_sample(place: Path) -> None:
     status, out, _ = dossier("verify", "--sample", 3, "--seed", "x", place / "pages", place / "fleet")
     check("a bad day that was drawn", status=(status, 1),
           said=(f"{drawn}: report.txt was changed" in out.decode(), True))
+    known = dossier("verify", "--known", "--sample", 3, "--seed", "x", place / "pages", place / "fleet")[1].decode()
+    check("it is made again though it is known", said=(f"{drawn}: report.txt was changed" in known, True),
+          before=("here before" in known, False))
+    some = dossier("verify", "--as-signed", "--signers", os.devnull, "--sample", 1, "--seed", "4 1 6 6", own)[1]
+    check("the last line of a sample", all_=(b"all is" in some, False))
     for option, value in (("--sample", "3"), ("--seed", "x")):
         check(f"verify {option} alone", status=(dossier("verify", option, value, own)[0], 5))
-    from dossier.fleet.drawing import likelihood
+    from dossier.fleet.drawing import missed, percent
     for number, all_, bad in ((300, 18_250, 182), (3, 8, 1), (8, 8, 1), (1, 8, 8), (0, 8, 3), (300, 365_000, 3_650)):
-        missed = Fraction(comb(all_ - bad, number), comb(all_, number))
-        check(f"{number} of {all_}", seen=(abs(likelihood(number, all_, bad) - float(1 - missed)) < 1e-9, True))
+        none = Fraction(comb(all_ - bad, number), comb(all_, number))
+        check(f"{number} of {all_}", seen=(abs(missed(number, all_, bad) - float(none)) < 1e-9, True))
+    check("what is nearly sure", said=([percent(missed(1000, 365_000, 18_250)), percent(missed(8, 8, 1))],
+                                       ["99.9 %", "certainty"]))
 
 
 MOVE = {"after": 1_000_000_000_000_000_000, "by": 1_000_000_060_000_000_000, "low": 1, "high": 2, "rate_ppb": 0,
@@ -152,14 +172,46 @@ def test_answers(place: Path) -> None:
     check("days by their answers", status=(status, 1),
           lines=([line.partition(": ")[2] for line in out.decode().splitlines()],
                  ["judged: yes", "judged: yes", "judged: refuted", "judged: no evidence", ""]),
-          told=("envelopes, least bounds and warnings were held to their sums, not made again" in out.decode(), True),
-          calls=(calls[1:], [*["check --sums", "refute --drift"] * 2, "refute --drift", "refute --drift", "settle"]))
+          told=("envelopes were held to their sums, not made again; bounds, warnings and reasons are as audit.json has "
+                "them" in out.decode(), True),
+          calls=(calls[1:], [*["samples", "check --sums", "refute --drift"] * 2, "samples", "refute --drift",
+                             "refute --drift", "samples", "settle"]))
     second = dossier("verify", "--answers", "--second", *days_of(own))[1].decode()
     check("days by their answers and two programs", judged=(second.count("(judged by two programs)"), 4))
     with open(other / "report.txt", "ab") as opened:
         opened.write(b"\n")
     check("by answers: a file that was changed", said=(
         b"report.txt was changed since the audit" in dossier("verify", "--answers", other)[1], True))
+
+
+TOLD_ONCE = f"""import sys; sys.path.insert(0, {str(ROOT)!r})
+import dossier.verdict.making as making
+making.once = lambda whole, program: whole
+from dossier import command_line
+sys.exit(command_line.main(sys.argv[1:]))"""
+"""An auditor that takes what was recorded twice as it is."""
+
+
+def test_recorded_twice(place: Path) -> None:
+    """Whoever records a wrong clock's replies once more makes them ambiguous: a yes of what is left is none."""
+    folder = day(place / "fleet" / "web-1", 0, RIGHT)
+    times = [(600 * k, RIGHT) for k in range(144)] + [(43_205 + 60 * k, "8589934..8590934") for k in range(5)]
+    capture_of(folder / "f.pcap", *(f"{server}:{ends}@{FIRST + at}" for at, ends in sorted(times)
+                                    for server in (1, 2, 3, 4)))
+    data = (folder / "f.pcap").read_bytes()
+    noon = range(FIRST + 43_205, FIRST + 43_500)
+    doubled = ((1 + (int.from_bytes(record[:4], "little") in noon)) * record for record in records_of(data))
+    (folder / "f.pcap").write_bytes(data[:24] + b"".join(doubled))
+    state = "--state", str(place / "forger")
+    run([sys.executable, "-c", TOLD_ONCE, "audit", *state, folder], env=ENVIRONMENT)
+    told = json.loads((folder / "audit.json").read_bytes())["entries"][0]["verdict"]
+    honest = shutil.copytree(folder, place / "honest" / "web-1" / "2001-09-09",
+                             ignore=lambda _, names: {*names} - {"claim.json", "f.pcap"})
+    dossier("audit", honest)
+    status, out, _ = dossier("verify", "--answers", folder)
+    check("what was recorded twice", verdicts=((told, json.loads(
+        (honest / "audit.json").read_bytes())["entries"][0]["verdict"]), ("yes", "nothing fits")), status=(status, 1),
+        said=(b"judged: yes" in out, False))
 
 
 def test_forged_answers(place: Path) -> None:
