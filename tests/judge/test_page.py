@@ -141,15 +141,16 @@ def test_by_covers(folder: Path) -> None:
     claim.write_text(json.dumps(said))
     answer.write_bytes(run([program(), "settle", claim, capture])[1])
     whole = json.loads(answer.read_text())
+    asked: list[tuple[dict[str, int], dict[str, object], str, str]] = [
+        ({}, whole, "Yes", "The clock of 192.0.2.10 was within 9.6 ms of UTC"),
+        ({"bound_ns": 1000}, whole, "No", "In case 0: Piece 0 (2023-11-14 22:13:20 UTC to "),
+        ({}, {**whole, "cases": []}, "No", "It fails: it has no case."),
+        ({}, {**whole, "conflicts": []}, "No", "there is a choice of wrong groups that it has no case for"),
+        ({}, {**whole, "conflicts": [[0, 0]]}, "No", "Conflict 0 fails: its two exchanges agree"),
+        ({"false_max": 0}, whole, "No", "Case 0 fails: more groups are wrong in it than may be."),
+        ({}, {"cases": [{}], "conflicts": []}, "Not judged", "is refused: a case isn't of the form")]
     with browser.chromium() as page:
-        for changes, certificate, verdict, words in (
-                ({}, whole, "Yes", "The clock of 192.0.2.10 was within 9.6 ms of UTC"),
-                ({"bound_ns": 1000}, whole, "No", "In case 0: Piece 0 (2023-11-14 22:13:20 UTC to "),
-                ({}, {**whole, "cases": []}, "No", "It fails: it has no case."),
-                ({}, {**whole, "conflicts": []}, "No", "there is a choice of wrong groups that it has no case for"),
-                ({}, {**whole, "conflicts": [[0, 0]]}, "No", "Conflict 0 fails: its two exchanges agree"),
-                ({"false_max": 0}, whole, "No", "Case 0 fails: more groups are wrong in it than may be."),
-                ({}, {"cases": [{}], "conflicts": []}, "Not judged", "is refused: a case isn't of the form")):
+        for changes, certificate, verdict, words in asked:
             claim.write_text(json.dumps({**said, **changes}))
             answer.write_text(json.dumps(certificate))
             judge(page, files)
