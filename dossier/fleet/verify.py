@@ -266,7 +266,7 @@ class Tally:
     def end(self) -> int:
         """The status. With `--as-signed` the last line says whether all is as it was signed, and what isn't shown."""
         if self.before:
-            self.say(f"({count(self.before, 'folder')} counted as found before: no program looked at them again)")
+            self.say(f"({count(self.before, 'folder')} counted as found before: no program looked again)")
         if self.as_signed:
             is_by_days = self.others or not self.of_years  # (a year that differs says of none)
             hidden = [*self.of_years, *(self.hidden[True] if is_by_days else []), *self.hidden[False]]
@@ -274,13 +274,13 @@ class Tally:
                 AS_SIGNED.format("what was made again" if self.is_of_some else "all")
             nothing = "nothing else" if self.others else "nothing of it" if self.is_of_some else "nothing, all is shown"
             self.say(f"{first}; not shown: {', '.join(hidden) or nothing}")
-        elif self.of_years:
+        elif self.is_of_some and self.of_years:  # (these days weren't looked at one by one)
             self.worst = summed(self.worst, NOT_SHOWN)
         return self.worst
 
 
 AS_SIGNED, BEFORE = "{} is as it was signed", "that was here before"
-PAGES = "its pages weren't looked at: `year --split` makes them again"
+PAGES = "its pages weren't looked at: `year --split` makes them again in another folder"
 
 
 def before(verifier: Verifier, folder: Folder, how: How) -> Verified | None:

@@ -205,7 +205,8 @@ const FAULTS = {
   json: "it is no JSON text in UTF-8", address: "an address isn't written as four numbers with dots",
   time: "a time isn't of the form 2026-11-22T06:46:09Z, or doesn't exist", range: "a number is out of its limits",
   "repeated-server": "a server stands there twice, or is the client", groups: "the groups don't hold each server once",
-  top: "it isn't a list of \"pieces\" alone, or of \"cases\" and one of \"conflicts\"", shape: "it isn't of the form", field: "a name is missing, strange, or of another kind",
+  top: "it isn't a list of \"pieces\" alone, or of \"cases\" and one of \"conflicts\"", shape: "it isn't of the form",
+  field: "a name is missing, strange, or of another kind",
   "torn-header": "it ends within its header", "torn-record": "it ends within a record",
   magic: "it is no classic pcap file (editcap -F pcap converts pcapng)", version: "its version isn't 2.4",
   link: "its packets aren't Ethernet frames", "too-long": "a record is longer than 262,144 bytes",
@@ -230,8 +231,9 @@ function premises({claim}) {
         ${claim.false_max === 1 ? "was" : "were"} wrong in these exchanges. Every other server was within the root
         distance that its packet announces.`),
       element("li", `There was no leap second, and clock and servers were within 68 years of each other.`)),
-    element("p.soft", `A yes is about the exchanges that the certificate names. If these, or others in the capture,
-      contradict each other, it says nothing: have the program say that a course fits. You trust Coq and its extraction, js_of_ocaml, and this browser.`));
+    element("p.soft", `A yes is about the exchanges that the certificate names. Where no course of events fits these, or
+      the whole capture, it says nothing; the program's check --human says whether one does. You trust Coq and its
+      extraction, js_of_ocaml, and this browser.`));
 }
 
 const within = (claim) => `within ${inMs(claim.bound_ns)} of UTC from ${spelled(claim.from)} to ${spelled(claim.to)}`;

@@ -12,7 +12,8 @@ let number = Whole.to_string
 
 let why_word = function
   | Cut -> "cut" | BadSample -> "bad-sample" | MixedServers -> "mixed-servers" | RepeatedServer -> "repeated-server"
-  | LeftOut -> "left-out" | Unbounded -> "unbounded" | Contradiction -> "contradiction" | Exceeds -> "exceeds" | Uncovered -> "uncovered"
+  | LeftOut -> "left-out" | Unbounded -> "unbounded" | Contradiction -> "contradiction" | Exceeds -> "exceeds"
+  | Uncovered -> "uncovered"
 let case_word = function
   | TooManyGroups -> "too-many-groups" | NoGroup -> "no-group" | RepeatedGroup -> "repeated-group"
   | RepeatedCase -> "repeated-case"

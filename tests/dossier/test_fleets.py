@@ -101,13 +101,19 @@ def sign_fleet(place: Path, signers: Path, machines: list[Path], here: dict[str,
     check("as it was signed", status=(status, 0), last=(last.partition(";")[0], "all is as it was signed"),
           bad=([f"{one} 2001-09-10 refuted" in last, f"{two} 2001-09-11 refuted" in last,
                 f"{two} 2001-09-12 .. 2001-12-31 missing" in last], [True] * 3))
+    sample = ["--sample", "1", "--seed", "y", *named]  # (a day that is shown)
+    auditor = {**here, "XDG_STATE_HOME": str(place / "auditor")}
+    status, out, _ = dossier(*words_, *sample, env=auditor)
+    last = out.decode().splitlines()[-1]
+    check("a sample of it", status=(status, 0), bad=(f"{one} 2001-09-10 refuted" in last, True),
+          last=(last.partition(";")[0], "what was made again is as it was signed"),
+          shown=(dossier("verify", "--signers", signers, *sample, env=auditor)[0], 1))
     by = two / "2001-09-10" / "audit.json.sig"
     kept = by.read_bytes()
     for name, signature in (("none", None), ("another machine's", (one / "2001-09-10/audit.json.sig").read_bytes())):
         by.unlink() if signature is None else by.write_bytes(signature)
         for more in ("", "--known", "--answers", "--sample 1 --seed x"):
-            status, out, _ = dossier(*words_, *more.split(), *named,
-                                     env={**here, "XDG_STATE_HOME": str(place / "auditor")})
+            status, out, _ = dossier(*words_, *more.split(), *named, env=auditor)
             check(f"a day that counts by its signature, with {name} {more}", status=(status, 1), said=(
                 f"{two}/2001-09-10 is signed by web-2" in out.decode(), True))
         by.write_bytes(kept)
@@ -142,8 +148,6 @@ def test_sample(place: Path) -> None:
     known = dossier("verify", "--known", "--sample", 3, "--seed", "x", place / "pages", place / "fleet")[1].decode()
     check("it is made again though it is known", said=(f"{drawn}: report.txt was changed" in known, True),
           before=("here before" in known, False))
-    some = dossier("verify", "--as-signed", "--signers", os.devnull, "--sample", 1, "--seed", "4 1 6 6", own)[1]
-    check("the last line of a sample", all_=(b"all is" in some, False))
     for option, value in (("--sample", "3"), ("--seed", "x")):
         check(f"verify {option} alone", status=(dossier("verify", option, value, own)[0], 5))
     from dossier.fleet.drawing import missed, percent
@@ -178,6 +182,16 @@ def test_answers(place: Path) -> None:
                              "refute --drift", "samples", "settle"]))
     second = dossier("verify", "--answers", "--second", *days_of(own))[1].decode()
     check("days by their answers and two programs", judged=(second.count("(judged by two programs)"), 4))
+    for path, verdict, reason, words in (
+            (days_of(own)[2], "no evidence", {"why": "beside"}, "is `no evidence`, and by the inputs `refuted`"),
+            (other, "open", {"why": "tick"}, "the verdict of audit.json is open, and what `settle` says is another")):
+        kept = (path / "audit.json").read_bytes()
+        record = json.loads(kept)
+        record["entries"][0].update(verdict=verdict, reason=reason)
+        (path / "audit.json").write_text(json.dumps(record))
+        status, out, _ = dossier("verify", "--answers", path)
+        check(f"by answers: {verdict} where it isn't", status=(status, 1), said=(words in out.decode(), True))
+        (path / "audit.json").write_bytes(kept)
     with open(other / "report.txt", "ab") as opened:
         opened.write(b"\n")
     check("by answers: a file that was changed", said=(
@@ -353,6 +367,7 @@ def test_side_by_side(place: Path) -> None:
             ("09", "yes"), ("10", "yes"), ("11", "refuted"))]))
         said = dossier(*last, cwd=place)[1].decode()
         check(f"the statements after {name}", before=(said.count("(that was here before)"), 3),
+              counted=("(3 folders counted as found before: no program looked again)" in said, True),
               said=("pages: verified: its statements follow from its days, by their answers" in said, True))
         shutil.rmtree(place / "state")
     check("the statements before", said=(b"here before" in dossier(*last, cwd=place)[1], False))

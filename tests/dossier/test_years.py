@@ -273,7 +273,7 @@ def test_copied_years(place: Path) -> None:
     dossier("year", "--year", "2002", "--split", place / "2002", fleet / "web 1")
     check("a year without days", verified=(dossier("verify", place / "2002")[:2], (
         0, f"{place}/2002: verified: its statements follow from its days\n{place}/2002: (its pages weren't looked at: "
-           "`year --split` makes them again)\n".encode())))
+           "`year --split` makes them again in another folder)\n".encode())))
     status, _, err = dossier("year", "--year", "9999", "-o", place / "9999.html", fleet / "web 1")
     check("the last year", run=((status, err), (0, b"")))
 
