@@ -4,19 +4,26 @@ line, number, word and place.
 
 NTPAUDIT_SCENES=2400 NTPAUDIT_SEED=.. asks for more scenes, of another seed: of 2400, some 50,000 answers.
 """
+import json
 import os
 import re
+import tempfile
 from collections import Counter
 from collections.abc import Callable, Iterator
 from functools import partial
+from pathlib import Path
 
-from tests.support import Ran, count, run, skip, wanting
+from tests.support import Ran, check, count, run, skip, wanting
 from tests.judge.made import made, missing
 from tests.second import test_recheck
-from tests.second.claims import Claim
-from tests.second.test_recheck import Answer, Job, MET, Trial, is_not_right
+from tests.second.claims import Claim, changed
+from tests.second.columns import TICKS
+from tests.second.rechecked import recheck
+from tests.second.test_recheck import Answer, Job, MET, Trial, is_not_right, last_line
 from tests.system.test_covers import said_of_altered
 from tests.tools import scenes
+from tests.tools.directed import BASE, CLAIM, Asked, capture_of
+from tests.tools.wire import SERVER, address
 
 SEED, SCENES = os.environ.get("NTPAUDIT_SEED", "judge"), int(os.environ.get("NTPAUDIT_SCENES", "60"))
 FAULTS = [*(f"claim {number}" for number in (1, 2, 3, 4, 5, 6, 8)),
@@ -25,7 +32,8 @@ FAULTS = [*(f"claim {number}" for number in (1, 2, 3, 4, 5, 6, 8)),
 """What has to be refused somewhere."""
 OF_COVERS = ["conflict N no-conflict", "no-case", "unanswered", *(f"case N {why}" for why in (
     "too-many-groups", "no-group", "repeated-group", "repeated-case", *(f"piece N {word}" for word in (
-        "cut", "bad-sample", "mixed-servers", "repeated-server", "left-out", "unbounded", "exceeds", "uncovered"))))]
+        "cut", "bad-sample", "mixed-servers", "repeated-server", "left-out", "unbounded", "contradiction", "exceeds",
+        "uncovered"))))]
 """What a certificate by covers has to be refused for."""
 
 
@@ -79,11 +87,94 @@ def tried_by_covers(seed: int) -> Counter[str]:
                    for said in said_of_altered(seed, made("ntpaudit-judge")))
 
 
+# ---- each answer on a certificate by covers
+Piece = tuple[list[list[int]], int]
+MIDDLE, LAST = ((BASE + seconds) * TICKS for seconds in (2, 4))
+SHOWN: Piece = [[1, 1]], MIDDLE
+
+
+def of(groups: list[int], *pieces: Piece) -> dict[str, object]:
+    return {"groups": groups, "pieces": [{"entries": entries, "upto": upto} for entries, upto in pieces]}
+
+
+def by_covers(cases: object, conflicts: object = [[0, 2], [3, 2]]) -> bytes:
+    return json.dumps({"cases": cases, "conflicts": conflicts}).encode()
+
+
+TRUE = of([2], ([[0, 0], [1, 1], [3, 3]], LAST))
+"""The case that holds. Of four servers, each with an exchange of its number and two of which may be false, server 2 is
+off by more than the bound."""
+
+
+def behind(*pieces: Piece) -> bytes:
+    """With these behind the piece that holds of a second case."""
+    return by_covers([TRUE, of([0, 3], SHOWN, *pieces)])
+
+
+ANSWERS: list[tuple[str, bytes]] = [
+    ("verdict yes", by_covers([TRUE], [[0, 2]] * 526 + [[1, 2], [3, 2]])),
+    ("verdict no conflict 1 no-conflict", by_covers([TRUE], [[0, 2], [2, 0]])),
+    ("verdict no conflict 2 no-conflict", by_covers([TRUE], [[0, 2], [3, 2], [4, 2]])),
+    ("verdict no no-case", by_covers([])),
+    ("verdict no case 1 too-many-groups", by_covers([TRUE, of([*range(32)])])),
+    ("verdict no case 1 no-group", by_covers([TRUE, of([4])])),
+    ("verdict no case 1 no-group", by_covers([TRUE, of([255])])),
+    ("verdict no case 1 repeated-group", by_covers([TRUE, of([1, 1])])),
+    ("verdict no case 2 repeated-case", by_covers([TRUE, of([0, 3]), of([3, 0]), *[TRUE] * 61])),
+    ("verdict no unanswered", by_covers([TRUE])),
+    ("verdict no case 1 piece 1 cut", behind(([[1, 1]], MIDDLE - 1))),
+    ("verdict no case 1 piece 1 bad-sample", behind(([[1, 4]], LAST))),
+    ("verdict no case 1 piece 1 mixed-servers", behind(([[1, 2]], LAST))),
+    ("verdict no case 1 piece 1 repeated-server", behind(([[1, 1]] * 32, LAST))),
+    ("verdict no case 1 piece 1 left-out", behind(([[3, 3]], LAST))),
+    ("verdict no case 1 piece 1 unbounded", behind(([], LAST))),
+    ("verdict no case 1 piece 1 contradiction", behind(([[1, 1], [2, 2]], LAST))),
+    ("verdict no case 1 piece 1 exceeds", behind(([[2, 2]], LAST))),
+    ("verdict no case 1 piece 1 uncovered", behind()),
+    ("verdict no case 1 piece 99998 unbounded", behind(*[SHOWN] * 99_997, ([], LAST))),
+    ("certificate 1 json", by_covers([TRUE])[:-1].ljust(65_537)),
+    ("certificate 2 top", by_covers([TRUE]).replace(b"conflicts", b"conflict")),
+    ("certificate 2 top", by_covers([TRUE], 0)),
+    ("certificate 3 too-many-conflicts", by_covers([0], [0] * 529)),
+    ("certificate 4 conflicts", by_covers([0], [[0, 2], [0]])),
+    ("certificate 5 too-many-cases", by_covers([TRUE] * 65)),
+    ("certificate 6 case 2", by_covers([TRUE, TRUE, 0, *[TRUE] * 62])),
+    ("certificate 6 case 2", by_covers([TRUE, TRUE, of([*range(33)])])),
+    ("certificate 6 case 1", by_covers([TRUE, of([256])])),
+    ("certificate 7 too-many-pieces", behind(([], -1), *[SHOWN] * 99_998)),
+    ("certificate 8 shape piece 3", behind(SHOWN, ([], -1))),
+    ("certificate 9 too-many-entries piece 2", behind(([[1, 1]] * 33, LAST)))]
+"""By docs/FORMATS.md, of certificates by covers: at a limit, beyond it, and with another fault that comes later."""
+
+
+def told(line: str, certificate: bytes) -> Counter[str]:
+    """The program, the judge and second/recheck say just this; or recheck, which numbers no faults, refuses it."""
+    asked = [Asked((BASE + k) * TICKS, (BASE + k) * TICKS + 4_295_000, server=SERVER + k) for k in range(4)]
+    off = asked[2].sent + 10 * TICKS
+    asked[2] = asked[2]._replace(received=off, transmitted=off)
+    claim = changed(CLAIM, servers=[address(SERVER + k) for k in range(4)], false_max=2)
+    is_fault = not line.startswith("verdict")
+    status, out = 2 if is_fault else int(line != "verdict yes"), "" if is_fault else line
+    with tempfile.TemporaryDirectory(prefix="ntpaudit-") as place:
+        files = [Path(place) / name for name in ("claim", "capture", "certificate")]
+        for file, text in zip(files, (json.dumps(claim).encode(), capture_of(*asked), certificate)):
+            file.write_bytes(text)
+        for name, ran in (("ntpaudit", run([test_recheck.PROGRAM, "check", *files])),
+                          ("ntpaudit-judge", run([made("ntpaudit-judge"), *files]))):
+            check(f"{name} says {line}", status=(ran[0], status), out=(last_line(ran[1]), out),
+                  err=(ran[2].decode(), f"{name}: {line}\n" if is_fault else ""))
+        again = recheck(*files)
+        check(f"recheck says {line}", status=(again[0], status), out=(last_line(again[1]), out))
+    return Counter([f"by covers: {re.sub('[0-9]+', 'N', line)}"])
+
+
 def cases() -> Iterator[tuple[str, Callable[[], Counter[str]]]]:
     if tool := missing():
         yield "judge.answers.none", partial(skip, "the judge's answers", wanting(tool))  # type: ignore
         return
     made("ntpaudit-judge")
+    for k, (line, certificate) in enumerate(ANSWERS):
+        yield f"judge.answers.by covers, {line}, {k}", partial(told, line, certificate)
     for job in [*test_recheck.jobs(), *test_recheck.scenes_of(SEED, SCENES)]:
         yield f"judge.answers.{job[0]}", partial(tried, job)
     for seed in range(SCENES):
