@@ -242,6 +242,9 @@ const within = (claim) => `within ${inMs(claim.bound_ns)} of UTC from ${spelled(
 function wordsOf(result) {
   const {status, line, claim, answer} = result, words = line.split(" ");
   if (status === 2) return ["other", "Not judged", refusal(words), ""];
+  if (result.isEmpty)
+    return ["other", "An empty yes", `The certificate is right, and says nothing of the clock of ${claim.client}: no course
+      of events fits the exchanges that its conflicts name. So one of the claim's premises is false.`, ""];
   if (line === "verdict yes")
     return ["yes", "Yes", `The clock of ${claim.client} was ${within(claim)}, by its own time: in every course of events
       that fits the exchanges which the certificate names, whatever the delays, if the premises below are true.`,

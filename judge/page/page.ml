@@ -8,6 +8,7 @@ let judged _ =
   let file number = { Judge.size = size number; byte_at = byte number } in
   match Answers.said ~drift:true (file 0) (file 1) (file 2) with
   | Line (status, line) -> string_of_int status ^ line
+  | Empty_yes line -> "0" ^ line ^ "\nempty"
   | Unjudged why -> "2" ^ why
   | exception Stack_overflow -> "2out of stack"
 

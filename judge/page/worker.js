@@ -36,8 +36,9 @@ onmessage = async ({data}) => {
     for (const number of [0, 1, 2])
       if (files[number]?.file !== data[number]) files[number] = await read(data[number]);
     next = 0;
-    const said = self.page.judge();
-    postMessage({status: Number(said[0]), line: said.slice(1), claim: textOf(files[0]), answer: textOf(files[2]), sums: sums()});
+    const said = self.page.judge(), [line, note] = said.slice(1).split("\n");
+    postMessage({status: Number(said[0]), line, isEmpty: note === "empty", claim: textOf(files[0]),
+      answer: textOf(files[2]), sums: sums()});
   } catch (error) {
     postMessage({status: 2, line: `page ${error.message || error}`, sums: sums()});
   }

@@ -1,9 +1,9 @@
-(* What is said of an answer that `check`, `refute` or `settle` gave, whichever it is: a line and a status, or why it
-   isn't judged, in the words of FORMATS. *)
+(* What is said of an answer that `check`, `refute` or `settle` gave, whichever it is: a line and a status, a yes about
+   no course of events, or why it isn't judged, in the words of FORMATS. *)
 
 open Judge
 
-type said = Line of int * String.t | Unjudged of String.t
+type said = Line of int * String.t | Empty_yes of String.t | Unjudged of String.t
 
 exception Unreadable of String.t
 
@@ -48,13 +48,13 @@ let refusal_line = function
 
 let told line_of = function Refused refusal -> Unjudged (refusal_line refusal) | Judged answer -> line_of answer
 
-let yes = Line (0, "verdict yes")
+let yes = "verdict yes"
 let no words = Line (1, String.concat " " ("verdict no" :: words))
 
-let verdict_line = function Yes -> yes | No (piece, why) -> no ["piece"; number piece; why_word why]
+let verdict_line = function Yes -> Line (0, yes) | No (piece, why) -> no ["piece"; number piece; why_word why]
 
 let covers_line = function
-  | Accepted -> yes
+  | Accepted is_empty -> if is_empty then Empty_yes yes else Line (0, yes)
   | NoConflict pair -> no ["conflict"; number pair; "no-conflict"]
   | NoCase -> no ["no-case"]
   | BadCase (case, why) -> no ["case"; number case; case_word why]

@@ -6,6 +6,7 @@ let usage = "Usage: ntpaudit-judge CLAIM CAPTURE CERTIFICATE            the last
 
 `-` is standard input. `nothing fits` and `no evidence ..` are printed again if they are right, else behind
 `not right: `. Status: 0 yes; 1 no, or an answer in words; 2 not judged, and standard error says why.
+There it notes too if by the conflicts of a certificate no course of events fits, so that a yes is empty.
 "
 
 exception Unreadable of string
@@ -51,11 +52,15 @@ let () =
     | Out_of_memory -> Unjudged "out of memory"
     | Stack_overflow -> Unjudged "out of stack" in
   let printable sign = if ' ' <= sign && sign <= '~' then sign else '?' in
+  let print status line =
+    try print_string line; print_newline (); exit status with Sys_error why ->
+      prerr_endline ("ntpaudit-judge: standard output: " ^ why);
+      exit 2 in
   match said with
-  | Line (status, line) ->
-    (try print_string line; print_newline (); exit status with Sys_error why ->
-       prerr_endline ("ntpaudit-judge: standard output: " ^ why);
-       exit 2)
+  | Line (status, line) -> print status line
+  | Empty_yes line ->
+    prerr_endline "ntpaudit-judge: note: no course of events fits the capture, so this says nothing";
+    print 0 line
   | Unjudged why ->
     prerr_endline ("ntpaudit-judge: " ^ String.map printable why);
     exit 2

@@ -147,24 +147,39 @@ ANSWERS: list[tuple[str, bytes]] = [
 """By docs/FORMATS.md, of certificates by covers: at a limit, beyond it, and with another fault that comes later."""
 
 
-def told(line: str, certificate: bytes) -> Counter[str]:
-    """The program, the judge and second/recheck say just this; or recheck, which numbers no faults, refuses it."""
+EMPTY = by_covers([of([], SHOWN, ([[1, 1]], LAST))])
+"""Where no server may be false."""
+NOTE = "note: no course of events fits the capture, so this says nothing"
+
+
+def written(place: Path, certificate: bytes, most: int) -> tuple[Path, Path, Path]:
+    """Claim, capture and certificate, in a folder."""
     asked = [Asked((BASE + k) * TICKS, (BASE + k) * TICKS + 4_295_000, server=SERVER + k) for k in range(4)]
     off = asked[2].sent + 10 * TICKS
     asked[2] = asked[2]._replace(received=off, transmitted=off)
-    claim = changed(CLAIM, servers=[address(SERVER + k) for k in range(4)], false_max=2)
+    claim = changed(CLAIM, servers=[address(SERVER + k) for k in range(4)], false_max=most)
+    files = place / "claim", place / "capture", place / "certificate"
+    for file, text in zip(files, (json.dumps(claim).encode(), capture_of(*asked), certificate)):
+        file.write_bytes(text)
+    return files
+
+
+def told(line: str, certificate: bytes, most: int, note: str) -> Counter[str]:
+    """The program, the judge and second/recheck say just this; or recheck, which numbers no faults, refuses it."""
     is_fault = not line.startswith("verdict")
     status, out = 2 if is_fault else int(line != "verdict yes"), "" if is_fault else line
     with tempfile.TemporaryDirectory(prefix="ntpaudit-") as place:
-        files = [Path(place) / name for name in ("claim", "capture", "certificate")]
-        for file, text in zip(files, (json.dumps(claim).encode(), capture_of(*asked), certificate)):
-            file.write_bytes(text)
-        for name, ran in (("ntpaudit", run([test_recheck.PROGRAM, "check", *files])),
-                          ("ntpaudit-judge", run([made("ntpaudit-judge"), *files]))):
-            check(f"{name} says {line}", status=(ran[0], status), out=(last_line(ran[1]), out),
-                  err=(ran[2].decode(), f"{name}: {line}\n" if is_fault else ""))
-        again = recheck(*files)
-        check(f"recheck says {line}", status=(again[0], status), out=(last_line(again[1]), out))
+        files = written(Path(place), certificate, most)
+        for name, ran, beside in (("ntpaudit", run([test_recheck.PROGRAM, "check", *files]), ""),
+                                  ("ntpaudit-judge", run([made("ntpaudit-judge"), *files]), note),
+                                  ("recheck", recheck(*files), note)):
+            check(f"{name} says {line}", status=(ran[0], status), out=(last_line(ran[1]), out))
+            said = line if is_fault else beside
+            if not is_fault or name != "recheck":
+                check(f"{name} says beside it {said}", err=(ran[2].decode(), f"{name}: {said}\n" if said else ""))
+        if not is_fault:
+            human = run([test_recheck.PROGRAM, "check", *files, "--human"])[1].decode().splitlines()
+            check("and whether a course fits", said=("no course fits: see settle" in human, bool(note)))
     return Counter([f"by covers: {re.sub('[0-9]+', 'N', line)}"])
 
 
@@ -174,7 +189,8 @@ def cases() -> Iterator[tuple[str, Callable[[], Counter[str]]]]:
         return
     made("ntpaudit-judge")
     for k, (line, certificate) in enumerate(ANSWERS):
-        yield f"judge.answers.by covers, {line}, {k}", partial(told, line, certificate)
+        yield f"judge.answers.by covers, {line}, {k}", partial(told, line, certificate, 2, "")
+    yield "judge.answers.by covers, an empty yes", partial(told, "verdict yes", EMPTY, 0, NOTE)
     for job in [*test_recheck.jobs(), *test_recheck.scenes_of(SEED, SCENES)]:
         yield f"judge.answers.{job[0]}", partial(tried, job)
     for seed in range(SCENES):

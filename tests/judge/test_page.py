@@ -11,6 +11,7 @@ from pathlib import Path
 
 from tests.support import DATA, ROOT, check, is_here, program, run, skip, sum_of, wanting
 from tests.judge.made import made, missing
+from tests.judge.test_answers import EMPTY, written
 from tests.tools import browser
 from tests.tools.browser import Browser, Chromium
 
@@ -156,6 +157,8 @@ def test_by_covers(folder: Path) -> None:
             judge(page, files)
             seen = verdicts(page)
             check(f"by covers: {words}", verdict=(seen, [verdict]), said=(words in text(page), True))
+        judge(page, written(folder, EMPTY, 0))
+        check("by covers: an empty yes", verdict=(verdicts(page), ["An empty yes"]), line=(line(page), "verdict yes"))
 
 
 @needs("chromium")

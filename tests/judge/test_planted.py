@@ -137,7 +137,8 @@ BUGS: dict[str, Edit] = {
     "groups among those of another case": (
         "ByCovers", "includes gs (its_groups l) && includes (its_groups l) gs", "includes gs (its_groups l)"),
     "a choice of groups without a case": (
-        "ByCovers", "if is_answered v then pieces_fault 0 (cases v) else Unanswered", "pieces_fault 0 (cases v)"),
+        "ByCovers", "if is_answered v then", "if true then"),
+    "a yes that no course fits": ("ByCovers", "Accepted (is_empty v)", "Accepted false"),
     "the last piece may end early": ("Verdict", "(k =? 0) || (p <? last c)", "k =? 0"),
     "each piece begins with the span": (
         "Verdict", "verdict_from (Z.succ k) (upto x) rest", "verdict_from (Z.succ k) p rest"),

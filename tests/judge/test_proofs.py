@@ -5,6 +5,7 @@ from tests.support import ROOT, check, files_in, run, skip, wanting
 from tests.judge.made import alone, missing
 
 THEOREMS = ("check_is_the_verdict", "yes_is_traceable", "check_covers_is_the_verdict", "yes_by_covers_is_traceable",
+            "empty_yes_is_so",
             "refuted_is_a_course", "shown_without_drift", "nothing_fits_is_so", "nothing_fits_no_is_right",
             "no_evidence_is_so", "never_both")
 OPEN = re.compile(r"\b(Axiom|Axioms|Parameter|Parameters|Conjecture|Admitted|admit|give_up|bypass_check)\b")
