@@ -194,11 +194,13 @@ def day_folders(wanted: YearCall, folder: Folder, name: str) -> Iterator[DayFold
         return
     if record is None or record.refusal:
         verdict, why = (REFUSED, record.refusal.line) if record and record.refusal else (NOT_VERIFIED, UNKNOWN)
-        told = Told(named, verdict, plain(name), plain(why), name=written.name, by=by if record else "")
+        told = Told(named, verdict, plain(name), plain(why), name=written.name, by=by if record else "", says=written.says)
         yield DayFolder(told if named else replace(told, verdict=NOT_COUNTED), made=record.program if record else None)
     else:
-        dispute = plain(wanted.known.dispute(record))
-        yield from (told_of(name, entry, record, by, dispute) for entry in record_by(wanted.leaps, record).entries)
+        dispute, says = plain(wanted.known.dispute(record)), written.says
+        for entry in record_by(wanted.leaps, record).entries:
+            one = told_of(name, entry, record, by, dispute)
+            yield one._replace(told=replace(one.told, says=says))
 
 
 def signer_of(signers: Signers, folder: Folder, name: str) -> str:

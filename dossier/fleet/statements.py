@@ -7,7 +7,7 @@ from typing import NamedTuple
 from ..fault import fault
 from ..folder.claim import Claim
 from ..folder.entry import NOT_VERIFIED, YES, LeapList
-from ..folder.files import YEAR, Folder, absolute, sum_of
+from ..folder.files import AUDIT, YEAR, Folder, absolute, sum_of
 from ..folder.registry import Known
 from ..folder.result import Told, Year
 from ..folder.year import Stated, read_statements
@@ -28,7 +28,7 @@ IN_A_SENTENCE, OUT_OF_QUOTES = re.compile("[A-Za-z0-9_./@+-]+"), re.compile(r"[^
 TWINS, ALIKE = "A recording of these days is that of", "days of the same client, on the same dates"
 VERIFIED, NOBODY, NOTHING = "verified", "-", "0" * 64
 """Who answers for a day that was made or verified where a year was put together, and for one that is known nowhere; and
-the name of one that has no audit."""
+the name of one that has no audit, and what that says."""
 
 MOST_OF_A_PATH = 4_096
 """Characters of a path in a file of sums: all folders above it are worked out."""
@@ -91,10 +91,12 @@ def premises_of(claim: Claim) -> str:
 
 
 class Line(NamedTuple):
-    """A line of a file of days: the day's name for good, who answers for it, and the path of its folder."""
+    """A line of a file of days: the day's name for good, who answers for it, the sum of what its audit says, if the line
+    has one, and the path of its folder."""
 
     name: str
     by: str
+    says: str
     path: str
 
 
@@ -102,13 +104,14 @@ def by_of(day: Told) -> str:
     return NOBODY if day.verdict == NOT_VERIFIED or not day.name else day.by or VERIFIED
 
 
-LINE = re.compile(r"([0-9a-f]{64}) (\S+) (.+)")
+LINE = re.compile(r"([0-9a-f]{64}) (\S+) (?:([0-9a-f]{64}) )?(.+)")
 
 
 def lines_of(place: str, year: Year) -> bytes:
     """The lines of a machine's days, with paths as seen from a folder."""
     machine = os.path.relpath(absolute(year.path), absolute(place))
-    lines = (f"{day.name or NOTHING} {by_of(day)} {machine}/{day.folder}\n" for day in year.days if day.folder)
+    lines = (f"{day.name or NOTHING} {by_of(day)} {day.says or NOTHING} {machine}/{day.folder}\n"
+             for day in year.days if day.folder)
     return "".join(lines).encode("utf-8", "surrogateescape")
 
 
@@ -120,7 +123,7 @@ def stated_of(year: Year, file: str, sums: bytes) -> Stated:
 def read_lines(data: bytes) -> list[Line]:
     """The lines of a file of days."""
     matches = [LINE.fullmatch(line) for line in data.decode("utf-8", "surrogateescape").splitlines()]
-    lines = [Line(*line.groups()) for line in matches if line]
+    lines = [Line(*line.groups("")) for line in matches if line]
     if len(lines) < len(matches):
         raise fault("a file of days isn't one")
     if any(len(line.path) > MOST_OF_A_PATH for line in lines):
@@ -223,6 +226,8 @@ def other_days(folder: Folder, stated: Stated, year: Year) -> str:
         if by_of(day) != line.by:
             return f"{label(line.path)} is {WORDS.get(line.by, f'signed by {line.by}')} by {stated.file}, and here " \
                 f"{WORDS.get(by_of(day), f'signed by {day.by}')}"
+        if line.says and (day.says or NOTHING) != line.says:
+            return f"{label(line.path)}: its {AUDIT} says something else than when {YEAR} was made"
     return ""
 
 

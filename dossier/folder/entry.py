@@ -581,6 +581,16 @@ class Record:
         return sum_of("".join(lines).encode("utf-8", "surrogateescape"))
 
     @property
+    def says(self) -> str:
+        """The SHA-256 of what is said of these files: verdicts, reasons, figures and warnings. Who says it, when, and by
+        which list of leap seconds, may change when somebody verifies and signs the folder later."""
+        every = {name: value for name, value in said(self).items() if name not in LATER}
+        for entry in every["entries"]:
+            del entry["leap"]
+            entry["warnings"] = [alert for alert in entry.get("warnings", ()) if alert["kind"] not in OF_LEAPS]
+        return sum_of(json.dumps(every, sort_keys=True).encode())
+
+    @property
     def captures(self) -> frozenset[str]:
         """The sums of the captures."""
         return frozenset(sum_ for name, sum_ in self.inputs.items() if is_capture(name))
@@ -602,6 +612,8 @@ class Record:
         return {name: sum_ for entry in self.entries for name, sum_ in entry.outputs.items()}
 
 
+LATER = {"program", "made", "seconds", "signed", "kept", "leap_seconds"}
+"""What may be another in audit.json once it is signed or its captures are packed."""
 SKEW = 300
 """Seconds by which another machine's clock may be ahead."""
 

@@ -156,6 +156,8 @@ class Told:
     """The day's name for good; nothing if it has no audit."""
     by: Text = ""
     """Who signed the audit, if it was neither made nor verified here."""
+    says: Annotated[str, matching("[0-9a-f]{64}|")] = ""
+    """The sum of what the audit says of the day."""
 
 
 def off_of(day: Told) -> int:

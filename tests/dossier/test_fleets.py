@@ -14,7 +14,7 @@ from pathlib import Path
 from typing import Any
 
 from tests.support import ROOT, check, is_here, run
-from tests.dossier.audits import ENVIRONMENT, called, capture_of, dossier, match_of, stand_in
+from tests.dossier.audits import ENVIRONMENT, KEEP, called, capture_of, dossier, match_of, stand_in
 from tests.dossier.test_evidence import key_of
 from tests.dossier.test_years import DAY, FIRST, RIGHT, WIDE, day
 from tests.tools.wire import records_of
@@ -131,16 +131,16 @@ def test_sample(place: Path) -> None:
     own = machine(place / "fleet", "web-1", 8)
     dossier("audit", *days_of(own))
     dossier("year", "--year", "2001", "--split", place / "pages", own)
-    lines = [line.split(" ", 2) for line in (place / "pages" / f"{called(own)}.days").read_text().splitlines()]
+    lines = [line.split(" ", 3) for line in (place / "pages" / f"{called(own)}.days").read_text().splitlines()]
     for seed in ("4 1 6 6", "x"):
         by_rule = sorted(lines, key=lambda line: hashlib.sha256(f"{seed} {line[0]}".encode()).hexdigest())[:3]
         status, out, _ = dossier("verify", "--sample", 3, "--seed", seed, place / "pages", place / "fleet")
         seen = re.findall(r"(\S+): verified: ", out.decode())
-        days = [{Path(path).name for path in paths} for paths in (seen, [path for _, _, path in by_rule])]
+        days = [{Path(path).name for path in paths} for paths in (seen, [path for *_, path in by_rule])]
         check(f"drawn by {seed}", days=(days[0], days[1]), said=(
             "3 of 8 days were drawn and made again: had 1 % of all been bad (1), one would have been drawn with 37.5 %"
             in out.decode(), True))
-    drawn = own / Path(by_rule[0][2]).name
+    drawn = own / Path(by_rule[0][3]).name
     (drawn / "report.txt").write_text("")
     status, out, _ = dossier("verify", "--sample", 3, "--seed", "x", place / "pages", place / "fleet")
     check("a bad day that was drawn", status=(status, 1),
@@ -156,6 +156,33 @@ def test_sample(place: Path) -> None:
         check(f"{number} of {all_}", seen=(abs(missed(number, all_, bad) - float(none)) < 1e-9, True))
     check("what is nearly sure", said=([percent(missed(1000, 365_000, 18_250)), percent(missed(8, 8, 1))],
                                        ["99.9 %", "certainty"]))
+
+
+def test_says(place: Path) -> None:
+    """What a day's audit.json says is what it said when its year was made, though the day isn't drawn; and it may be
+    packed and signed since."""
+    own = machine(place / "fleet", "web-1", 3)
+    dossier("audit", *days_of(own))
+    dossier("year", "--year", "2001", "--split", place / "pages", own)
+    lines = (place / "pages" / f"{called(own)}.days").read_text().splitlines()
+    drawn = Path(min(lines, key=lambda line: hashlib.sha256(f"x {line[:64]}".encode()).hexdigest())).name
+    asked = ["verify", "--sample", 1, "--seed", "x", place / "pages", place / "fleet"]
+    if is_here("ssh-keygen", "a day that is signed behind its year"):
+        dossier("sign", "--key", key_of(place, "ann")[0], *days_of(own))
+    for word in KEEP:
+        dossier(*word, *days_of(own))
+    check("a year as it was made", said=(b"its statements follow from" in dossier(*asked)[1], True))
+    for path in (path for path in days_of(own) if path.name != drawn):
+        kept = (path / "audit.json").read_text()
+        record = json.loads(kept)
+        entry = record["entries"][0]
+        for name, value in {"least_ns": 1 + (entry["least_ns"] or 0), "warnings": [{"kind": "no-drift"}],
+                            "envelope_step": 1, "moves": [MOVE], "counts": {**entry["counts"], "samples": 1}}.items():
+            (path / "audit.json").write_text(json.dumps({**record, "entries": [{**entry, name: value}]}))
+            out = dossier(*asked)[1].decode()
+            check(f"{path.name}: another {name}", told=(
+                f"{path}: its audit.json says something else than when year.json was made" in out, True))
+        (path / "audit.json").write_text(kept)
 
 
 MOVE = {"after": 1_000_000_000_000_000_000, "by": 1_000_000_060_000_000_000, "low": 1, "high": 2, "rate_ppb": 0,

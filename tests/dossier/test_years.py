@@ -88,10 +88,10 @@ def test_year(place: Path) -> None:
     index = (place / "pages" / "index.html").read_text()
     check_page("the page of a year", index, [f"{called(own)}.html"] * 2)
     check("the sums of a year", line=(["2 of 365" in index, "251 from 2001-01-01" in index], [True, True]))
-    lines = [line.split(" ", 2) for line in (place / "pages" / f"{called(own)}.days").read_text().splitlines()]
+    lines = [line.split(" ", 3) for line in (place / "pages" / f"{called(own)}.days").read_text().splitlines()]
     paths = {f"../fleet/web 1/{name}" for name in [*names, "2001-09-16"]}
-    check("the names of its days", number=(len(lines), 6), paths=({path for _, _, path in lines} <= paths, True),
-          by=([by for _, by, _ in lines], [*["verified"] * 3, "-", "verified", "verified"]),
+    check("the names of its days", number=(len(lines), 6), paths=({path for *_, path in lines} <= paths, True),
+          by=([by for _, by, *_ in lines], [*["verified"] * 3, "-", "verified", "verified"]),
           by_hand=(lines[2][0], name_by_hand(own / "2001-09-11", "refutation.json report.txt envelope.txt")))
 
 
