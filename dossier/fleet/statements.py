@@ -30,6 +30,10 @@ VERIFIED, NOBODY, NOTHING = "verified", "-", "0" * 64
 """Who answers for a day that was made or verified where a year was put together, and for one that is known nowhere; and
 the name of one that has no audit, and what that says."""
 
+PAGE = ".html"
+PAGES = f"its pages are those of which {YEAR} has the sums: they weren't made again"
+ANY_PAGES = "its pages weren't looked at: `year --split` makes them again in another folder"
+"""Of a year's pages, and of those of one that has no sums of them."""
 MOST_OF_A_PATH = 4_096
 """Characters of a path in a file of sums: all folders above it are worked out."""
 
@@ -166,25 +170,28 @@ def may_be(name: str, machine: str) -> bool:
     return own == plain(os.path.basename(machine)) and (is_here or above == plain(above) and " " not in above)
 
 
-def difference(folder: Folder, known: Known, leaps: LeapList, signers: Signers = Signers(None)) -> str:
-    """The first difference between what stands in a year and what its days come to, by what is known here; nothing if
-    there is none."""
-    return compared(folder, known, leaps, signers)[0]
+class Compared(NamedTuple):
+    """The first difference between what stands in a year and what its days come to, by what is known here, nothing if
+    there is none; the days that aren't shown; and what is worth a note."""
+
+    difference: str
+    hidden: list[str] = []
+    notes: list[str] = []
 
 
-def compared(folder: Folder, known: Known, leaps: LeapList, signers: Signers) -> tuple[str, list[str]]:
-    """The same, and the days that aren't shown."""
+def compared(folder: Folder, known: Known, leaps: LeapList, signers: Signers = Signers(None)) -> Compared:
+    """What of a year stands as its days are."""
     statements = read_statements(folder.data(YEAR))
     twins, years = Twins(), list[bytes]()
     for stated in statements.machines:
         if sum_of(folder.data(stated.file)) != stated.sha256:
-            return f"{label(stated.file)} isn't the file that {YEAR} names", []
+            return Compared(f"{label(stated.file)} isn't the file that {YEAR} names")
         if wrong := has_one_machine(folder, stated):
-            return wrong, []
+            return Compared(wrong)
         wanted = YearCall(statements.year, known, leaps, seconds_of(statements.made), signers)
         year = year_stated(folder, stated, wanted)
         if wrong := other_days(folder, stated, year):
-            return wrong, []
+            return Compared(wrong)
         twins.add(year)
         years.append(packed(year))
     hidden = list[str]()
@@ -192,9 +199,20 @@ def compared(folder: Folder, known: Known, leaps: LeapList, signers: Signers) ->
         year = twins.of(number, unpacked(data))
         own = stated if year.days else replace(stated, days=0)
         if stated_of(year, stated.file, folder.data(stated.file)) != own:
-            return f"{label(stated.machine)}: the statement doesn't follow from its days, as they are known here", []
+            return Compared(f"{label(stated.machine)}: the statement doesn't follow from its days, as they are known "
+                            "here")
         hidden += not_shown(year)
-    return "", hidden
+    wrong = other_page(folder, statements.pages)
+    return Compared(wrong, hidden, [] if wrong else [PAGES if statements.pages else ANY_PAGES])
+
+
+def other_page(folder: Folder, pages: dict[str, str]) -> str:
+    """The first page of a folder that isn't the one of which its year has the sum; nothing if there is none, or the
+    year has no sums."""
+    for name in sorted({*pages, *(name for name in folder.names() if name.endswith(PAGE))}) if pages else ():
+        if not folder.has(name) or folder.sum(name) != pages.get(name):
+            return f"{label(name)} isn't the page that was signed: {YEAR} has another sum, or none"
+    return ""
 
 
 def has_one_machine(folder: Folder, stated: Stated) -> str:

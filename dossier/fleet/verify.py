@@ -28,7 +28,7 @@ from .events import EventsCall, PageOfEvents, difference as difference_of_events
 from .judging import ONLY_MADE, Judging, Unjudgeable
 from .planning import is_of_days, names_of, planned
 from .signature import GOOD, NONE, UNSEEN, Signers, in_words, signed_in
-from .statements import compared as year_compared, days_of
+from .statements import Compared as YearCompared, compared as year_compared, days_of
 from .twins import SeenFolders
 
 SHOWN, MOST_OF_A_DISPUTE = 80, 1000
@@ -280,7 +280,6 @@ class Tally:
 
 
 AS_SIGNED, BEFORE = "{} is as it was signed", "that was here before"
-PAGES = "its pages weren't looked at: `year --split` makes them again in another folder"
 
 
 def before(verifier: Verifier, folder: Folder, how: How) -> Verified | None:
@@ -309,11 +308,11 @@ def verify(verifier: Verifier, signers: Signers, who: Signers, path: str, named:
                 findings.append(in_words(signature))
             if (signed := signed_in(folder)) in RESTS:
                 verifier.known.renew()
-                differs, hidden = difference_of_days(verifier, folder, named, signers)
-                findings += filter(None, [differs])
-                notes += [PAGES] if signed == files.YEAR else []
+                found = difference_of_days(verifier, folder, named, signers)
+                findings += filter(None, [found.difference])
+                notes += found.notes
                 lines = [*(findings or [words_of(signed, verifier.known)]), *(f"({n})" for n in notes)]
-                return Compared(NOT_SHOWN if findings else 0, lines, not findings, hidden=hidden)
+                return Compared(NOT_SHOWN if findings else 0, lines, not findings, hidden=found.hidden)
             earlier = before(verifier, folder, how) if how.known else None
             difference, others, made, is_judged = \
                 earlier or (verifier.judge(folder) if how.answers else verifier.verify(folder))
@@ -335,14 +334,14 @@ def verify(verifier: Verifier, signers: Signers, who: Signers, path: str, named:
                     [entry.claim for entry in made.entries] if made else [], captures, sum="" if findings else data)
 
 
-def difference_of_days(verifier: Verifier, folder: Folder, named: set[str], signers: Signers) -> tuple[str, list[str]]:
+def difference_of_days(verifier: Verifier, folder: Folder, named: set[str], signers: Signers) -> YearCompared:
     """The first difference between a year's statements, or an answer to a log, and what their days come to, by what is
     known of these now; and the days of a year that aren't shown."""
     if is_of_events(folder):
         folders_of(folder, named)
         call = EventsCall(Asked(), verifier.known, verifier.leaps, verifier.program, SECONDS, page=verifier.page,
                           signers=signers)
-        return difference_of_events(folder, call), []
+        return YearCompared(difference_of_events(folder, call))
     days_of(folder, named)
     return year_compared(folder, verifier.known, verifier.leaps, signers)
 

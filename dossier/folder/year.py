@@ -1,4 +1,4 @@
-"""What year.json holds: the statements for a year, and for each machine the file of its days."""
+"""What year.json holds: the statements for a year, for each machine the file of its days, and the sums of its pages."""
 from typing import Annotated
 
 from ..fault import fault
@@ -30,6 +30,8 @@ class Statements:
     made: Time
     signed: Annotated[str, or_nothing(is_time)]
     machines: Annotated[list[Stated], length(1, 100_000)] = field(default_factory=list)
+    pages: dict[Name, Sum] = field(default_factory=dict)
+    """The SHA-256 of each page that was left beside it."""
 
 
 def read_statements(data: bytes) -> Statements:

@@ -7,7 +7,7 @@ from typing import NamedTuple
 
 from ..fault import fault
 from ..fleet.days import Twins, YearCall, days_among, is_day, machines_of, packed, unpacked, year_of
-from ..fleet.statements import lines_of, stated_of, statement
+from ..fleet.statements import PAGE, lines_of, stated_of, statement
 from ..folder.entry import YES, Refusal
 from ..folder.files import YEAR
 from ..folder.jobs import run_all
@@ -119,11 +119,12 @@ def write_year(folders: list[str], wanted: YearCall, pages: Pages, seconds: int,
     rows, stated = list[MachineRow](), list[Stated]()
     for number, year in enumerate(years, 1):
         name = page_of(year.path)
-        split.put(pages.page(f"{pages.title}: {year.machine}", [(number, year)], above=INDEX), f"{name}.html")
+        split.put(pages.page(f"{pages.title}: {year.machine}", [(number, year)], above=INDEX), f"{name}{PAGE}")
         split.put(lines := lines_of(split.path, year), f"{name}.days")
         stated.append(stated_of(year, f"{name}.days", lines))
         rows.append(row_of(f"{name}.html", year))
     split.put(pages.page(pages.title, [], rows), INDEX)
-    split.put(json_text(Statements(wanted.year, civil(wanted.at), "", stated)), YEAR)
+    left = {name: sum_ for name, sum_ in split.left.items() if name.endswith(PAGE)}
+    split.put(json_text(Statements(wanted.year, civil(wanted.at), "", stated, left)), YEAR)
     split.end()
     return worst

@@ -314,8 +314,8 @@ def test_changed_bytes(place: Path) -> None:
     asked = ["verify", "--answers", "--as-signed", "--signers", place / "signers"]
     named = [*days_of(own), place / "pages"]
     check("a signed year", status=(dossier(*asked, *named)[0], 0))
-    files = [path for path in [*own.rglob("*"), place / "pages" / "year.json", *(place / "pages").glob("*.days")]
-             if path.is_file() and path.suffix != ".sig"]
+    files = [path for path in [*own.rglob("*"), *(place / "pages").iterdir()]
+             if path.is_file() and path.suffix not in (".sig", ".sums")]
     drawn, unseen = random.Random(94), list[str]()
     for _ in range(CHANGES):
         path = drawn.choice(files)

@@ -235,6 +235,33 @@ def change_year(own: Path, pages: Path, signers: Path) -> None:
                                           in dossier("verify", *named)[1].decode(), True))
 
 
+def test_pages(place: Path) -> None:
+    """A page that isn't as it was when its year was made, one that is gone and one that came are named; of a year that
+    has no sums of pages it is said that nobody looked."""
+    own, pages = place / "fleet" / "web 1", place / "pages"
+    dossier("audit", day(own, 0, RIGHT))
+    dossier("year", "--year", "2001", "--split", pages, own)
+    asked = ["verify", pages, place / "fleet"]
+    check("pages as they were made", said=(b"(its pages are those of which year.json has the sums: they weren't made "
+                                           b"again)" in dossier(*asked)[1], True))
+    for name, data in (("index.html", b"all is well"), (f"{called(own)}.html", b""), (f"{called(own)}.html", None),
+                       ("another.html", b"another")):
+        page = pages / name
+        kept = page.read_bytes() if page.exists() else None
+        page.unlink() if data is None else page.write_bytes(data)
+        status, out, _ = dossier(*asked)
+        check(f"{name} is {data!r}", status=(status, 1), same=(b"pages are those" in out, False), told=(
+            f"{pages}: {name} isn't the page that was signed: year.json has another sum, or none" in out.decode(), True))
+        page.unlink() if kept is None else page.write_bytes(kept)
+    year = json.loads((pages / "year.json").read_text())
+    year.pop("pages", None)
+    (pages / "year.json").write_text(json.dumps(year))
+    (pages / "index.html").write_text("all is well")
+    check("a year without sums of pages", said=(
+        f"{pages}: (its pages weren't looked at: `year --split` makes them again in another folder)"
+        in dossier(*asked)[1].decode().splitlines(), True))
+
+
 def test_copied_years(place: Path) -> None:
     """A known audit in another machine's folder, another machine's day, a statement on no days, and the last year."""
     if not is_here("ssh-keygen", "a year that is signed"):
@@ -272,8 +299,8 @@ def test_copied_years(place: Path) -> None:
         check(f"a year with {name}", told=(b"doesn't follow from its days" in out, True))
     dossier("year", "--year", "2002", "--split", place / "2002", fleet / "web 1")
     check("a year without days", verified=(dossier("verify", place / "2002")[:2], (
-        0, f"{place}/2002: verified: its statements follow from its days\n{place}/2002: (its pages weren't looked at: "
-           "`year --split` makes them again in another folder)\n".encode())))
+        0, f"{place}/2002: verified: its statements follow from its days\n{place}/2002: (its pages are those of "
+           "which year.json has the sums: they weren't made again)\n".encode())))
     status, _, err = dossier("year", "--year", "9999", "-o", place / "9999.html", fleet / "web 1")
     check("the last year", run=((status, err), (0, b"")))
 
