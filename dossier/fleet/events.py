@@ -323,7 +323,7 @@ def folders_of(folder: Folder, named: set[str]) -> dict[str, str]:
     days = dict[str, str]()
     for resting in read_events(folder.data(EVENTS)).machines:
         machine = machine_at(folder, resting)
-        if not may_be(plain(resting.machine), machine.path):
+        if not may_be(plain(resting.machine), machine.path, folder.path):
             raise fault(f"{plain(resting.machine)}: its folder is {plain(machine.path)}, which has another name")
         for name, sum_ in resting.days.items():
             path = os.path.normpath(os.path.join(machine.path, name))

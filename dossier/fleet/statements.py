@@ -162,12 +162,21 @@ def folders_above(path: str) -> set[str]:
     return {"/".join(parts[:k]) or "/" for k in range(1, len(parts) + 1)}
 
 
-def may_be(name: str, machine: str) -> bool:
-    """Whether a machine may have been called so where its year was made: its folder's own name is the same. What stands
-    before that is no part of a sentence: it is as here, or has no blank."""
-    above, own = os.path.split(name)
-    is_here = plain(absolute(machine)).endswith(f"/{name.strip('/').lstrip('./')}")
-    return own == plain(os.path.basename(machine)) and (is_here or above == plain(above) and " " not in above)
+def may_be(name: str, machine: str, place: str) -> bool:
+    """Whether a machine may have been called so where the year in some folder was made: the path of its folder ends so,
+    or this ends with all of the path that leads there from the year's. What stands before that is no part of a
+    sentence: it has no blank."""
+    called, here = bare(os.path.normpath(name)), plain(absolute(machine))
+    seen = bare(plain(os.path.relpath(absolute(machine), absolute(place)))) or os.path.basename(here)
+    is_so = called == bare(name)
+    above = f"/{called}".removesuffix(f"/{seen}") if is_so else os.path.dirname(name)
+    return is_so and here.endswith(f"/{called}") or \
+        f"/{called}".endswith(f"/{seen}") and above == plain(above) and " " not in above
+
+
+def bare(path: str) -> str:
+    """A path without what leads up."""
+    return path.strip("/").lstrip("./")
 
 
 class Compared(NamedTuple):
@@ -219,7 +228,7 @@ def has_one_machine(folder: Folder, stated: Stated) -> str:
     machines = {os.path.dirname(line.path) or "." for line in lines_in(folder, stated)}
     if len(machines) > 1:
         return f"{label(stated.file)} has days of several machines"
-    other = next((machine for machine in machines if not may_be(stated.machine, machine)), "")
+    other = next((machine for machine in machines if not may_be(stated.machine, machine, folder.path)), "")
     return f"{label(stated.machine)}: its days are in {other}, which has another name" if other else ""
 
 

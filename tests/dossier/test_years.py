@@ -262,6 +262,31 @@ def test_pages(place: Path) -> None:
         in dossier(*asked)[1].decode().splitlines(), True))
 
 
+def test_namesakes(place: Path) -> None:
+    """Of two machines whose folders have one name, none stands for the other; and a fleet may be brought elsewhere."""
+    one, two = (place / "fleet" / site / "web-1" for site in ("siteA", "siteB"))
+    dossier("audit", day(one, 0, WIDE), day(two, 0, RIGHT))
+    said = "verified: its statements follow from its days"
+    for number, (pages, words) in enumerate((
+            ("pages", [one, two]), ("fleet/pages", [two, one]), ("pages2", ["fleet/siteA/web-1", "fleet/siteB/web-1"]),
+            ("pages3", ["./fleet/siteA/../siteA/web-1/", two]))):
+        dossier("year", "--year", "2001", "--split", place / pages, *words, cwd=place)
+        shutil.copytree(place / "fleet", place / f"other {number}" / "fleet")
+        if not pages.startswith("fleet"):
+            shutil.copytree(place / pages, place / f"other {number}" / pages)
+        for own in (place, place / f"other {number}"):
+            check(f"{pages} in {own.name}", said=(
+                f"{own / pages}: {said}" in dossier("verify", own / pages, own)[1].decode(), True))
+        file = place / pages / "year.json"
+        year = json.loads(file.read_text())
+        bad, good = sorted(year["machines"], key=lambda stated: str(stated["machine"]))
+        file.write_text(json.dumps({**year, "machines": [{**good, "machine": bad["machine"], "statement": good[
+            "statement"].replace(good["machine"], bad["machine"])}]}))
+        out = dossier("verify", place / pages, place)[1].decode()
+        check(f"{pages}: another's days", told=(f"{two}, which has another name" in out, True))
+        shutil.rmtree(place / pages)
+
+
 def test_copied_years(place: Path) -> None:
     """A known audit in another machine's folder, another machine's day, a statement on no days, and the last year."""
     if not is_here("ssh-keygen", "a year that is signed"):
