@@ -66,13 +66,19 @@ def planned(folders: list[str], named: set[str], seconds: int) -> Plan:
 
 
 def names_of(plan: Plan, seconds: int) -> dict[str, str]:
-    """The days of which some are drawn, each with its name for good: as a year states it, else as audit.json does."""
+    """The days of which some are drawn, each with its name for good: those of years, if there are any; else all, by what
+    audit.json says."""
     def work(path: str, _: int) -> str:
         with Folder(path) as folder:
             return read_any(folder.data(files.AUDIT)).name
-    others = [path for path in plan.every if path not in plan.stated]
-    return plan.stated | {path: name for path, name in run_all(others, work, str, seconds)
-                          if isinstance(name, str) and name}
+    return plan.stated or {path: name for path, name in run_all(plan.every, work, str, seconds)
+                           if isinstance(name, str) and name}
+
+
+def beside_years(plan: Plan, named: set[str]) -> set[str]:
+    """The days that stand beside those of years, and are neither named themselves nor of anything else."""
+    others = (path for path in plan.every if files.absolute(path) not in named)
+    return {path for path in others if path not in plan.stated and path not in plan.resting} if plan.stated else set()
 
 
 def days_below(path: str, named: set[str], seconds: int) -> Below:

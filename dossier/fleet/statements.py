@@ -34,6 +34,7 @@ PAGE = ".html"
 PAGES = f"its pages are those of which {YEAR} has the sums: they weren't made again"
 ANY_PAGES = "its pages weren't looked at: `year --split` makes them again in another folder"
 """Of a year's pages, and of those of one that has no sums of them."""
+UNSEEN_OF = "of {} the signature by which it counts wasn't looked at (--signers FILE does)"
 MOST_OF_A_PATH = 4_096
 """Characters of a path in a file of sums: all folders above it are worked out."""
 
@@ -203,7 +204,7 @@ def compared(folder: Folder, known: Known, leaps: LeapList, signers: Signers = S
             return Compared(wrong)
         twins.add(year)
         years.append(packed(year))
-    hidden = list[str]()
+    hidden, unseen = list[str](), 0
     for number, (stated, data) in enumerate(zip(statements.machines, years)):
         year = twins.of(number, unpacked(data))
         own = stated if year.days else replace(stated, days=0)
@@ -211,8 +212,10 @@ def compared(folder: Folder, known: Known, leaps: LeapList, signers: Signers = S
             return Compared(f"{label(stated.machine)}: the statement doesn't follow from its days, as they are known "
                             "here")
         hidden += not_shown(year)
+        unseen += sum(year.signers.values()) if signers.given is None else 0
     wrong = other_page(folder, statements.pages)
-    return Compared(wrong, hidden, [] if wrong else [PAGES if statements.pages else ANY_PAGES])
+    notes = [UNSEEN_OF.format(count(unseen, "day"))] * bool(unseen)
+    return Compared(wrong, hidden, notes + ([] if wrong else [PAGES if statements.pages else ANY_PAGES]))
 
 
 def other_page(folder: Folder, pages: dict[str, str]) -> str:

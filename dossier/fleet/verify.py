@@ -26,7 +26,7 @@ from .audit import change_of, counted_once
 from .drawing import drawn_of, likelihoods
 from .events import EventsCall, PageOfEvents, difference as difference_of_events, folders_of, is_of_events
 from .judging import ONLY_MADE, Judging, Unjudgeable
-from .planning import is_of_days, names_of, planned
+from .planning import beside_years, is_of_days, names_of, planned
 from .signature import GOOD, NONE, UNSEEN, Signers, in_words, signed_in
 from .statements import Compared as YearCompared, compared as year_compared, days_of
 from .twins import SeenFolders
@@ -206,13 +206,12 @@ def verify_all(folders: list[str], verifier: Verifier, signers: Signers, seconds
     all is verified and shown, and 1 if something isn't; or a fault's."""
     named = {files.absolute(folder) for folder in folders}
     plan = planned(folders, named, seconds)
-    names = names_of(plan, seconds) if how.sample is not None else {}
+    names, beside = (names_of(plan, seconds), beside_years(plan, named)) if how.sample is not None else ({}, set())
     drawn = drawn_of(names, how.sample or 0, how.seed)
     verifier.known.believes = how.sample is not None and not how.answers
     told, seen = Tally(how.as_signed, verifier.known.believes), SeenFolders(len(plan.every))
 
-    def is_left(path: str) -> bool:
-        return how.sample is not None and not how.answers and path in names and path not in drawn
+    left = set(names).difference(drawn) | beside if how.sample is not None and not how.answers else set()
 
     def work(path: str, _: int) -> Compared:  # (a year's signature is one for its days)
         if path in plan.beside and is_of_days(path):
@@ -226,7 +225,7 @@ def verify_all(folders: list[str], verifier: Verifier, signers: Signers, seconds
         is_drawn = path in drawn
         return verify(verifier, signers, who, path, named, how._replace(
             answers=how.answers and not is_drawn, known=how.known and not is_drawn))
-    for path, came in run_all([path for path in plan.every if not is_left(path)], work, Compared, seconds):
+    for path, came in run_all([path for path in plan.every if path not in left], work, Compared, seconds):
         result = Compared(came.status, [came.line]) if isinstance(came, Refusal) else came
         if how.answers and result.sum and result.is_same:
             verifier.known.believed.add(bytes.fromhex(result.sum))
@@ -234,6 +233,8 @@ def verify_all(folders: list[str], verifier: Verifier, signers: Signers, seconds
         told.tell(path, result, [f"({words})" for words in twins], plan.stated)
     if how.sample is not None:
         told.say(likelihoods(len(drawn), len(names)))
+    if beside & left:
+        told.say(f"({count(len(beside), 'day')} beside the year's weren't looked at)")
     if how.answers:
         told.say(f"({ONLY_MADE})")
     return told.end()

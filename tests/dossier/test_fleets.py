@@ -108,6 +108,9 @@ def sign_fleet(place: Path, signers: Path, machines: list[Path], here: dict[str,
     check("a sample of it", status=(status, 0), bad=(f"{one} 2001-09-10 refuted" in last, True),
           last=(last.partition(";")[0], "what was made again is as it was signed"),
           shown=(dossier("verify", "--signers", signers, *sample, env=auditor)[0], 1))
+    out = dossier("verify", *sample, env=auditor)[1].decode()
+    check("a sample without its signers", said=(f"{place / 'pages'}: (of 4 days the signature by which it counts wasn't "
+                                                "looked at (--signers FILE does))" in out, True))
     by = two / "2001-09-10" / "audit.json.sig"
     kept = by.read_bytes()
     for name, signature in (("none", None), ("another machine's", (one / "2001-09-10/audit.json.sig").read_bytes())):
@@ -140,6 +143,17 @@ def test_sample(place: Path) -> None:
         check(f"drawn by {seed}", days=(days[0], days[1]), said=(
             "3 of 8 days were drawn and made again: had 1 % of all been bad (1), one would have been drawn with 37.5 %"
             in out.decode(), True))
+    other = [own / "2002-01-01", place / "fleet" / "web-2" / "2001-09-09"]
+    for path in other:
+        shutil.copytree(own / "2001-09-09", path)
+    status, again, _ = dossier("verify", "--sample", 3, "--seed", "x", place / "pages", place / "fleet")
+    check("days beside the year aren't drawn", told=("(2 days beside the year's weren't looked at)" in again.decode(), True),
+        drawn=(re.findall(r"(\S+): verified: ", again.decode()), re.findall(r"(\S+): verified: ", out.decode())),
+        of=("3 of 8 days were drawn" in again.decode(), True))
+    every = dossier("verify", "--answers", "--sample", 3, "--seed", "x", place / "pages", place / "fleet")[1].decode()
+    check("by answers too", of=("3 of 8 days were drawn" in every, True), judged=(every.count(": judged: "), 7))
+    for path in other:
+        shutil.rmtree(path)
     drawn = own / Path(by_rule[0][3]).name
     (drawn / "report.txt").write_text("")
     status, out, _ = dossier("verify", "--sample", 3, "--seed", "x", place / "pages", place / "fleet")
