@@ -21,7 +21,7 @@ from ..units import now
 from .audit import change_of
 from .events import EventsCall, PageOfEvents, difference as difference_of_events, folders_of, is_of_events
 from .signature import NAMESPACE, NO_KEYGEN, READERS, Signers, signed_in
-from .statements import compared
+from .statements import BY_ANOTHER, compared
 from .verify import known_in
 
 OF_A_PERSON = ("HOME", "TERM", "DISPLAY", "WAYLAND_DISPLAY", "XDG_RUNTIME_DIR", "SSH_AUTH_SOCK", "SSH_ASKPASS",
@@ -87,9 +87,10 @@ def to_be_signed(call: SignCall, path: str, _: int) -> Written:
 
 def difference_of_days(call: SignCall, folder: Folder) -> str:
     """What of a year's statements, or of an answer to a log, doesn't follow from what is known here of its days;
-    nothing if all does."""
+    nothing if all does. Whoever signs names his own program."""
     if not is_of_events(folder):
-        return compared(folder, call.known, call.leaps, call.signers).difference
+        found = compared(folder, call.known, call.leaps, call.signers)
+        return found.difference or (BY_ANOTHER if BY_ANOTHER in found.notes else "")
     folders_of(folder, {"/"})
     return difference_of_events(folder, EventsCall(Asked(), call.known, call.leaps, find_program(), SECONDS,
                                                    page=call.page, signers=call.signers))

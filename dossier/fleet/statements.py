@@ -6,7 +6,7 @@ from typing import NamedTuple
 
 from ..fault import fault
 from ..folder.claim import Claim
-from ..folder.entry import NOT_VERIFIED, YES, LeapList
+from ..folder.entry import NOT_VERIFIED, YES, LeapList, Made
 from ..folder.files import AUDIT, YEAR, Folder, absolute, sum_of
 from ..folder.registry import Known
 from ..folder.result import Told, Year
@@ -34,6 +34,8 @@ PAGE = ".html"
 PAGES = f"its pages are those of which {YEAR} has the sums: they weren't made again"
 ANY_PAGES = "its pages weren't looked at: `year --split` makes them again in another folder"
 """Of a year's pages, and of those of one that has no sums of them."""
+PROGRAM = re.compile(r"(ntpaudit [0-9]+(?:\.[0-9]+)*(?: \(logic [0-9a-f]+\))?), SHA-256 ([0-9a-f]{64})")
+BY_ANOTHER = "made by another program than the one by which its days are known here"
 UNSEEN_OF = "of {} the signature by which it counts wasn't looked at (--signers FILE does)"
 MOST_OF_A_PATH = 4_096
 """Characters of a path in a file of sums: all folders above it are worked out."""
@@ -112,11 +114,17 @@ def by_of(day: Told) -> str:
 LINE = re.compile(r"([0-9a-f]{64}) (\S+) (?:([0-9a-f]{64}) )?(.+)")
 
 
+def days_in(year: Year) -> dict[str, Told]:
+    """The folders of a year, each with a day in it: one of its audit, if there is one."""
+    every = {day.folder: day for day in year.days if day.folder}
+    return every | {day.folder: day for day in year.days if day.name}
+
+
 def lines_of(place: str, year: Year) -> bytes:
-    """The lines of a machine's days, with paths as seen from a folder."""
+    """The lines of a machine's folders, with paths as seen from a folder."""
     machine = os.path.relpath(absolute(year.path), absolute(place))
-    lines = (f"{day.name or NOTHING} {by_of(day)} {day.says or NOTHING} {machine}/{day.folder}\n"
-             for day in year.days if day.folder)
+    lines = (f"{day.name or NOTHING} {by_of(day)} {day.says or NOTHING} {machine}/{folder}\n"
+             for folder, day in days_in(year).items())
     return "".join(lines).encode("utf-8", "surrogateescape")
 
 
@@ -204,18 +212,25 @@ def compared(folder: Folder, known: Known, leaps: LeapList, signers: Signers = S
             return Compared(wrong)
         twins.add(year)
         years.append(packed(year))
-    hidden, unseen = list[str](), 0
+    hidden, unseen, notes = list[str](), 0, list[str]()
     for number, (stated, data) in enumerate(zip(statements.machines, years)):
         year = twins.of(number, unpacked(data))
         own = stated if year.days else replace(stated, days=0)
-        if stated_of(year, stated.file, folder.data(stated.file)) != own:
+        if stated_of(year, stated.file, sums := folder.data(stated.file)) != own:
+            year, notes = replace(year, programs=programs_in(stated.statement)), [BY_ANOTHER]
+        if stated_of(year, stated.file, sums) != own:
             return Compared(f"{label(stated.machine)}: the statement doesn't follow from its days, as they are known "
                             "here")
         hidden += not_shown(year)
         unseen += sum(year.signers.values()) if signers.given is None else 0
     wrong = other_page(folder, statements.pages)
-    notes = [UNSEEN_OF.format(count(unseen, "day"))] * bool(unseen)
+    notes += [UNSEEN_OF.format(count(unseen, "day"))] * bool(unseen)
     return Compared(wrong, hidden, notes + ([] if wrong else [PAGES if statements.pages else ANY_PAGES]))
+
+
+def programs_in(statement: str) -> list[Made]:
+    """The programs by which a statement says that days were audited."""
+    return [Made(*found.groups()) for found in PROGRAM.finditer(statement.rpartition("Audited by ")[2])]
 
 
 def other_page(folder: Folder, pages: dict[str, str]) -> str:
@@ -248,7 +263,7 @@ def year_stated(folder: Folder, stated: Stated, wanted: YearCall) -> Year:
 
 def other_days(folder: Folder, stated: Stated, year: Year) -> str:
     """The first day that isn't the one that a line names, or isn't known here as the line says."""
-    known = {os.path.normpath(os.path.join(year.path, day.folder)): day for day in year.days if day.folder}
+    known = {os.path.normpath(os.path.join(year.path, folder)): day for folder, day in days_in(year).items()}
     for line in lines_in(folder, stated):
         day = known.get(line.path)
         if not day or (day.name or NOTHING) != line.name:

@@ -221,9 +221,8 @@ def verify_all(folders: list[str], verifier: Verifier, signers: Signers, seconds
         if path in plan.above and is_of_days(path):
             return Compared(0, ["(folders of an answer to a log are in it)"], is_same=True)
         is_signed = files.absolute(path) in named or (how.as_signed and path not in plan.resting)
-        who = signers if is_signed else Signers(None)
         is_drawn = path in drawn
-        return verify(verifier, signers, who, path, named, how._replace(
+        return verify(verifier, signers, is_signed, path, named, how._replace(
             answers=how.answers and not is_drawn, known=how.known and not is_drawn))
     for path, came in run_all([path for path in plan.every if path not in left], work, Compared, seconds):
         result = Compared(came.status, [came.line]) if isinstance(came, Refusal) else came
@@ -295,25 +294,25 @@ def before(verifier: Verifier, folder: Folder, how: How) -> Verified | None:
     return None
 
 
-def verify(verifier: Verifier, signers: Signers, who: Signers, path: str, named: set[str], how: How) -> Compared:
-    """What verifying a folder comes to. With a file of those who may sign it, a folder that nobody signed differs
-    too."""
-    findings: list[str] = []
-    notes: list[str] = []
+def verify(verifier: Verifier, signers: Signers, is_signed: bool, path: str, named: set[str], how: How) -> Compared:
+    """What verifying a folder comes to. With a file of those who may sign it, a folder that nobody signed differs too,
+    if its own signature has to be one."""
+    findings, unsigned, notes = list[str](), list[str](), list[str]()
     try:
         with Folder(path) as folder:
-            signature = who.signature_of(folder)
-            if signature.state in (GOOD, UNSEEN):
-                notes.append(in_words(signature))
-            elif signature.state != NONE or who.given is not None:
-                findings.append(in_words(signature))
+            signature = signers.signature_of(folder)
+            if signature.state in (GOOD, UNSEEN) or not is_signed:
+                notes += [in_words(signature)] * (signature.state != NONE)
+            elif signature.state != NONE or signers.given is not None:
+                unsigned.append(in_words(signature))
             if (signed := signed_in(folder)) in RESTS:
                 verifier.known.renew()
                 found = difference_of_days(verifier, folder, named, signers)
                 findings += filter(None, [found.difference])
                 notes += found.notes
-                lines = [*(findings or [words_of(signed, verifier.known)]), *(f"({n})" for n in notes)]
-                return Compared(NOT_SHOWN if findings else 0, lines, not findings, hidden=found.hidden)
+                lines = [*(findings or [words_of(signed, verifier.known)]), *unsigned, *(f"({n})" for n in notes)]
+                is_same = not findings and not unsigned
+                return Compared(0 if is_same else NOT_SHOWN, lines, is_same, hidden=found.hidden)
             earlier = before(verifier, folder, how) if how.known else None
             difference, others, made, is_judged = \
                 earlier or (verifier.judge(folder) if how.answers else verifier.verify(folder))
@@ -321,18 +320,19 @@ def verify(verifier: Verifier, signers: Signers, who: Signers, path: str, named:
             if is_judged and not difference:
                 verifier.known.add_answers(data, verifier.program.made.sha256, now())
     except Fault as error:
-        return Compared(error.status, [*findings, error.line, *(f"({note})" for note in notes)])
+        return Compared(error.status, [*findings, error.line, *unsigned, *(f"({note})" for note in notes)])
     findings += [difference] if difference else []
     if made and (words := verifier.known.dispute(made)):
         findings.insert(0, f"{DISPUTED}: {words}")
     verdicts = Counter(made.verdicts if made else ())
     words = ", ".join(f"{number} {verdict}" if len(made.entries) > 1 else verdict
                       for verdict, number in verdicts.items()) if made else ""
-    lines = [*(findings or [f"{'judged' if is_judged else 'verified'}: {words}"]),
+    lines = [*(findings or [f"{'judged' if is_judged else 'verified'}: {words}"]), *unsigned,
              *(f"({note})" for note in [*notes, *others])]
     status, captures = (made.status, sorted(made.recordings)) if made else (NOT_SHOWN, [])
-    return Compared(NOT_SHOWN if findings else status, lines, not findings, list(verdicts),
-                    [entry.claim for entry in made.entries] if made else [], captures, sum="" if findings else data)
+    is_same = not findings and not unsigned
+    return Compared(status if is_same else NOT_SHOWN, lines, is_same, list(verdicts),
+                    [entry.claim for entry in made.entries] if made else [], captures, sum=data if is_same else "")
 
 
 def difference_of_days(verifier: Verifier, folder: Folder, named: set[str], signers: Signers) -> YearCompared:

@@ -98,7 +98,10 @@ def sign_fleet(place: Path, signers: Path, machines: list[Path], here: dict[str,
     named = [place / "pages", place / "fleet"]
     status, out, _ = dossier(*words_, *named, env={**here, "XDG_STATE_HOME": str(place / "auditor")})
     last = out.decode().splitlines()[-1]
-    check("as it was signed", status=(status, 0), last=(last.partition(";")[0], "all is as it was signed"),
+    signed = re.findall(r"(\S+): \(signed at \S+ by (\S+), with the key", out.decode())
+    check("as it was signed", unseen=(b"wasn't looked at" in out, False), by=(signed, [
+        *((str(path), path.parent.name) for path in days_of(one, two)), (str(place / "pages"), "ann@example.org")]),
+        status=(status, 0), last=(last.partition(";")[0], "all is as it was signed"),
           bad=([f"{one} 2001-09-10 refuted" in last, f"{two} 2001-09-11 refuted" in last,
                 f"{two} 2001-09-12 .. 2001-12-31 missing" in last], [True] * 3))
     sample = ["--sample", "1", "--seed", "y", *named]  # (a day that is shown)
@@ -120,6 +123,11 @@ def sign_fleet(place: Path, signers: Path, machines: list[Path], here: dict[str,
             check(f"a day that counts by its signature, with {name} {more}", status=(status, 1), said=(
                 f"{two}/2001-09-10 is signed by web-2" in out.decode(), True))
         by.write_bytes(kept)
+    by.write_bytes((one / "2001-09-10/audit.json.sig").read_bytes())
+    lines = dossier("verify", "--signers", signers, by.parent, env=auditor)[1].decode().splitlines()
+    check("a bad signature stands beside the verdict", lines=([line.partition(": ")[2][:34] for line in lines], [
+        "verified: yes", "the signature doesn't fit: it isn'"]))
+    by.write_bytes(kept)
     with open(two / "2001-09-10" / "report.txt", "ab") as opened:
         opened.write(b"\n")
     status, out, _ = dossier(*words_, *named, env=here)
@@ -197,6 +205,42 @@ def test_says(place: Path) -> None:
             check(f"{path.name}: another {name}", told=(
                 f"{path}: its audit.json says something else than when year.json was made" in out, True))
         (path / "audit.json").write_text(kept)
+
+
+def test_other_program(place: Path) -> None:
+    """A year by another program than the one that verifies it is as it was made, if that comes to the same."""
+    own, pages = machine(place / "fleet", "web-1"), place / "pages"
+    dossier("audit", *days_of(own))
+    dossier("year", "--year", "2001", "--split", pages, own)
+    said = (f"{pages}: verified: its statements follow from its days",
+            f"{pages}: (made by another program than the one by which its days are known here)")
+    other = {**stand_in(place / "program", ":"), "XDG_STATE_HOME": str(place / "other")}
+    for more in ("--answers", "", "--known"):
+        out = dossier("verify", *more.split(), pages, place / "fleet", env=other)[1].decode()
+        check(f"a year by another program {more}", said=([line in out for line in said], [True, more != "--answers"]))
+    if is_here("ssh-keygen", "a year that is signed"):
+        status, out, _ = dossier("sign", "--key", key_of(place, "ann")[0], pages, env=other)
+        check("nobody signs another's program", run=((status, out.decode()), (1, said[1].replace("(", "").replace(
+            ")", "") + "\n")))
+    year = json.loads((pages / "year.json").read_text())
+    for old, new in (("ntpaudit 1.0.0", "ntpaudit. All is well; ntpaudit 1.0.0"), ("2 of", "3 of"), ("1 ms", "2 ms")):
+        (stated,) = year["machines"]
+        text = json.dumps({**year, "machines": [{**stated, "statement": stated["statement"].replace(old, new)}]})
+        (pages / "year.json").write_text(text)
+        check(f"{new} by another program", told=(b"doesn't follow from its days" in dossier(
+            "verify", pages, place / "fleet", env=other)[1], text != json.dumps(year)))
+
+
+def test_folder_of_days(place: Path) -> None:
+    """A folder that was audited by days has many days of a year."""
+    own = day(place / "fleet" / "web-1", 0, RIGHT, name="days", to="2001-09-12T00:00:00Z")
+    capture_of(own / "f.pcap", *(f"{server}:{RIGHT}@{FIRST + 600 * k}" for k in range(432) for server in (1, 2, 3, 4)))
+    dossier("audit", "--days", own)
+    dossier("year", "--year", "2001", "--split", place / "pages", own.parent)
+    out = dossier("verify", place / "pages", place / "fleet")[1].decode()
+    check("a folder of days", said=(f"{place / 'pages'}: verified: its statements follow from its days" in out, True),
+          days=(f"{own}: verified: 3 yes" in out, True), shown=(
+              "shown on 3 of 365 days" in (place / "pages" / "year.json").read_text(), True))
 
 
 MOVE = {"after": 1_000_000_000_000_000_000, "by": 1_000_000_060_000_000_000, "low": 1, "high": 2, "rate_ppb": 0,
