@@ -204,7 +204,8 @@ OPTIONS = [
     Option("verify", "--answers", "",
            "hold each input and answer to its sum, and have the program judge answers, instead of making all again"),
     Option("verify", "--known", "",
-           "leave it at that if a day was made, verified, or with --answers judged here before"),
+           "leave it at that if a day was made, verified, or with --answers judged here before, and its files have the "
+           "sizes that they had then"),
     Option("verify", "--sample", (1, 1_000_000),
            "make so many days again, which --seed draws; the others aren't looked at, or with --answers are judged"),
     Option("verify", "--seed", "TEXT", "what the days are drawn by, such as a throw of dice after all was signed"),

@@ -20,7 +20,7 @@ from ..premise.leap import record_by
 from ..records import dataclass
 from ..text import label
 from ..verdict.alerts import warning_words
-from ..verdict.making import Making, sums_of_inputs
+from ..verdict.making import Making, sizes_of, sums_of_inputs
 from ..verdict.sentences import line_of, refusal_of
 from .days import is_day
 from .metrics import Sample, of_record, of_verdict, write_metrics
@@ -97,6 +97,8 @@ def audited_anew(wanted: AuditCall, path: str, old: Record | None) -> Audited:
         if standing(path) != before:  # (by somebody whose record is another, so that nobody waited)
             raise fault(f"{files.AUDIT} has changed meanwhile")
         place(folder, {**outputs, files.AUDIT: [text]}, stale - record.outputs.keys())
+        if not record.refusal:
+            wanted.known.add_sizes(sum_of(text), sizes_of(folder, record))
     wanted.known.add(sum_of(text), record)
     removed = [f"{'':14}{label(path)}: its signature was removed"] if is_signed else []
     return result_of(path, record, wanted.known, "", removed)

@@ -194,7 +194,8 @@ def day_folders(wanted: YearCall, folder: Folder, name: str) -> Iterator[DayFold
         return
     if record is None or record.refusal:
         verdict, why = (REFUSED, record.refusal.line) if record and record.refusal else (NOT_VERIFIED, UNKNOWN)
-        told = Told(named, verdict, plain(name), plain(why), name=written.name, by=by if record else "", says=written.says)
+        told = Told(named, verdict, plain(name), plain(why), name=written.name, by=by if record else "",
+                    says=written.says)
         yield DayFolder(told if named else replace(told, verdict=NOT_COUNTED), made=record.program if record else None)
     else:
         dispute, says = plain(wanted.known.dispute(record)), written.says

@@ -21,7 +21,7 @@ from ..folder.registry import Known
 from ..folder.result import Said
 from ..text import label, note, plain
 from ..units import DAY
-from ..verdict.making import packed_in
+from ..verdict.making import packed_in, sizes_of
 from .audit import change_of
 from .verify import known_in
 
@@ -112,6 +112,7 @@ def keep(path: str, is_over: bool, known: Known) -> Said:
         make_last(folder, [f"{name}.zst" for name in loose])
         for name in (*loose, *again):
             take_away(folder.place, name)
+        known.add_sizes(folder.sum(files.AUDIT), sizes_of(folder, record))
         return Said(lines=["kept"])
 
 

@@ -66,8 +66,8 @@ def planned(folders: list[str], named: set[str], seconds: int) -> Plan:
 
 
 def names_of(plan: Plan, seconds: int) -> dict[str, str]:
-    """The days of which some are drawn, each with its name for good: those of years, if there are any; else all, by what
-    audit.json says."""
+    """The days of which some are drawn, each with its name for good: those of years, if there are any; else all, by
+    what audit.json says."""
     def work(path: str, _: int) -> str:
         with Folder(path) as folder:
             return read_any(folder.data(files.AUDIT)).name

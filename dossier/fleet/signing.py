@@ -18,6 +18,7 @@ from ..records import replace
 from ..schema import json_text
 from ..text import label, plain
 from ..units import now
+from ..verdict.making import sizes_of
 from .audit import change_of
 from .events import EventsCall, PageOfEvents, difference as difference_of_events, folders_of, is_of_events
 from .signature import NAMESPACE, NO_KEYGEN, READERS, Signers, signed_in
@@ -113,6 +114,7 @@ def sign(call: SignCall, signed: bytes, signature: bytes, path: str, _: int) -> 
         place(folder, {name: [signed], SIGNATURES[name]: [signature]})
         if seen:
             call.known.add(sum_of(signed), seen)
+            call.known.add_sizes(sum_of(signed), sizes_of(folder, seen))
     return Said(lines=["signed"])
 
 

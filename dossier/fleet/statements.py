@@ -98,8 +98,8 @@ def premises_of(claim: Claim) -> str:
 
 
 class Line(NamedTuple):
-    """A line of a file of days: the day's name for good, who answers for it, the sum of what its audit says, if the line
-    has one, and the path of its folder."""
+    """A line of a file of days: the day's name for good, who answers for it, the sum of what its audit says, if there
+    is one, and the path of its folder."""
 
     name: str
     by: str

@@ -19,7 +19,7 @@ from ..records import replace
 from ..schema import first_difference, said
 from ..text import count, label, plain
 from ..units import now
-from ..verdict.making import Making
+from ..verdict.making import Making, sizes_of
 from ..verdict.second import Second
 from ..verdict.sentences import reason
 from .audit import change_of, counted_once
@@ -266,7 +266,8 @@ class Tally:
     def end(self) -> int:
         """The status. With `--as-signed` the last line says whether all is as it was signed, and what isn't shown."""
         if self.before:
-            self.say(f"({count(self.before, 'folder')} counted as found before: no program looked again)")
+            self.say(f"({count(self.before, 'folder')} counted as found before: of their files only the sizes were "
+                     "looked at)")
         if self.as_signed:
             is_by_days = self.others or not self.of_years  # (a year that differs says of none)
             hidden = [*self.of_years, *(self.hidden[True] if is_by_days else []), *self.hidden[False]]
@@ -283,9 +284,11 @@ AS_SIGNED, BEFORE = "{} is as it was signed", "that was here before"
 
 
 def before(verifier: Verifier, folder: Folder, how: How) -> Verified | None:
-    """What an earlier call made of a folder's audit.json, if that is enough."""
+    """What an earlier call made of a folder's audit.json, if that is enough, and the files that it names have the sizes
+    that they had then."""
     record, sum_ = read_record(audit_json(folder)), sum_of(audit_json(folder))
-    if record_by(verifier.leaps, record).verdicts != record.verdicts:
+    is_so = record.refusal or verifier.known.have_sizes(sum_, sizes_of(folder, record))
+    if not is_so or record_by(verifier.leaps, record).verdicts != record.verdicts:
         return None
     if verifier.known.shown(sum_, record):
         return Verified("", [BEFORE], record)
@@ -319,6 +322,8 @@ def verify(verifier: Verifier, signers: Signers, is_signed: bool, path: str, nam
             data = sum_of(audit_json(folder))
             if is_judged and not difference:
                 verifier.known.add_answers(data, verifier.program.made.sha256, now())
+            if made and not made.refusal and not difference:
+                verifier.known.add_sizes(data, sizes_of(folder, made))
     except Fault as error:
         return Compared(error.status, [*findings, error.line, *unsigned, *(f"({note})" for note in notes)])
     findings += [difference] if difference else []

@@ -582,8 +582,8 @@ class Record:
 
     @property
     def says(self) -> str:
-        """The SHA-256 of what is said of these files: verdicts, reasons, figures and warnings. Who says it, when, and by
-        which list of leap seconds, may change when somebody verifies and signs the folder later."""
+        """The SHA-256 of what is said of these files: verdicts, reasons, figures and warnings. Who says it, when, and
+        by which list of leap seconds, may change when somebody verifies and signs the folder later."""
         every = {name: value for name, value in said(self).items() if name not in LATER}
         for entry in every["entries"]:
             del entry["leap"]

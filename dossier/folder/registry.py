@@ -2,7 +2,8 @@
 which program it was made or verified here, when, and in how many seconds.
 
 Nothing else makes an audit.json more than a stranger's word, and what stands in the line is what is shown. What the
-second program said of answers stands in a file beside it, and of which audit.json the answers were judged in another.
+second program said of answers stands in a file beside it, of which audit.json the answers were judged in another, and
+in a third which sizes the files had that an audit.json names.
 """
 import os
 from contextlib import AbstractContextManager
@@ -15,7 +16,7 @@ from .files import CLAIM, Folder, sum_of
 from .placing import Journal
 from .table import Table
 
-FILE, JUDGED, ANSWERS, LOCKS = "audits", "judged", "answers", "locks"
+FILE, JUDGED, ANSWERS, SIZES, LOCKS = "audits", "judged", "answers", "sizes", "locks"
 
 
 class Judgement(NamedTuple):
@@ -66,14 +67,14 @@ class Known:
 
     def __init__(self, state: str, writes: bool):
         try:
-            self.journal, self.judged, self.by_answers = (Journal(state, name, writes)
-                                                          for name in (FILE, JUDGED, ANSWERS))
+            self.journal, self.judged, self.by_answers, self.of_sizes = (
+                Journal(state, name, writes) for name in (FILE, JUDGED, ANSWERS, SIZES))
         except OSError as error:
             why = f"the record of audits in {state} can't be used ({error.strerror})"
             raise fault(f"{why}: --state names another folder", DEVICE) from None
         self.lines, self.judgements = Lines(self.journal.text), Lines(self.judged.text)
-        self.answers = Lines(self.by_answers.text)
-        self.journal.text = self.judged.text = self.by_answers.text = b""
+        self.answers, self.sizes = Lines(self.by_answers.text), Lines(self.of_sizes.text)
+        self.journal.text = self.judged.text = self.by_answers.text = self.of_sizes.text = b""
         self.believed, self.believes = set[bytes](), False
 
     def renew(self) -> None:
@@ -119,6 +120,15 @@ class Known:
         if not self.answers.of(sum_):
             self.append(self.by_answers, line := f"{sum_} {program} {at} - -")
             self.answers.more[sum_] = line
+
+    def add_sizes(self, sum_: str, sizes: str) -> None:
+        """Adds a line: which sizes the files have that an audit.json of this sum names."""
+        if not self.have_sizes(sum_, sizes):
+            self.append(self.of_sizes, line := f"{sum_} {sizes} - - -")
+            self.sizes.more[sum_] = line
+
+    def have_sizes(self, sum_: str, sizes: str) -> bool:
+        return self.sizes.of(sum_).startswith(f"{sum_} {sizes} ")
 
     def judgement(self, record: Record) -> Judgement | None:
         """What the second program said last of these answers. A dispute is about whatever is said of the question, so

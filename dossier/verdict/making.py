@@ -14,9 +14,10 @@ from ..capture.classic import Classic
 from ..capture.twice import once
 from ..fault import DEVICE, Fault, fault
 from ..folder.claim import Claim, parts_of
-from ..folder.entry import Entry, LeapList, Options, Record, Refusal, is_packable, refusal_by
+from ..folder.entry import Entry, LeapList, Options, Record, Refusal, is_made_anew, is_packable, refusal_by
 from ..folder.evidence import evidence_files
-from ..folder.files import CLAIM, JOINED, MOST_OF_A_CAPTURE, Folder, is_capture, own_data, size_of, sum_of_file, too_big
+from ..folder.files import (CLAIM, JOINED, MOST_OF_A_CAPTURE, Folder, is_capture, own_data, size_of, sum_of,
+                            sum_of_file, too_big)
 from ..folder.placing import copy_of, move
 from ..folder.program import Program
 from ..premise.backing import Backing, backing
@@ -51,6 +52,13 @@ def inputs_of(folder: Folder, record: Record | None) -> dict[str, str]:
         raise fault("no capture in the folder", DEVICE)
     others = {name: name for name in evidence_files(folder, names) if name not in captures.values()}
     return {CLAIM: CLAIM, **{name: captures[name] for name in sorted(captures)}, **others}
+
+
+def sizes_of(folder: Folder, record: Record) -> str:
+    """A sum of the names and sizes of the files that an audit names, as they are in its folder, which aren't read. A
+    fault if claim or captures aren't there."""
+    every = {*inputs_of(folder, record), *(name for name in record.outputs if not is_made_anew(name))}
+    return sum_of("".join(f"{folder.size(name)} {name}\n" for name in sorted(every)).encode("utf-8", "surrogateescape"))
 
 
 def sums_of_inputs(folder: Folder, record: Record, taken: dict[str, str]) -> dict[str, str]:

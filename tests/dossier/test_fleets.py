@@ -243,6 +243,37 @@ def test_folder_of_days(place: Path) -> None:
               "shown on 3 of 365 days" in (place / "pages" / "year.json").read_text(), True))
 
 
+def test_known(place: Path) -> None:
+    """What was made or judged here before is left at that, if the files that it names have the sizes that they had."""
+    own = machine(place / "fleet", "web-1", 2)
+    first, second = days_of(own)
+    (first / "evidence.json").write_text(json.dumps({"drift": "drift.txt"}))
+    (first / "drift.txt").write_text("none")
+    dossier("audit", *days_of(own))
+    asked, before = ["verify", "--known"], "(that was here before)"
+    out = dossier(*asked, *days_of(own))[1].decode()
+    check("days that are known", before=(out.count(before), 2), told=(
+        "(2 folders counted as found before: of their files only the sizes were looked at)" in out, True))
+    for way in ("", "--answers"):
+        if way:
+            asked = [*asked, way, "--state", place / "judged"]
+            dossier(*asked, first)
+        for file in sorted(path for path in first.iterdir() if path.name != "audit.json"):
+            kept = file.read_bytes()
+            for what in (None, kept[:-1], kept + b"\n"):
+                file.unlink() if what is None else file.write_bytes(what)
+                out = dossier(*asked, first)[1].decode()
+                check(f"{way} {file.name}: {what is None or len(what)}", before=(before in out, False),
+                      verified=("verified: " in out or "judged: " in out, False))
+                file.write_bytes(kept)
+        check(f"as it was {way}", before=(before in dossier(*asked, first)[1].decode(), True))
+    for word in KEEP:
+        dossier(*word, *days_of(own))
+    if is_here("ssh-keygen", "a day that is known and signed"):
+        dossier("sign", "--key", key_of(place, "ann")[0], second)
+    check("packed and signed", before=(dossier("verify", "--known", *days_of(own))[1].decode().count(before), 2))
+
+
 MOVE = {"after": 1_000_000_000_000_000_000, "by": 1_000_000_060_000_000_000, "low": 1, "high": 2, "rate_ppb": 0,
         "is_step": True, "until": 0, "since": 0}
 """A step that nobody made."""
@@ -452,7 +483,7 @@ def test_side_by_side(place: Path) -> None:
             ("09", "yes"), ("10", "yes"), ("11", "refuted"))]))
         said = dossier(*last, cwd=place)[1].decode()
         check(f"the statements after {name}", before=(said.count("(that was here before)"), 3),
-              counted=("(3 folders counted as found before: no program looked again)" in said, True),
+              counted=("(3 folders counted as found before: of their files only the sizes were looked at)" in said, True),
               said=("pages: verified: its statements follow from its days, by their answers" in said, True))
         shutil.rmtree(place / "state")
     check("the statements before", said=(b"here before" in dossier(*last, cwd=place)[1], False))

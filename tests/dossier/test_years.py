@@ -250,8 +250,9 @@ def test_pages(place: Path) -> None:
         kept = page.read_bytes() if page.exists() else None
         page.unlink() if data is None else page.write_bytes(data)
         status, out, _ = dossier(*asked)
-        check(f"{name} is {data!r}", status=(status, 1), same=(b"pages are those" in out, False), told=(
-            f"{pages}: {name} isn't the page that was signed: year.json has another sum, or none" in out.decode(), True))
+        said = f"{pages}: {name} isn't the page that was signed: year.json has another sum, or none"
+        check(f"{name} is {data!r}", status=(status, 1), same=(b"pages are those" in out, False),
+              told=(said in out.decode(), True))
         page.unlink() if kept is None else page.write_bytes(kept)
     year = json.loads((pages / "year.json").read_text())
     year.pop("pages", None)
