@@ -1,19 +1,22 @@
 """A year later, or at a stranger's: does an audit of the inputs alone come to what stands in the folder?"""
+import os
 from collections import Counter
 from collections.abc import Callable
+from contextlib import suppress
 from typing import NamedTuple
 
 from .. import VERSION
 from ..fault import DEVICE, NOT_SHOWN, Fault, fault, summed
 from ..folder import files
 from ..folder.entry import DISPUTED, OPEN, UNSUPPORTED, YES, Entry, LeapList, Record, Refusal, is_made_anew, read_record
-from ..folder.events import Asked
+from ..folder.events import Asked, read_events
 from ..folder.files import Folder, own, sum_of
 from ..folder.jobs import SECONDS, run_all
 from ..folder.older import differs as differs_from_older, form_of, read_any
 from ..folder.program import Program
 from ..folder.registry import Known
 from ..folder.result import Compared
+from ..folder.year import read_statements
 from ..premise.leap import record_by
 from ..records import replace
 from ..schema import first_difference, said
@@ -23,6 +26,7 @@ from ..verdict.making import Making, sizes_of
 from ..verdict.second import Second
 from ..verdict.sentences import reason
 from .audit import change_of, counted_once
+from .days import is_day
 from .drawing import drawn_of, likelihoods
 from .events import EventsCall, PageOfEvents, difference as difference_of_events, folders_of, is_of_events
 from .judging import ONLY_MADE, Judging, Unjudgeable
@@ -304,7 +308,9 @@ def verify(verifier: Verifier, signers: Signers, is_signed: bool, path: str, nam
     try:
         with Folder(path) as folder:
             signature = signers.signature_of(folder)
-            if signature.state in (GOOD, UNSEEN) or not is_signed:
+            if is_signed and signature.state == GOOD and is_machines(folder, signature.signer):
+                unsigned.append(f"{in_words(signature)}: {OWN_DAYS}")
+            elif signature.state in (GOOD, UNSEEN) or not is_signed:
                 notes += [in_words(signature)] * (signature.state != NONE)
             elif signature.state != NONE or signers.given is not None:
                 unsigned.append(in_words(signature))
@@ -338,6 +344,23 @@ def verify(verifier: Verifier, signers: Signers, is_signed: bool, path: str, nam
     is_same = not findings and not unsigned
     return Compared(status if is_same else NOT_SHOWN, lines, is_same, list(verdicts),
                     [entry.claim for entry in made.entries] if made else [], captures, sum=data if is_same else "")
+
+
+def is_machines(folder: Folder, signer: str) -> bool:
+    """Whether a machine signed what isn't a day of its own: a year or an answer that rests on its days, or a day of
+    another one whose folder stands beside its own."""
+    own, signed = signer.rpartition("@")[2], signed_in(folder)
+    if signed in RESTS:
+        machines = (read_statements if signed == files.YEAR else read_events)(folder.data(signed)).machines
+        return own in {os.path.basename(one.machine) for one in machines}
+    path = files.absolute(folder.path)
+    place, name = os.path.split(os.path.dirname(path) if is_day(os.path.basename(path)) else path)
+    with suppress(Fault), Folder(place) as beside:
+        return own != name and beside.is_folder(own)
+    return False
+
+
+OWN_DAYS = "a machine's key signs its own days alone"
 
 
 def difference_of_days(verifier: Verifier, folder: Folder, named: set[str], signers: Signers) -> YearCompared:

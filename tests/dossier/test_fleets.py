@@ -99,9 +99,9 @@ def sign_fleet(place: Path, signers: Path, machines: list[Path], here: dict[str,
     status, out, _ = dossier(*words_, *named, env={**here, "XDG_STATE_HOME": str(place / "auditor")})
     last = out.decode().splitlines()[-1]
     signed = re.findall(r"(\S+): \(signed at \S+ by (\S+), with the key", out.decode())
-    check("as it was signed", unseen=(b"wasn't looked at" in out, False), by=(signed, [
-        *((str(path), path.parent.name) for path in days_of(one, two)), (str(place / "pages"), "ann@example.org")]),
-        status=(status, 0), last=(last.partition(";")[0], "all is as it was signed"),
+    own = [*((str(path), path.parent.name) for path in days_of(one, two)), (str(place / "pages"), "ann@example.org")]
+    check("as it was signed", unseen=(b"wasn't looked at" in out, False), by=(signed, own),
+          status=(status, 0), last=(last.partition(";")[0], "all is as it was signed"),
           bad=([f"{one} 2001-09-10 refuted" in last, f"{two} 2001-09-11 refuted" in last,
                 f"{two} 2001-09-12 .. 2001-12-31 missing" in last], [True] * 3))
     sample = ["--sample", "1", "--seed", "y", *named]  # (a day that is shown)
@@ -112,8 +112,8 @@ def sign_fleet(place: Path, signers: Path, machines: list[Path], here: dict[str,
           last=(last.partition(";")[0], "what was made again is as it was signed"),
           shown=(dossier("verify", "--signers", signers, *sample, env=auditor)[0], 1))
     out = dossier("verify", *sample, env=auditor)[1].decode()
-    check("a sample without its signers", said=(f"{place / 'pages'}: (of 4 days the signature by which it counts wasn't "
-                                                "looked at (--signers FILE does))" in out, True))
+    check("a sample without its signers", said=("pages: (of 4 days the signature by which it counts wasn't looked at "
+                                                "(--signers FILE does))" in out, True))
     by = two / "2001-09-10" / "audit.json.sig"
     kept = by.read_bytes()
     for name, signature in (("none", None), ("another machine's", (one / "2001-09-10/audit.json.sig").read_bytes())):
@@ -123,6 +123,18 @@ def sign_fleet(place: Path, signers: Path, machines: list[Path], here: dict[str,
             check(f"a day that counts by its signature, with {name} {more}", status=(status, 1), said=(
                 f"{two}/2001-09-10 is signed by web-2" in out.decode(), True))
         by.write_bytes(kept)
+    words = "a machine's key signs its own days alone"
+    for folder, key, status in ((place / "pages", "web-1", 1), (place / "pages", "ann", 0), (by.parent, "web-1", 1),
+                                (by.parent, "ann", 0)):
+        file = folder / ("year.json.sig" if folder.name == "pages" else by.name)
+        signature = file.read_bytes()
+        file.unlink()
+        run(["ssh-keygen", "-q", "-Y", "sign", "-f", place / key, "-n", "ntpaudit-dossier", file.with_suffix("")])
+        told = dossier("verify", "--known", "--as-signed", "--signers", signers, folder,
+                       *(named[1:] if folder.name == "pages" else ()), env=auditor)
+        check(f"{folder.name} signed by {key}", said=(words in told[1].decode(), bool(status)),
+              status=(told[0], status), by=(re.search(rf"{folder}: \(?signed at \S+ by {key}", told[1].decode()), bool))
+        file.write_bytes(signature)
     by.write_bytes((one / "2001-09-10/audit.json.sig").read_bytes())
     lines = dossier("verify", "--signers", signers, by.parent, env=auditor)[1].decode().splitlines()
     check("a bad signature stands beside the verdict", lines=([line.partition(": ")[2][:34] for line in lines], [
@@ -155,9 +167,9 @@ def test_sample(place: Path) -> None:
     for path in other:
         shutil.copytree(own / "2001-09-09", path)
     status, again, _ = dossier("verify", "--sample", 3, "--seed", "x", place / "pages", place / "fleet")
-    check("days beside the year aren't drawn", told=("(2 days beside the year's weren't looked at)" in again.decode(), True),
-        drawn=(re.findall(r"(\S+): verified: ", again.decode()), re.findall(r"(\S+): verified: ", out.decode())),
-        of=("3 of 8 days were drawn" in again.decode(), True))
+    check("days beside the year aren't drawn", of=("3 of 8 days were drawn" in again.decode(), True),
+          told=("(2 days beside the year's weren't looked at)" in again.decode(), True),
+          drawn=(re.findall(r"(\S+): verified: ", again.decode()), re.findall(r"(\S+): verified: ", out.decode())))
     every = dossier("verify", "--answers", "--sample", 3, "--seed", "x", place / "pages", place / "fleet")[1].decode()
     check("by answers too", of=("3 of 8 days were drawn" in every, True), judged=(every.count(": judged: "), 7))
     for path in other:
@@ -483,7 +495,8 @@ def test_side_by_side(place: Path) -> None:
             ("09", "yes"), ("10", "yes"), ("11", "refuted"))]))
         said = dossier(*last, cwd=place)[1].decode()
         check(f"the statements after {name}", before=(said.count("(that was here before)"), 3),
-              counted=("(3 folders counted as found before: of their files only the sizes were looked at)" in said, True),
+              counted=("(3 folders counted as found before: of their files only the sizes were looked at)" in said,
+                       True),
               said=("pages: verified: its statements follow from its days, by their answers" in said, True))
         shutil.rmtree(place / "state")
     check("the statements before", said=(b"here before" in dossier(*last, cwd=place)[1], False))
