@@ -13,8 +13,8 @@ from typing import NamedTuple
 from ..fault import Fault
 from ..folder.entry import Record
 from ..folder.events import Events, read_events
-from ..folder.files import AUDIT, EVENTS, SIGNATURE, SIGNATURES, YEAR, Folder, absolute, data_named
-from ..folder.jobs import find_tool, run
+from ..folder.files import AUDIT, EVENTS, SIGNATURE, SIGNATURES, YEAR, Folder, absolute, data_named, sum_of
+from ..folder.jobs import find_tool, run, run_all
 from ..folder.older import read_any
 from ..folder.placing import keep
 from ..folder.year import Statements, read_statements
@@ -29,6 +29,8 @@ PLAIN_NAME = re.compile(rb"[A-Za-z0-9][A-Za-z0-9@._-]*")
 NO_KEYGEN = "ssh-keygen isn't installed, which makes signatures and looks at them"
 SIGNED, SIGNERS = "signed", "signers"
 """Private copies of what was signed, and of who may sign."""
+MOST_AT_ONCE = 8
+"""Signatures that are looked at side by side."""
 READERS: dict[str, Callable[[bytes], Record | Statements | Events]] = {
     AUDIT: read_any, YEAR: read_statements, EVENTS: read_events}
 """What reads each that is signed."""
@@ -50,9 +52,11 @@ class Signature(NamedTuple):
 
 
 class Signers:
-    """Who may sign, as a file of allowed signers says, if one is named."""
+    """Who may sign, as a file of allowed signers says, if one is named; and who signed what with which key, by sums of
+    what is signed and of the signature, of those that were looked at side by side and are good."""
 
     def __init__(self, path: str | None):
+        self.seen = dict[bytes, tuple[str, str]]()
         try:
             self.given = data_named(path) if path is not None else None
         except Fault as error:
@@ -68,6 +72,8 @@ class Signers:
         at = time_of(signed, data)
         if self.given is None:
             return Signature(UNSEEN, at)
+        if seen := self.seen.get(sums_of(data, signature)):
+            return Signature(GOOD, at, *seen)
         for name, text in ((SIGNED, data), (SIGNATURE, signature), (SIGNERS, self.given)):
             keep(name, text)
         on = ["-O", f"verify-time={local(at)}"] if is_time(at) else []
@@ -76,6 +82,21 @@ class Signers:
         if not status and (key := KEY.search(said)):
             return Signature(GOOD, at, holder, f"{key[1]} {key[2]}")
         return self.looked_at(at, on)
+
+    def look_at(self, paths: list[str], seconds: int) -> None:
+        """Looks at the signatures of folders side by side, so that nobody has to look at those that are good again."""
+        def work(path: str, _: int) -> list[str]:
+            with Folder(path) as folder:
+                found, signed = self.signature_of(folder), signed_in(folder)
+                if found.state != GOOD:
+                    return []
+                return [sums_of(folder.data(signed), folder.data(SIGNATURES[signed])).hex(), found.signer, found.key]
+        names = dict[tuple[str, str], tuple[str, str]]()
+        jobs = max(1, min(MOST_AT_ONCE, len(os.sched_getaffinity(0)), len(paths)))
+        for _, came in run_all(paths if self.given is not None else [], work, list[str], seconds, jobs):
+            if isinstance(came, list) and came:
+                sums, *name = came
+                self.seen[bytes.fromhex(sums)] = names.setdefault((name[0], name[1]), (name[0], name[1]))
 
     def machine_of(self, day: Folder, path: str) -> str:
         """Who signed a day, if that is its machine, whose folder's path is given: called like that folder, or `..@`
@@ -109,6 +130,11 @@ class Signers:
         tool = find_tool("ssh-keygen", NO_KEYGEN)
         status, said, error = run([tool, "-Y", *words, "-s", SIGNATURE], SIGNED)
         return status, said.decode("utf-8", "replace"), error.decode("utf-8", "replace")
+
+
+def sums_of(data: bytes, signature: bytes) -> bytes:
+    """A sum of what is signed and of its signature."""
+    return bytes.fromhex(sum_of(f"{sum_of(data)} {sum_of(signature)}".encode()))
 
 
 def holder_of(signers: bytes, signature: bytes) -> str:

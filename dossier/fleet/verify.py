@@ -213,9 +213,9 @@ def verify_all(folders: list[str], verifier: Verifier, signers: Signers, seconds
     names, beside = (names_of(plan, seconds), beside_years(plan, named)) if how.sample is not None else ({}, set())
     drawn = drawn_of(names, how.sample or 0, how.seed)
     verifier.known.believes = how.sample is not None and not how.answers
-    told, seen = Tally(how.as_signed, verifier.known.believes), SeenFolders(len(plan.every))
-
     left = set(names).difference(drawn) | beside if how.sample is not None and not how.answers else set()
+    signers.look_at([path for path in plan.every if path not in left or path in plan.stated], seconds)
+    told, seen = Tally(how.as_signed, verifier.known.believes), SeenFolders(len(plan.every))
 
     def work(path: str, _: int) -> Compared:  # (a year's signature is one for its days)
         if path in plan.beside and is_of_days(path):

@@ -13,7 +13,7 @@ from math import comb
 from pathlib import Path
 from typing import Any
 
-from tests.support import ROOT, check, is_here, run
+from tests.support import ROOT, check, is_here, run, runnable
 from tests.dossier.audits import ENVIRONMENT, KEEP, called, capture_of, dossier, match_of, stand_in
 from tests.dossier.test_evidence import key_of
 from tests.dossier.test_years import DAY, FIRST, RIGHT, WIDE, day
@@ -114,6 +114,7 @@ def sign_fleet(place: Path, signers: Path, machines: list[Path], here: dict[str,
     out = dossier("verify", *sample, env=auditor)[1].decode()
     check("a sample without its signers", said=("pages: (of 4 days the signature by which it counts wasn't looked at "
                                                 "(--signers FILE does))" in out, True))
+    look_side_by_side(place, [*words_, "--known", *named], auditor)
     by = two / "2001-09-10" / "audit.json.sig"
     kept = by.read_bytes()
     for name, signature in (("none", None), ("another machine's", (one / "2001-09-10/audit.json.sig").read_bytes())):
@@ -147,6 +148,25 @@ def sign_fleet(place: Path, signers: Path, machines: list[Path], here: dict[str,
     check("not as it was signed", status=(status, 1),
           last=(last.startswith(f"not as it was signed: {two}/2001-09-10"), True), bad=("refuted" in last, True))
     check("as signed by whom?", status=(dossier("verify", "--as-signed", one, env=here)[0], 5))
+
+
+def look_side_by_side(place: Path, asked: list[object], env: dict[str, Any]) -> None:
+    """Each signature is looked at once, and some at the same time; what is said is the same, in the same order."""
+    log = place / "looks"
+    (place / "bin").mkdir()
+    runnable(place / "bin" / "ssh-keygen", f"""#!/bin/sh
+echo begin >> "{log}"; sleep 0.5
+"{shutil.which('ssh-keygen')}" "$@"; status=$?
+echo end >> "{log}"; exit $status
+""")
+    plain_ = dossier(*asked, env=env)[1]
+    out = dossier(*asked, env={**env, "PATH": f"{place / 'bin'}:{os.environ['PATH']}"})[1]
+    lines, live, most = log.read_text().split(), 0, 0
+    for word in lines:
+        live += 1 if word == "begin" else -1
+        most = max(most, live)
+    check("signatures side by side", calls=(len(lines), 12), same=(out, plain_),
+          at_once=(most, lambda most: min(2, len(os.sched_getaffinity(0))) <= most <= 8))
 
 
 def test_sample(place: Path) -> None:
