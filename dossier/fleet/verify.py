@@ -351,8 +351,10 @@ def is_machines(folder: Folder, signer: str) -> bool:
     another one whose folder stands beside its own."""
     own, signed = signer.rpartition("@")[2], signed_in(folder)
     if signed in RESTS:
-        machines = (read_statements if signed == files.YEAR else read_events)(folder.data(signed)).machines
-        return own in {os.path.basename(one.machine) for one in machines}
+        data = folder.data(signed)
+        machines = [one.machine for one in read_statements(data).machines] if signed == files.YEAR else \
+            [one.machine for one in read_events(data).machines]
+        return own in {os.path.basename(machine) for machine in machines}
     path = files.absolute(folder.path)
     place, name = os.path.split(os.path.dirname(path) if is_day(os.path.basename(path)) else path)
     with suppress(Fault), Folder(place) as beside:

@@ -111,9 +111,9 @@ def sign_fleet(place: Path, signers: Path, machines: list[Path], here: dict[str,
     check("a sample of it", status=(status, 0), bad=(f"{one} 2001-09-10 refuted" in last, True),
           last=(last.partition(";")[0], "what was made again is as it was signed"),
           shown=(dossier("verify", "--signers", signers, *sample, env=auditor)[0], 1))
-    out = dossier("verify", *sample, env=auditor)[1].decode()
-    check("a sample without its signers", said=("pages: (of 4 days the signature by which it counts wasn't looked at "
-                                                "(--signers FILE does))" in out, True))
+    out = dossier("verify", *sample, env=auditor)[1]
+    check("a sample without its signers", said=(b"pages: (of 4 days the signature by which it counts wasn't looked at "
+                                                b"(--signers FILE does))" in out, True))
     look_side_by_side(place, [*words_, "--known", *named], auditor)
     by = two / "2001-09-10" / "audit.json.sig"
     kept = by.read_bytes()
@@ -248,8 +248,9 @@ def test_other_program(place: Path) -> None:
             f"{pages}: (made by another program than the one by which its days are known here)")
     other = {**stand_in(place / "program", ":"), "XDG_STATE_HOME": str(place / "other")}
     for more in ("--answers", "", "--known"):
-        out = dossier("verify", *more.split(), pages, place / "fleet", env=other)[1].decode()
-        check(f"a year by another program {more}", said=([line in out for line in said], [True, more != "--answers"]))
+        out = dossier("verify", *more.split(), pages, place / "fleet", env=other)[1]
+        check(f"a year by another program {more}", said=([line.encode() in out for line in said],
+                                                         [True, more != "--answers"]))
     if is_here("ssh-keygen", "a year that is signed"):
         status, out, _ = dossier("sign", "--key", key_of(place, "ann")[0], pages, env=other)
         check("nobody signs another's program", run=((status, out.decode()), (1, said[1].replace("(", "").replace(
@@ -282,7 +283,8 @@ def test_known(place: Path) -> None:
     (first / "evidence.json").write_text(json.dumps({"drift": "drift.txt"}))
     (first / "drift.txt").write_text("none")
     dossier("audit", *days_of(own))
-    asked, before = ["verify", "--known"], "(that was here before)"
+    asked: list[str | Path] = ["verify", "--known"]
+    before = "(that was here before)"
     out = dossier(*asked, *days_of(own))[1].decode()
     check("days that are known", before=(out.count(before), 2), told=(
         "(2 folders counted as found before: of their files only the sizes were looked at)" in out, True))

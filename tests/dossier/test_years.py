@@ -268,9 +268,10 @@ def test_namesakes(place: Path) -> None:
     one, two = (place / "fleet" / site / "web-1" for site in ("siteA", "siteB"))
     dossier("audit", day(one, 0, WIDE), day(two, 0, RIGHT))
     said = "verified: its statements follow from its days"
-    for number, (pages, words) in enumerate((
-            ("pages", [one, two]), ("fleet/pages", [two, one]), ("pages2", ["fleet/siteA/web-1", "fleet/siteB/web-1"]),
-            ("pages3", ["./fleet/siteA/../siteA/web-1/", two]))):
+    ways: list[tuple[str, list[Any]]] = [
+        ("pages", [one, two]), ("fleet/pages", [two, one]), ("pages2", ["fleet/siteA/web-1", "fleet/siteB/web-1"]),
+        ("pages3", ["./fleet/siteA/../siteA/web-1/", two])]
+    for number, (pages, words) in enumerate(ways):
         dossier("year", "--year", "2001", "--split", place / pages, *words, cwd=place)
         shutil.copytree(place / "fleet", place / f"other {number}" / "fleet")
         if not pages.startswith("fleet"):
