@@ -93,7 +93,8 @@ class Signers:
                 return [sums_of(folder.data(signed), folder.data(SIGNATURES[signed])).hex(), found.signer, found.key]
         names = dict[tuple[str, str], tuple[str, str]]()
         jobs = max(1, min(MOST_AT_ONCE, len(os.sched_getaffinity(0)), len(paths)))
-        for _, came in run_all(paths if self.given is not None else [], work, list[str], seconds, jobs):
+        is_needed = self.given is not None and len(paths) > 1
+        for _, came in run_all(paths if is_needed else [], work, list[str], seconds, jobs):
             if isinstance(came, list) and came:
                 sums, *name = came
                 self.seen[bytes.fromhex(sums)] = names.setdefault((name[0], name[1]), (name[0], name[1]))
