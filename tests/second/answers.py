@@ -105,6 +105,43 @@ def moments(evidence: Evidence, text: str) -> Answer:
     return 0, lines
 
 
+def when(evidence: Evidence, ticks: tuple[int, int]) -> tuple[int, int] | str:
+    """Between which true times a clock showed a reading, or that its hull is unbounded or empty."""
+    hull = evidence.hulls.over(*ticks)
+    return (ticks[0] - hull[1], ticks[1] - hull[0]) if hull else rules.hull_words(hull)
+
+
+def order(first: Evidence, second: Evidence, time: str, other_time: str) -> Answer:
+    """Which of two readings was first: those of two clocks, or of one if it's the same evidence. By its drift a clock
+    runs fast at most, so its readings are apart by so much of true time at least."""
+    ticks, others = reading_of(time), reading_of(other_time)
+    if not ticks or not others:
+        return 5, []
+    whens = when(first, ticks), when(second, others)
+    if "empty" in whens:
+        return 1, ["nothing fits"]
+    if first is second:
+        rate = 10**9 + first.claim["drift_ppb"]
+        apart = [gap * 10**9 // rate if gap > 0 else -1 for gap in (others[0] - ticks[1], ticks[0] - others[1])]
+        if max(apart) >= 0:
+            return before(apart)
+    if "unbounded" in whens:
+        return 1, ["open"]
+    (earliest, latest), (other_earliest, other_latest) = whens
+    apart = [other_earliest - latest, earliest - other_latest]
+    if max(apart) > 0:
+        return before(apart)
+    earlier, later = (ceiling(most * 10**9, TICKS) for most in (other_latest - earliest, latest - other_earliest))
+    return 1, [f"open: first may be {earlier} ns earlier or {later} ns later"]
+
+
+def before(apart: list[int]) -> Answer:
+    """One was before the other, by so many ticks; what isn't so is below zero, or less."""
+    words = "first before second", "second before first"
+    which = apart.index(max(apart))
+    return 0, [f"{words[which]} by at least {apart[which] * 10**9 // TICKS} ns"]
+
+
 class Drawn(NamedTuple):
     """A piece of an envelope."""
     begin: int

@@ -12,7 +12,7 @@ from typing import NamedTuple
 
 from tests.support import DATA, Ran, program, run
 from tests.second import shown
-from tests.second.answers import Answer, Evidence, READINGS
+from tests.second.answers import Answer, Evidence, order, READINGS, reading_of, when
 from tests.second.claims import read_claim
 from tests.second.exchanges import evidence_of
 
@@ -23,8 +23,10 @@ PACKETS = (DATA / "two-packets.list.txt").read_bytes().splitlines(keepends=True)
 TIME = "2001-09-09T01:46:40Z"
 SECOND = {"check": "certificate", "refute": "refutation"}
 """What the second input of a command is, if it takes one."""
-OPERANDS: dict[str, Path | str] = {"CERTIFICATE": CERTIFICATE, "REFUTATION": REFUTATION, "TIME": TIME}
-"""What stands for an operand behind claim and capture."""
+OPERANDS: dict[str, Path | str] = {
+    "CERTIFICATE": CERTIFICATE, "REFUTATION": REFUTATION, "TIME": TIME, "OTHER_TIME": TIME,
+    "OTHER_CLAIM": f"{DATA}//{CLAIM.name}", "OTHER_CAPTURE": f"{DATA}//{CAPTURE.name}"}
+"""What stands for an operand behind claim and capture: another clock is one of other words."""
 INSTEAD = {"at": ("--times", str(DATA / "two-packets.times.txt"))}
 """What may stand in place of a command's operands."""
 
@@ -101,12 +103,16 @@ def answered(name: str, words: Sequence[Path | str], records: int) -> Answer:
     """What a command answers. A refutation that `settle` would find all the same isn't shown."""
     if name in SECOND:
         return {"check": report, "refute": refuted}[name](records)
+    if name == "order":
+        return order(evidence(records), evidence(2), TIME, TIME)
     return READINGS[name](evidence(records), *words)
 
 
 def told(name: str, words: Sequence[Path | str], records: int) -> Answer:
     """The same for a person, as tests/second/shown.py reads the lines."""
     status, lines = answered(name, words, records)
+    if name == "order":
+        return status, shown.order(lines, [when(evidence(count), reading_of(TIME)) for count in (records, 2)])
     if name != "settle":
         text = shown.of([name, *map(str, (CLAIM, CAPTURE, *words))], "\n".join(lines).encode())
         return status, text.decode().splitlines()
@@ -143,7 +149,7 @@ def commands_of(name: str) -> Iterator[Command]:
 
 @functools.cache
 def every_command() -> tuple[Command, ...]:
-    return tuple(command for name in (*SECOND, *READINGS) for command in commands_of(name))
+    return tuple(command for name in (*SECOND, *READINGS, "order") for command in commands_of(name))
 
 
 def plain_commands() -> list[Command]:

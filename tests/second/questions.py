@@ -353,6 +353,17 @@ def at_case(question: Question) -> Iterator[Case]:
     times = "".join(f"{reading}\n" for reading in scenes.readings(random.Random(str(question.span)), question.claim))
     ran = question.call("at", "--times", "-", given=times.encode())
     yield f"at --times of {times.split()}", differs(ran, *answers.moments(question.evidence, times))
+    yield from order_case(question, times.split())
+
+
+def order_case(question: Question, times: list[str]) -> Iterator[Case]:
+    """`order` of readings of one clock, and of two that say the same."""
+    twin = question.file.with_name("twin.json")
+    twin.write_bytes(question.file.read_bytes())
+    for other, second in (question.file, question.evidence), (twin, question.evidence._replace()):
+        for first, last in zip(times, times[1:]):
+            ran = question.call("order", first, other, question.capture, last)
+            yield f"order {first} {last}", differs(ran, *answers.order(question.evidence, second, first, last))
 
 
 def plain_case(question: Question) -> Iterator[Case]:

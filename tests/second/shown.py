@@ -58,6 +58,14 @@ def moments(lines: list[str]) -> list[str]:
     return rows
 
 
+def order(lines: list[str], whens: Sequence[tuple[int, int] | str]) -> list[str]:
+    """Between which true times each of two readings was, or what its hull is, and which was first."""
+    rows = [f"{name:6} {when if isinstance(when, str) else ' '.join(true_times(*map(str, when)))}"
+            for name, when in zip(("first", "second"), whens)]
+    said = re.sub(r"(\d+) ns", lambda length: f"{milliseconds(int(length[1]))} ms", lines[0])
+    return [f"{'':6} {TRUE_TIMES}", *rows, said]
+
+
 def envelope(lines: list[str], servers: bool) -> list[str]:
     """A server's line has its piece's fields but the hull. The piece's own line comes after those of the servers."""
     at_end = [row for row in lines if row.startswith(("bound_ns ", "least_ns "))]
@@ -182,12 +190,15 @@ def without_about(text: bytes) -> bytes:
 
 
 # ---- all of them
-def of(words: Sequence[str], text: bytes, fits: bool = True, about: Sequence[str] = (ABOUT,)) -> bytes:
+def of(words: Sequence[str], text: bytes, fits: bool = True, about: Sequence[str] = (ABOUT,),
+       whens: Sequence[tuple[int, int] | str] = ()) -> bytes:
     """What a command prints with `--human`, of its words and what it prints without. `fits` says whether any course
-    fits the whole capture, and `about` what is said of the inputs."""
+    fits the whole capture, `about` what is said of the inputs, and `whens` when two readings were."""
     command, lines = words[0], text.decode().splitlines()
     if command == "at" and "--times" in words:
         lines = moments(lines)
+    elif command == "order" and lines:
+        lines = order(lines, whens)
     elif command in ("samples", "at") and lines:
         lines = {"samples": samples, "at": at}[command](lines)
     elif command == "envelope" and lines:

@@ -12,12 +12,13 @@ from datetime import datetime, timedelta, timezone
 from pathlib import Path
 
 from tests.support import DATA, Ran, check, files_in, program, run
-from tests.second import exchanges, marks, shown, sum_form
+from tests.second import answers, exchanges, marks, shown, sum_form
 from tests.second.claims import Claim, read_claim
 from tests.second.commands import CAPTURE, CERTIFICATE, CLAIM, REFUTATION, every_command, plain_commands, variants
 
 PROGRAM = program()
 VERSION = run([PROGRAM, "--version"])[1]
+OTHER = [DATA / "two-packets.claim.json", DATA / "two-packets.pcap"]
 EPOCH = datetime(1970, 1, 1, tzinfo=timezone.utc)
 Words = Sequence[Path | str]
 """A command line."""
@@ -29,9 +30,18 @@ def compare(name: str, words: Words) -> tuple[str, Ran, Ran]:
     seen = run([PROGRAM, *words, "--human"])
     called = [str(word) for word in words]
     fits = words[0] != "check" or not plain or does_fit(*words[1:3])
-    text = shown.of(called, plain, fits, shown.about(called, VERSION))
+    whens = [when_of(called[k:k + 3]) for k in (1, 4)] if words[0] == "order" else []
+    text = shown.of(called, plain, fits, shown.about(called, VERSION), whens)
     are_slips = status in (0, 1) and re.fullmatch(rb"(  \S.*\n)*", seen[2])
     return name, seen, (status, text, seen[2] if are_slips else error)
+
+
+def when_of(words: Sequence[str]) -> tuple[int, int] | str:
+    """When it was that a clock showed a reading: its claim, its capture and the reading."""
+    claim, capture, reading = words
+    said = read_claim(claim)
+    evidence = exchanges.evidence_of(said, run([PROGRAM, "list", capture])[1])
+    return answers.when(evidence, answers.reading_of(reading))
 
 
 def does_fit(claim: Path | str, capture: Path | str) -> bool:
@@ -58,6 +68,8 @@ def calls_on(claim: Path, folder: Path) -> list[tuple[str, Words]]:
                           if not command.others and command.name != "settle")
     given: list[Words] = [[name, *both, *options] for name in alone for options in variants(name)]
     given += [["at", *both, moment] for moment in moments_of(json.loads(claim.read_text()))]
+    for first, other in zip(moments := moments_of(json.loads(claim.read_text())), moments[1:]):
+        given += [["order", *both, first, *(both if other.endswith("Z") else OTHER), other]]
     for step in ("1", "8"):
         given += [["find", *both, "--step", step]]
         given += [["envelope", *both, "--step", step, *options] for options in variants("envelope")]

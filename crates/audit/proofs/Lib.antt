@@ -23,4 +23,5 @@ pub mod VerdictShowing
 pub mod SearchShowing
 pub mod RefutationShowing
 pub mod TimesShowing
+pub mod OrderShowing
 pub mod FindRefutationShowing

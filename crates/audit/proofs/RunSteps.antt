@@ -164,6 +164,34 @@ pub shown_of : (asked : AskedData) {said : SecondData} {e : EvidenceData} (claim
 shown_of asked claim second capture are report tells = shown_answer _ tells.made _ tells.publishes.stays
     (IfOk-weaker tells.made _ _ (λ m shows. shows claim second capture are) tells.shows)
 
+-- the inputs that gave evidence are lawful
+pub inputs_had : {kind : SecondKind} {said : SecondData} {e : EvidenceData} (claim second capture : FeedState)
+    → AreInputsOf kind said e claim second capture
+    → HasClaim claim.remaining × HasSecond kind second.remaining × HasLawfulHeader capture.remaining
+inputs_had {kind} {e = e} claim second capture are = (
+  IfSome_then claim.remaining are.claim_is (λ bytes is. rw is refl),
+  IfSome_then (second_read kind second.remaining) are.second_is (λ read is. rw is refl),
+  header_was_read e.claim capture.remaining e.collection are.capture_is,
+)
+
+-- what is known of inputs that were read, or refused, is known of what is made of them
+module _ {T F A B : Type 0} {kind : SecondKind} {before after : RunState} {second second' : T} {capture capture' : F}
+  where
+    pub read_as : (value : A) (made : B) → HasRead kind before after second second' capture capture' (Ok value)
+        → HasRead kind before after second second' capture capture' (Ok made)
+    read_as value made h = search (rules, second_taken)
+
+    pub memory_as : (value : A) → HasRead kind before after second second' capture capture' (Ok value)
+        → HasClaim before.claim.remaining × HasSecond kind before.second.remaining
+        × HasLawfulHeader before.capture.remaining
+        → HasRead {A = B} kind before after second second' capture capture' (Err faults.Memory)
+    memory_as value h had = search (rules, second_taken)
+
+    pub refused_as : (fault : RunFault)
+        → HasRead {A = A} kind before after second second' capture capture' (Err fault)
+        → HasRead {A = B} kind before after second second' capture capture' (Err fault)
+    refused_as fault h = search (rules, second_taken)
+
 -- no input's device failed if a text was made of them
 unfailed : (which : Input → Bool) (made : Result Ready RunFault) → IfErr made IsOfMaking → is_device which made ≡ false
 unfailed which (Err (faults.Device input)) making = absurd making
@@ -174,14 +202,6 @@ module _ (laws : BytesLaws) {T F A : Type 0} (asked : AskedData) {said : SecondD
     (h : HasRead asked.second before after second second' capture capture' read) {value : A} (is : read ≡ Ok value)
     (are : AreInputsOf asked.second said e before.claim before.second before.capture) {finding : Finding}
     (found : IsFindingOf e finding) where
-  had : HasClaim before.claim.remaining × HasSecond asked.second before.second.remaining
-      × HasLawfulHeader before.capture.remaining
-  had = (
-    IfSome_then before.claim.remaining are.claim_is (λ bytes is. rw is refl),
-    IfSome_then (second_read asked.second before.second.remaining) are.second_is (λ read is. rw is refl),
-    header_was_read e.claim before.capture.remaining e.collection are.capture_is,
-  )
-
   -- what is made of a finding is told
   pub told_runs : (answer : Result Outcome RunFault) →
       Tells asked (report_on asked finding (Ok (inputs_data said e))) (inputs_data said e) before.sink after.sink answer
@@ -189,7 +209,7 @@ module _ (laws : BytesLaws) {T F A : Type 0} (asked : AskedData) {said : SecondD
   told_runs answer tells = record {
     finding = finding;
     found = finding_shown laws e finding before.claim before.second before.capture are found;
-    runs = made_runs asked h finding tells.made (rw is tells.of_making) (rw is had)
+    runs = made_runs asked h finding tells.made (rw is tells.of_making) (rw is (inputs_had before.claim before.second before.capture are))
         (report_known asked finding (λ report. IsMadeFor report tells.made) tells.is_made before.claim before.second
         before.capture are) answer tells.publishes;
   }
@@ -206,7 +226,7 @@ module _ (laws : BytesLaws) {T F A : Type 0} (asked : AskedData) {said : SecondD
         finding = finding;
         found = finding_shown laws e finding before.claim before.second before.capture are found;
         drafted = Ok outcome;
-        runs = made_runs (for_a_program asked) h finding drafts.made (rw is drafts.of_making) (rw is had)
+        runs = made_runs (for_a_program asked) h finding drafts.made (rw is drafts.of_making) (rw is (inputs_had before.claim before.second before.capture are))
             (report_known (for_a_program asked) finding (λ report. IsMadeFor report drafts.made) drafts.is_made
             before.claim before.second before.capture are) (Ok outcome) drafts.publishes;
         then_told = record {

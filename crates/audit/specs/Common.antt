@@ -143,6 +143,11 @@ pub use Rattle.std.specs.List.{AllZip, flat_map, range_with_len}
 pub use Rattle.std.specs.Net.Grammar.{IsDotted}
 pub use Rattle.std.specs.Option.{option_map}
 pub use Rattle.std.specs.Result.{result_map_both}
+pub use Rattle.true_time.specs.Order.{HoldsOrderOfOne, IsShort, IsSo, order_of, order_of_one}
+pub use Rattle.true_time.specs.OrderLine.{order_text}
 pub use Rattle.true_time.specs.ReadingLine.{readings_text}
 pub use Rattle.true_time.specs.TrueText.{true_text}
 pub use Rattle.true_time.specs.TrueTime.{HoldsTrueTime, hull_of, parts_of, reading_over}
+pub use Rattle.true_time.specs.When.{HoldsWhen, IsDuring, when_at}
+pub use Rattle.true_time.specs.declared.order.Order.{Order}
+pub use Rattle.true_time.specs.declared.when.When.{When}

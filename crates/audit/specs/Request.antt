@@ -6,7 +6,8 @@ use Rattle.audit.specs.Envelope.{IsEnvelopeFor, envelope, envelope_finding}
 use Rattle.audit.specs.Find.{IsFoundBy, find}
 use Rattle.audit.specs.FindRefutation.{find_refutation}
 use Rattle.audit.specs.Evidence.{EvidenceData}
-use Rattle.audit.specs.Reading.{at_reading}
+use Rattle.audit.specs.Order.{order_after, order_within}
+use Rattle.audit.specs.Reading.{at_reading, ticks_asked}
 use Rattle.audit.specs.Question.{Finding, QuestionData, no_finding}
 use Rattle.audit.specs.Samples.{samples}
 use Rattle.audit.specs.Settle.{IsEnoughFor, finding_of, settle}
@@ -41,3 +42,8 @@ question_of requests.Settle = settle []
 question_of (requests.Find asked) = find asked.step.seconds
 question_of requests.FindRefutation = find_refutation
 question_of (requests.Envelope asked) = envelope asked
+question_of (requests.OrderAfter asked) =
+    order_after asked.first asked.second.begin asked.second.end
+question_of (requests.OrderWithin asked) = order_within
+    (ticks_asked asked.first.begin asked.first.end)
+    (ticks_asked asked.second.begin asked.second.end)

@@ -6,22 +6,28 @@
 //! of the inputs call for; with it stands what an outcome shows.
 
 ghost use Rattle.std.specs.Prelude.{◌≡◌, ◌⊎◌, Err, IfErr, IfOk, IfSome};
-ghost use Rattle.audit.specs.Common.{IsFromOutside, IsReadable, IsUnwritten, IsWritable, SinkState, run_state};
+ghost use Rattle.audit.specs.Common.{IsFromOutside, IsReadable, IsUnwritten, IsWritable, SinkState, no_feed, run_state};
 ghost use Rattle.audit.specs.Evidence.{IsLawfulEvidence, evidence_data};
+ghost use Rattle.audit.specs.Order.{GiveWhen};
 ghost use Rattle.audit.specs.Question.{AreInputsOf, asked_of};
+ghost use Rattle.audit.specs.Reading.{ticks_asked};
 ghost use Rattle.audit.specs.Report.{inputs_read};
 ghost use Rattle.audit.specs.Run.{AnswersFor, HasRead, MayRun, RunsFor, RunsTwice, ShowsAt};
+ghost use Rattle.audit.specs.Second.{no_second};
 
 use crate::capture_input::read_capture_from;
 use crate::evidence::Evidence;
 use crate::laws::bytes_tell_what_they_show;
-use crate::question::Question;
+use crate::question::order::when_in;
+use crate::question::{AtReading, Question};
 use crate::second::{SecondInput, SecondSource};
 use byte_stream::{Feed, Sink};
 use line_writer::Style;
 use report::{Conclusion, Outcome, RunFault, conclude, publish, read_claim_from};
-use std::alloc::Global;
+use std::alloc::{AllocError, Global};
 use std::hash::BuildHasher;
+use true_time::When;
+use true_time::laws::moments_hold;
 
 /// Where a command writes: its report, and the line of a fault.
 #[derive(Debug, Drop)]
@@ -67,6 +73,42 @@ fn read_inputs<V: SecondInput, C: Feed, T: SecondSource<V>, F: Feed, H: BuildHas
     let (capture, collected) = read_capture_from(alloc, capture, &claim, hasher);
     match collected {
         Ok(held) => (capture, Ok((second, Evidence { claim, held }))),
+        Err(fault) => (capture, Err(fault)),
+    }
+}
+
+/// Reads a claim and a capture, and says when the clock showed a reading. The capture's feed is
+/// handed back.
+///
+/// The inputs are read as `run` reads them. `Memory` comes if memory is refused, and any other
+/// fault from the input that it is of.
+pub fn read_when<C: Feed, F: Feed, H: BuildHasher + Drop>(
+    alloc: Global,
+    asked: AtReading,
+    claim: &mut C,
+    capture: F,
+    hasher: H,
+) -> (F, Result<When, RunFault>)
+    requires claim { IsReadable (C.state claim.old) }
+    requires capture { IsReadable (F.state capture) }
+    ensures has_read { (sink sink' : SinkState) → HasRead no_second
+        (run_state (C.state claim.old) no_feed (F.state capture) sink)
+        (run_state (C.state claim.new) no_feed (F.state result.0) sink')
+        (tt {0}) (tt {0}) capture result.0 result.1 }
+    ensures when { IfOk result.1 (λ when. GiveWhen (ticks_asked asked.begin asked.end) when
+        (C.state claim.old) (F.state capture)) }
+    ensures refused { IfErr result.1 (λ fault. IfSome (inputs_read no_second
+        (C.state claim.old).remaining no_feed.remaining (F.state capture).remaining)
+        (λ known. IsFromOutside fault ⊎ (known ≡ Err fault))) }
+    ensures unwritten { IfErr result.1 (λ fault. IsUnwritten (Err fault)) }
+{
+    let (capture, inputs) = read_inputs(alloc, claim, &mut (), capture, hasher);
+    moments_hold();
+    match inputs {
+        Ok(((), evidence)) => match when_in(alloc, asked, &evidence) {
+            Ok(when) => (capture, Ok(when)),
+            Err(AllocError) => (capture, Err(RunFault::Memory)),
+        },
         Err(fault) => (capture, Err(fault)),
     }
 }

@@ -3,7 +3,8 @@
 //! [`run`] reads the claim, then the question's second input if it has one, and then the capture,
 //! and writes its text, which is made whole before or, if it's the samples for a program, line by
 //! line as it goes out; [`run_twice`] tells what was found for a program and then in another style;
-//! [`answer`] does as `run` and reports the answer by an exit status. What may
+//! [`answer`] does as `run` and reports the answer by an exit status; [`read_when`] reads when a
+//! clock showed a reading, to be put in order with one of another. What may
 //! be asked is a [`Question`], a small module for each command in `question` and in `specs/`, and
 //! a text has a style, for a program or for a person; how it is shown is said by audit_text.
 //! `specs/Run` says what a run needs and promises, `specs/Report` what it writes, and
@@ -34,11 +35,13 @@ mod second;
 mod whole_text;
 
 pub use commands::{answer_check, run_at, run_check, run_find, run_refute, run_samples, run_seek};
-pub use engine::{Outputs, answer, run, run_twice};
+pub use engine::{Outputs, answer, read_when, run, run_twice};
 pub use envelope_text::{EnvelopeOptions, PLAIN_ENVELOPE, Step};
 pub use evidence::Evidence;
 pub use line_writer::Style;
 pub use question::{
-    At, AtReading, Check, Find, Question, Readings, Refute, Request, RequestFinding, Settle,
+    At, AtReading, Check, Find, OrderAfter, OrderWithin, Question, Readings, Refute, Request,
+    RequestFinding, Settle,
 };
 pub use second::{SecondInput, SecondSource};
+pub use true_time::When;

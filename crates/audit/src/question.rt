@@ -17,6 +17,7 @@ mod check;
 mod envelope;
 mod find;
 mod find_refutation;
+pub(crate) mod order;
 mod reading;
 mod readings;
 mod refute;
@@ -28,6 +29,7 @@ pub use crate::question::at::At;
 pub use crate::question::check::Check;
 use crate::question::envelope::EnvelopeFinding;
 pub use crate::question::find::Find;
+pub use crate::question::order::{OrderAfter, OrderWithin};
 pub use crate::question::reading::AtReading;
 pub use crate::question::readings::Readings;
 pub use crate::question::refute::Refute;
@@ -116,6 +118,10 @@ pub enum Request {
     FindRefutation,
     /// How far off may the clock have been, piece by piece?
     Envelope(EnvelopeOptions),
+    /// Which was first, a reading of another clock or one of this clock?
+    OrderAfter(OrderAfter),
+    /// Which of two readings of this clock was first?
+    OrderWithin(OrderWithin),
 }
 
 /// What is found for a request.
@@ -163,9 +169,7 @@ impl Question for Request {
                 let found = envelope.find(alloc, style, second, evidence)?;
                 Ok(RequestFinding::Envelope(found))
             }
-            Request::Samples | Request::At(_) | Request::Reading(_) | Request::FindRefutation => Ok(
-                RequestFinding::Nothing,
-            ),
+            _ => Ok(RequestFinding::Nothing),
         }
     }
 
@@ -184,6 +188,12 @@ impl Question for Request {
             (Request::At(asked), _) => at::tell(alloc, asked, style, evidence, out),
             (Request::Reading(asked), _) => reading::tell(alloc, asked, style, evidence, out),
             (Request::FindRefutation, _) => find_refutation::tell(alloc, style, evidence, out),
+            (Request::OrderAfter(asked), _) => {
+                order::tell_after(alloc, asked, style, evidence, out)
+            }
+            (Request::OrderWithin(asked), _) => {
+                order::tell_within(alloc, asked, style, evidence, out)
+            }
             (Request::Settle, RequestFinding::Settlement(found)) => {
                 unnamed.tell(alloc, style, second, evidence, found, out)
             }

@@ -4,16 +4,13 @@ ghost use Rattle.std.specs.Prelude.{◌≡◌, ◌<◌, ◌^◌};
 ghost use Rattle.line_writer.specs.Field.{field_data};
 ghost use Rattle.audit_text.specs.Excess as spec;
 
-use era_unfold::{NANOSECONDS_PER_SECOND, TICKS_PER_SECOND};
-use line_writer::Field;
+use line_writer::{Field, longer};
 
 /// The size of an error of so many ticks, in whole nanoseconds, rounded up.
-#[tactic(auto, unfolding(era_unfold::specs::Ratio::ceiling_of))]
 pub(crate) fn size_of(error: i64) -> u128
     ensures { result ≡ spec.size_of error }
 {
-    let nanoseconds = u128::from(error.unsigned_abs()) * NANOSECONDS_PER_SECOND as u128;
-    (nanoseconds + (TICKS_PER_SECOND - 1)) / TICKS_PER_SECOND
+    longer(u128::from(error.unsigned_abs()))
 }
 
 /// The error itself, rounded away from zero.

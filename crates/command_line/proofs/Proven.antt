@@ -71,6 +71,8 @@ not_asked rows requests.Settle is = not_so _ refl is
 not_asked rows (requests.Find find) is = not_so _ refl is.0
 not_asked rows requests.FindRefutation is = not_so _ refl is.0
 not_asked rows (requests.Envelope envelope) is = not_so _ refl is.0
+not_asked rows (requests.OrderAfter asked) is = is
+not_asked rows (requests.OrderWithin asked) is = not_so _ refl is.0
 
 not_cutting : (codes "check" ≡ codes "find") ⊎ (codes "check" ≡ codes "envelope") → ⊥
 not_cutting (inl find) = not_so _ refl find
@@ -135,7 +137,9 @@ module _ (G : Type 0) (places : Places) (before after : World) (response : Respo
   by_called rows (calls.Judge judgements.Readings paths) invocation are is once says = absurd (not_so _ refl is.0.0)
   by_called rows (calls.Ask request paths) invocation are is once says = absurd (not_asked rows request is.0)
   by_called rows (calls.List listed) invocation are is once says = absurd (not_so _ refl is.0)
-  by_called rows (calls.RefuseTime shown) invocation are is once says = absurd (not_so _ refl is.0)
+  by_called rows (calls.Order first second) invocation are is once says = absurd (not_so _ refl is.0)
+  by_called rows (calls.RefuseTime shown) invocation are (inl at) once says = absurd (not_so _ refl at.0)
+  by_called rows (calls.RefuseTime shown) invocation are (inr order) once says = absurd (not_so _ refl order.0)
   by_called rows (calls.Refuse text) invocation are is once says = absurd (not_refused rows _ is)
   by_called rows (calls.Show text) invocation are is once says = absurd is
 

@@ -11,7 +11,7 @@ pub use Rattle.clap.specs.declared.error.kind.ErrorKind.TheVariants.{DisplayHelp
 pub use Rattle.clap.specs.declared.parser.matches.ArgMatches.{ArgMatches}
 pub use Rattle.line_writer.specs.declared.field.Style.{Style}
 pub use Rattle.line_writer.specs.declared.field.Style.TheVariants.{Human, Plain}
-pub use Rattle.program.specs.Asked.{asked_by}
+pub use Rattle.program.specs.Asked.{IsAskedBy}
 pub use Rattle.program.specs.Files.{FilesState, MayOpen, holds}
 pub use Rattle.program.specs.Inputs.{sums_of}
 pub use Rattle.program.specs.Invocation.{IsRefusedBy, is_human, judged_of, judged_places, second_of}
@@ -24,6 +24,7 @@ pub use Rattle.program.specs.declared.invocation.JudgedPaths.{JudgedPaths}
 pub use Rattle.program.specs.declared.invocation.Judgement.{Judgement}
 pub use Rattle.program.specs.declared.invocation.Listed.{Listed}
 pub use Rattle.program.specs.declared.invocation.Paths.{Paths}
+pub use Rattle.program.specs.declared.invocation.Shown.{Shown}
 pub use Rattle.program.specs.declared.run.Response.{Response}
 pub use Rattle.reading_time.specs.Reading.{ReadingData, reading_of}
 pub use Rattle.report.specs.Conclusion.{Concludes, conclusion_of}

@@ -1,6 +1,6 @@
 -- What the words of a command line call for.
-use Rattle.std.specs.Prelude.{◌≡◌, ◌≤◌, ◌⊎◌, ◌||◌, ⊤, ℕ, Bool, true, false, List, [], Option, Some, None, String, IfSome, IsSome, is_some, option_map, unwrap_or, codes, string_bytes}
-use Rattle.command_line.specs.Common.{bytes_eq, digits_value, without_leading_plus, IsNumeral, Global, AtReading, ReadingData, reading_of, time_of, Row, Text, first_of, found_of, one_of, rows_of, ArgMatches, Style, Human, Plain, Request, IsRefusedBy, is_human, Invocation, JudgedPaths, Judgement, Listed, Paths}
+use Rattle.std.specs.Prelude.{◌≡◌, ◌≤◌, ◌⊎◌, ◌&&◌, ◌||◌, ⊤, ℕ, Bool, true, false, List, [], Option, Some, None, String, IfSome, IsSome, is_some, option_map, unwrap_or, codes, string_bytes}
+use Rattle.command_line.specs.Common.{bytes_eq, digits_value, without_leading_plus, IsNumeral, Global, AtReading, ReadingData, reading_of, time_of, Row, Text, first_of, found_of, one_of, rows_of, ArgMatches, Style, Human, Plain, Request, IsRefusedBy, is_human, Invocation, JudgedPaths, Judgement, Listed, Paths, Shown}
 use Rattle.audit.specs.declared.question.Request.TheVariants as requests
 use Rattle.program.specs.declared.invocation.Invocation.TheVariants as calls
 use Rattle.program.specs.declared.invocation.Judgement.TheVariants as judgements
@@ -35,19 +35,25 @@ pub record IsListed (rows : List Row) (listed : Listed) : Type 0 where
   pub style_is : listed.style ≡ style_of (is_human listed.style)
   pub path : option_map string_bytes listed.path ≡ first_of (codes "CAPTURE") rows
 
--- A person is told of the operand TIME.
-pub record IsShownTime (rows : List Row) (shown : Option (String Global)) : Type 0 where
+-- A person is told of the operand of this name, a time.
+pub record IsShownTime (name : Text) (rows : List Row) (shown : Option (String Global))
+    : Type 0 where
   pub human : IsFlag (codes "human") rows (is_some shown)
-  pub time : IfSome shown (λ text. string_bytes text ≡ operand (codes "TIME") rows)
+  pub time : IfSome shown (λ text. string_bytes text ≡ operand name rows)
 
--- The claim, the capture, the file of sums, the output and the style are those of the words.
-pub record AreNamed (rows : List Row) (paths : Paths) : Type 0 where
+-- The claim and the capture are the operands of these names, and the file of sums, the output and
+-- the style are those of the words.
+pub record AreNamedBy (claim_name capture_name : Text) (rows : List Row) (paths : Paths)
+    : Type 0 where
   pub human : IsFlag (codes "human") rows (is_human paths.style)
   pub style_is : paths.style ≡ style_of (is_human paths.style)
-  pub claim : string_bytes paths.claim ≡ operand (codes "CLAIM") rows
-  pub capture : string_bytes paths.capture ≡ operand (codes "CAPTURE") rows
+  pub claim : string_bytes paths.claim ≡ operand claim_name rows
+  pub capture : string_bytes paths.capture ≡ operand capture_name rows
   pub sums : option_map string_bytes paths.sums ≡ first_of (codes "sums") rows
   pub output : option_map string_bytes paths.output ≡ first_of (codes "output") rows
+
+abbrev pub AreNamed : List Row → Paths → Type 0
+AreNamed = AreNamedBy (codes "CLAIM") (codes "CAPTURE")
 
 -- The same of a command with a second input, an operand of this name.
 pub record AreJudgedNamed (second : Text) (rows : List Row) (paths : JudgedPaths) : Type 0 where
@@ -62,9 +68,23 @@ time_given rows = time_of (operand (codes "TIME") rows)
 abbrev pub ticks_of : ReadingData → AtReading
 ticks_of r = record { begin = r.begin; end = r.end }
 
--- those of the operand TIME, if it is written as a reading
-abbrev pub ticks_given : List Row → Option AtReading
-ticks_given rows = option_map ticks_of (reading_of (operand (codes "TIME") rows))
+-- those of the operand of this name, if it is written as a reading
+abbrev pub ticks_given : Text → List Row → Option AtReading
+ticks_given name rows = option_map ticks_of (reading_of (operand name rows))
+
+-- whether two operands have the same text
+abbrev pub are_same : Text → Text → List Row → Bool
+are_same name name' rows = bytes_eq (operand name rows) (operand name' rows)
+
+-- whether both readings are of one clock: its claim and its capture are given twice
+abbrev pub is_one_clock : List Row → Bool
+is_one_clock rows = are_same (codes "CLAIM") (codes "OTHER_CLAIM") rows
+    && are_same (codes "CAPTURE") (codes "OTHER_CAPTURE") rows
+
+-- The two readings are those of the words.
+pub record AreReadings (rows : List Row) (first second : AtReading) : Type 0 where
+  pub first_is : ticks_given (codes "TIME") rows ≡ Some first
+  pub second_is : ticks_given (codes "OTHER_TIME") rows ≡ Some second
 
 -- neither of two is there, or both are
 abbrev pub AreNotOne : Option Text → Option Text → Type 0
@@ -82,9 +102,9 @@ no_time_text = codes "error: at takes a TIME, or --times FILE\n"
 -- whether a command has this name
 abbrev pub is_command : Text → Bool
 is_command name = bytes_eq name (codes "list") || bytes_eq name (codes "samples")
-    || bytes_eq name (codes "at") || bytes_eq name (codes "settle") || bytes_eq name (codes "check")
-    || bytes_eq name (codes "find") || bytes_eq name (codes "refute")
-    || bytes_eq name (codes "envelope")
+    || bytes_eq name (codes "at") || bytes_eq name (codes "order") || bytes_eq name (codes "settle")
+    || bytes_eq name (codes "check") || bytes_eq name (codes "find")
+    || bytes_eq name (codes "refute") || bytes_eq name (codes "envelope")
 
 -- no number from 1 to 86400 is given for the length of a piece
 abbrev pub HasNoStep : List Row → Type 0
@@ -108,7 +128,7 @@ IsRequest name rows (requests.At at) = (name ≡ codes "at")
     × (first_of (codes "times") rows ≡ None) × (time_given rows ≡ Some at.unix_second)
 IsRequest name rows (requests.Reading reading) =
     (name ≡ codes "at") × (first_of (codes "times") rows ≡ None) × (time_given rows ≡ None)
-    × (ticks_given rows ≡ Some reading)
+    × (ticks_given (codes "TIME") rows ≡ Some reading)
 IsRequest name rows requests.Settle = name ≡ codes "settle"
 IsRequest name rows (requests.Find find) =
     (name ≡ codes "find") × IsFlag (codes "refutation") rows false
@@ -118,6 +138,9 @@ IsRequest name rows requests.FindRefutation = (name ≡ codes "find")
 IsRequest name rows (requests.Envelope envelope) = (name ≡ codes "envelope")
     × IsFlag (codes "servers") rows envelope.servers × IsFlag (codes "least") rows envelope.least
     × (step_given rows ≡ Some envelope.step.seconds)
+IsRequest name rows (requests.OrderAfter asked) = ⊥
+IsRequest name rows (requests.OrderWithin asked) = (name ≡ codes "order")
+    × (is_one_clock rows ≡ true) × AreReadings rows asked.first asked.second
 
 -- this question is asked of the files that are named
 abbrev pub IsAsking : Request → List Row → Invocation → Type 0
@@ -137,15 +160,37 @@ second_operand judgements.Check = codes "CERTIFICATE"
 second_operand (judgements.Refute drift) = codes "REFUTATION"
 second_operand judgements.Readings = codes "times"
 
+-- One reading of each of two clocks is asked about.
+pub record AreOrdered (rows : List Row) (first second : Shown) : Type 0 where
+  pub are_two : is_one_clock rows ≡ false
+  pub readings : AreReadings rows first.reading second.reading
+  pub first_paths : AreNamed rows first.paths
+  pub second_paths :
+      AreNamedBy (codes "OTHER_CLAIM") (codes "OTHER_CAPTURE") rows second.paths
+
+-- a moment that is asked about isn't written as a time
+abbrev pub HasNoMoment : List Row → Option (String Global) → Type 0
+HasNoMoment rows shown =
+    (first_of (codes "times") rows ≡ None) × (time_given rows ≡ None)
+    × (ticks_given (codes "TIME") rows ≡ None) × IsShownTime (codes "TIME") rows shown
+
+-- of two readings the first isn't written as one, or the second alone
+abbrev pub HasNoReading : List Row → Option (String Global) → Type 0
+HasNoReading rows shown =
+    ((ticks_given (codes "TIME") rows ≡ None) × IsShownTime (codes "TIME") rows shown)
+    ⊎ (IsSome (ticks_given (codes "TIME") rows) × (ticks_given (codes "OTHER_TIME") rows ≡ None)
+    × IsShownTime (codes "OTHER_TIME") rows shown)
+
 -- what a command with these rows calls for
 abbrev pub IsCalled : Text → List Row → Invocation → Type 0
 IsCalled name rows (calls.List listed) = (name ≡ codes "list") × IsListed rows listed
 IsCalled name rows (calls.Ask request paths) = IsRequest name rows request × AreNamed rows paths
 IsCalled name rows (calls.Judge judgement paths) = IsJudgement name rows judgement
     × AreJudgedNamed (second_operand judgement) rows paths
-IsCalled name rows (calls.RefuseTime shown) =
-    (name ≡ codes "at") × (first_of (codes "times") rows ≡ None) × (time_given rows ≡ None)
-    × (ticks_given rows ≡ None) × IsShownTime rows shown
+IsCalled name rows (calls.Order first second) =
+    (name ≡ codes "order") × AreOrdered rows first second
+IsCalled name rows (calls.RefuseTime shown) = ((name ≡ codes "at") × HasNoMoment rows shown)
+    ⊎ ((name ≡ codes "order") × HasNoReading rows shown)
 IsCalled name rows (calls.Refuse text) = IsRefusable name rows (string_bytes text)
 IsCalled name rows (calls.Show text) = ⊥
 

@@ -1,7 +1,7 @@
 -- What the program does: from the words of a command line to its two outputs and the exit status,
 -- over any files.
 use Rattle.std.specs.Prelude.{◌≡◌, ◌⊎◌, ℕ, IsTrue, List, Option, None, Some, Result, Ok, Err, String, Vec, codes, option_map}
-use Rattle.command_line.specs.Common.{Global, Concludes, conclusion_of, Memory, asked_by, IsBare, IsRefusedBy, IsUntouched, FilesState, Says, SinkState, World, world, Invocation, Response}
+use Rattle.command_line.specs.Common.{Global, Concludes, conclusion_of, Memory, IsAskedBy, IsBare, IsRefusedBy, IsUntouched, FilesState, Says, SinkState, World, world, Invocation, Response}
 use Rattle.command_line.specs.Words.{Means}
 
 -- What the words call for is done.
@@ -10,7 +10,7 @@ pub record IsDone (words : List (String Global)) (before after : World) (respons
   pub invocation : Invocation
   pub means : Means words invocation
   pub says : Says invocation before after response
-  pub asked_is : response.asked ≡ asked_by invocation
+  pub asked_is : IsAskedBy invocation response.asked
 
 -- Memory was refused before the words were read: that is told, and nothing else is done.
 pub record IsUndone (before after : World) (response : Response) : Type 0 where
@@ -29,7 +29,7 @@ pub record IsUnread (before after : World) (response : Response) : Type 0 where
   pub invocation : Invocation
   pub refused : IsRefusedBy (codes "error: an operand isn't UTF-8\n") invocation
   pub says : Says invocation before after response
-  pub asked_is : response.asked ≡ asked_by invocation
+  pub asked_is : IsAskedBy invocation response.asked
 
 -- the response to the words of a process: there are none, if one of them isn't UTF-8 or memory is
 -- refused while they are read

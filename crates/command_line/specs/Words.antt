@@ -42,9 +42,17 @@ misuse_of paths second =
     else (if option_map_or (λ path. is_no_file (string_bytes path)) paths.output false
     then Some no_file_text else None)
 
+-- what is told of the claims and captures of two clocks, if they can't go together
+abbrev pub misuse_of_two : Paths → Paths → Option Text
+misuse_of_two first second =
+    if is_twice (string_bytes first.claim ∷ string_bytes first.capture
+    ∷ string_bytes second.claim ∷ string_bytes second.capture ∷ [])
+    then Some twice_text else None
+
 abbrev pub misuse_in : Invocation → Option Text
 misuse_in (calls.Ask request paths) = misuse_of paths []
 misuse_in (calls.Judge judgement paths) = misuse_of paths.evidence (string_bytes paths.second)
+misuse_in (calls.Order first second) = misuse_of_two first.paths second.paths
 misuse_in invocation = None
 
 -- What is called for, refused if its paths can't go together.

@@ -11,6 +11,7 @@ mod envelope;
 mod evidence;
 mod find;
 mod list;
+mod order;
 mod refute;
 mod samples;
 mod settle;
@@ -27,6 +28,7 @@ fn called(alloc: Global, name: &str, words: &ArgMatches) -> Result<Invocation, A
         "list" => list::invocation(alloc, words),
         "samples" => samples::invocation(alloc, words),
         "at" => at::invocation(alloc, words),
+        "order" => order::invocation(alloc, words),
         "settle" => settle::invocation(alloc, words),
         "check" => check::invocation(alloc, words),
         "find" => find::invocation(alloc, words),

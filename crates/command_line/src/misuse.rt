@@ -8,6 +8,9 @@ ghost use Rattle.command_line.specs.Words.{IsReadOnce};
 use program::{Invocation, Paths, STDIN, path_or_none};
 use std::alloc::{AllocError, Global};
 
+const TWICE: &str =
+    "error: standard input, -, can be one input alone: give each other by its file\n";
+
 /// Whether standard input would be two of these inputs.
 fn is_twice(operands: &[&str]) -> bool
     ensures { result ≡ spec.is_twice (map (λ operand. operand.now) operands.now) }
@@ -32,9 +35,26 @@ fn misuse_of(paths: &Paths, second: &str) -> Option<&'static str>
 {
     let (claim, capture) = (paths.claim.as_str(), paths.capture.as_str());
     if is_twice(&[claim, capture, second, path_or_none(&paths.sums)]) {
-        Some("error: standard input, -, can be one input alone: give each other by its file\n")
+        Some(TWICE)
     } else if names_no_file(&paths.output) {
         Some("error: -o takes a file's path; standard output needs no -o\n")
+    } else {
+        None
+    }
+}
+
+/// Why the claims and captures of two clocks can't go together.
+fn misuse_of_two(first: &Paths, second: &Paths) -> Option<&'static str>
+    ensures { option_map (λ text. text.now) result ≡ spec.misuse_of_two first.now second.now }
+{
+    let (claim, capture) = (first.claim.as_str(), first.capture.as_str());
+    if is_twice(&[
+        claim,
+        capture,
+        second.claim.as_str(),
+        second.capture.as_str(),
+    ]) {
+        Some(TWICE)
     } else {
         None
     }
@@ -47,6 +67,7 @@ fn misuse_in(invocation: &Invocation) -> Option<&'static str>
     match invocation {
         Invocation::Ask(_, paths) => misuse_of(paths, ""),
         Invocation::Judge(_, paths) => misuse_of(&paths.evidence, paths.second.as_str()),
+        Invocation::Order(first, second) => misuse_of_two(&first.paths, &second.paths),
         _ => None,
     }
 }

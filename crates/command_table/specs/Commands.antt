@@ -60,6 +60,12 @@ abbrev pub at : Shape
 at = on_claim (codes "at")
     (optional (codes "TIME") ∷ valued (codes "times") ∷ sums ∷ [])
 
+-- a reading of a clock, and one of another
+abbrev pub order : Shape
+order = on_claim (codes "order")
+    (required (codes "TIME") ∷ required (codes "OTHER_CLAIM") ∷ required (codes "OTHER_CAPTURE")
+    ∷ required (codes "OTHER_TIME") ∷ [])
+
 abbrev pub settle : Shape
 settle = on_claim (codes "settle") (output ∷ sums ∷ [])
 
@@ -79,7 +85,8 @@ envelope = on_claim (codes "envelope")
 
 -- all commands
 abbrev pub commands : List Shape
-commands = list ∷ samples ∷ at ∷ settle ∷ check ∷ find ∷ refute ∷ envelope ∷ []
+commands =
+    list ∷ samples ∷ at ∷ order ∷ settle ∷ check ∷ find ∷ refute ∷ envelope ∷ []
 
 -- the program with these commands
 abbrev pub program_of : List Shape → App

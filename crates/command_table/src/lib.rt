@@ -20,6 +20,7 @@ mod envelope;
 mod evidence;
 mod find;
 mod list;
+mod order;
 mod program;
 mod refute;
 mod samples;

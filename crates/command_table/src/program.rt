@@ -4,7 +4,7 @@ ghost use Rattle.std.specs.Prelude.{IfOk, []};
 ghost use Rattle.command_table.specs.Commands as table;
 ghost use Rattle.command_table.specs.Commands.{IsProgram};
 
-use crate::{at, check, envelope, find, list, refute, samples, settle};
+use crate::{at, check, envelope, find, list, order, refute, samples, settle};
 use clap::Command;
 use std::alloc::{AllocError, Global};
 
@@ -47,6 +47,7 @@ pub fn ntpaudit<'a>(alloc: Global, version: &'a str) -> Result<Command<'a>, Allo
     let program = with(program, list::declaration(alloc))?;
     let program = with(program, samples::declaration(alloc))?;
     let program = with(program, at::declaration(alloc))?;
+    let program = with(program, order::declaration(alloc))?;
     let program = with(program, settle::declaration(alloc))?;
     let program = with(program, check::declaration(alloc))?;
     let program = with(program, find::declaration(alloc))?;

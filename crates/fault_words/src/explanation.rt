@@ -8,7 +8,7 @@ ghost use Rattle.fault_words.specs.Subject.{names_data, subject};
 
 use crate::claim_field::{field_name, field_sentence};
 use crate::quote::quoted;
-use crate::remedy::{Known, WRITE_A_TIME, filled};
+use crate::remedy::{Known, WRITE_A_READING, filled};
 use crate::seen::Seen;
 use crate::sentence::{Sentence, says, sentence_of};
 use crate::subject::{Names, input_of};
@@ -133,6 +133,9 @@ pub fn explain_time(alloc: Global, time: &str) -> Result<String, AllocError>
     let time = quoted(alloc, time)?;
     let seen = format!(in alloc; "; it is \"{}\"", time.as_str())?;
     let known = Known::of_file(alloc, "")?;
-    let sentence = says("has to be a time of UTC", WRITE_A_TIME);
+    let sentence = says(
+        "has to be a time, in UTC or in Unix seconds",
+        WRITE_A_READING,
+    );
     words_of(alloc, "TIME ", sentence, seen.as_str(), &known)
 }

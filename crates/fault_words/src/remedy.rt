@@ -29,6 +29,9 @@ pub(crate) const WRITE_AN_ADDRESS: &str =
 
 pub(crate) const WRITE_A_TIME: &str = "write a time as \"2026-11-22T06:46:09Z\", in UTC";
 
+pub(crate) const WRITE_A_READING: &str =
+    "write it as 2026-11-22T06:46:09.25Z or 1795329969.25, from 1970 to 2106";
+
 pub(crate) const WRITE_NANOSECONDS: &str =
     "write nanoseconds as a bare whole number: 5 ms are 5000000";
 

@@ -33,4 +33,5 @@ mod number;
 
 pub use field::{ColumnKind, Field, Style, add_line, put_fields};
 pub use line::{CAPACITY, Line};
+pub use millisecond::{longer, shorter};
 pub use number::Number;

@@ -16,7 +16,7 @@ const NANOSECONDS_PER_MILLISECOND: u128 = 1_000_000;
 
 /// A length in whole nanoseconds that isn't longer than so many ticks.
 #[tactic(auto, using(crate::proofs::Parts::shorter_by_parts))]
-pub(crate) fn shorter(ticks: u128) -> u128
+pub fn shorter(ticks: u128) -> u128
     requires { ticks ≤ 2 ^ 127 }
     ensures exact { result ≡ spec.shorter ticks }
     ensures fits { result < 2 ^ 127 }
@@ -27,7 +27,7 @@ pub(crate) fn shorter(ticks: u128) -> u128
 
 /// A length in whole nanoseconds that isn't shorter than so many ticks.
 #[tactic(auto, using(crate::proofs::Parts::longer_by_parts))]
-pub(crate) fn longer(ticks: u128) -> u128
+pub fn longer(ticks: u128) -> u128
     requires { ticks ≤ 2 ^ 127 }
     ensures exact { result ≡ spec.longer ticks }
     ensures fits { result < 2 ^ 127 }

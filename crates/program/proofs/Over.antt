@@ -10,7 +10,8 @@ use Rattle.report.specs.declared.conclusion.Conclusion.{Conclusion}
 use Rattle.report.specs.declared.fault.Outcome.{Outcome}
 use Rattle.report.specs.declared.fault.RunFault.{RunFault}
 use Rattle.audit.specs.Question.{AskedData}
-use Rattle.audit.specs.Run.{AnswersFor, RunsFor, RunsTwice}
+use Rattle.audit.specs.Run.{AnswersFor, HasRead, RunsFor, RunsTwice}
+use Rattle.audit.specs.Second.{SecondKind}
 
 module _ {T F : Type 0} (s : T → FeedState) (f : F → FeedState) {before after : RunState}
     {second second' : T} {capture capture' : F} where
@@ -35,3 +36,9 @@ module _ {T F : Type 0} (s : T → FeedState) (f : F → FeedState) {asked : Ask
       AnswersFor asked before after second second' capture capture' err err' conclusion →
       AnswersFor asked before after (s second) (s second') (f capture) (f capture') err err' conclusion
   answers_over told = grind (arith, runs_over)
+
+module _ {F A : Type 0} (f : F → FeedState) {kind : SecondKind} {before after : RunState} {capture capture' : F} where
+  pub read_over : {read : Result A RunFault} →
+      HasRead {T = Unit {0}} kind before after (tt {0}) (tt {0}) capture capture' read →
+      HasRead {T = Unit {0}} kind before after (tt {0}) (tt {0}) (f capture) (f capture') read
+  read_over {read} told = grind (arith, IfErr-weaker)

@@ -1,5 +1,5 @@
 -- What may be said of a run behind its fault line.
-use Rattle.std.specs.Prelude.{ℕ, Bool, true, false, List, [], is_some, option_map, unwrap_or, string_bytes}
+use Rattle.std.specs.Prelude.{◌≡◌, ◌⊎◌, ℕ, Bool, true, false, List, [], is_some, option_map, unwrap_or, string_bytes}
 use Rattle.fault_words.specs.Subject.{NamesData}
 use Rattle.program.specs.Invocation.{is_human, listed_name}
 use Rattle.program.specs.declared.asked.Asked.{Asked}
@@ -8,14 +8,17 @@ use Rattle.program.specs.declared.invocation.Invocation.{Invocation}
 use Rattle.program.specs.declared.invocation.Invocation.TheVariants as calls
 use Rattle.program.specs.declared.invocation.Paths.{Paths}
 
--- what remains of a command line once its run is over
-abbrev pub asked_by : Invocation → Asked
-asked_by (calls.List listed) = asks.Listing listed
-asked_by (calls.Ask request paths) = asks.Question paths
-asked_by (calls.Judge judgement paths) = asks.Judgement paths
-asked_by (calls.RefuseTime time) = asks.Time time
-asked_by (calls.Show text) = asks.Nothing
-asked_by (calls.Refuse text) = asks.Nothing
+-- what remains of a command line once its run is over: of two clocks the one whose files were
+-- read last
+abbrev pub IsAskedBy : Invocation → Asked → Type 0
+IsAskedBy (calls.List listed) asked = asked ≡ asks.Listing listed
+IsAskedBy (calls.Ask request paths) asked = asked ≡ asks.Question paths
+IsAskedBy (calls.Judge judgement paths) asked = asked ≡ asks.Judgement paths
+IsAskedBy (calls.Order first second) asked =
+    (asked ≡ asks.Question first.paths) ⊎ (asked ≡ asks.Question second.paths)
+IsAskedBy (calls.RefuseTime time) asked = asked ≡ asks.Time time
+IsAskedBy (calls.Show text) asked = asked ≡ asks.Nothing
+IsAskedBy (calls.Refuse text) asked = asked ≡ asks.Nothing
 
 -- the operand that names the file of sums, empty if there is none
 abbrev pub sums_name : Paths → List ℕ

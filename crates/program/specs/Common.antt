@@ -1,10 +1,14 @@
 -- What the definitions and contracts of this crate name of others.
 pub use Rattle.audit.specs.Check.{check}
+pub use Rattle.audit.specs.Common.{When}
+pub use Rattle.audit.specs.Order.{GiveWhen}
 pub use Rattle.audit.specs.Question.{AskedData, asked_of}
+pub use Rattle.audit.specs.Reading.{ticks_asked}
 pub use Rattle.audit.specs.Readings.{readings}
 pub use Rattle.audit.specs.Refute.{refute}
+pub use Rattle.audit.specs.Report.{inputs_read}
 pub use Rattle.audit.specs.Request.{question_of}
-pub use Rattle.audit.specs.Run.{AnswersFor, MayRun, RunsFor, RunsTwice, ShowsAt}
+pub use Rattle.audit.specs.Run.{AnswersFor, HasRead, MayRun, RunsFor, RunsTwice, ShowsAt}
 pub use Rattle.audit.specs.Second.{certificate_second, no_second, refutation_second, times_second}
 pub use Rattle.audit.specs.Settle.{settle}
 pub use Rattle.audit.specs.declared.question.Request.{Request}
@@ -20,6 +24,7 @@ pub use Rattle.report.specs.Conclusion.{Answers, Concludes, conclusion_of, refus
 pub use Rattle.report.specs.Delivery.{IsDelivered}
 pub use Rattle.report.specs.FaultText.{input_word}
 pub use Rattle.report.specs.Input.{IsInputFault, ReadsWhole, read_failed}
+pub use Rattle.report.specs.Reading.{IsFromOutside}
 pub use Rattle.report.specs.Reports.{whole_text}
 pub use Rattle.report.specs.Run.{RunState, bare_state, capture_state, no_feed, run_state}
 pub use Rattle.report.specs.declared.conclusion.Conclusion.{Conclusion}

@@ -61,7 +61,7 @@ pub record MayDraft (drafts : DraftsState) : Type 0 where
 
 -- A run may open its files, and put one into its place.
 pub record MayOpen (files : FilesState) : Type 0 where
-  pub opened : files.opened + 4 < 2 ^ 64
+  pub opened : files.opened + 8 < 2 ^ 64
   pub drafts : MayDraft files.drafts
 
 -- These bytes are to come of a feed: those that are known to stand there. Of a path that can't be

@@ -7,6 +7,7 @@ pub mod Inputs
 pub mod Invocation
 pub mod Opening
 pub mod Response
+pub mod Order
 pub mod Run
 pub mod Table
 pub mod World

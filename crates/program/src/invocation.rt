@@ -3,7 +3,7 @@
 ghost use Rattle.std.specs.Prelude.{◌≡◌, [], IfOk, option_map, string_bytes, unwrap_or};
 ghost use Rattle.program.specs.Invocation.{IsRefusedBy, listed_name, second_of};
 
-use audit::{Request, Style};
+use audit::{AtReading, Request, Style};
 use report::Input;
 use std::alloc::{AllocError, Global};
 
@@ -56,7 +56,16 @@ pub struct Paths {
     pub output: Option<String>,
 }
 
-/// The same for a question with a second input.
+/// A reading of a clock.
+#[derive(Drop)]
+pub struct Shown {
+    /// The ticks for which the clock showed it.
+    pub reading: AtReading,
+    /// The paths of the clock's claim and capture, and those of the answer.
+    pub paths: Paths,
+}
+
+/// The paths of a question with a second input.
 #[derive(Drop)]
 pub struct JudgedPaths {
     /// All but that of the second input.
@@ -101,6 +110,9 @@ pub enum Invocation {
     Ask(Request, Paths),
     /// Judge a certificate, a refutation or readings.
     Judge(Judgement, JudgedPaths),
+    /// Say which was first, the reading of one clock or that of another. Of the first's paths only
+    /// those of the claim and the capture count.
+    Order(Shown, Shown),
     /// Show this text: help, or the version.
     Show(String),
     /// The command line is refused, for the reason in this text.

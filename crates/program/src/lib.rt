@@ -33,7 +33,9 @@ pub use about::VERSION;
 pub use asked::Asked;
 pub use files::{Files, OpenFault};
 pub use hindrance::Hindrance;
-pub use invocation::{Invocation, JudgedPaths, Judgement, Listed, Paths, STDIN, path_or_none};
+pub use invocation::{
+    Invocation, JudgedPaths, Judgement, Listed, Paths, STDIN, Shown, path_or_none,
+};
 pub use response::Summed;
 pub use run::{Response, respond};
 pub use table::{Place, Put, Table};

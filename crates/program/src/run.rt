@@ -1,10 +1,11 @@
 //! The response to an invocation, over files that it opens.
 
-ghost use Rattle.std.specs.Prelude.{◌≡◌, None};
+ghost use Rattle.std.specs.Prelude.{◌≡◌, ◌+◌, ◌<◌, ◌^◌, None, IfOk};
 ghost use Rattle.byte_stream.specs.State.{IsWritable};
-ghost use Rattle.program.specs.Asked.{asked_by};
+ghost use Rattle.program.specs.Asked.{IsAskedBy};
 ghost use Rattle.program.specs.Files.{MayOpen};
 ghost use Rattle.program.specs.Invocation.{judged_of, judged_places, listed_name, places_of, requested, second_of};
+ghost use Rattle.program.specs.Order.{TellsWhen};
 ghost use Rattle.program.specs.Run.{AnswersOver, AnswersTo, Lists, Says};
 ghost use Rattle.program.specs.World.{world};
 
@@ -13,12 +14,12 @@ use crate::drafted::write_request;
 use crate::files::Files;
 use crate::hindrance::Hindrance;
 use crate::inputs::{open, open_evidence, open_judged};
-use crate::invocation::{Invocation, JudgedPaths, Judgement, Listed, Paths};
+use crate::invocation::{Invocation, JudgedPaths, Judgement, Listed, Paths, Shown};
 use crate::response::{Summed, ask, judge};
-use audit::{Outputs, Request};
+use audit::{OrderAfter, Outputs, Request, When, read_when};
 use byte_stream::Sink;
 use listing::answer_list;
-use report::{Conclusion, Input, conclude, refuse, refuse_time, show};
+use report::{Conclusion, Input, RunFault, conclude, refuse, refuse_time, show};
 use std::alloc::Global;
 use std::hash::BuildHasher;
 
@@ -107,6 +108,25 @@ fn ask_paths<Fs: Files, S: Sink, E: Sink, H: BuildHasher + Copy + Drop>(
     }
 }
 
+/// When a clock showed its reading, once its claim and its capture are opened.
+#[tactic(auto, using(crate::proofs::Over::read_over))]
+fn when_shown<Fs: Files, H: BuildHasher + Drop>(
+    alloc: Global,
+    files: &mut Fs,
+    shown: &Shown,
+    hasher: H,
+) -> Result<When, RunFault>
+    requires { (Fs.state files.old).opened + 2 < 2 ^ 64 }
+    ensures tells { TellsWhen shown.now (Fs.state files.old) (Fs.state files.new) result }
+    ensures opened { IfOk result (λ when.
+        (Fs.state files.new).opened ≡ (Fs.state files.old).opened + 2) }
+{
+    let mut claim = open(files, shown.paths.claim.as_str(), Input::Claim)?;
+    let capture = open(files, shown.paths.capture.as_str(), Input::Capture)?;
+    let (_, when) = read_when(alloc, shown.reading, &mut claim, capture, hasher);
+    when
+}
+
 /// How a command line ended, and what may be said of it behind its fault line.
 #[derive(Drop)]
 pub struct Response {
@@ -137,6 +157,51 @@ fn bare(conclusion: Conclusion, asked: Asked) -> Response
     }
 }
 
+/// Says which was first, the reading of one clock or that of another.
+fn order<Fs: Files, S: Sink, E: Sink, H: BuildHasher + Copy + Drop>(
+    alloc: Global,
+    files: &mut Fs,
+    first: Shown,
+    second: Shown,
+    to: &mut Outputs<S, E>,
+    hasher: H,
+) -> Response
+    requires files { MayOpen (Fs.state files.old) }
+    requires out { IsWritable (S.state to.old.out) }
+    requires err { IsWritable (E.state to.old.err) }
+    ensures says { Says (Invocation.Order first second)
+        (world (Fs.state files.old) (S.state to.old.out) (E.state to.old.err))
+        (world (Fs.state files.new) (S.state to.new.out) (E.state to.new.err)) result }
+    ensures asked { IsAskedBy (Invocation.Order first second) result.asked }
+{
+    match when_shown(alloc, files, &first, hasher) {
+        Ok(when) => {
+            let request = Request::OrderAfter(OrderAfter {
+                first: when,
+                second: second.reading,
+            });
+            let (conclusion, hindrance, summed) = ask_paths(
+                alloc,
+                files,
+                request,
+                &second.paths,
+                to,
+                hasher,
+            );
+            Response {
+                conclusion,
+                asked: Asked::Question(second.paths),
+                hindrance,
+                summed,
+            }
+        }
+        Err(fault) => {
+            let conclusion = conclude(&Err(fault), &mut to.err);
+            bare(conclusion, Asked::Question(first.paths))
+        }
+    }
+}
+
 /// Does what a command line calls for: all files are opened before anything is read. If the run is
 /// held to sums, what was read of its files is handed back, and that is what the clauses are about.
 /// What is read of a capture is hashed by `hasher`, on which no answer depends.
@@ -153,7 +218,7 @@ pub fn respond<Fs: Files, S: Sink, E: Sink, H: BuildHasher + Copy + Drop>(
     ensures says { Says invocation
         (world (Fs.state files.old) (S.state to.old.out) (E.state to.old.err))
         (world (Fs.state files.new) (S.state to.new.out) (E.state to.new.err)) result }
-    ensures asked { result.asked ≡ asked_by invocation }
+    ensures asked { IsAskedBy invocation result.asked }
 {
     match invocation {
         Invocation::List(listed) => {
@@ -180,6 +245,7 @@ pub fn respond<Fs: Files, S: Sink, E: Sink, H: BuildHasher + Copy + Drop>(
                 summed,
             }
         }
+        Invocation::Order(first, second) => order(alloc, files, first, second, to, hasher),
         Invocation::Show(text) => bare(show(text, &mut to.out, &mut to.err), Asked::Nothing),
         Invocation::Refuse(text) => bare(refuse(text, &mut to.err), Asked::Nothing),
         Invocation::RefuseTime(time) => bare(refuse_time(&mut to.err), Asked::Time(time)),

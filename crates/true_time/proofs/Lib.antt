@@ -1,2 +1,3 @@
 mod Common
 pub mod TrueTime
+pub mod Before

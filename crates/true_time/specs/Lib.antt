@@ -2,3 +2,6 @@ pub mod Common
 pub mod TrueTime
 pub mod ReadingLine
 pub mod TrueText
+pub mod When
+pub mod Order
+pub mod OrderLine

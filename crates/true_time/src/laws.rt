@@ -1,10 +1,15 @@
 //! What the definitions say of true time. A law is a function that does nothing: its contract is
 //! the law, for every number.
 
-ghost use Rattle.std.specs.Prelude.{List};
+ghost use Rattle.std.specs.Prelude.{ℕ, ℤ, List};
 ghost use Rattle.true_time.specs.Common.{AreSamplesOf, ClaimData, IsLawful, ReadingData, Sample};
+ghost use Rattle.true_time.specs.Order as spec;
+ghost use Rattle.true_time.specs.Order.{HoldsOrderOfOne, IsSo, order_of_one};
 ghost use Rattle.true_time.specs.TrueTime.{HoldsTrueTime, hull_of};
+ghost use Rattle.true_time.specs.When as times;
+ghost use Rattle.true_time.specs.When.{HoldsWhen, IsDuring};
 
+use crate::when::When;
 use finder::laws::best_hulls_hold_the_error;
 
 /// In every course of events that fits, whenever the clock shows a reading, true time lies between
@@ -15,4 +20,32 @@ pub fn true_time_lies_between()
         HoldsTrueTime claim samples r (hull_of samples claim r) }
 {
     best_hulls_hold_the_error();
+}
+
+/// In every course of events that fits, it is then that the clock shows a reading.
+pub fn moments_hold()
+    ensures hold { (claim : ClaimData) (samples : List Sample) (r : ReadingData) →
+        IsLawful claim → AreSamplesOf claim samples →
+        HoldsWhen claim samples r (times.when_at samples claim r) }
+{
+    true_time_lies_between();
+}
+
+/// An order says so of any two true times that are when the two readings were: those of two clocks
+/// in any pair of courses, or of one.
+pub fn orders_are_so()
+    ensures so { (first : When) (second : When) (n : ℕ) (n' : ℕ) (time : ℤ) (time' : ℤ) →
+        IsDuring first n time → IsDuring second n' time' →
+        IsSo (spec.order_of first second) n n' time time' }
+{}
+
+/// In every course of events that fits, in which one clock shows two readings, their order says so.
+pub fn readings_tell_the_order()
+    ensures holds { (claim : ClaimData) (samples : List Sample) (r : ReadingData)
+        (r' : ReadingData) → IsLawful claim → AreSamplesOf claim samples →
+        HoldsOrderOfOne claim samples r r' (order_of_one claim.drift_ppb r r'
+        (spec.order_of (times.when_at samples claim r) (times.when_at samples claim r'))) }
+{
+    moments_hold();
+    orders_are_so();
 }

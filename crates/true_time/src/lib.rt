@@ -17,9 +17,15 @@
 
 mod hull;
 pub mod laws;
+mod order;
+mod order_line;
 mod reading_line;
 mod true_text;
+mod when;
 
 pub use hull::parts_at;
+pub use order::{Order, order_of, order_of_one};
+pub use order_line::order_text;
 pub use reading_line::readings_text;
 pub use true_text::add_true_time;
+pub use when::{When, when_at};

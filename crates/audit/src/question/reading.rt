@@ -51,7 +51,7 @@ fn reading_text(
 }
 
 /// The last tick that is meant.
-fn last_of(asked: AtReading) -> u64
+pub(crate) fn last_of(asked: AtReading) -> u64
     ensures last { result ≡ max asked.begin asked.end }
     ensures in_order { asked.begin ≤ result }
 {

@@ -20,23 +20,27 @@ fn time_of(words: &ArgMatches) -> Option<u32>
     read_time(operand(words, "TIME"))
 }
 
-/// The ticks of the reading that it is asked about, if its TIME is written as one.
-fn ticks_of(words: &ArgMatches) -> Option<AtReading>
-    ensures { result ≡ ticks_given (found_rows words.now) }
+/// The ticks of a reading, if the operand of this name is written as one.
+pub(crate) fn ticks_of(words: &ArgMatches, name: &str) -> Option<AtReading>
+    ensures { result ≡ ticks_given name.now (found_rows words.now) }
 {
-    let reading = read_reading(operand(words, "TIME").as_bytes())?;
+    let reading = read_reading(operand(words, name).as_bytes())?;
     Some(AtReading {
         begin: reading.begin,
         end: reading.end,
     })
 }
 
-/// The TIME that is refused, if a person is told of it.
-fn shown_time(alloc: Global, words: &ArgMatches) -> Result<Option<String>, AllocError>
-    ensures { IfOk result (IsShownTime (found_rows words.now)) }
+/// The time that is refused, the operand of this name, if a person is told of it.
+pub(crate) fn shown_time(
+    alloc: Global,
+    words: &ArgMatches,
+    name: &str,
+) -> Result<Option<String>, AllocError>
+    ensures { IfOk result (IsShownTime name.now (found_rows words.now)) }
 {
     if is_given(words, "human") {
-        Ok(Some(String::from_str(alloc, operand(words, "TIME"))?))
+        Ok(Some(String::from_str(alloc, operand(words, name))?))
     } else {
         Ok(None)
     }
@@ -55,9 +59,9 @@ fn asked_over(alloc: Global, words: &ArgMatches) -> Result<Invocation, AllocErro
     requires no_moment { time_given (found_rows words.now) ≡ None }
     ensures { IfOk result (IsCalled (codes "at") (found_rows words.now)) }
 {
-    match ticks_of(words) {
+    match ticks_of(words, "TIME") {
         Some(reading) => ask(alloc, Request::Reading(reading), words),
-        None => Ok(Invocation::RefuseTime(shown_time(alloc, words)?)),
+        None => Ok(Invocation::RefuseTime(shown_time(alloc, words, "TIME")?)),
     }
 }
 

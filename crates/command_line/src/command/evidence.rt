@@ -1,7 +1,7 @@
 //! What commands on a claim and a capture share.
 
 ghost use Rattle.std.specs.Prelude.{IfOk};
-ghost use Rattle.command_line.specs.Invocation.{AreJudgedNamed, AreNamed, IsAsking, found_rows};
+ghost use Rattle.command_line.specs.Invocation.{AreJudgedNamed, AreNamed, AreNamedBy, IsAsking, found_rows};
 
 use crate::command::argument::{operand, style, text_of};
 use audit::Request;
@@ -9,18 +9,30 @@ use clap::ArgMatches;
 use program::{Invocation, JudgedPaths, Paths};
 use std::alloc::{AllocError, Global};
 
-/// The claim, the capture, the file of sums and the output that are named, and for whom the answer
-/// is written.
-fn paths(alloc: Global, words: &ArgMatches) -> Result<Paths, AllocError>
-    ensures { IfOk result (AreNamed (found_rows words.now)) }
+/// The claim and the capture that the operands of these names name, the file of sums and the output,
+/// and for whom the answer is written.
+pub(crate) fn paths_by(
+    alloc: Global,
+    words: &ArgMatches,
+    claim: &str,
+    capture: &str,
+) -> Result<Paths, AllocError>
+    ensures { IfOk result (AreNamedBy claim.now capture.now (found_rows words.now)) }
 {
     Ok(Paths {
         style: style(words),
-        claim: String::from_str(alloc, operand(words, "CLAIM"))?,
-        capture: String::from_str(alloc, operand(words, "CAPTURE"))?,
+        claim: String::from_str(alloc, operand(words, claim))?,
+        capture: String::from_str(alloc, operand(words, capture))?,
         sums: text_of(alloc, words, "sums")?,
         output: text_of(alloc, words, "output")?,
     })
+}
+
+/// The same of the operands CLAIM and CAPTURE.
+pub(crate) fn paths(alloc: Global, words: &ArgMatches) -> Result<Paths, AllocError>
+    ensures { IfOk result (AreNamed (found_rows words.now)) }
+{
+    paths_by(alloc, words, "CLAIM", "CAPTURE")
 }
 
 /// The same, with the second input that the operand or option of this name names.

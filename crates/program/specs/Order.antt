@@ -1,0 +1,47 @@
+-- What `order` does over the files of two clocks: when the first showed its reading is read of its
+-- own, and then the second is asked.
+use Rattle.std.specs.Prelude.{◌≡◌, ◌⊎◌, ◌+◌, ℕ, List, [], ◌∷◌, Result, Ok, Err, IfErr, IfOk, IfSome, string_bytes}
+use Rattle.program.specs.Common.{FeedState, SinkState, GiveWhen, HasRead, When, Input, Capture, Claim, RunFault, IsFromOutside, inputs_read, no_feed, no_second, run_state, ticks_asked}
+use Rattle.program.specs.Files.{FilesState, IsFeedOf}
+use Rattle.program.specs.Opening.{IsFirstUnopened, Place, place}
+use Rattle.program.specs.declared.invocation.Shown.{Shown}
+
+-- what is opened of a clock, in this order
+abbrev pub shown_order : Shown → List Place
+shown_order shown = place Claim (string_bytes shown.paths.claim)
+    ∷ place Capture (string_bytes shown.paths.capture) ∷ []
+
+-- One of them can't be opened.
+pub record IsUnseen (shown : Shown) (before after : FilesState) (read : Result When RunFault)
+    : Type 0 where
+  pub fault : RunFault
+  pub read_is : read ≡ Err fault
+  pub fault_is : IsFirstUnopened before.standing (shown_order shown) before.opened after.opened
+      fault
+
+-- Both were opened and read: so it is known when the clock showed its reading, or why that can't be
+-- said.
+pub record IsSeen (shown : Shown) (before after : FilesState) (read : Result When RunFault)
+    : Type 0 where
+  pub claim : FeedState
+  pub claim_after : FeedState
+  pub capture : FeedState
+  pub capture_after : FeedState
+  pub claim_is : IsFeedOf (before.standing (string_bytes shown.paths.claim)) claim
+  pub capture_is : IsFeedOf (before.standing (string_bytes shown.paths.capture)) capture
+  pub once : after.opened ≡ before.opened + 2
+  pub has_read : (sink sink' : SinkState) → HasRead no_second
+      (run_state claim no_feed capture sink) (run_state claim_after no_feed capture_after sink')
+      (tt {0}) (tt {0}) capture capture_after read
+  pub when : IfOk read (λ when. GiveWhen (ticks_asked shown.reading.begin shown.reading.end) when
+      claim capture)
+  pub refused : IfErr read (λ fault. IfSome
+      (inputs_read no_second claim.remaining no_feed.remaining capture.remaining)
+      (λ known. IsFromOutside fault ⊎ (known ≡ Err fault)))
+
+-- when a clock showed its reading, or why that can't be said; no draft is made
+pub record TellsWhen (shown : Shown) (before after : FilesState) (read : Result When RunFault)
+    : Type 0 where
+  pub standing : after.standing ≡ before.standing
+  pub undrafted : after.drafts ≡ before.drafts
+  pub tells : IsUnseen shown before after read ⊎ IsSeen shown before after read
