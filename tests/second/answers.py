@@ -105,8 +105,13 @@ def moments(evidence: Evidence, text: str) -> Answer:
     return 0, lines
 
 
-def when(evidence: Evidence, ticks: tuple[int, int]) -> tuple[int, int] | str:
-    """Between which true times a clock showed a reading, or that its hull is unbounded or empty."""
+When = tuple[int, int] | str
+"""Between which true times a clock showed a reading, or that its hull is unbounded or empty."""
+
+
+def when(evidence: Evidence, time: str) -> When:
+    ticks = reading_of(time)
+    assert ticks, time
     hull = evidence.hulls.over(*ticks)
     return (ticks[0] - hull[1], ticks[1] - hull[0]) if hull else rules.hull_words(hull)
 
@@ -117,17 +122,17 @@ def order(first: Evidence, second: Evidence, time: str, other_time: str) -> Answ
     ticks, others = reading_of(time), reading_of(other_time)
     if not ticks or not others:
         return 5, []
-    whens = when(first, ticks), when(second, others)
-    if "empty" in whens:
+    one, other = when(first, time), when(second, other_time)
+    if "empty" in (one, other):
         return 1, ["nothing fits"]
     if first is second:
         rate = 10**9 + first.claim["drift_ppb"]
         apart = [gap * 10**9 // rate if gap > 0 else -1 for gap in (others[0] - ticks[1], ticks[0] - others[1])]
         if max(apart) >= 0:
             return before(apart)
-    if "unbounded" in whens:
+    if isinstance(one, str) or isinstance(other, str):
         return 1, ["open"]
-    (earliest, latest), (other_earliest, other_latest) = whens
+    (earliest, latest), (other_earliest, other_latest) = one, other
     apart = [other_earliest - latest, earliest - other_latest]
     if max(apart) > 0:
         return before(apart)

@@ -12,7 +12,7 @@ from typing import NamedTuple
 
 from tests.support import DATA, Ran, program, run
 from tests.second import shown
-from tests.second.answers import Answer, Evidence, order, READINGS, reading_of, when
+from tests.second.answers import Answer, Evidence, order, READINGS, when
 from tests.second.claims import read_claim
 from tests.second.exchanges import evidence_of
 
@@ -112,7 +112,7 @@ def told(name: str, words: Sequence[Path | str], records: int) -> Answer:
     """The same for a person, as tests/second/shown.py reads the lines."""
     status, lines = answered(name, words, records)
     if name == "order":
-        return status, shown.order(lines, [when(evidence(count), reading_of(TIME)) for count in (records, 2)])
+        return status, shown.order(lines, [when(evidence(count), TIME) for count in (records, 2)])
     if name != "settle":
         text = shown.of([name, *map(str, (CLAIM, CAPTURE, *words))], "\n".join(lines).encode())
         return status, text.decode().splitlines()

@@ -12,6 +12,10 @@ from tests.second.columns import (HULL, MOMENT, PIECE, PIECES_WITH_SERVERS, PIEC
                                   milliseconds, read, table, time)
 
 
+When = tuple[int, int] | str
+"""Between which true times a reading was, or what its hull is."""
+
+
 def millionths(ppb: str) -> str:
     return f"{int(ppb) // 1000}.{int(ppb) % 1000:03}"
 
@@ -58,7 +62,7 @@ def moments(lines: list[str]) -> list[str]:
     return rows
 
 
-def order(lines: list[str], whens: Sequence[tuple[int, int] | str]) -> list[str]:
+def order(lines: list[str], whens: Sequence[When]) -> list[str]:
     """Between which true times each of two readings was, or what its hull is, and which was first."""
     rows = [f"{name:6} {when if isinstance(when, str) else ' '.join(true_times(*map(str, when)))}"
             for name, when in zip(("first", "second"), whens)]
@@ -191,7 +195,7 @@ def without_about(text: bytes) -> bytes:
 
 # ---- all of them
 def of(words: Sequence[str], text: bytes, fits: bool = True, about: Sequence[str] = (ABOUT,),
-       whens: Sequence[tuple[int, int] | str] = ()) -> bytes:
+       whens: Sequence[When] = ()) -> bytes:
     """What a command prints with `--human`, of its words and what it prints without. `fits` says whether any course
     fits the whole capture, `about` what is said of the inputs, and `whens` when two readings were."""
     command, lines = words[0], text.decode().splitlines()

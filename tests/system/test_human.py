@@ -18,7 +18,7 @@ from tests.second.commands import CAPTURE, CERTIFICATE, CLAIM, REFUTATION, every
 
 PROGRAM = program()
 VERSION = run([PROGRAM, "--version"])[1]
-OTHER = [DATA / "two-packets.claim.json", DATA / "two-packets.pcap"]
+OTHER: list[Path | str] = [DATA / "two-packets.claim.json", DATA / "two-packets.pcap"]
 EPOCH = datetime(1970, 1, 1, tzinfo=timezone.utc)
 Words = Sequence[Path | str]
 """A command line."""
@@ -30,18 +30,18 @@ def compare(name: str, words: Words) -> tuple[str, Ran, Ran]:
     seen = run([PROGRAM, *words, "--human"])
     called = [str(word) for word in words]
     fits = words[0] != "check" or not plain or does_fit(*words[1:3])
-    whens = [when_of(called[k:k + 3]) for k in (1, 4)] if words[0] == "order" else []
+    whens = [when_of(called[k:k + 3]) for k in (1, 4)] if words[0] == "order" and plain else []
     text = shown.of(called, plain, fits, shown.about(called, VERSION), whens)
     are_slips = status in (0, 1) and re.fullmatch(rb"(  \S.*\n)*", seen[2])
     return name, seen, (status, text, seen[2] if are_slips else error)
 
 
-def when_of(words: Sequence[str]) -> tuple[int, int] | str:
+def when_of(words: Sequence[str]) -> answers.When:
     """When it was that a clock showed a reading: its claim, its capture and the reading."""
     claim, capture, reading = words
     said = read_claim(claim)
     evidence = exchanges.evidence_of(said, run([PROGRAM, "list", capture])[1])
-    return answers.when(evidence, answers.reading_of(reading))
+    return answers.when(evidence, reading)
 
 
 def does_fit(claim: Path | str, capture: Path | str) -> bool:
@@ -67,9 +67,11 @@ def calls_on(claim: Path, folder: Path) -> list[tuple[str, Words]]:
     alone = dict.fromkeys(command.name for command in plain_commands()
                           if not command.others and command.name != "settle")
     given: list[Words] = [[name, *both, *options] for name in alone for options in variants(name)]
-    given += [["at", *both, moment] for moment in moments_of(json.loads(claim.read_text()))]
-    for first, other in zip(moments := moments_of(json.loads(claim.read_text())), moments[1:]):
-        given += [["order", *both, first, *(both if other.endswith("Z") else OTHER), other]]
+    moments = moments_of(json.loads(claim.read_text()))
+    given += [["at", *both, moment] for moment in moments]
+    readings = list(filter(answers.reading_of, moments))
+    given += [["order", *both, first, *inputs, other] for first, other in zip(readings, readings[1:])
+              for inputs in (both, OTHER)]
     for step in ("1", "8"):
         given += [["find", *both, "--step", step]]
         given += [["envelope", *both, "--step", step, *options] for options in variants("envelope")]

@@ -74,6 +74,9 @@ def test_manual() -> None:
         for kept, name in {"clients-us.pcap": "recording.pcap", "clients-us.claim.json": "claim.json",
                            "two-packets.refutation.json": "refutation.json"}.items():
             shutil.copy(DATA / kept, Path(folder) / name)
+        for letter, machine in (("a", "web-1"), ("b", "web-2")):
+            shutil.copy(DATA / "events" / machine / "claim.json", Path(folder) / f"{letter}.json")
+            shutil.copy(DATA / "events" / machine / "f.pcap", Path(folder) / f"{letter}.pcap")
         os.symlink(PROGRAM, Path(folder) / "ntpaudit")
         examples = re.findall(r"^(?:\$ )?(ntpaudit \w(?:.*\\\n)*.*)$", text, flags=re.M)
         check("the man page has examples", seen=(len(examples), lambda count: count > len(named)))

@@ -1,6 +1,6 @@
 -- What an order shows, from the bytes of the inputs.
 use Rattle.audit.proofs.Common.{◌≡◌, ℕ, ℤ, List, ClaimData, EvidenceData, AreInputsOf, Outcome, SinkState, Style, FeedState, RunFault, Result, TellsOf, refl, no_second, nothing_said, samples_in, whole_text}
-use Rattle.audit.specs.Common.{AreSamplesOf, HoldsOrderOfOne, HoldsWhen, IsDuring, IsLawful, IsSo, Order, ReadingData, Sample, When, order_of, order_of_one, order_text, when_at}
+use Rattle.audit.specs.Common.{AreSamplesOf, HoldsOrderOfOne, HoldsWhen, IsDuring, IsLawful, IsSo, Order, ReadingData, Sample, When, order_of, order_text, when_at}
 use Rattle.audit.specs.Order.{GiveOrder, IsOrderAfter, IsOrderWithin, order_after, order_in, order_outcome, order_within, when_in}
 use Rattle.audit.specs.Question.{ShowsOf}
 use Rattle.audit.specs.Reading.{ticks_asked}
@@ -38,7 +38,8 @@ shows_after first begin end e holds =
     let r = ticks_asked begin end in
     shows_order (IsOrderAfter first r) (order_of first (when_in r e)) e holds _ refl
 
-pub shows_within : (r r' : ReadingData) (e : EvidenceData) → HoldsOrderOfOne e.claim (samples_in e) r r' (order_in r r' e)
+pub shows_within : (r r' : ReadingData) (e : EvidenceData)
+    → HoldsOrderOfOne e.claim (samples_in e) r r' (order_in r r' e)
     → ShowsOf (order_within r r') no_second nothing_said e (order_outcome (order_in r r' e))
 shows_within r r' e holds =
     shows_order (IsOrderWithin r r') (order_in r r' e) e (record { order_is = refl; holds = holds }) _ refl

@@ -209,7 +209,8 @@ module _ (laws : BytesLaws) {T F A : Type 0} (asked : AskedData) {said : SecondD
   told_runs answer tells = record {
     finding = finding;
     found = finding_shown laws e finding before.claim before.second before.capture are found;
-    runs = made_runs asked h finding tells.made (rw is tells.of_making) (rw is (inputs_had before.claim before.second before.capture are))
+    runs = made_runs asked h finding tells.made (rw is tells.of_making)
+        (rw is (inputs_had before.claim before.second before.capture are))
         (report_known asked finding (λ report. IsMadeFor report tells.made) tells.is_made before.claim before.second
         before.capture are) answer tells.publishes;
   }
@@ -226,7 +227,8 @@ module _ (laws : BytesLaws) {T F A : Type 0} (asked : AskedData) {said : SecondD
         finding = finding;
         found = finding_shown laws e finding before.claim before.second before.capture are found;
         drafted = Ok outcome;
-        runs = made_runs (for_a_program asked) h finding drafts.made (rw is drafts.of_making) (rw is (inputs_had before.claim before.second before.capture are))
+        runs = made_runs (for_a_program asked) h finding drafts.made (rw is drafts.of_making)
+            (rw is (inputs_had before.claim before.second before.capture are))
             (report_known (for_a_program asked) finding (λ report. IsMadeFor report drafts.made) drafts.is_made
             before.claim before.second before.capture are) (Ok outcome) drafts.publishes;
         then_told = record {

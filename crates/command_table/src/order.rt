@@ -16,7 +16,7 @@ Prints:   `first before second by at least N ns`, `second before first by at lea
           for as long as its last digit does. Two readings of one clock, given by the same words,
           have the order in which it showed them. With --human milliseconds, and before that line
           the earliest and the latest true time of each
-Status:   0 one was before the other; 1 that isn't known; 2 an input is refused; 3 out of memory; 4 a
+Status:   0 one was before the other; 1 it isn't known; 2 an input is refused; 3 out of memory; 4 a
           file or the output failed; 5 the command line is refused
 Example:  ntpaudit order a.json a.pcap 1795329969.25 b.json b.pcap 1795329969.5
 More:     man ntpaudit";

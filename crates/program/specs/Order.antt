@@ -4,6 +4,7 @@ use Rattle.std.specs.Prelude.{◌≡◌, ◌⊎◌, ◌+◌, ℕ, List, [], ◌�
 use Rattle.program.specs.Common.{FeedState, SinkState, GiveWhen, HasRead, When, Input, Capture, Claim, RunFault, IsFromOutside, inputs_read, no_feed, no_second, run_state, ticks_asked}
 use Rattle.program.specs.Files.{FilesState, IsFeedOf}
 use Rattle.program.specs.Opening.{IsFirstUnopened, Place, place}
+use Rattle.audit.specs.declared.question.reading.AtReading.{AtReading}
 use Rattle.program.specs.declared.invocation.Shown.{Shown}
 
 -- what is opened of a clock, in this order
@@ -19,25 +20,30 @@ pub record IsUnseen (shown : Shown) (before after : FilesState) (read : Result W
   pub fault_is : IsFirstUnopened before.standing (shown_order shown) before.opened after.opened
       fault
 
--- Both were opened and read: so it is known when the clock showed its reading, or why that can't be
--- said.
-pub record IsSeen (shown : Shown) (before after : FilesState) (read : Result When RunFault)
+-- From these feeds claim and capture are read: so it is known when the clock showed a reading, or
+-- why that can't be said.
+pub record IsReadBy (reading : AtReading) (claim capture : FeedState) (read : Result When RunFault)
     : Type 0 where
-  pub claim : FeedState
   pub claim_after : FeedState
-  pub capture : FeedState
   pub capture_after : FeedState
-  pub claim_is : IsFeedOf (before.standing (string_bytes shown.paths.claim)) claim
-  pub capture_is : IsFeedOf (before.standing (string_bytes shown.paths.capture)) capture
-  pub once : after.opened ≡ before.opened + 2
   pub has_read : (sink sink' : SinkState) → HasRead no_second
       (run_state claim no_feed capture sink) (run_state claim_after no_feed capture_after sink')
       (tt {0}) (tt {0}) capture capture_after read
-  pub when : IfOk read (λ when. GiveWhen (ticks_asked shown.reading.begin shown.reading.end) when
+  pub when : IfOk read (λ when. GiveWhen (ticks_asked reading.begin reading.end) when
       claim capture)
   pub refused : IfErr read (λ fault. IfSome
       (inputs_read no_second claim.remaining no_feed.remaining capture.remaining)
       (λ known. IsFromOutside fault ⊎ (known ≡ Err fault)))
+
+-- Both were opened and read.
+pub record IsSeen (shown : Shown) (before after : FilesState) (read : Result When RunFault)
+    : Type 0 where
+  pub claim : FeedState
+  pub capture : FeedState
+  pub claim_is : IsFeedOf (before.standing (string_bytes shown.paths.claim)) claim
+  pub capture_is : IsFeedOf (before.standing (string_bytes shown.paths.capture)) capture
+  pub once : after.opened ≡ before.opened + 2
+  pub is_read : IsReadBy shown.reading claim capture read
 
 -- when a clock showed its reading, or why that can't be said; no draft is made
 pub record TellsWhen (shown : Shown) (before after : FilesState) (read : Result When RunFault)

@@ -1,11 +1,11 @@
 //! The response to an invocation, over files that it opens.
 
 ghost use Rattle.std.specs.Prelude.{◌≡◌, ◌+◌, ◌<◌, ◌^◌, None, IfOk};
-ghost use Rattle.byte_stream.specs.State.{IsWritable};
+ghost use Rattle.byte_stream.specs.State.{IsReadable, IsWritable};
 ghost use Rattle.program.specs.Asked.{IsAskedBy};
-ghost use Rattle.program.specs.Files.{MayOpen};
+ghost use Rattle.program.specs.Files.{MayDraft, MayOpen};
 ghost use Rattle.program.specs.Invocation.{judged_of, judged_places, listed_name, places_of, requested, second_of};
-ghost use Rattle.program.specs.Order.{TellsWhen};
+ghost use Rattle.program.specs.Order.{IsReadBy, TellsWhen};
 ghost use Rattle.program.specs.Run.{AnswersOver, AnswersTo, Lists, Says};
 ghost use Rattle.program.specs.World.{world};
 
@@ -16,8 +16,8 @@ use crate::hindrance::Hindrance;
 use crate::inputs::{open, open_evidence, open_judged};
 use crate::invocation::{Invocation, JudgedPaths, Judgement, Listed, Paths, Shown};
 use crate::response::{Summed, ask, judge};
-use audit::{OrderAfter, Outputs, Request, When, read_when};
-use byte_stream::Sink;
+use audit::{AtReading, OrderAfter, Outputs, Request, When, read_when};
+use byte_stream::{Feed, Sink};
 use listing::answer_list;
 use report::{Conclusion, Input, RunFault, conclude, refuse, refuse_time, show};
 use std::alloc::Global;
@@ -79,7 +79,8 @@ fn ask_paths<Fs: Files, S: Sink, E: Sink, H: BuildHasher + Copy + Drop>(
     to: &mut Outputs<S, E>,
     hasher: H,
 ) -> (Conclusion, Option<Hindrance>, Option<Summed>)
-    requires files { MayOpen (Fs.state files.old) }
+    requires room { (Fs.state files.old).opened + 4 < 2 ^ 64 }
+    requires drafts { MayDraft (Fs.state files.old).drafts }
     requires out { IsWritable (S.state to.old.out) }
     requires err { IsWritable (E.state to.old.err) }
     ensures answers { AnswersTo paths.now.output (requested request paths.now)
@@ -108,8 +109,24 @@ fn ask_paths<Fs: Files, S: Sink, E: Sink, H: BuildHasher + Copy + Drop>(
     }
 }
 
+/// When a clock showed its reading, by its claim and its capture.
+fn when_by<N: Feed + Drop, H: BuildHasher + Drop>(
+    alloc: Global,
+    reading: AtReading,
+    claim: N,
+    capture: N,
+    hasher: H,
+) -> Result<When, RunFault>
+    requires claim { IsReadable (N.state claim) }
+    requires capture { IsReadable (N.state capture) }
+    ensures { IsReadBy reading (N.state claim) (N.state capture) result }
+{
+    let mut claim = claim;
+    let (_, when) = read_when(alloc, reading, &mut claim, capture, hasher);
+    when
+}
+
 /// When a clock showed its reading, once its claim and its capture are opened.
-#[tactic(auto, using(crate::proofs::Over::read_over))]
 fn when_shown<Fs: Files, H: BuildHasher + Drop>(
     alloc: Global,
     files: &mut Fs,
@@ -120,11 +137,11 @@ fn when_shown<Fs: Files, H: BuildHasher + Drop>(
     ensures tells { TellsWhen shown.now (Fs.state files.old) (Fs.state files.new) result }
     ensures opened { IfOk result (λ when.
         (Fs.state files.new).opened ≡ (Fs.state files.old).opened + 2) }
+    ensures undrafted { (Fs.state files.new).drafts ≡ (Fs.state files.old).drafts }
 {
-    let mut claim = open(files, shown.paths.claim.as_str(), Input::Claim)?;
+    let claim = open(files, shown.paths.claim.as_str(), Input::Claim)?;
     let capture = open(files, shown.paths.capture.as_str(), Input::Capture)?;
-    let (_, when) = read_when(alloc, shown.reading, &mut claim, capture, hasher);
-    when
+    when_by(alloc, shown.reading, claim, capture, hasher)
 }
 
 /// How a command line ended, and what may be said of it behind its fault line.

@@ -1,14 +1,14 @@
 -- Which of two readings was first: of two clocks, or of one.
-use Rattle.true_time.proofs.Common.{◌≡◌, ℕ, ℤ, pos, ◌*ℤ◌, ◌-ℤ◌, ◌≤ℤ◌, List, arith, ints, refl, AreSamplesOf, Bounded, ClaimData, Course, Empty, Hull, IsLawful, IsObservedIn, ReadingData, Sample, Unbounded, hull_of}
-use Rattle.std.proofs.Common.{Bool, true, false, suc, negsuc, ◌+◌, ◌-◌, ◌*◌, ◌/◌, ◌≤◌, ◌<◌, ◌+ℤ◌, ◌<ℤ◌, unsigned_abs, int_lt, nat_lt, subst, sym, ap, if◌then◌else◌}
-use Rattle.std.proofs.Math.Nat.{div-mul-le_self, le_of_mul-le-mul_left, mul-le-mul_left, mul-le-mul_right, mul_comm}
+use Rattle.true_time.proofs.Common.{◌≡◌, ℕ, ℤ, pos, ◌*ℤ◌, ◌-ℤ◌, ◌≤ℤ◌, List, arith, ints, refl, AreSamplesOf, Bounded, ClaimData, Course, Empty, Hull, IsLawful, ReadingData, Sample, Unbounded, hull_of}
+use Rattle.std.proofs.Common.{Bool, true, false, suc, negsuc, ◌+◌, ◌-◌, ◌*◌, ◌≤◌, ◌<◌, ◌+ℤ◌, unsigned_abs, int_lt, nat_lt, subst, sym, if◌then◌else◌}
+use Rattle.std.proofs.Math.Nat.{div-mul-le_self, le_of_mul-le-mul_left, mul-le-mul_right, mul_comm}
 use Rattle.std.proofs.lemmas.Int.{clamps}
 use Rattle.std.proofs.lemmas.Bool.Decides.{nat_tests}
 use Rattle.intersection.specs.Fineness.{times-add, times-times, times_le}
 use Rattle.lemma_base.proofs.Int.{int_lt-true, int_lt-false}
 use Rattle.sample_interval.specs.Moment.{DriftsWithin, Moment, IsInWindow}
 use Rattle.sample_interval.specs.Widening.{billion}
-use Rattle.true_time.specs.Order.{HoldsOrderOfOne, IsAtMostBefore, IsBefore, IsReadTwice, IsSo, least_time, order_between, order_by_readings, order_of, order_of_near, order_of_one, is_near}
+use Rattle.true_time.specs.Order.{HoldsOrderOfOne, IsAtMostBefore, IsBefore, IsSo, least_time, order_between, order_by_readings, order_of, order_of_near, order_of_one}
 use Rattle.true_time.specs.ReadingLine.{are_near}
 use Rattle.true_time.specs.TrueTime.{HoldsTrueTime, IsThen, earliest, latest}
 use Rattle.true_time.specs.When.{HoldsWhen, IsDuring, when_at, when_of}
@@ -69,7 +69,8 @@ at_most_before a b n n' time time' h at_least at_most =
 
 -- ---- the order of two readings, by when they were
 
-module _ (first last first' last' : ℤ) (n n' : ℕ) (time time' : ℤ) (during : IsInWindow n first last time) (during' : IsInWindow n' first' last' time') where
+module _ (first last first' last' : ℤ) (n n' : ℕ) (time time' : ℤ) (during : IsInWindow n first last time)
+    (during' : IsInWindow n' first' last' time') where
   chosen : (is_first is_second : Bool) → (is_first ≡ true → last ≤ℤ first') → (is_second ≡ true → last' ≤ℤ first)
       → (is_first ≡ false → first' ≤ℤ last) → (is_second ≡ false → first ≤ℤ last')
       → IsSo (if is_first then FirstBefore (unsigned_abs (first' -ℤ last))
@@ -156,7 +157,9 @@ reads_before p end begin n a b rate in_order drift at_most at_least =
     let gone = times-add b.time a.time (pos went.0) n (let is = went.1 in omega (arith, ints)) in
     omega (arith, ints)
 
-module _ (p : ℕ) (rate : p ≤ 500000000) (r r' : ReadingData) (n : ℕ) (a b : Moment) (drift : DriftsWithin p a b) (shown : IsInWindow n (pos r.begin) (pos r.end) a.reading) (shown' : IsInWindow n (pos r'.begin) (pos r'.end) b.reading) where
+module _ (p : ℕ) (rate : p ≤ 500000000) (r r' : ReadingData) (n : ℕ) (a b : Moment) (drift : DriftsWithin p a b)
+    (shown : IsInWindow n (pos r.begin) (pos r.end) a.reading)
+    (shown' : IsInWindow n (pos r'.begin) (pos r'.end) b.reading) where
   by_readings : (is_first is_second : Bool) → (is_first ≡ true → r.end < r'.begin)
       → (is_second ≡ true → r'.end < r.begin) → (order : Order) → IsSo order n n a.time b.time
       → IsSo (if is_first then FirstBefore (least_time p (r'.begin - r.end))
@@ -164,7 +167,8 @@ module _ (p : ℕ) (rate : p ≤ 500000000) (r r' : ReadingData) (n : ℕ) (a b 
   by_readings true is_second is_1 is_2 order so =
       reads_before p r.end r'.begin n a b rate (let lt = is_1 refl in omega arith) drift shown.1 shown'.0
   by_readings false true is_1 is_2 order so =
-      reads_before p r'.end r.begin n b a rate (let lt = is_2 refl in omega arith) (drift_back p a b drift) shown'.1 shown.0
+      reads_before p r'.end r.begin n b a rate (let lt = is_2 refl in omega arith) (drift_back p a b drift) shown'.1
+      shown.0
   by_readings false false is_1 is_2 order so = so
 
   one_by_readings : (order : Order) → IsSo order n n a.time b.time
@@ -197,6 +201,7 @@ one_holds held claim samples r r' lawful of_claim xs course course' same twice s
     (sym twice.same_fineness)
     (one_is_so claim.drift_ppb lawful.drift_in_range r r' course.fineness course.observation course'.observation
     twice.drift shown
-    (subst (λ (n' : ℕ). IsInWindow n' (pos r'.begin) (pos r'.end) course'.observation.reading) twice.same_fineness shown')
+    (subst (λ (n' : ℕ). IsInWindow n' (pos r'.begin) (pos r'.end) course'.observation.reading) twice.same_fineness
+    shown')
     (order_of first second)
     (subst (λ (n' : ℕ). IsSo (order_of first second) course.fineness n' time time') twice.same_fineness so))

@@ -1,6 +1,6 @@
 //! Which of two readings was first.
 
-ghost use Rattle.std.specs.Prelude.{◌≡◌, ◌<◌, ◌≤◌, ◌^◌, ◌-ℤ◌, ◌≤ℤ◌, IsTrue, unsigned_abs};
+ghost use Rattle.std.specs.Prelude.{◌≡◌, ◌<◌, ◌≤◌, ◌^◌, ◌-ℤ◌, IsTrue, unsigned_abs};
 ghost use Rattle.true_time.specs.Order as spec;
 ghost use Rattle.true_time.specs.Order.{IsShort, is_near};
 ghost use Rattle.true_time.specs.TrueTime.{reading_over};

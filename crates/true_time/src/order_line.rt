@@ -162,8 +162,8 @@ fn add_times(text: &mut Vec<u8>, style: Style, first: When, second: When) -> Res
     add_both(text, first, second)
 }
 
-/// The text of `order`: which of two readings was first, in nanoseconds. A person sees milliseconds,
-/// behind the earliest and the latest true time of each reading.
+/// The text of `order`: which of two readings was first, in nanoseconds. A person sees
+/// milliseconds, behind the earliest and the latest true time of each reading.
 #[tactic(auto, unfolding(crate::specs::OrderLine::order_text))]
 pub fn order_text(
     alloc: Global,

@@ -1,6 +1,6 @@
 //! When a clock showed a reading: between two true times, at any time, or never.
 
-ghost use Rattle.std.specs.Prelude.{◌≡◌, ◌<◌, ◌≤◌, ◌^◌, pos, List, length, IfOk};
+ghost use Rattle.std.specs.Prelude.{◌≡◌, ◌<◌, ◌≤◌, ◌^◌, length, IfOk};
 ghost use Rattle.true_time.specs.Common.{AreSamplesOf, data_of};
 ghost use Rattle.true_time.specs.TrueTime.{reading_over};
 ghost use Rattle.true_time.specs.When as spec;

@@ -9,8 +9,8 @@ use clap::ArgMatches;
 use program::{Invocation, JudgedPaths, Paths};
 use std::alloc::{AllocError, Global};
 
-/// The claim and the capture that the operands of these names name, the file of sums and the output,
-/// and for whom the answer is written.
+/// The claim and the capture, by the names of their operands, the file of sums and the output, and
+/// for whom the answer is written.
 pub(crate) fn paths_by(
     alloc: Global,
     words: &ArgMatches,
