@@ -121,6 +121,6 @@ def is_there(path: str) -> bool:
 
 
 def is_of_days(path: str) -> bool:
-    """Whether a folder holds folders of days, and no audit or year of its own."""
+    """Whether a folder holds folders of days, and no audit, year or answer of its own."""
     with Folder(path) as folder:
-        return not folder.has(files.AUDIT) and not folder.has(files.YEAR)
+        return not any(map(folder.has, (files.AUDIT, files.YEAR, files.EVENTS)))

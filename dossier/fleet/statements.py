@@ -2,6 +2,7 @@
 somebody can sign it."""
 import os
 import re
+from itertools import dropwhile
 from typing import NamedTuple
 
 from ..fault import fault
@@ -147,15 +148,16 @@ def read_lines(data: bytes) -> list[Line]:
 def days_of(folder: Folder, named: set[str]) -> dict[str, str]:
     """The folders of all days on which the statements rest, each with its name for good. Each has to be in a folder
     that the command line names, and stands for one machine."""
-    days = dict[str, str]()
+    days, seen = dict[str, str](), set[str]()
     for stated in read_statements(folder.data(YEAR)).machines:
         for line in lines_in(folder, stated):
             if named.isdisjoint(folders_above(line.path)):
                 raise fault(f"{line.path} is in no folder that is named: if it may be read, name the folder of its "
                             "machine too")
-            if line.path in days:
+            if absolute(line.path) in seen:
                 raise fault(f"{line.path} stands there twice: one of the statements is a copy")
             days[line.path] = line.name
+            seen.add(absolute(line.path))
     return {path: name for path, name in days.items() if name != NOTHING}
 
 
@@ -185,7 +187,7 @@ def may_be(name: str, machine: str, place: str) -> bool:
 
 def bare(path: str) -> str:
     """A path without what leads up."""
-    return path.strip("/").lstrip("./")
+    return "/".join(dropwhile(lambda part: part in (".", ".."), path.strip("/").split("/")))
 
 
 class Compared(NamedTuple):

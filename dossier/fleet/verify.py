@@ -354,7 +354,7 @@ def is_machines(folder: Folder, signer: str) -> bool:
         data = folder.data(signed)
         machines = [one.machine for one in read_statements(data).machines] if signed == files.YEAR else \
             [one.machine for one in read_events(data).machines]
-        return own in {os.path.basename(machine) for machine in machines}
+        return own in {os.path.basename(os.path.normpath(machine)) for machine in machines}
     path = files.absolute(folder.path)
     place, name = os.path.split(os.path.dirname(path) if is_day(os.path.basename(path)) else path)
     with suppress(Fault), Folder(place) as beside:

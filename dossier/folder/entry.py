@@ -586,7 +586,7 @@ class Record:
         by which list of leap seconds, may change when somebody verifies and signs the folder later."""
         every = {name: value for name, value in said(self).items() if name not in LATER}
         for entry in every["entries"]:
-            del entry["leap"]
+            entry["leap"] = {name: entry["leap"][name] for name in ("from", "to")}
             entry["warnings"] = [alert for alert in entry.get("warnings", ()) if alert["kind"] not in OF_LEAPS]
         return sum_of(json.dumps(every, sort_keys=True).encode())
 

@@ -57,7 +57,7 @@ def inputs_of(folder: Folder, record: Record | None) -> dict[str, str]:
 def sizes_of(folder: Folder, record: Record) -> str:
     """A sum of the names and sizes of the files that an audit names, as they are in its folder, which aren't read. A
     fault if claim or captures aren't there."""
-    every = {*inputs_of(folder, record), *(name for name in record.outputs if not is_made_anew(name))}
+    every = {*inputs_of(folder, record).values(), *(name for name in record.outputs if not is_made_anew(name))}
     return sum_of("".join(f"{folder.size(name)} {name}\n" for name in sorted(every)).encode("utf-8", "surrogateescape"))
 
 

@@ -136,6 +136,19 @@ def sign_fleet(place: Path, signers: Path, machines: list[Path], here: dict[str,
         check(f"{folder.name} signed by {key}", said=(words in told[1].decode(), bool(status)),
               status=(told[0], status), by=(re.search(rf"{folder}: \(?signed at \S+ by {key}", told[1].decode()), bool))
         file.write_bytes(signature)
+    year = place / "pages" / "year.json"
+    kept_files = {path: path.read_bytes() for path in year.parent.glob("year.*")}
+    said = json.loads(kept_files[year])
+    for stated in said["machines"]:
+        name = stated["machine"]
+        stated.update(machine=f"{name}/", statement=stated["statement"].replace(f"({name})", f"({name}/)"))
+    year.write_text(json.dumps(said))
+    year.with_name("year.json.sig").unlink()
+    run(["ssh-keygen", "-q", "-Y", "sign", "-f", place / "web-1", "-n", "ntpaudit-dossier", year])
+    check("another spelling of a machine's folder", said=(words in dossier(
+        "verify", "--known", "--signers", signers, *named, env=auditor)[1].decode(), True))
+    for path, data in kept_files.items():
+        path.write_bytes(data)
     by.write_bytes((one / "2001-09-10/audit.json.sig").read_bytes())
     lines = dossier("verify", "--signers", signers, by.parent, env=auditor)[1].decode().splitlines()
     check("a bad signature stands beside the verdict", lines=([line.partition(": ")[2][:34] for line in lines], [
@@ -230,13 +243,25 @@ def test_says(place: Path) -> None:
         kept = (path / "audit.json").read_text()
         record = json.loads(kept)
         entry = record["entries"][0]
-        for name, value in {"least_ns": 1 + (entry["least_ns"] or 0), "warnings": [{"kind": "no-drift"}],
+        for name, value in {"least_ns": 1 + (entry["least_ns"] or 0), "leap": {**entry["leap"], "to": 9},
+                            "warnings": [{"kind": "no-drift"}],
                             "envelope_step": 1, "moves": [MOVE], "counts": {**entry["counts"], "samples": 1}}.items():
             (path / "audit.json").write_text(json.dumps({**record, "entries": [{**entry, name: value}]}))
             out = dossier(*asked)[1].decode()
             check(f"{path.name}: another {name}", told=(
                 f"{path}: its audit.json says something else than when year.json was made" in out, True))
         (path / "audit.json").write_text(kept)
+    (place / "fleet" / "events.json").write_text("{}")
+    check("an answer in which machines are", taken=(
+        "fleet: (a year's days are in it)" in dossier(*asked)[1].decode(), False))
+    (place / "fleet" / "events.json").unlink()
+    file, year = place / "pages" / f"{called(own)}.days", place / "pages" / "year.json"
+    text, stated = file.read_text(), json.loads(year.read_text())
+    file.write_text(text + text.replace("../fleet/web-1", str(own)))
+    stated["machines"][0]["sha256"] = hashlib.sha256(file.read_bytes()).hexdigest()
+    year.write_text(json.dumps(stated))
+    check("a day by two paths", told=(
+        "stands there twice" in dossier("verify", "pages", "fleet", cwd=place)[1].decode(), True))
 
 
 def test_other_program(place: Path) -> None:
@@ -306,6 +331,9 @@ def test_known(place: Path) -> None:
     if is_here("ssh-keygen", "a day that is known and signed"):
         dossier("sign", "--key", key_of(place, "ann")[0], second)
     check("packed and signed", before=(dossier("verify", "--known", *days_of(own))[1].decode().count(before), 2))
+    for file in first.glob("*.zst"):
+        file.write_bytes(file.read_bytes()[:-1])
+        check(f"{file.name} cut", before=(before in dossier("verify", "--known", first)[1].decode(), False))
 
 
 MOVE = {"after": 1_000_000_000_000_000_000, "by": 1_000_000_060_000_000_000, "low": 1, "high": 2, "rate_ppb": 0,

@@ -17,6 +17,8 @@ from tests.dossier.test_daily import name_by_hand
 from tests.dossier.test_evidence import key_of
 from tests.dossier.test_verdicts import CLAIM
 
+from dossier.fleet.statements import may_be
+
 DAY, FIRST = 86_400, 999_993_600
 """Seconds; and 2001-09-09T00:00:00Z."""
 RIGHT, WIDE = "-1000..1000", "-8589934..8589934"
@@ -287,6 +289,8 @@ def test_namesakes(place: Path) -> None:
         out = dossier("verify", place / pages, place)[1].decode()
         check(f"{pages}: another's days", told=(f"{two}, which has another name" in out, True))
         shutil.rmtree(place / pages)
+    check("a hidden folder's name", may_be=(may_be("web-1", "/x/.web-1", "/x"), False),
+          is_so=(may_be("../fleet/web-1", "/x/fleet/web-1", "/x/pages"), True))
 
 
 def test_copied_years(place: Path) -> None:
