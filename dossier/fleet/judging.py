@@ -11,13 +11,13 @@ from ..capture.classic import Classic, do_rise
 from ..fault import REFUSED, Fault
 from ..folder.answers import read_counts, read_settled
 from ..folder.claim import Claim
-from ..folder.entry import AGAINST, REFUTED, UNSUPPORTED, YES, Elsewhere, Entry, LeapList, Record, Refutation
+from ..folder.entry import AGAINST, REFUTED, YES, Alert, Elsewhere, Entry, LeapList, Record, Refutation
 from ..folder.files import CERTIFICATE, CLAIM, CLAIM_OF_0, JOINED, REFUTATION, REPORT, Folder, own_data, sum_of
 from ..folder.files import sum_of_file
 from ..folder.placing import copy_of
 from ..folder.program import Program
 from ..premise.backing import against, backing
-from ..premise.leap import alerts_of, look_up
+from ..premise.leap import alerts_of, entry_by, look_up, stretch
 from ..records import replace
 from ..schema import read_typed
 from ..verdict.making import Inputs, take_inputs, whole_of
@@ -37,7 +37,8 @@ class Judged(NamedTuple):
 
 class Unjudgeable(Exception):
     """What can't be judged by itself, and has to be made again: another capture than all of them together, one in which
-    packets were recorded twice, days, a refusal, another form, or no evidence but beside the span."""
+    packets were recorded twice or times fall back, days, a refusal, another form, moves of the clock, no evidence but
+    beside the span, or warnings of what speaks against a premise that aren't one's own."""
 
 
 class Judging:
@@ -47,12 +48,12 @@ class Judging:
         self.folder, self.program, self.leaps = folder, program, leaps
 
     def judged(self, record: Record) -> Judged:
-        """The first difference, or none, and the capture by which the answers were judged; `Other` if they can't be."""
+        """The first difference, or none, and the capture by which the answers were judged; or they are `Unjudgeable`."""
         if record.refusal or record.options.days or len(record.entries) != 1:
             raise Unjudgeable
         entry, = record.entries
-        if entry.answer == YES and (entry.moves or not entry.refutation):
-            raise Unjudgeable  # (`check` says neither that the moves are so, nor that a course fits the whole capture)
+        if entry.moves or (entry.answer == YES and not entry.refutation):
+            raise Unjudgeable  # (nothing says that the moves are so, nor `check` that a course fits the whole capture)
         if isinstance(entry.reason, Elsewhere):
             raise Unjudgeable  # (that the refutation is of another time)
         taken = take_inputs(self.folder, record)
@@ -65,16 +66,7 @@ class Judging:
         for name in ANSWERS:
             if name in entry.outputs:
                 copy_of(self.folder, name, name)
-        stamps = self.whole.extent.stamps
-        if entry.answer == YES and not do_rise(stamps) and any(before >> 32 > after >> 32 for before, after
-                                                               in pairwise(stamps)):
-            raise Unjudgeable  # (times that fall back by a second may take the yes away)
-        own = self.verdict_of(entry, taken)
-        if own != entry.verdict and entry.answer == YES:
-            if own == UNSUPPORTED:
-                raise Unjudgeable  # (what speaks against it may be beside all exchanges)
-            return Judged(f"the verdict of audit.json is {entry.verdict}, and by the evidence and the list of leap "
-                          f"seconds {own}", capture)
+        self.hold_against(entry, taken)
         return Judged(self.difference(entry, capture, record), capture)
 
     def capture_of(self, record: Record, taken: Inputs, claim: Claim) -> str:
@@ -93,14 +85,18 @@ class Judging:
         path: str = whole.path
         return path
 
-    def verdict_of(self, entry: Entry, taken: Inputs) -> str:
-        """What a yes is by the folder's own evidence and one's own list of leap seconds, over all that was recorded."""
-        claim = entry.claim
-        stamps, second, margin = self.whole.extent.stamps, 10**9, 1 + claim.bound_ns // 10**9
-        times = [time // second for time in self.whole.nanoseconds([min(stamps), max(stamps)])] if stamps else []
-        leap = look_up(self.leaps, min([claim.first, *times]) - margin, max([claim.last, *times]) + margin)
-        said = [*alerts_of(leap, self.leaps), *against(backing(self.folder, taken.sums), claim, leap, entry.moves)]
-        return UNSUPPORTED if any(alert.kind in AGAINST for alert in said) else YES
+    def hold_against(self, entry: Entry, taken: Inputs) -> None:
+        """Holds what speaks against a premise, and so the verdict, to the folder's own evidence and one's own list of
+        leap seconds, over all that was recorded."""
+        claim, stamps = entry.claim, self.whole.extent.stamps
+        if not do_rise(stamps) and any(before >> 32 > after >> 32 for before, after in pairwise(stamps)):
+            raise Unjudgeable  # (times that fall back by a second speak against one)
+        ends = self.whole.nanoseconds([min(stamps), max(stamps)]) if stamps else []
+        leap = look_up(self.leaps, *stretch(claim, ends))
+        own = [*against(backing(self.folder, taken.sums), claim, leap, []), *alerts_of(leap, self.leaps)]
+        by_own, is_whole = entry_by(self.leaps, entry), entry.leap.from_ <= leap.from_ and leap.to <= entry.leap.to
+        if not is_whole or by_own.verdict != entry.verdict or of_premises(own) != of_premises(by_own.warnings):
+            raise Unjudgeable
 
     def difference(self, entry: Entry, capture: str, record: Record) -> str:
         """Has the program judge each answer. The first that it doesn't accept, or of which it says something else."""
@@ -144,3 +140,8 @@ class Judging:
         stands: Refutation = read_typed(REFUTATION, Refutation, own_data(REFUTATION))
         return stands == entry.refutation and \
             self.program.run("refute", claim, capture, REFUTATION, "--drift").text == b"refuted yes\n"
+
+
+def of_premises(alerts: list[Alert]) -> list[Alert]:
+    """The warnings of what speaks against a premise."""
+    return [alert for alert in alerts if alert.kind in AGAINST]

@@ -109,6 +109,12 @@ class Verifier:
             return Verified(difference, [], None)
         return Verified("", self.judged_twice(record, lambda _: capture), record, is_judged=True)
 
+    def is_judged_twice(self, record: Record) -> bool:
+        """Whether nothing is left for the second program, if there is one, to judge."""
+        judgement = self.known.judgement(record)
+        return not self.second or all(entry.answer == OPEN for entry in record.entries) or \
+            bool(judgement and judgement.second == self.second.sha256)
+
     def judged_twice(self, made: Record, capture_of: Callable[[Entry], str]) -> list[str]:
         """Has the second program judge each answer, and records what it says. What came of it, in words."""
         if not self.second or made.refusal:
@@ -289,10 +295,10 @@ AS_SIGNED, BEFORE = "{} is as it was signed", "that was here before"
 
 def before(verifier: Verifier, folder: Folder, how: How) -> Verified | None:
     """What an earlier call made of a folder's audit.json, if that is enough, and the files that it names have the sizes
-    that they had then."""
+    that they had then. What was refused, or has to be judged by a second program that hasn't done so, is done anew."""
     record, sum_ = read_record(audit_json(folder)), sum_of(audit_json(folder))
-    is_so = record.refusal or verifier.known.have_sizes(sum_, sizes_of(folder, record))
-    if not is_so or record_by(verifier.leaps, record).verdicts != record.verdicts:
+    if record.refusal or not verifier.known.have_sizes(sum_, sizes_of(folder, record)) or \
+            record_by(verifier.leaps, record).verdicts != record.verdicts or not verifier.is_judged_twice(record):
         return None
     if verifier.known.shown(sum_, record):
         return Verified("", [BEFORE], record)
@@ -386,4 +392,4 @@ def words_of(name: str, known: Known) -> str:
     follow, days = RESTS[name]
     if known.believes:
         return f"{follow} what {days} say of themselves, of which some were made again"
-    return f"verified: {follow} {days}" + (", by their answers" if known.believed else "")
+    return f"verified: {follow} the audits of {days}" + (", by their answers" if known.believed else "")

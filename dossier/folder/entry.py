@@ -465,7 +465,9 @@ class Entry:
     """The SHA-256 of each file that the audit left, by its name seen from the record's folder."""
 
     def __post_init__(self) -> None:
-        if not isinstance(self.reason, REASONS[self.verdict]) or "samples" not in self.counts:
+        is_against = any(alert.kind in AGAINST for alert in self.warnings)
+        if not isinstance(self.reason, REASONS[self.verdict]) or "samples" not in self.counts or \
+                self.verdict == UNSUPPORTED and not is_against:
             raise Mangled(f"entry {self.part}")
 
     def within(self, name: str) -> str:

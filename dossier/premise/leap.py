@@ -6,10 +6,9 @@ audit.json; whoever looks at it later looks the span up in a list of his own.
 import hashlib
 import json
 import os
-from collections.abc import Iterator
+from collections.abc import Iterable, Iterator
 from typing import Final
 
-from ..capture.recording import Recording
 from ..fault import Fault, fault
 from ..folder.claim import Claim
 from ..folder.entry import (AGAINST, OF_LEAPS, UNSUPPORTED, YES, Alert, Bare, Cause, Entry, Leap, LeapList,
@@ -76,9 +75,10 @@ def parsed(text: str) -> tuple[int, list[tuple[int, int]]]:
     return good_until, [(time, offset - before) for (_, before), (time, offset) in zip(rows, rows[1:])]
 
 
-def stretch(claim: Claim, recording: Recording) -> tuple[int, int]:
-    """The first and the last whole Unix second of the span and all exchanges, wider by the claimed bound."""
-    times = [claim.first * SECOND, claim.last * SECOND, *recording.exchanges()]
+def stretch(claim: Claim, exchanges: Iterable[int]) -> tuple[int, int]:
+    """The first and the last whole Unix second of the span and of all exchanges, whose times are given in nanoseconds,
+    wider by the claimed bound."""
+    times = [claim.first * SECOND, claim.last * SECOND, *exchanges]
     return -((claim.bound_ns - min(times)) // SECOND), (max(times) + claim.bound_ns) // SECOND
 
 

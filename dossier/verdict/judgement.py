@@ -74,7 +74,7 @@ def more_drift(claim: Claim) -> int:
 def judge(part: Part, recording: Recording, beside: Beside, texts: Texts, step: int,
           outputs: dict[str, str]) -> Entry:
     """The entry that the program's texts come to, beside what else is known."""
-    claim, leap = part.claim, look_up(beside.leaps, *stretch(part.claim, recording))
+    claim, leap = part.claim, look_up(beside.leaps, *stretch(part.claim, recording.exchanges()))
     settled, envelope = read_settled(texts.settled), texts.envelope
     advice = read_advice(texts.report) if settled.answer == YES else {}
     servers = servers_of(claim, recording)

@@ -16,6 +16,7 @@ from typing import Any
 from tests.support import ROOT, check, is_here, run, runnable
 from tests.dossier.audits import ENVIRONMENT, KEEP, called, capture_of, dossier, match_of, stand_in
 from tests.dossier.test_evidence import key_of
+from tests.dossier.test_verdicts import measured
 from tests.dossier.test_years import DAY, FIRST, RIGHT, WIDE, day
 from tests.tools.wire import records_of
 
@@ -269,7 +270,7 @@ def test_other_program(place: Path) -> None:
     own, pages = machine(place / "fleet", "web-1"), place / "pages"
     dossier("audit", *days_of(own))
     dossier("year", "--year", "2001", "--split", pages, own)
-    said = (f"{pages}: verified: its statements follow from its days",
+    said = (f"{pages}: verified: its statements follow from the audits of its days",
             f"{pages}: (made by another program than the one by which its days are known here)")
     other = {**stand_in(place / "program", ":"), "XDG_STATE_HOME": str(place / "other")}
     for more in ("--answers", "", "--known"):
@@ -296,8 +297,8 @@ def test_folder_of_days(place: Path) -> None:
     dossier("audit", "--days", own)
     dossier("year", "--year", "2001", "--split", place / "pages", own.parent)
     out = dossier("verify", place / "pages", place / "fleet")[1].decode()
-    check("a folder of days", said=(f"{place / 'pages'}: verified: its statements follow from its days" in out, True),
-          days=(f"{own}: verified: 3 yes" in out, True), shown=(
+    follow = f"{place / 'pages'}: verified: its statements follow from the audits of its days"
+    check("a folder of days", said=(follow in out, True), days=(f"{own}: verified: 3 yes" in out, True), shown=(
               "shown on 3 of 365 days" in (place / "pages" / "year.json").read_text(), True))
 
 
@@ -331,6 +332,12 @@ def test_known(place: Path) -> None:
     if is_here("ssh-keygen", "a day that is known and signed"):
         dossier("sign", "--key", key_of(place, "ann")[0], second)
     check("packed and signed", before=(dossier("verify", "--known", *days_of(own))[1].decode().count(before), 2))
+    by_two = [dossier("verify", "--known", "--second", *days_of(own))[1].decode() for _ in range(2)]
+    check("by two programs", asked=([out.count("(judged by two programs)") for out in by_two], [2, 0]),
+          before=([out.count(before) for out in by_two], [0, 2]))
+    (refused := day(own, 2, RIGHT) / "f.pcap").write_text("none")
+    dossier("audit", refused.parent)
+    check("refused", before=(before in dossier("verify", "--known", refused.parent)[1].decode(), False))
     for file in first.glob("*.zst"):
         file.write_bytes(file.read_bytes()[:-1])
         check(f"{file.name} cut", before=(before in dossier("verify", "--known", first)[1].decode(), False))
@@ -438,14 +445,38 @@ def test_forged_answers(place: Path) -> None:
             ("a claim", forged("claim.json", claim.replace(b"1000000", b"1")), "the claim of audit.json isn't"),
             ("a claim of 0", forged("bound-0.claim.json", claim), "bound-0.claim.json isn't the claim"),
             ("a verdict", forged("report.txt", files["report.txt"], verdict="unsupported", reason={"why": "evidence"}),
-             "the verdict of audit.json is unsupported"),
+             "audit.json isn't one that is taken (entries 0 entry .)"),
             ("counts", forged("report.txt", files["report.txt"],
                               counts={**record["entries"][0]["counts"], "samples": 1}), "counts of audit.json aren't"),
             ("a yes without its course", forged("report.txt", files["report.txt"], refutation=None),
              "entries 0 refutation is `None`"),
             ("a move that excuses a logged step", forged("report.txt", files["report.txt"], moves=[MOVE]),
              "entries 0 moves is")):
-        check(f"by answers: {what} that was forged", status=(said[0], "1"), said=(wanted in said, True))
+        check(f"by answers: {what} that was forged", status=(said[0], "2" if "taken" in wanted else "1"),
+              said=(wanted in said, True))
+
+
+def test_forged_warnings(place: Path) -> None:
+    """What speaks against a premise is held to the evidence by the answers too: it can't be taken out, exchanged for
+    what the next list of leap seconds does away with, or said of a shorter time."""
+    no_list, own = {"kind": "no-list"}, place / "fleet" / "web-1"
+    for number, (ends, verdict) in enumerate(((RIGHT, "unsupported"), (WIDE, "refuted"))):
+        folder = day(own, number, ends, reading_ns=60_000)
+        (folder / "evidence.json").write_text(json.dumps({"reading": "late.json"}))
+        (folder / "late.json").write_text(json.dumps(measured(70_000)))
+        dossier("audit", folder)
+        kept = (folder / "audit.json").read_bytes()
+        judged = f"{folder}: judged: {verdict}"
+        check(f"by answers: {verdict}", said=(judged in dossier("verify", "--answers", folder)[1].decode(), True))
+        record = json.loads(kept)
+        entry = record["entries"][0]
+        warnings = [one for one in entry["warnings"] if one["kind"] != "reading"]
+        for what, changes in (("no warning", {"warnings": warnings}), ("another", {"warnings": [*warnings, no_list]}),
+                              ("a short time", {"leap": entry["leap"] | {"from": entry["leap"]["to"]}})):
+            (folder / "audit.json").write_text(json.dumps({**record, "entries": [entry | changes]}))
+            out = dossier("verify", "--answers", folder)[1].decode()
+            check(f"by answers: {verdict}, with {what}", judged=(judged in out, False),
+                  same=(": verified" in out, False))
 
 
 def test_changed_bytes(place: Path) -> None:
@@ -547,7 +578,8 @@ def test_side_by_side(place: Path) -> None:
         check(f"the statements after {name}", before=(said.count("(that was here before)"), 3),
               counted=("(3 folders counted as found before: of their files only the sizes were looked at)" in said,
                        True),
-              said=("pages: verified: its statements follow from its days, by their answers" in said, True))
+              said=("pages: verified: its statements follow from the audits of its days, by their answers" in said,
+                    True))
         shutil.rmtree(place / "state")
     check("the statements before", said=(b"here before" in dossier(*last, cwd=place)[1], False))
 

@@ -187,7 +187,7 @@ def test_signed_year(place: Path) -> None:
     check("verify a year", status=(status, 1), days=(sum(": verified: " in line for line in lines), 7),
           beside=(f"{other}: ntpaudit-dossier: not audited" in lines, True),
           by=(any("by key@example.org" in line for line in lines), True),
-          end=(f"{pages}: verified: its statements follow from its days" in lines, True),
+          end=(f"{pages}: verified: its statements follow from the audits of its days" in lines, True),
           named=(lines[-1], f"{place / 'fleet'}: (a year's days are in it)"),
           besides=(dossier("verify", *named, own)[1].decode().count(": verified: "), 7),
           relative=(dossier("verify", "--signers", signers, "pages", "fleet", cwd=place)[:2],
@@ -269,7 +269,7 @@ def test_namesakes(place: Path) -> None:
     """Of two machines whose folders have one name, none stands for the other; and a fleet may be brought elsewhere."""
     one, two = (place / "fleet" / site / "web-1" for site in ("siteA", "siteB"))
     dossier("audit", day(one, 0, WIDE), day(two, 0, RIGHT))
-    said = "verified: its statements follow from its days"
+    said = "verified: its statements follow from the audits of its days"
     ways: list[tuple[str, list[Any]]] = [
         ("pages", [one, two]), ("fleet/pages", [two, one]), ("pages2", ["fleet/siteA/web-1", "fleet/siteB/web-1"]),
         ("pages3", ["./fleet/siteA/../siteA/web-1/", two])]
@@ -330,8 +330,8 @@ def test_copied_years(place: Path) -> None:
         check(f"a year with {name}", told=(b"doesn't follow from its days" in out, True))
     dossier("year", "--year", "2002", "--split", place / "2002", fleet / "web 1")
     check("a year without days", verified=(dossier("verify", place / "2002")[:2], (
-        0, f"{place}/2002: verified: its statements follow from its days\n{place}/2002: (its pages are those of "
-           "which year.json has the sums: they weren't made again)\n".encode())))
+        0, f"{place}/2002: verified: its statements follow from the audits of its days\n{place}/2002: (its pages are "
+           "those of which year.json has the sums: they weren't made again)\n".encode())))
     status, _, err = dossier("year", "--year", "9999", "-o", place / "9999.html", fleet / "web 1")
     check("the last year", run=((status, err), (0, b"")))
 
