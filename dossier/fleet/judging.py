@@ -1,8 +1,8 @@
 """Verified by judging: each input and answer of a folder is held to its sum, and the program judges each answer.
 
 It takes a part of the time that making all again takes. What is only made, and states nothing that could be judged, is
-held to its sum alone: envelopes, least bounds, warnings, and all that pages make of them. A yes is judged only with a
-course that fits the whole capture: a certificate may leave out what contradicts it.
+held to its sum alone: envelopes, least bounds, most warnings, and all that pages make of them. A yes is judged only
+with a course that fits the whole capture: a certificate may leave out what contradicts it.
 """
 from itertools import pairwise
 from typing import NamedTuple
@@ -23,7 +23,8 @@ from ..schema import read_typed
 from ..verdict.making import Inputs, take_inputs, whole_of
 from .audit import change_of
 
-ONLY_MADE = "envelopes were held to their sums, not made again; bounds, warnings and reasons are as audit.json has them"
+ONLY_MADE = "envelopes were held to their sums, not made again; bounds, reasons, and warnings that take no yes away " \
+    "are as audit.json has them"
 ANSWERS = CERTIFICATE, CLAIM_OF_0, REFUTATION, REPORT
 """What is copied: of the report it is seen that the program says it again."""
 
@@ -48,7 +49,7 @@ class Judging:
         self.folder, self.program, self.leaps = folder, program, leaps
 
     def judged(self, record: Record) -> Judged:
-        """The first difference, or none, and the capture by which the answers were judged; or they are `Unjudgeable`."""
+        """The first difference, or none, and the capture by which the answers were judged; else `Unjudgeable`."""
         if record.refusal or record.options.days or len(record.entries) != 1:
             raise Unjudgeable
         entry, = record.entries

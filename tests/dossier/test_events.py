@@ -219,7 +219,8 @@ def test_verified(place: Path) -> None:
     status, said, _ = dossier("verify", out, *folders[0].iterdir(), *folders[1].iterdir())
     lines = [line for line in said.decode().splitlines() if "is a copy" not in line]
     check("verify an answer", status=(status, 0),
-          last=(lines[-1], f"{out}: verified: its times follow from the log and from its machines' folders"),
+          last=(lines[-1],
+                f"{out}: verified: its times follow from the log and from the audits of its machines' folders"),
           days=(sorted(lines[:-1]), [f"{folder}/2001-09-09: verified: yes" for folder in folders]),
           whole=(dossier("verify", out, place / "fleet")[0], 0))
     status, said, _ = dossier("verify", out, folders[0])

@@ -14,7 +14,7 @@ from tests.dossier.test_evidence import key_of
 from tests.dossier.test_fleets import days_of, signed_fleet
 
 FILES = ("events.csv", "answered.csv", "events.json", "index.html")
-SAME = "verified: its times follow from the log and from its machines' folders"
+SAME = "verified: its times follow from the log and from the audits of its machines' folders"
 DAY = "2001-09-09"
 
 

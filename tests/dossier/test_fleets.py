@@ -361,8 +361,7 @@ def test_answers(place: Path) -> None:
     check("days by their answers", status=(status, 1),
           lines=([line.partition(": ")[2] for line in out.decode().splitlines()],
                  ["judged: yes", "judged: yes", "judged: refuted", "judged: no evidence", ""]),
-          told=("envelopes were held to their sums, not made again; bounds, warnings and reasons are as audit.json has "
-                "them" in out.decode(), True),
+          told=("bounds, reasons, and warnings that take no yes away are as audit.json has them" in out.decode(), True),
           calls=(calls[1:], [*["samples", "check --sums", "refute --drift"] * 2, "samples", "refute --drift",
                              "refute --drift", "samples", "settle"]))
     second = dossier("verify", "--answers", "--second", *days_of(own))[1].decode()
