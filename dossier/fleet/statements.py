@@ -2,7 +2,6 @@
 somebody can sign it."""
 import os
 import re
-from functools import cache
 from itertools import dropwhile
 from typing import NamedTuple
 
@@ -41,7 +40,7 @@ PROGRAM = re.compile(r"(ntpaudit [0-9]+(?:\.[0-9]+)*(?: \(logic [0-9a-f]+\))?), 
 BY_ANOTHER = "made by another program than the one by which its days are known here"
 UNSEEN_OF = "of {} the signature by which it counts wasn't looked at (--signers FILE does)"
 MOST_OF_A_PATH, MOST_OF_A_NOTE = 4_096, 200
-"""Characters of a path in a file of sums, since all folders above it are worked out; and of a statement in a note."""
+"""Characters of a path in a file of days, and of a statement in a note."""
 
 
 def statement(year: Year) -> str:
@@ -153,16 +152,14 @@ def read_lines(data: bytes) -> list[Line]:
 
 def days_of(folder: Folder, named: set[str]) -> dict[str, str]:
     """The folders of all days on which the statements rest, each with its name for good. Each has to be in a folder
-    that the command line names, and stands for one machine."""
-    days, seen = dict[str, str](), set[str]()
-
-    @cache
-    def is_within(place: str) -> bool:
-        return not named.isdisjoint(folders_above(place))
+    that the command line names, and stands for one machine. (A stranger's path may be thousands of folders deep: those
+    above it aren't worked out.)"""
+    days, seen, tops = dict[str, str](), set[str](), {f"{name.rstrip('/')}/" for name in named}
+    lengths = set(map(len, tops))
     for stated in read_statements(folder.data(YEAR)).machines:
         for line in lines_in(folder, stated):
             path = absolute(line.path)
-            if path not in named and not is_within(os.path.dirname(path)):
+            if not any(f"{path}/"[:length] in tops for length in lengths):
                 raise fault(f"{line.path} is in no folder that is named: if it may be read, name the folder of its "
                             "machine too")
             if path in seen:
