@@ -6,7 +6,7 @@ folder is called. It counts once, and only if it is of the claim that most of th
 import json
 import os
 from collections import Counter
-from collections.abc import Collection, Iterator
+from collections.abc import Collection, Iterable, Iterator
 from contextlib import suppress
 from hashlib import sha256
 from zlib import compress, decompress
@@ -16,7 +16,7 @@ from ..fault import Fault
 from ..folder.claim import Claim
 from ..folder.entry import (DISPUTED, NOT_VERIFIED, REFUSED, WORST_FIRST, Entry, LeapList, Made, Record, Refusal,
                             read_record)
-from ..folder.files import AUDIT, CLAIM, SIGNATURE, Folder
+from ..folder.files import AUDIT, CLAIM, SIGNATURE, Folder, absolute
 from ..folder.jobs import run_one
 from ..folder.registry import Known
 from ..folder.result import MISSING, MOST_FOLDERS, NOT_COUNTED, Told, Year
@@ -33,6 +33,8 @@ from .twins import few_of
 OTHER = "another claim or client than most days have"
 NO_DAY = "its name is no day, and it has no audit.json"
 UNKNOWN = f"{AUDIT} was neither made nor verified here, or is of another {CLAIM}"
+NAMESAKES = "more than one machine is called {}, so nobody knows whose key that is"
+ITS_OWN = f"{AUDIT}: it is of the folder of all days, and of none of them"
 
 
 class DayFolder(NamedTuple):
@@ -47,7 +49,8 @@ class DayFolder(NamedTuple):
 
 class YearCall(NamedTuple):
     """Which year, what is known here, up to which Unix second days have ended, who may have signed what isn't known
-    here, who signed which folder by what is to be verified, and how many machines there are."""
+    here, who signed which folder by what is to be verified, how many machines there are, and which last names several
+    of them have, so that no signature counts for these."""
 
     year: int
     known: Known
@@ -56,6 +59,11 @@ class YearCall(NamedTuple):
     signers: Signers = Signers(None)
     signed: dict[str, str] = {}
     machines: int = 1
+    namesakes: frozenset[str] = frozenset()
+
+    def is_namesake(self, machine: str) -> bool:
+        """Whether another machine is called like that of a folder."""
+        return os.path.basename(absolute(machine)) in self.namesakes
 
 
 def key_of(words: str) -> int:
@@ -79,14 +87,21 @@ def machines_of(folders: list[str], others: Collection[str] = ()) -> dict[str, l
     return machines
 
 
-def days_among(folders: list[str], seconds: int) -> list[str]:
+def namesakes(machines: Iterable[str]) -> frozenset[str]:
+    """The last names that several machines have, by their folders."""
+    names = Counter(os.path.basename(machine) for machine in set(map(absolute, machines)))
+    return frozenset(name for name, number in names.items() if number > 1)
+
+
+def days_among(folders: list[str], seconds: int, is_alone: bool = False) -> list[str]:
     """The folders that have an audit of their own, so that they are a day's and no machine's, whatever they are
-    called."""
+    called; if that has to be alone, only those in which no folder has one."""
     def work(*_: object) -> list[str]:
         paths = list[str]()
         for path in folders:
             with suppress(Fault), Folder(path) as folder:
-                paths += [path] * folder.has(AUDIT)
+                is_machine = is_alone and any(folder.has(f"{name}/{AUDIT}") for name in folder.names())
+                paths += [path] * (folder.has(AUDIT) and not is_machine)
         return paths
     result = run_one("", work, list[str], seconds) if folders else []
     return [] if isinstance(result, Refusal) else result
@@ -98,12 +113,14 @@ def year_of(wanted: YearCall, machine: str, names: list[str]) -> Year:
         twice = [name for name, number in Counter(names).items() if number > 1]
         days = sorted(set(names)) or [name for name in folder.names() if folder.is_folder(name)]
         folders = [one for name in days[:MOST_FOLDERS] for one in day_folders(wanted, folder, name)]
+        others = [ITS_OWN] * folder.has(AUDIT)
     left = days[MOST_FOLDERS:]
     claims = {same(one.claim): one.claim for one in folders if one.claim}
     common = max(claims, key=Counter(same(one.claim) for one in folders if one.claim).__getitem__, default="")
     begin, end = seconds_of(f"{wanted.year}-01-01T00:00:00Z"), seconds_of(f"{wanted.year}-12-31T00:00:00Z") + DAY
     today = wanted.at // DAY * DAY
-    kept, beside, others = dict[str, Told](), dict[str, Told](), [f"{name} is named twice" for name in twice]
+    kept, beside = dict[str, Told](), dict[str, Told]()
+    others += [f"{name} is named twice" for name in twice]
     others += [f"{plain(name)}: {len(left)} folders from it on are more than {MOST_FOLDERS}" for name in left[:1]]
     for one in sorted(folders, key=lambda one: [*WORST_FIRST, one.told.verdict].index(one.told.verdict)):
         told, first = one.told, seconds_of(f"{one.told.date}T00:00:00Z") if one.told.date else begin
@@ -182,7 +199,7 @@ def day_folders(wanted: YearCall, folder: Folder, name: str) -> Iterator[DayFold
             return
         written, by = read_record(folder.data(f"{name}/{AUDIT}")), wanted.signed.get(f"{folder.path}/{name}", "")
         record = wanted.known.shown(folder.sum(f"{name}/{AUDIT}"), written)
-        signer = signer_of(wanted.signers, folder, name) if by or not record else ""
+        signer = signer_of(wanted, folder, name) if by or not record else ""
         if not record and signer and by in ("", signer):
             record, by = written, signer
         if by and by != signer and wanted.signers.given is not None:
@@ -193,7 +210,9 @@ def day_folders(wanted: YearCall, folder: Folder, name: str) -> Iterator[DayFold
         yield DayFolder(Told(named, NOT_COUNTED, plain(name), plain(error.words)))
         return
     if record is None or record.refusal:
-        verdict, why = (REFUSED, record.refusal.line) if record and record.refusal else (NOT_VERIFIED, UNKNOWN)
+        why = f"{UNKNOWN}; {NAMESAKES.format(os.path.basename(absolute(folder.path)))}" \
+            if wanted.signers.given is not None and wanted.is_namesake(folder.path) else UNKNOWN
+        verdict, why = (REFUSED, record.refusal.line) if record and record.refusal else (NOT_VERIFIED, why)
         told = Told(named, verdict, plain(name), plain(why), name=written.name, by=by if record else "",
                     says=written.says)
         yield DayFolder(told if named else replace(told, verdict=NOT_COUNTED), made=record.program if record else None)
@@ -204,12 +223,12 @@ def day_folders(wanted: YearCall, folder: Folder, name: str) -> Iterator[DayFold
             yield one._replace(told=replace(one.told, says=says))
 
 
-def signer_of(signers: Signers, folder: Folder, name: str) -> str:
-    """Who signed a day that isn't known here, if that is its machine."""
-    if signers.given is None or not folder.has(f"{name}/{SIGNATURE}"):
+def signer_of(wanted: YearCall, folder: Folder, name: str) -> str:
+    """Who signed a day that isn't known here, if that is its machine, and no other one is called so."""
+    if wanted.signers.given is None or wanted.is_namesake(folder.path) or not folder.has(f"{name}/{SIGNATURE}"):
         return ""
     with Folder(os.path.join(folder.path, name)) as day:
-        signer = signers.machine_of(day, folder.path)
+        signer = wanted.signers.machine_of(day, folder.path)
         return signer if day.sum(AUDIT) == folder.sum(f"{name}/{AUDIT}") else ""
 
 

@@ -21,16 +21,25 @@ MOST_DAYS_AT_ONCE = 1_000_000
 """Days that are verified at once."""
 
 
+class Machines(NamedTuple):
+    """The folders of machines whose days are looked at, what these are called, and the folders in which they are."""
+
+    folders: frozenset[str] = frozenset()
+    names: frozenset[str] = frozenset()
+    places: frozenset[str] = frozenset()
+
+
 class Plan(NamedTuple):
     """The folders that are looked at, in order; those of days on which a year's statements rest, each with its name for
-    good; of folders with a year's machines all days in them; those in which are folders of an answer to a log; and the
-    days on which a year or an answer rests, for which a signature of that is one."""
+    good; of folders with a year's machines all days in them; those in which are folders of an answer to a log; the days
+    on which a year or an answer rests, for which a signature of that is one; and the machines of all."""
 
     every: list[str]
     stated: dict[str, str]
     beside: dict[str, list[str] | Refusal]
     above: list[str] = []
     resting: frozenset[str] = frozenset()
+    machines: Machines = Machines()
 
 
 def planned(folders: list[str], named: set[str], seconds: int) -> Plan:
@@ -46,12 +55,12 @@ def planned(folders: list[str], named: set[str], seconds: int) -> Plan:
             above.update(path for day in found.days for path in folders_above(day) if path != files.absolute(day))
         else:
             stated.update(found.days)
-    machines = dict[str, list[str]]()
+    below_of = dict[str, list[str]]()
     for machine in {os.path.dirname(day) for day in stated}:
         for path in named & folders_above(machine):
-            machines.setdefault(path, []).append(machine)
-    beside = {folder: days_beside(folder, machines[files.absolute(folder)], seconds)
-              for folder in folders if files.absolute(folder) in machines}
+            below_of.setdefault(path, []).append(machine)
+    beside = {folder: days_beside(folder, below_of[files.absolute(folder)], seconds)
+              for folder in folders if files.absolute(folder) in below_of}
     counted = named.union(map(files.absolute, stated))
     for folder, result in beside.items():
         if not isinstance(result, Refusal):
@@ -62,7 +71,11 @@ def planned(folders: list[str], named: set[str], seconds: int) -> Plan:
     every = [each for folder in folders for each in (*below[folder], folder) if each not in of_events]
     every = list(dict.fromkeys(every)) + of_events if of_events else every
     above_of = [folder for folder in folders if files.absolute(folder) in above]
-    return Plan(every, stated, beside, above_of, frozenset(resting))
+    days = [path for path in every if path in stated or is_day(os.path.basename(path))]
+    own = frozenset(os.path.dirname(files.absolute(day)) for day in days)
+    split = [os.path.split(machine) for machine in own]
+    machines = Machines(own, frozenset(name for _, name in split), frozenset(place for place, _ in split))
+    return Plan(every, stated, beside, above_of, frozenset(resting), machines)
 
 
 def names_of(plan: Plan, seconds: int) -> dict[str, str]:
@@ -95,23 +108,37 @@ def days_below(path: str, named: set[str], seconds: int) -> Below:
 
 
 def days_beside(path: str, machines: list[str], seconds: int) -> list[str] | Refusal:
-    """The folders of all days in a folder, in those in it, and in those of machines below it; and the folders among
-    these that can't be looked into."""
+    """The folders of all days in a folder, in those in it, in those of machines below it, and in those beside these;
+    and the folders among these that can't be looked into."""
     def work(path: str, _: int) -> list[str]:
-        with Folder(path) as folder:
-            inner = {os.path.join(path, name) for name in folder.names() if folder.is_folder(name) and not is_day(name)}
-        places = list[str]()
-        for place in sorted({files.absolute(place): place for place in (path, *inner, *machines)}.values()):
-            try:
-                with Folder(place) as folder:
-                    places += [os.path.join(place, name) for name in folder.names()
-                               if is_day(name) and folder.is_folder(name)]
-            except Fault:
+        places, days = [path, *folders_in(path, are_days=False), *machines], list[str]()
+        for place in {os.path.dirname(machine) or "." for machine in machines}:
+            if files.absolute(path) in folders_above(place):
                 places.append(place)
-            if len(places) > MOST_DAYS_AT_ONCE:
-                raise fault(f"more than {MOST_DAYS_AT_ONCE:,} days are in the folder")
-        return places
+                with suppress(Fault):
+                    places += folders_in(place, are_days=False)
+            is_few(places)
+        for place in sorted({files.absolute(place): place for place in places}.values()):
+            try:
+                days += folders_in(place, are_days=True)
+            except Fault:
+                days.append(place)
+            is_few(days)
+        return days
     return run_one(path, work, list[str], seconds)
+
+
+def folders_in(place: str, are_days: bool) -> list[str]:
+    """The folders in one that are called after a day, or those that aren't."""
+    with Folder(place) as folder:
+        return [os.path.join(place, name) for name in folder.names()
+                if is_day(name) == are_days and folder.is_folder(name)]
+
+
+def is_few(days: list[str]) -> None:
+    """Refuses more than may be verified at once."""
+    if len(days) > MOST_DAYS_AT_ONCE:
+        raise fault(f"more than {MOST_DAYS_AT_ONCE:,} days are in the folder")
 
 
 def is_there(path: str) -> bool:

@@ -91,7 +91,7 @@ def difference_of_days(call: SignCall, folder: Folder) -> str:
     nothing if all does. Whoever signs names his own program."""
     if not is_of_events(folder):
         found = compared(folder, call.known, call.leaps, call.signers)
-        return found.difference or (BY_ANOTHER if BY_ANOTHER in found.notes else "")
+        return found.difference or next((note for note in found.notes if note.startswith(BY_ANOTHER)), "")
     folders_of(folder, {"/"})
     return difference_of_events(folder, EventsCall(Asked(), call.known, call.leaps, find_program(), SECONDS,
                                                    page=call.page, signers=call.signers))

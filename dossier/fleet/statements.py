@@ -8,14 +8,14 @@ from typing import NamedTuple
 from ..fault import fault
 from ..folder.claim import Claim
 from ..folder.entry import NOT_VERIFIED, YES, LeapList, Made
-from ..folder.files import AUDIT, YEAR, Folder, absolute, sum_of
+from ..folder.files import AUDIT, LIST, SIGNATURES, YEAR, Folder, absolute, limit_of
 from ..folder.registry import Known
 from ..folder.result import Told, Year
-from ..folder.year import Stated, read_statements
+from ..folder.year import Stated, Statements, read_statements
 from ..records import replace
 from ..text import count, label, listed, plain, spelled
 from ..units import low_ms, ns_ms, ns_up_ms, seconds_of
-from .days import Twins, YearCall, packed, unpacked, year_of
+from .days import NAMESAKES, Twins, YearCall, namesakes, packed, unpacked, year_of
 from .signature import Signers
 
 RULES = {100_000: "MiFID II's RTS 25 of high-frequency trading, and CAT's 6.8 of exchanges",
@@ -31,15 +31,16 @@ VERIFIED, NOBODY, NOTHING = "verified", "-", "0" * 64
 """Who answers for a day that was made or verified where a year was put together, and for one that is known nowhere; and
 the name of one that has no audit, and what that says."""
 
-PAGE = ".html"
+WORDS = {VERIFIED: "verified", NOBODY: "not verified"}
+PAGE, DAYS = ".html", ".days"
 PAGES = f"its pages are those of which {YEAR} has the sums: they weren't made again"
 ANY_PAGES = "its pages weren't looked at: `year --split` makes them again in another folder"
 """Of a year's pages, and of those of one that has no sums of them."""
 PROGRAM = re.compile(r"(ntpaudit [0-9]+(?:\.[0-9]+)*(?: \(logic [0-9a-f]+\))?), SHA-256 ([0-9a-f]{64})")
 BY_ANOTHER = "made by another program than the one by which its days are known here"
 UNSEEN_OF = "of {} the signature by which it counts wasn't looked at (--signers FILE does)"
-MOST_OF_A_PATH = 4_096
-"""Characters of a path in a file of sums: all folders above it are worked out."""
+MOST_OF_A_PATH, MOST_OF_A_NOTE = 4_096, 200
+"""Characters of a path in a file of days, and of a statement in a note."""
 
 
 def statement(year: Year) -> str:
@@ -65,8 +66,12 @@ def statement(year: Year) -> str:
     twins, alike = (listed([in_quotes(machine) for machine in machines]) for machines in (year.twins, year.alike))
     said += [f"{TWINS} {twins} too, so one of them is a copy."] if twins else []
     said += [f"{alike} {'has' if len(year.alike) == 1 else 'have'} {ALIKE}."] if alike else []
-    programs = "; ".join(f"{made.version or 'ntpaudit'}, SHA-256 {made.sha256}" for made in year.programs)
-    return " ".join([*said, f"Audited by {programs}."])
+    return " ".join([*said, f"Audited by {in_words(year.programs)}."])
+
+
+def in_words(programs: list[Made]) -> str:
+    """Programs in a sentence."""
+    return "; ".join(f"{made.version or 'ntpaudit'}, SHA-256 {made.sha256}" for made in programs)
 
 
 def figures_of(year: Year) -> list[str]:
@@ -129,9 +134,9 @@ def lines_of(place: str, year: Year) -> bytes:
     return "".join(lines).encode("utf-8", "surrogateescape")
 
 
-def stated_of(year: Year, file: str, sums: bytes) -> Stated:
-    """What is said of a machine's year, which rests on the sums in a file."""
-    return Stated(year.machine, statement(year), year.counts[YES], len(year.days), file, sum_of(sums))
+def stated_of(year: Year, file: str, sum_: str) -> Stated:
+    """What is said of a machine's year, which rests on the sums in a file that has this sum."""
+    return Stated(year.machine, statement(year), year.counts[YES], len(year.days), file, sum_)
 
 
 def read_lines(data: bytes) -> list[Line]:
@@ -147,30 +152,39 @@ def read_lines(data: bytes) -> list[Line]:
 
 def days_of(folder: Folder, named: set[str]) -> dict[str, str]:
     """The folders of all days on which the statements rest, each with its name for good. Each has to be in a folder
-    that the command line names, and stands for one machine."""
-    days, seen = dict[str, str](), set[str]()
+    that the command line names, and stands for one machine. (A stranger's path may be thousands of folders deep: those
+    above it aren't worked out.)"""
+    days, seen, tops = dict[str, str](), set[str](), {f"{name.rstrip('/')}/" for name in named}
+    lengths = set(map(len, tops))
     for stated in read_statements(folder.data(YEAR)).machines:
         for line in lines_in(folder, stated):
-            if named.isdisjoint(folders_above(line.path)):
+            path = absolute(line.path)
+            if not any(f"{path}/"[:length] in tops for length in lengths):
                 raise fault(f"{line.path} is in no folder that is named: if it may be read, name the folder of its "
                             "machine too")
-            if absolute(line.path) in seen:
+            if path in seen:
                 raise fault(f"{line.path} stands there twice: one of the statements is a copy")
             days[line.path] = line.name
-            seen.add(absolute(line.path))
+            seen.add(path)
     return {path: name for path, name in days.items() if name != NOTHING}
 
 
+def is_named(folder: Folder, stated: Stated) -> bool:
+    """Whether a file of days is the one of which the year has the sum, as no larger one than may be is."""
+    return folder.size(stated.file) <= limit_of(stated.file) and folder.sum(stated.file) == stated.sha256
+
+
 def lines_in(folder: Folder, stated: Stated) -> list[Line]:
-    """The lines of the days of a machine, with paths as seen from here."""
-    lines = read_lines(folder.data(stated.file))
+    """The lines of the days of a machine, with paths as seen from here; none if their file isn't the one that is named.
+    """
+    lines = read_lines(folder.data(stated.file)) if is_named(folder, stated) else []
     return [line._replace(path=os.path.normpath(os.path.join(folder.path, line.path))) for line in lines]
 
 
 def folders_above(path: str) -> set[str]:
     """The absolute paths of a folder and of those in which it is."""
-    parts = absolute(path).split("/")
-    return {"/".join(parts[:k]) or "/" for k in range(1, len(parts) + 1)}
+    whole = absolute(path)
+    return {"/", whole, *(whole[:k] for k, letter in enumerate(whole) if k and letter == "/")}
 
 
 def may_be(name: str, machine: str, place: str) -> bool:
@@ -202,32 +216,41 @@ class Compared(NamedTuple):
 def compared(folder: Folder, known: Known, leaps: LeapList, signers: Signers = Signers(None)) -> Compared:
     """What of a year stands as its days are."""
     statements = read_statements(folder.data(YEAR))
+    machines = [machine_in(stated, lines_in(folder, stated)) for stated in statements.machines]
+    wanted = YearCall(statements.year, known, leaps, seconds_of(statements.made), signers,
+                      namesakes=namesakes(machines))
     twins, years = Twins(), list[bytes]()
     for stated in statements.machines:
-        if sum_of(folder.data(stated.file)) != stated.sha256:
+        if not is_named(folder, stated):
             return Compared(f"{label(stated.file)} isn't the file that {YEAR} names")
-        if wrong := has_one_machine(folder, stated):
+        lines = lines_in(folder, stated)
+        if wrong := has_one_machine(folder, stated, lines):
             return Compared(wrong)
-        wanted = YearCall(statements.year, known, leaps, seconds_of(statements.made), signers)
-        year = year_stated(folder, stated, wanted)
-        if wrong := other_days(folder, stated, year):
+        year = year_stated(stated, lines, wanted)
+        if wrong := other_days(stated, lines, year, wanted) or \
+                without_says(stated, lines) * bool(statements.pages):
             return Compared(wrong)
         twins.add(year)
         years.append(packed(year))
-    hidden, unseen, notes = list[str](), 0, list[str]()
+    hidden, unseen, others = list[str](), 0, list[str]()
     for number, (stated, data) in enumerate(zip(statements.machines, years)):
         year = twins.of(number, unpacked(data))
         own = stated if year.days else replace(stated, days=0)
-        if stated_of(year, stated.file, sums := folder.data(stated.file)) != own:
-            year, notes = replace(year, programs=programs_in(stated.statement)), [BY_ANOTHER]
-        if stated_of(year, stated.file, sums) != own:
+        if stated_of(year, stated.file, stated.sha256) != own:
+            here, year = year.programs, replace(year, programs=programs_in(stated.statement))
+            other = [made for made in year.programs if made not in here] or year.programs
+            others.append(f"{BY_ANOTHER}: by {in_words(other)[:MOST_OF_A_NOTE]}; here by {in_words(here) or 'none'}")
+        if stated_of(year, stated.file, stated.sha256) != own:
             return Compared(f"{label(stated.machine)}: the statement doesn't follow from its days, as they are known "
                             "here")
         hidden += not_shown(year)
         unseen += sum(year.signers.values()) if signers.given is None else 0
-    wrong = other_page(folder, statements.pages)
+    wrong = other_page(folder, statements) if statements.pages else ""
+    more = f" ({count(len(others) - 1, 'more statement')} too)" if others[1:] else ""
+    notes = [f"{other}{more}" for other in others[:1]]
     notes += [UNSEEN_OF.format(count(unseen, "day"))] * bool(unseen)
-    return Compared(wrong, hidden, notes + ([] if wrong else [PAGES if statements.pages else ANY_PAGES]))
+    notes += [] if wrong else [PAGES if statements.pages else ANY_PAGES]
+    return Compared(wrong, hidden, notes + (unanswered_in(folder, statements) if statements.pages else []))
 
 
 def programs_in(statement: str) -> list[Made]:
@@ -235,41 +258,58 @@ def programs_in(statement: str) -> list[Made]:
     return [Made(*found.groups()) for found in PROGRAM.finditer(statement.rpartition("Audited by ")[2])]
 
 
-def other_page(folder: Folder, pages: dict[str, str]) -> str:
-    """The first page of a folder that isn't the one of which its year has the sum; nothing if there is none, or the
-    year has no sums."""
-    for name in sorted({*pages, *(name for name in folder.names() if name.endswith(PAGE))}) if pages else ():
+def other_page(folder: Folder, statements: Statements) -> str:
+    """The first page of a folder that isn't the one of which its year has the sum, or file of days that its year
+    doesn't name; nothing if there is none."""
+    names, pages, files = folder.names(), statements.pages, {stated.file for stated in statements.machines}
+    for name in sorted({*pages, *(name for name in names if name.endswith(PAGE))}):
         if not folder.has(name) or folder.sum(name) != pages.get(name):
             return f"{label(name)} isn't the page that was signed: {YEAR} has another sum, or none"
-    return ""
+    other = next((name for name in names if name.endswith(DAYS) and name not in files), "")
+    return f"{label(other)} isn't a file that {YEAR} names" if other else ""
 
 
-def has_one_machine(folder: Folder, stated: Stated) -> str:
-    machines = {os.path.dirname(line.path) or "." for line in lines_in(folder, stated)}
+def unanswered_in(folder: Folder, statements: Statements) -> list[str]:
+    """A note of the files in a year's folder that are nobody's word, if there are any."""
+    own = {YEAR, SIGNATURES[YEAR], LIST, *statements.pages, *(stated.file for stated in statements.machines)}
+    others = [name for name in folder.names() if name not in own and not folder.is_folder(name)]
+    more = f" and {count(len(others) - 1, 'more file')}" if others[1:] else ""
+    return [f"nobody answers for {label(others[0])}{more}"] if others else []
+
+
+def has_one_machine(folder: Folder, stated: Stated, lines: list[Line]) -> str:
+    machines = {os.path.dirname(line.path) or "." for line in lines}
     if len(machines) > 1:
         return f"{label(stated.file)} has days of several machines"
     other = next((machine for machine in machines if not may_be(stated.machine, machine, folder.path)), "")
     return f"{label(stated.machine)}: its days are in {other}, which has another name" if other else ""
 
 
-def year_stated(folder: Folder, stated: Stated, wanted: YearCall) -> Year:
+def machine_in(stated: Stated, lines: list[Line]) -> str:
+    """The folder of a machine, by its days; as it was called if there are none."""
+    return os.path.dirname(lines[0].path) or "." if lines else stated.machine
+
+
+def year_stated(stated: Stated, lines: list[Line], wanted: YearCall) -> Year:
     """The year of a machine by the folders that a statement names, as far as they are known here."""
-    lines = lines_in(folder, stated)
     if not lines:
         return Year(stated.machine, [])
-    machine = os.path.dirname(lines[0].path) or "."
-    signed = {line.path: line.by for line in lines if line.by not in (VERIFIED, NOBODY)}
-    year = year_of(wanted._replace(signed=signed), machine, [os.path.basename(line.path) for line in lines])
+    signed = {line.path: line.by for line in lines if line.by not in WORDS}
+    year = year_of(wanted._replace(signed=signed), machine_in(stated, lines),
+                   [os.path.basename(line.path) for line in lines])
     return replace(year, machine=stated.machine)
 
 
-def other_days(folder: Folder, stated: Stated, year: Year) -> str:
+def other_days(stated: Stated, lines: list[Line], year: Year, wanted: YearCall) -> str:
     """The first day that isn't the one that a line names, or isn't known here as the line says."""
     known = {os.path.normpath(os.path.join(year.path, folder)): day for folder, day in days_in(year).items()}
-    for line in lines_in(folder, stated):
+    machine = os.path.basename(absolute(year.path))
+    for line in lines:
         day = known.get(line.path)
         if not day or (day.name or NOTHING) != line.name:
             return f"{label(line.path)} isn't the day that {stated.file} names"
+        if line.by not in WORDS and machine in wanted.namesakes:
+            return f"{label(line.path)} is signed by {line.by} by {stated.file}: {NAMESAKES.format(machine)}"
         if by_of(day) != line.by:
             return f"{label(line.path)} is {WORDS.get(line.by, f'signed by {line.by}')} by {stated.file}, and here " \
                 f"{WORDS.get(by_of(day), f'signed by {day.by}')}"
@@ -278,7 +318,10 @@ def other_days(folder: Folder, stated: Stated, year: Year) -> str:
     return ""
 
 
-WORDS = {VERIFIED: "verified", NOBODY: "not verified"}
+def without_says(stated: Stated, lines: list[Line]) -> str:
+    """The first line of a year that has no sum of what the day's audit says, though each had one when it was made."""
+    line = next((line for line in lines if not line.says), None)
+    return f"{label(line.path)}: {stated.file} has no sum of what its {AUDIT} says" if line else ""
 
 
 def not_shown(year: Year) -> list[str]:

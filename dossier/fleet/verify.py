@@ -26,13 +26,12 @@ from ..verdict.making import Making, sizes_of
 from ..verdict.second import Second
 from ..verdict.sentences import reason
 from .audit import change_of, counted_once
-from .days import is_day
 from .drawing import drawn_of, likelihoods
 from .events import EventsCall, PageOfEvents, difference as difference_of_events, folders_of, is_of_events
 from .judging import ONLY_MADE, Judging, Unjudgeable
-from .planning import beside_years, is_of_days, names_of, planned
+from .planning import Machines, beside_years, is_of_days, names_of, planned
 from .signature import GOOD, NONE, UNSEEN, Signers, in_words, signed_in
-from .statements import Compared as YearCompared, compared as year_compared, days_of
+from .statements import Compared as YearCompared, compared as year_compared, days_of, folders_above
 from .twins import SeenFolders
 
 SHOWN, MOST_OF_A_DISPUTE = 80, 1000
@@ -233,7 +232,7 @@ def verify_all(folders: list[str], verifier: Verifier, signers: Signers, seconds
         is_signed = files.absolute(path) in named or (how.as_signed and path not in plan.resting)
         is_drawn = path in drawn
         return verify(verifier, signers, is_signed, path, named, how._replace(
-            answers=how.answers and not is_drawn, known=how.known and not is_drawn))
+            answers=how.answers and not is_drawn, known=how.known and not is_drawn), plan.machines)
     for path, came in run_all([path for path in plan.every if path not in left], work, Compared, seconds):
         result = Compared(came.status, [came.line]) if isinstance(came, Refusal) else came
         if how.answers and result.sum and result.is_same:
@@ -307,14 +306,15 @@ def before(verifier: Verifier, folder: Folder, how: How) -> Verified | None:
     return None
 
 
-def verify(verifier: Verifier, signers: Signers, is_signed: bool, path: str, named: set[str], how: How) -> Compared:
+def verify(verifier: Verifier, signers: Signers, is_signed: bool, path: str, named: set[str], how: How,
+           machines: Machines) -> Compared:
     """What verifying a folder comes to. With a file of those who may sign it, a folder that nobody signed differs too,
-    if its own signature has to be one."""
+    if its own signature has to be one, and one that a machine signed which isn't its own."""
     findings, unsigned, notes = list[str](), list[str](), list[str]()
     try:
         with Folder(path) as folder:
             signature = signers.signature_of(folder)
-            if is_signed and signature.state == GOOD and is_machines(folder, signature.signer):
+            if is_signed and signature.state == GOOD and is_machines(folder, signature.signer, machines):
                 unsigned.append(f"{in_words(signature)}: {OWN_DAYS}")
             elif signature.state in (GOOD, UNSEEN) or not is_signed:
                 notes += [in_words(signature)] * (signature.state != NONE)
@@ -352,19 +352,31 @@ def verify(verifier: Verifier, signers: Signers, is_signed: bool, path: str, nam
                     [entry.claim for entry in made.entries] if made else [], captures, sum=data if is_same else "")
 
 
-def is_machines(folder: Folder, signer: str) -> bool:
-    """Whether a machine signed what isn't a day of its own: a year or an answer that rests on its days, or a day of
-    another one whose folder stands beside its own."""
-    own, signed = signer.rpartition("@")[2], signed_in(folder)
-    if signed in RESTS:
-        data = folder.data(signed)
-        machines = [one.machine for one in read_statements(data).machines] if signed == files.YEAR else \
-            [one.machine for one in read_events(data).machines]
-        return own in {os.path.basename(os.path.normpath(machine)) for machine in machines}
-    path = files.absolute(folder.path)
-    place, name = os.path.split(os.path.dirname(path) if is_day(os.path.basename(path)) else path)
-    with suppress(Fault), Folder(place) as beside:
-        return own != name and beside.is_folder(own)
+def is_machines(folder: Folder, signer: str, machines: Machines) -> bool:
+    """Whether a machine signed what isn't a day of its own: a year or an answer to a log, or a day of another one. A
+    machine is what is called so, among those that are looked at, beside their folders, or in what is signed."""
+    own, signed, path = signer.rpartition("@")[2], signed_in(folder), files.absolute(folder.path)
+    above, names, places = os.path.dirname(path), machines.names, machines.places
+    if signed == files.AUDIT:
+        if own in {os.path.basename(one) for one in (path, above, *(machines.folders & folders_above(path)))}:
+            return False
+        places |= {above, os.path.dirname(above)}
+    else:
+        names |= stated_in(folder.data(signed), signed)
+    return own in names or any(is_in(place, own) for place in places)
+
+
+def stated_in(data: bytes, signed: str) -> set[str]:
+    """The last names of the machines of a year, or of an answer to a log."""
+    machines = [one.machine for one in read_statements(data).machines] if signed == files.YEAR else \
+        [one.machine for one in read_events(data).machines]
+    return {os.path.basename(os.path.normpath(machine)) for machine in machines}
+
+
+def is_in(place: str, name: str) -> bool:
+    """Whether there is a folder of a name in one."""
+    with suppress(Fault), Folder(place) as folder:
+        return folder.is_folder(name)
     return False
 
 

@@ -30,6 +30,8 @@ EVENTS, LOG, ANSWERED = "events.json", "events.csv", "answered.csv"
 SIGNATURES = {name: f"{name}.sig" for name in (AUDIT, YEAR, EVENTS)}
 """The signature of each that is signed. The first of them that a folder has says what the folder is."""
 SIGNATURE = SIGNATURES[AUDIT]
+LIST = "pages.sums"
+"""The sums of the pages that a call left in a folder, as `sha256sum` has them."""
 JOINED = "joined.pcap"
 LEFT = frozenset({CERTIFICATE, REPORT, ENVELOPE, PARTS, REFUTATION, CLAIM_OF_0, CLAIM_OF_DRIFT, JOINED})
 """What an audit leaves of each claim."""
@@ -72,7 +74,7 @@ def absolute(path: str) -> str:
 def limit_of(name: str) -> int:
     """The bytes that a file of this name may have."""
     file = name.rpartition("/")[2]
-    other = JSON if file.endswith(".json") else LARGE
+    other = JSON if file.endswith((".json", ".days")) else LARGE
     return LIMITS.get(file, MOST_OF_A_CAPTURE if is_capture(file) or file == JOINED else other)
 
 

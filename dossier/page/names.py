@@ -8,13 +8,11 @@ import re
 
 from ..fault import USAGE, Fault, fault
 from ..folder.entry import line_of_sum
-from ..folder.files import SIGNATURES, Folder, sum_of
+from ..folder.files import LIST, SIGNATURES, Folder, sum_of
 from ..folder.placing import take_away
 from ..schema import is_name
 from .templates import put
 
-LIST = "pages.sums"
-"""The sums of what a call left, as `sha256sum` has them."""
 MOST_OF_A_NAME = 200
 ESCAPED = re.compile(rb"[^A-Za-z0-9._/-]|^\.|^index$")
 LINE = re.compile(r"([0-9a-f]{64})  ([A-Za-z0-9._+=-]+)")

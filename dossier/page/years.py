@@ -6,8 +6,8 @@ from itertools import groupby
 from typing import NamedTuple
 
 from ..fault import fault
-from ..fleet.days import Twins, YearCall, days_among, is_day, machines_of, packed, unpacked, year_of
-from ..fleet.statements import PAGE, lines_of, stated_of, statement
+from ..fleet.days import Twins, YearCall, days_among, is_day, machines_of, namesakes, packed, unpacked, year_of
+from ..fleet.statements import DAYS, PAGE, lines_of, stated_of, statement
 from ..folder.entry import YES, Refusal
 from ..folder.files import YEAR
 from ..folder.jobs import run_all
@@ -94,10 +94,10 @@ def row_of(link: str, year: Year) -> MachineRow:
 
 def write_year(folders: list[str], wanted: YearCall, pages: Pages, seconds: int, jobs: int) -> int:
     """Writes the year. The status is that of the worst machine that couldn't be looked at; 0 if all could."""
-    others = days_among([folder for folder in folders if not is_day(os.path.basename(folder))], seconds)
+    others = days_among([folder for folder in folders if not is_day(os.path.basename(folder))], seconds, is_alone=True)
     names, worst, packs = machines_of(folders, others), 0, list[bytes]()
     split, twins = Split(pages.split) if pages.split else None, Twins()
-    wanted = wanted._replace(machines=len(names))
+    wanted = wanted._replace(machines=len(names), namesakes=namesakes(names))
     templates()
 
     def work(machine: str, _: int) -> Year:
@@ -120,8 +120,8 @@ def write_year(folders: list[str], wanted: YearCall, pages: Pages, seconds: int,
     for number, year in enumerate(years, 1):
         name = page_of(year.path)
         split.put(pages.page(f"{pages.title}: {year.machine}", [(number, year)], above=INDEX), f"{name}{PAGE}")
-        split.put(lines := lines_of(split.path, year), f"{name}.days")
-        stated.append(stated_of(year, f"{name}.days", lines))
+        split.put(lines_of(split.path, year), file := f"{name}{DAYS}")
+        stated.append(stated_of(year, file, split.left[file]))
         rows.append(row_of(f"{name}.html", year))
     split.put(pages.page(pages.title, [], rows), INDEX)
     left = {name: sum_ for name, sum_ in split.left.items() if name.endswith(PAGE)}

@@ -268,20 +268,28 @@ def test_says(place: Path) -> None:
 def test_other_program(place: Path) -> None:
     """A year by another program than the one that verifies it is as it was made, if that comes to the same."""
     own, pages = machine(place / "fleet", "web-1"), place / "pages"
+    other = {**stand_in(place / "program", ":"), "XDG_STATE_HOME": str(place / "other")}
     dossier("audit", *days_of(own))
     dossier("year", "--year", "2001", "--split", pages, own)
-    said = (f"{pages}: verified: its statements follow from the audits of its days",
-            f"{pages}: (made by another program than the one by which its days are known here)")
-    other = {**stand_in(place / "program", ":"), "XDG_STATE_HOME": str(place / "other")}
+    year = json.loads((pages / "year.json").read_text())
+    by = match_of("Audited by (ntpaudit .*?), SHA-256 ([0-9a-f]{64})[.]$", year["machines"][0]["statement"])
+    here = hashlib.sha256((place / "program").read_bytes()).hexdigest()
+    note = (f"{pages}: (made by another program than the one by which its days are known here: by {{}}, SHA-256 {{}}; "
+            f"here by {by[1]}, SHA-256 {{}})")
+    said = f"{pages}: verified: its statements follow from the audits of its days", note.format(*by.groups(), here)
     for more in ("--answers", "", "--known"):
-        out = dossier("verify", *more.split(), pages, place / "fleet", env=other)[1]
-        check(f"a year by another program {more}", said=([line.encode() in out for line in said],
+        told = dossier("verify", *more.split(), pages, place / "fleet", env=other)[1].decode()
+        check(f"a year by another program {more}", said=([line in told for line in said],
                                                          [True, more != "--answers"]))
     if is_here("ssh-keygen", "a year that is signed"):
         status, out, _ = dossier("sign", "--key", key_of(place, "ann")[0], pages, env=other)
-        check("nobody signs another's program", run=((status, out.decode()), (1, said[1].replace("(", "").replace(
-            ")", "") + "\n")))
-    year = json.loads((pages / "year.json").read_text())
+        check("nobody signs another's program", run=((status, out.decode()), (1, said[1].replace("(made", "made")[:-1]
+                                                                              + "\n")))
+    (stated,), invented = year["machines"], ("ntpaudit 9.9.9", "f" * 64)
+    text = stated["statement"].replace(f"{by[1]}, SHA-256 {by[2]}", ", SHA-256 ".join(invented))
+    (pages / "year.json").write_text(json.dumps({**year, "machines": [{**stated, "statement": text}]}))
+    check("a program that was made up", said=(note.format(*invented, by[2]) in dossier(
+        "verify", "--known", pages, place / "fleet")[1].decode().splitlines(), True))
     for old, new in (("ntpaudit 1.0.0", "ntpaudit. All is well; ntpaudit 1.0.0"), ("2 of", "3 of"), ("1 ms", "2 ms")):
         (stated,) = year["machines"]
         text = json.dumps({**year, "machines": [{**stated, "statement": stated["statement"].replace(old, new)}]})

@@ -1,0 +1,178 @@
+"""Tests of what holds a signed year: whose keys count, which days are looked at, and which of its files are its own."""
+import json
+import os
+import shutil
+from pathlib import Path
+from typing import Any
+from unittest import mock
+
+from tests.support import check, is_here, run, sum_of
+from tests.dossier.audits import ENVIRONMENT, called, dossier
+from tests.dossier.test_evidence import key_of
+from tests.dossier.test_years import RIGHT, day
+
+from dossier.fleet import statements
+from dossier.folder.files import Folder
+
+OWN = "a machine's key signs its own days alone"
+FOLLOWS = "verified: its statements follow from the audits of its days"
+
+
+def signers_of(place: Path, *names: str) -> Path:
+    """A file of signers, each with a key that is called so."""
+    file = place / "signers"
+    file.write_text("".join(key_of(place, name)[1].replace(f"{name}@example.org", name) for name in names))
+    return file
+
+
+def sign(place: Path, name: str, file: Path) -> None:
+    """Has a key sign a file, whatever it is."""
+    Path(f"{file}.sig").unlink(missing_ok=True)
+    run(["ssh-keygen", "-q", "-Y", "sign", "-f", place / name, "-n", "ntpaudit-dossier", file])
+
+
+def year_of(place: Path, *words: object, **how: Any) -> Path:
+    """A year of machines."""
+    check("a year", status=(dossier("year", "--year", "2001", "--split", place / "pages", *words, **how)[0], 0))
+    return place / "pages"
+
+
+def change_lines(pages: Path, one: str, other: str) -> None:
+    """Changes each line of days, and the sums of these in year.json."""
+    year = json.loads((pages / "year.json").read_text())
+    for stated in year["machines"]:
+        file = pages / stated["file"]
+        file.write_text("".join(line.replace(one, other) for line in file.read_text().splitlines(keepends=True)))
+        stated["sha256"] = sum_of(file.read_bytes())
+    (pages / "year.json").write_text(json.dumps(year))
+
+
+def test_keys_of_namesakes(place: Path) -> None:
+    """Of two machines of one name none has a key: that of one would sign days of the other."""
+    if not is_here("ssh-keygen", "a fleet that signs"):
+        return
+    signers, own = signers_of(place, "web-1"), {**ENVIRONMENT, "XDG_STATE_HOME": str(place / "own")}
+    one, two = (place / "fleet" / site / "web-1" for site in ("paris", "london"))
+    for machine in (one, two):
+        dossier("audit", folder := day(machine, 0, RIGHT), env=own)
+        sign(place, "web-1", folder / "audit.json")
+    pages = year_of(place, "--signers", signers, one)
+    check("one machine by its key", by=(" web-1 " in (pages / f"{called(one)}.days").read_text(), True),
+          said=(FOLLOWS in dossier("verify", "--known", "--signers", signers, pages, place)[1].decode(), True))
+    shutil.rmtree(pages)
+    env = {**ENVIRONMENT, "XDG_STATE_HOME": str(place / "here")}
+    year_of(place, "--signers", signers, one, two, env=env)
+    text = (pages / f"{called(one)}.html").read_text().replace("&#39;", "'")
+    check("two machines of one name", by=([(pages / f"{called(path)}.days").read_text().split()[1]
+                                           for path in (one, two)], ["-", "-"]),
+          said=("more than one machine is called web-1, so nobody knows whose key that is" in text, True))
+    change_lines(pages, " - ", " web-1 ")
+    for more in ("", f"--signers {signers}"):
+        status, out, _ = dossier("verify", "--known", *more.split(), pages, place, env=env)
+        check(f"two machines of one name, said to have signed {more[:9]}", status=(status, 1), said=(
+            "is signed by web-1 by" in out.decode() and "more than one machine is called web-1" in out.decode(), True))
+
+
+def test_keys_of_machines(place: Path) -> None:
+    """A machine's key signs its own days alone: no year beside which it stands, and no other's day in any place."""
+    if not is_here("ssh-keygen", "a fleet that signs"):
+        return
+    signers, fleet, asked = signers_of(place, "web-1", "web-2", "ann"), place / "fleet", ["verify", "--as-signed"]
+    folders = [day(fleet / "web-1", 0, RIGHT), day(fleet / "web-1", 1, RIGHT, name="monday"),
+               day(place / "a" / "web-1" / "old", 0, RIGHT), day(place / "b" / "web-2", 0, RIGHT, client="192.0.2.11")]
+    dossier("audit", *folders)
+    (fleet / "web-2").mkdir()
+    pages = year_of(place, fleet / "web-1")
+    for name, status in (("web-2", 1), ("web-1", 1), ("ann", 0)):
+        sign(place, name, pages / "year.json")
+        told = dossier(*asked, "--signers", signers, "--known", pages, fleet)
+        check(f"a year beside web-2, signed by {name}", status=(told[0], status),
+              said=(OWN in told[1].decode(), bool(status)))
+    for name, named, is_others in (("web-2", folders[1:2], True), ("web-1", folders[1:2], False),
+                                   ("web-2", folders[:1], True), ("ann", folders[:1], False),
+                                   ("web-2", folders[2:], True), ("ann", folders[2:], False)):
+        for folder in named:
+            sign(place, name if folder != folders[3] else "web-2", folder / "audit.json")
+        told = dossier(*asked, "--signers", signers, "--known", *named)
+        check(f"{named[0].relative_to(place)} signed by {name}", status=(told[0], int(is_others)),
+              said=(told[1].decode().count(OWN), int(is_others)))
+
+
+def test_lines_without_says(place: Path) -> None:
+    """Each line of days has the sum of what an audit says, or the year is older than sums of pages."""
+    own = place / "fleet" / "web-1"
+    dossier("audit", day(own, 0, RIGHT))
+    pages = year_of(place, own)
+    says = (pages / f"{called(own)}.days").read_text().split()[2]
+    change_lines(pages, f" {says} ", " ")
+    status, out, _ = dossier("verify", "--known", pages, place / "fleet")
+    check("a line without its sum", status=(status, 1), said=(
+        f"{own}/2001-09-09: {called(own)}.days has no sum of what its audit.json says" in out.decode(), True))
+    year = json.loads((pages / "year.json").read_text())
+    del year["pages"]
+    (pages / "year.json").write_text(json.dumps(year))
+    check("an older year", said=(FOLLOWS in dossier("verify", "--known", pages, place / "fleet")[1].decode(), True))
+
+
+def test_files_of_nobody(place: Path) -> None:
+    """Files in a year's folder that no sum holds are named, and a file of days is one of the year's."""
+    own = place / "fleet" / "web-1"
+    dossier("audit", day(own, 0, RIGHT))
+    pages, words = year_of(place, own), "nobody answers for"
+    asked = ["verify", "--known", pages, place / "fleet"]
+    check("a year's own files", said=(words in dossier(*asked)[1].decode(), False))
+    for names, said in ((["notes.pdf"], "(nobody answers for notes.pdf)"),
+                        (["page.htm", "x.svg"], "(nobody answers for notes.pdf and 2 more files)")):
+        for name in names:
+            (pages / name).touch()
+        check(f"with {names[0]}", said=(f"{pages}: {said}" in dossier(*asked)[1].decode().splitlines(), True))
+    shutil.copy(pages / f"{called(own)}.days", pages / "web-9.days")
+    status, out, _ = dossier(*asked)
+    check("a file of days that nobody names", status=(status, 1),
+          said=(f"{pages}: web-9.days isn't a file that year.json names" in out.decode(), True))
+
+
+def test_left_out(place: Path) -> None:
+    """A machine that was left out of a year is looked at beside the others, however far up the folder that is named."""
+    own, other = place / "all" / "fleet" / "web-1", place / "all" / "fleet" / "web-9"
+    dossier("audit", day(own, 0, RIGHT), day(other, 1, RIGHT))
+    pages = year_of(place, own)
+    for named in (own.parent, own.parent.parent, place, "."):
+        out = dossier("verify", "--known", pages, named, cwd=place)[1].decode()
+        check(f"days beside a year, in {named}", said=(out.count("fleet/web-9/2001-09-10: verified: yes"), 1))
+    out = dossier("verify", "--known", pages, own)[1].decode()
+    check("days beside what is named", said=("web-9" in out, False))
+
+
+def test_audit_of_a_machine(place: Path) -> None:
+    """A machine that has an audit beside its days is a machine, and that isn't counted."""
+    one, two = place / "fleet" / "web-1", place / "fleet" / "web-3"
+    dossier("audit", folder := day(one, 0, RIGHT), day(two, 0, RIGHT))
+    shutil.copy(folder / "audit.json", two / "audit.json")
+    pages = year_of(place, one, two)
+    text = (pages / f"{called(two)}.html").read_text()
+    machines = [stated["machine"] for stated in json.loads((pages / "year.json").read_text())["machines"]]
+    check("a machine with an audit", machines=(machines, [str(one), str(two)]), shown=("shown on 1 of" in text, True),
+          said=("<li>audit.json: it is of the folder of all days, and of none of them</li>" in text, True))
+
+
+def test_large_files_of_days(place: Path) -> None:
+    """A file of days is held to its sum before it is parsed, and to a size; folders above days aren't worked out."""
+    own = place / "fleet" / "web-1"
+    dossier("audit", day(own, 0, RIGHT))
+    pages = year_of(place, own)
+    file = pages / f"{called(own)}.days"
+    kept = file.read_bytes()
+    for size in 0, 1 << 20, 1 << 30:
+        file.write_bytes(b"no line of one\n" + kept)
+        os.truncate(file, size or file.stat().st_size)
+        status, out, _ = dossier("verify", "--known", pages, place / "fleet", memory=1 << 29)
+        check(f"another file of days of {size} bytes", status=(status, 1), said=(
+            f"{pages}: {file.name} isn't the file that year.json names" in out.decode().splitlines(), True))
+    deep = f"{place}{'/x' * 1500}"
+    file.write_text("".join(f"{'0' * 64} verified {deep}/{number}\n" for number in range(400)))
+    change_lines(pages, "", "")
+    with mock.patch.object(statements, "folders_above", wraps=statements.folders_above) as above:
+        with Folder(str(pages)) as folder:
+            days = statements.days_of(folder, {str(place)})
+    check("deep paths", days=(len(days), 0), calls=(above.call_count, 0))
