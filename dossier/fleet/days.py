@@ -33,6 +33,8 @@ from .twins import few_of
 OTHER = "another claim or client than most days have"
 NO_DAY = "its name is no day, and it has no audit.json"
 UNKNOWN = f"{AUDIT} was neither made nor verified here, or is of another {CLAIM}"
+VERIFIED, NOBODY = "verified", "-"
+"""Who answers for a day that was made or verified where a year was put together, and for one that is known nowhere."""
 
 
 class DayFolder(NamedTuple):
@@ -47,14 +49,14 @@ class DayFolder(NamedTuple):
 
 class YearCall(NamedTuple):
     """Which year, what is known here, up to which Unix second days have ended, who may have signed what isn't known
-    here, who signed which folder by what is to be verified, and how many machines there are."""
+    here, who answers for which of a machine's folders by what is to be verified, and how many machines there are."""
 
     year: int
     known: Known
     leaps: LeapList
     at: int
     signers: Signers = Signers(None)
-    signed: dict[str, str] = {}
+    answering: dict[str, str] = {}
     machines: int = 1
 
 
@@ -101,14 +103,13 @@ def year_of(wanted: YearCall, machine: str, names: list[str]) -> Year:
     left = days[MOST_FOLDERS:]
     claims = {same(one.claim): one.claim for one in folders if one.claim}
     common = max(claims, key=Counter(same(one.claim) for one in folders if one.claim).__getitem__, default="")
-    begin, end = seconds_of(f"{wanted.year}-01-01T00:00:00Z"), seconds_of(f"{wanted.year}-12-31T00:00:00Z") + DAY
-    today = wanted.at // DAY * DAY
+    dates, today = dates_of(wanted), day_of(wanted.at)
     kept, beside, others = dict[str, Told](), dict[str, Told](), [f"{name} is named twice" for name in twice]
     others += [f"{plain(name)}: {len(left)} folders from it on are more than {MOST_FOLDERS}" for name in left[:1]]
     for one in sorted(folders, key=lambda one: [*WORST_FIRST, one.told.verdict].index(one.told.verdict)):
-        told, first = one.told, seconds_of(f"{one.told.date}T00:00:00Z") if one.told.date else begin
-        if not begin <= first < min(end, today):
-            others += [f"{told.folder}: {told.date} hasn't ended yet"] if first >= today else []
+        told = one.told
+        if told.date and told.date not in dates:
+            others += [f"{told.folder}: {told.date} hasn't ended yet"] if told.date >= today else []
         elif told.verdict == NOT_COUNTED or (one.claim and same(one.claim) != common):
             why = told.cause if told.verdict == NOT_COUNTED else OTHER
             others.append(f"{told.folder}: {why}")
@@ -117,7 +118,6 @@ def year_of(wanted: YearCall, machine: str, names: list[str]) -> Year:
             others.append(f"{told.folder}: {told.date} stands twice, and counts as in {kept[told.date].folder}")
         else:
             kept[told.date] = told
-    dates = [day_of(second) for second in range(begin, min(end, today), DAY)]
     made = {one.made: None for one in folders if one.made and one.told.date in kept}
     told_of_all = [kept.get(date) or beside.get(date) or Told(date, MISSING) for date in dates]
     captures = {sum_ for one in folders if kept.get(one.told.date) is one.told
@@ -125,6 +125,17 @@ def year_of(wanted: YearCall, machine: str, names: list[str]) -> Year:
     path = machine if machine.isprintable() else plain(machine)  # (a line feed would make a line of a file of sums)
     return Year(plain(machine), told_of_all, claims.get(common), sorted(others), list(made), sorted(captures),
                 path=path)
+
+
+def dates_of(wanted: YearCall) -> list[str]:
+    """The days of the year that have ended."""
+    begin, end = (seconds_of(f"{wanted.year}-{day}T00:00:00Z") for day in ("01-01", "12-31"))
+    return [day_of(second) for second in range(begin, min(end + DAY, wanted.at // DAY * DAY), DAY)]
+
+
+def missing_year(wanted: YearCall, machine: str) -> Year:
+    """The year of a machine that has no folder."""
+    return Year(machine, [Told(date, MISSING) for date in dates_of(wanted)])
 
 
 class Twins:
@@ -180,20 +191,23 @@ def day_folders(wanted: YearCall, folder: Folder, name: str) -> Iterator[DayFold
         if not named and not folder.has(f"{name}/{AUDIT}"):
             yield DayFolder(Told("", NOT_COUNTED, plain(name), NO_DAY))
             return
-        written, by = read_record(folder.data(f"{name}/{AUDIT}")), wanted.signed.get(f"{folder.path}/{name}", "")
+        written, by = read_record(folder.data(f"{name}/{AUDIT}")), wanted.answering.get(name, "")
         record = wanted.known.shown(folder.sum(f"{name}/{AUDIT}"), written)
         signer = signer_of(wanted.signers, folder, name) if by or not record else ""
         if not record and signer and by in ("", signer):
             record, by = written, signer
-        if by and by != signer and wanted.signers.given is not None:
+        if by not in ("", NOBODY, signer) and wanted.signers.given is not None:
             record = None  # (it is said to count by a signature)
         if record and not record.refusal and folder.sum(f"{name}/{CLAIM}") != record.inputs.get(CLAIM):
             record = None
+        unknown = UNKNOWN
+        if by == NOBODY:  # (what was found since doesn't count, and is told)
+            unknown, record = found_since(wanted.known, record), None
     except Fault as error:
         yield DayFolder(Told(named, NOT_COUNTED, plain(name), plain(error.words)))
         return
     if record is None or record.refusal:
-        verdict, why = (REFUSED, record.refusal.line) if record and record.refusal else (NOT_VERIFIED, UNKNOWN)
+        verdict, why = (REFUSED, record.refusal.line) if record and record.refusal else (NOT_VERIFIED, unknown)
         told = Told(named, verdict, plain(name), plain(why), name=written.name, by=by if record else "",
                     says=written.says)
         yield DayFolder(told if named else replace(told, verdict=NOT_COUNTED), made=record.program if record else None)
@@ -202,6 +216,13 @@ def day_folders(wanted: YearCall, folder: Folder, name: str) -> Iterator[DayFold
         for entry in record_by(wanted.leaps, record).entries:
             one = told_of(name, entry, record, by, dispute)
             yield one._replace(told=replace(one.told, says=says))
+
+
+def found_since(known: Known, record: Record | None) -> str:
+    """The verdicts of what is known here, though it wasn't where a year was put together."""
+    if not record or known.believes:
+        return UNKNOWN
+    return DISPUTED if known.dispute(record) else " and ".join(sorted({*record.verdicts}))
 
 
 def signer_of(signers: Signers, folder: Folder, name: str) -> str:

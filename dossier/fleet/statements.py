@@ -2,7 +2,7 @@
 somebody can sign it."""
 import os
 import re
-from itertools import dropwhile
+from itertools import dropwhile, groupby
 from typing import NamedTuple
 
 from ..fault import fault
@@ -15,7 +15,7 @@ from ..folder.year import Stated, read_statements
 from ..records import replace
 from ..text import count, label, listed, plain, spelled
 from ..units import low_ms, ns_ms, ns_up_ms, seconds_of
-from .days import Twins, YearCall, packed, unpacked, year_of
+from .days import NOBODY, UNKNOWN, VERIFIED, Twins, YearCall, missing_year, packed, unpacked, year_of
 from .signature import Signers
 
 RULES = {100_000: "MiFID II's RTS 25 of high-frequency trading, and CAT's 6.8 of exchanges",
@@ -27,9 +27,8 @@ IN_A_SENTENCE, OUT_OF_QUOTES = re.compile("[A-Za-z0-9_./@+-]+"), re.compile(r"[^
 """A name that stands in a sentence as it is; and what is spelled out of any other."""
 
 TWINS, ALIKE = "A recording of these days is that of", "days of the same client, on the same dates"
-VERIFIED, NOBODY, NOTHING = "verified", "-", "0" * 64
-"""Who answers for a day that was made or verified where a year was put together, and for one that is known nowhere; and
-the name of one that has no audit, and what that says."""
+NOTHING = "0" * 64
+"""The name of a day that has no audit, and what that says."""
 
 PAGE = ".html"
 PAGES = f"its pages are those of which {YEAR} has the sums: they weren't made again"
@@ -217,10 +216,9 @@ def compared(folder: Folder, known: Known, leaps: LeapList, signers: Signers = S
     hidden, unseen, notes = list[str](), 0, list[str]()
     for number, (stated, data) in enumerate(zip(statements.machines, years)):
         year = twins.of(number, unpacked(data))
-        own = stated if year.days else replace(stated, days=0)
-        if stated_of(year, stated.file, sums := folder.data(stated.file)) != own:
+        if stated_of(year, stated.file, sums := folder.data(stated.file)) != stated:
             year, notes = replace(year, programs=programs_in(stated.statement)), [BY_ANOTHER]
-        if stated_of(year, stated.file, sums) != own:
+        if stated_of(year, stated.file, sums) != stated:
             return Compared(f"{label(stated.machine)}: the statement doesn't follow from its days, as they are known "
                             "here")
         hidden += not_shown(year)
@@ -256,10 +254,10 @@ def year_stated(folder: Folder, stated: Stated, wanted: YearCall) -> Year:
     """The year of a machine by the folders that a statement names, as far as they are known here."""
     lines = lines_in(folder, stated)
     if not lines:
-        return Year(stated.machine, [])
+        return missing_year(wanted, stated.machine)
     machine = os.path.dirname(lines[0].path) or "."
-    signed = {line.path: line.by for line in lines if line.by not in (VERIFIED, NOBODY)}
-    year = year_of(wanted._replace(signed=signed), machine, [os.path.basename(line.path) for line in lines])
+    answering = {os.path.basename(line.path): line.by for line in lines if line.by != VERIFIED}
+    year = year_of(wanted._replace(answering=answering), machine, [os.path.basename(line.path) for line in lines])
     return replace(year, machine=stated.machine)
 
 
@@ -283,13 +281,14 @@ WORDS = {VERIFIED: "verified", NOBODY: "not verified"}
 
 def not_shown(year: Year) -> list[str]:
     """The days of a machine that aren't shown, those of one verdict that follow one another together."""
-    runs = list[list[str]]()
-    for before, day in zip([None, *year.days], year.days):
-        if day.verdict == YES:
-            continue
-        if before and before.verdict == day.verdict:
-            runs[-1][1] = day.date
-        else:
-            runs.append([day.date, day.date, day.verdict])
-    return [f"{year.machine} {first if first == last else f'{first} .. {last}'} {verdict}"
-            for first, last, verdict in runs]
+    if not year.days:
+        return [f"{in_quotes(year.machine)} any day, since none had ended"]
+    runs = [(words, list(days)) for words, days in groupby(year.days, said_of) if words != YES]
+    return [f"{in_quotes(year.machine)} {' .. '.join(dict.fromkeys((days[0].date, days[-1].date)))} {words}"
+            for words, days in runs]
+
+
+def said_of(day: Told) -> str:
+    """A day's verdict, and what was found since of one that nobody had verified."""
+    is_found = day.verdict == NOT_VERIFIED and day.cause != UNKNOWN
+    return f"{day.verdict} (here {day.cause})" if is_found else day.verdict
