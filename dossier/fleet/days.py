@@ -16,14 +16,14 @@ from ..fault import Fault
 from ..folder.claim import Claim
 from ..folder.entry import (DISPUTED, NOT_VERIFIED, REFUSED, WORST_FIRST, Entry, LeapList, Made, Record, Refusal,
                             read_record)
-from ..folder.files import AUDIT, CLAIM, SIGNATURE, Folder
+from ..folder.files import AUDIT, CLAIM, SIGNATURE, Folder, absolute
 from ..folder.jobs import run_one
 from ..folder.registry import Known
 from ..folder.result import MISSING, MOST_FOLDERS, NOT_COUNTED, Told, Year
 from ..folder.table import Table
 from ..premise.leap import record_by
 from ..records import replace
-from ..schema import is_time, said, typed
+from ..schema import is_text, is_time, said, typed
 from ..text import plain
 from ..units import DAY, day_of, seconds_of
 from ..verdict.sentences import reason
@@ -75,10 +75,26 @@ def machines_of(folders: list[str], others: Collection[str] = ()) -> dict[str, l
     for folder in folders:
         above, name = os.path.split(folder)
         if is_day(name) or folder in others:
-            machines.setdefault(above or ".", []).append(name)
+            machines.setdefault(with_name(above), []).append(name)
         else:
-            machines.setdefault(folder, [])
+            machines.setdefault(with_name(folder), [])
     return machines
+
+
+def with_name(path: str) -> str:
+    """The path of a machine's folder, in one spelling that ends with its name."""
+    path = os.path.normpath(path)
+    return absolute(path) if os.path.basename(path) in (".", "..") else path
+
+
+def in_words(path: str) -> str:
+    """What a folder is called, in words that are another's for no other path."""
+    return plain(path.replace("\\", "\\x5c"))
+
+
+def in_a_line(path: str) -> str:
+    """A path as it stands in a line of a file of days: as it is, if it can."""
+    return path if "\n" not in path and is_text(path) else plain(path)
 
 
 def days_among(folders: list[str], seconds: int) -> list[str]:
@@ -109,22 +125,22 @@ def year_of(wanted: YearCall, machine: str, names: list[str]) -> Year:
     for one in sorted(folders, key=lambda one: [*WORST_FIRST, one.told.verdict].index(one.told.verdict)):
         told = one.told
         if told.date and told.date not in dates:
-            others += [f"{told.folder}: {told.date} hasn't ended yet"] if told.date >= today else []
+            others += [f"{plain(told.folder)}: {told.date} hasn't ended yet"] if told.date >= today else []
         elif told.verdict == NOT_COUNTED or (one.claim and same(one.claim) != common):
             why = told.cause if told.verdict == NOT_COUNTED else OTHER
-            others.append(f"{told.folder}: {why}")
+            others.append(f"{plain(told.folder)}: {why}")
             beside.setdefault(told.date, replace(told, verdict=NOT_COUNTED, cause=why, least_ns=None, off=0))
         elif told.date in kept:
-            others.append(f"{told.folder}: {told.date} stands twice, and counts as in {kept[told.date].folder}")
+            others.append(f"{plain(told.folder)}: {told.date} stands twice, and counts as in "
+                          f"{plain(kept[told.date].folder)}")
         else:
             kept[told.date] = told
     made = {one.made: None for one in folders if one.made and one.told.date in kept}
     told_of_all = [kept.get(date) or beside.get(date) or Told(date, MISSING) for date in dates]
     captures = {sum_ for one in folders if kept.get(one.told.date) is one.told
                 for sum_ in few_of(one.captures, 366 * wanted.machines)}
-    path = machine if machine.isprintable() else plain(machine)  # (a line feed would make a line of a file of sums)
-    return Year(plain(machine), told_of_all, claims.get(common), sorted(others), list(made), sorted(captures),
-                path=path)
+    return Year(in_words(machine), told_of_all, claims.get(common), sorted(others), list(made), sorted(captures),
+                path=in_a_line(machine))
 
 
 def dates_of(wanted: YearCall) -> list[str]:
@@ -189,7 +205,7 @@ def day_folders(wanted: YearCall, folder: Folder, name: str) -> Iterator[DayFold
     named = name if is_day(name) else ""
     try:
         if not named and not folder.has(f"{name}/{AUDIT}"):
-            yield DayFolder(Told("", NOT_COUNTED, plain(name), NO_DAY))
+            yield DayFolder(Told("", NOT_COUNTED, in_a_line(name), NO_DAY))
             return
         written, by = read_record(folder.data(f"{name}/{AUDIT}")), wanted.answering.get(name, "")
         record = wanted.known.shown(folder.sum(f"{name}/{AUDIT}"), written)
@@ -204,11 +220,11 @@ def day_folders(wanted: YearCall, folder: Folder, name: str) -> Iterator[DayFold
         if by == NOBODY:  # (what was found since doesn't count, and is told)
             unknown, record = found_since(wanted.known, record), None
     except Fault as error:
-        yield DayFolder(Told(named, NOT_COUNTED, plain(name), plain(error.words)))
+        yield DayFolder(Told(named, NOT_COUNTED, in_a_line(name), plain(error.words)))
         return
     if record is None or record.refusal:
         verdict, why = (REFUSED, record.refusal.line) if record and record.refusal else (NOT_VERIFIED, unknown)
-        told = Told(named, verdict, plain(name), plain(why), name=written.name, by=by if record else "",
+        told = Told(named, verdict, in_a_line(name), plain(why), name=written.name, by=by if record else "",
                     says=written.says)
         yield DayFolder(told if named else replace(told, verdict=NOT_COUNTED), made=record.program if record else None)
     else:
@@ -239,9 +255,9 @@ def told_of(name: str, entry: Entry, record: Record, by: str, dispute: str) -> D
     claim, date = entry.claim, entry.claim.from_[:10]
     if claim.first % DAY or claim.last != claim.first + DAY:
         why = f"{claim.from_} to {claim.to} is no day"
-        return DayFolder(Told(name if is_day(name) else "", NOT_COUNTED, plain(name), why), claim)
-    told = Told(date, DISPUTED, plain(name), dispute, name=record.name, by=by) if dispute else \
-        Told(date, entry.verdict, plain(name), reason(entry), entry.least_ns, known_error(entry), record.name, by)
+        return DayFolder(Told(name if is_day(name) else "", NOT_COUNTED, in_a_line(name), why), claim)
+    told = Told(date, DISPUTED, in_a_line(name), dispute, name=record.name, by=by) if dispute else \
+        Told(date, entry.verdict, in_a_line(name), reason(entry), entry.least_ns, known_error(entry), record.name, by)
     return DayFolder(told, claim, record.program, record.recordings)
 
 

@@ -15,7 +15,7 @@ from ..folder.year import Stated, read_statements
 from ..records import replace
 from ..text import count, label, listed, plain, spelled
 from ..units import low_ms, ns_ms, ns_up_ms, seconds_of
-from .days import NOBODY, UNKNOWN, VERIFIED, Twins, YearCall, missing_year, packed, unpacked, year_of
+from .days import NOBODY, UNKNOWN, VERIFIED, Twins, YearCall, in_words, missing_year, packed, unpacked, year_of
 from .signature import Signers
 
 RULES = {100_000: "MiFID II's RTS 25 of high-frequency trading, and CAT's 6.8 of exchanges",
@@ -134,10 +134,10 @@ def stated_of(year: Year, file: str, sums: bytes) -> Stated:
 
 
 def read_lines(data: bytes) -> list[Line]:
-    """The lines of a file of days."""
-    matches = [LINE.fullmatch(line) for line in data.decode("utf-8", "surrogateescape").splitlines()]
-    lines = [Line(*line.groups("")) for line in matches if line]
-    if len(lines) < len(matches):
+    """The lines of a file of days, each with a line feed at its end: a path may have any other mark."""
+    *every, rest = data.decode("utf-8", "surrogateescape").split("\n")
+    lines = [Line(*line.groups("")) for line in map(LINE.fullmatch, every) if line]
+    if rest or len(lines) < len(every):
         raise fault("a file of days isn't one")
     if any(len(line.path) > MOST_OF_A_PATH for line in lines):
         raise fault(f"a file of days names a path of more than {MOST_OF_A_PATH:,} characters")
@@ -174,14 +174,13 @@ def folders_above(path: str) -> set[str]:
 
 def may_be(name: str, machine: str, place: str) -> bool:
     """Whether a machine may have been called so where the year in some folder was made: the path of its folder ends so,
-    or this ends with all of the path that leads there from the year's. What stands before that is no part of a
-    sentence: it has no blank."""
-    called, here = bare(os.path.normpath(name)), plain(absolute(machine))
-    seen = bare(plain(os.path.relpath(absolute(machine), absolute(place)))) or os.path.basename(here)
+    or this ends with all of the path that leads there from the year's."""
+    called, here = bare(os.path.normpath(name)), in_words(absolute(machine))
+    seen = bare(in_words(os.path.relpath(absolute(machine), absolute(place)))) or os.path.basename(here)
     is_so = called == bare(name)
     above = f"/{called}".removesuffix(f"/{seen}") if is_so else os.path.dirname(name)
     return is_so and here.endswith(f"/{called}") or \
-        f"/{called}".endswith(f"/{seen}") and above == plain(above) and " " not in above
+        f"/{called}".endswith(f"/{seen}") and above == plain(above)
 
 
 def bare(path: str) -> str:

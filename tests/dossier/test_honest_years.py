@@ -1,5 +1,6 @@
 """Tests of honest years that are signed: each is as it was signed, in each of the ways, for whoever verifies it.
 """
+import os
 import shutil
 from pathlib import Path
 from typing import Any
@@ -9,6 +10,9 @@ from tests.dossier.audits import ENVIRONMENT, called, dossier
 from tests.dossier.test_evidence import key_of
 from tests.dossier.test_fleets import days_of, machine
 from tests.dossier.test_years import RIGHT, WIDE, day
+
+from dossier.fleet.days import in_words
+from dossier.fleet.statements import in_quotes, may_be
 
 WAYS = "", "--answers", "--known", "--second", "--sample 2 --seed x", "--answers --known"
 
@@ -88,3 +92,48 @@ def test_verified_later(place: Path) -> None:
         found = ["10 .. 2001-09-11 not verified"] if "--sample" in way else known
         check(f"days that were verified later {way}", status=(status, 0), last=([
             f"{own} 2001-09-{words}" in last_of(text) for words in found], [True] * len(found)))
+
+
+SPELLINGS: list[tuple[str, str, list[str], str]] = [
+    ("within its folder", "fleet/web-1", ["."], "fleet/web-1"),
+    ("its days, within its folder", "fleet/web-1", ["2001-09-09", "2001-09-10"], "fleet/web-1"),
+    ("two slashes", "fleet/web-1", ["fleet//web-1"], "."),
+    ("one folder by two paths", "fleet/web-1", ["fleet//web-1/2001-09-09", "./fleet/web-1/2001-09-10"], "."),
+    ("a blank", "our fleet/web 1", ["our fleet/web 1"], "."),
+    ("a blank above", "our fleet/web-1", [], "."),
+    ("a Cyrillic letter", "fleet/web-\u0430", [], "."),
+    ("a Cyrillic letter, within its folder", "fleet/web-\u0430", ["."], "fleet/web-\u0430"),
+    ("a line separator", "fle\u2028et/web\u20281", ["fle\u2028et/web\u20281"], "."),
+    ("signs of a sentence", 'fleet/web-1", all is shown; (\\x22', [], ".")]
+"""What is strange about a machine's path, the path, the words by which its year is made, the whole path if there are
+none, and where."""
+
+
+def test_spellings(place: Path) -> None:
+    """A year verifies however its machine is spelled, and wherever all of it is brought."""
+    if not is_here("ssh-keygen", "a year that is signed"):
+        return
+    key, allowed = key_of(place, "ann")
+    (place / "signers").write_text(allowed)
+    for number, (what, path, words, where) in enumerate(SPELLINGS):
+        whole = place / f"{number}" / "our place"
+        own = whole / path
+        day(own, 0, RIGHT)
+        day(own, 1, WIDE, name="2001-09-10" if words[1:] else "2001-09-10 \u0430")
+        dossier("audit", *days_of(own))
+        dossier("year", "--year", "2001", "--split", whole / "pages", *(words or [own]), cwd=whole / where)
+        dossier("sign", "--key", key, whole / "pages")
+        for to in whole, place / f"{number}" / "elsewhere", place / f"{number}" / "x" / "another place":
+            to.parent.mkdir(exist_ok=True)
+            whole = whole.rename(to)
+            for names, cwd in (([whole / "pages", (whole / path).parent], "/"), (["pages", "."], whole),
+                               ([os.path.relpath(whole / name, whole / path) for name in ("pages", path)],
+                                whole / path)):
+                status, out, _ = dossier("verify", "--as-signed", "--signers", place / "signers", *names, cwd=cwd)
+                last = last_of(out.decode())
+                check(f"{what}, {names} in {cwd}", status=(status, 0), last=(
+                    last.startswith("all is as it was signed; not shown: ") and last.count('"') in (0, 6), True))
+    paths = "web-\u0430", "web-\\u0430", "web-\\x5cu0430", "web-a", "web\u20281", "web\\u20281", "web 1", "web\\x201"
+    check("paths that differ", words=(len({in_quotes(in_words(path)) for path in paths}), len(paths)), may_be=([
+        may_be(in_words(one), f"/x/{other}", "/x") for one in paths for other in paths if one != other],
+        [False] * len(paths) * (len(paths) - 1)))
