@@ -206,7 +206,8 @@ def compared(folder: Folder, known: Known, leaps: LeapList, signers: Signers = S
             return Compared(f"{label(stated.file)} isn't the file that {YEAR} names")
         if wrong := has_one_machine(folder, stated):
             return Compared(wrong)
-        wanted = YearCall(statements.year, known, leaps, seconds_of(statements.made), signers)
+        wanted = YearCall(statements.year, known, leaps, seconds_of(statements.made), signers,
+                          machines=len(statements.machines))
         year = year_stated(folder, stated, wanted)
         if wrong := other_days(folder, stated, year):
             return Compared(wrong)

@@ -1,15 +1,17 @@
 """Tests of honest years that are signed: each is as it was signed, in each of the ways, for whoever verifies it.
 """
+import json
 import os
 import shutil
 from pathlib import Path
 from typing import Any
 
 from tests.support import check, is_here
-from tests.dossier.audits import ENVIRONMENT, called, dossier
+from tests.dossier.audits import ENVIRONMENT, called, dossier, record_of
 from tests.dossier.test_evidence import key_of
 from tests.dossier.test_fleets import days_of, machine
 from tests.dossier.test_years import RIGHT, WIDE, day
+from tests.tools.wire import records_of
 
 from dossier.fleet.days import in_words
 from dossier.fleet.statements import in_quotes, may_be
@@ -92,6 +94,25 @@ def test_verified_later(place: Path) -> None:
         found = ["10 .. 2001-09-11 not verified"] if "--sample" in way else known
         check(f"days that were verified later {way}", status=(status, 0), last=([
             f"{own} 2001-09-{words}" in last_of(text) for words in found], [True] * len(found)))
+
+
+def test_written_is_read(place: Path) -> None:
+    """What `audit` writes it reads: stamps of one packet minutes apart, a great offset in a log, and many logs."""
+    folder = day(place, 0, RIGHT)
+    shutil.copytree(folder, logged := place / "logged")
+    data = (folder / "f.pcap").read_bytes()
+    later = (int.to_bytes(int.from_bytes(one[:4], "little") + 3000, 4, "little") + one[4:] for one in records_of(data))
+    (folder / "g.pcap").write_bytes(data[:24] + b"".join(later))
+    names = ["tracking.log", *(f"{number}.log" for number in range(80))]
+    for name in names:
+        (logged / name).write_text("what is no log\n")
+    (logged / names[0]).write_text("2001-09-09 00:10:00 192.0.2.1 2 0.0 0.1 1.900e+04 N 1 1.0e-05 0.0 0 0 1.0e-05\n")
+    (logged / "evidence.json").write_text(json.dumps({"drift": " ".join(names)}))
+    dossier("audit", folder, logged)
+    for path, kind, least in (folder, "stamps", 2**40), (logged, "offset", 2**40), (logged, "unread", 1):
+        counts = [alert.get("count", 0) for alert in record_of(path)["entries"][0]["warnings"] if alert["kind"] == kind]
+        check(f"{kind} that are many", counts=(counts, lambda counts: max(counts) >= least),
+              said=(b": verified: " in dossier("verify", path)[1], True))
 
 
 SPELLINGS: list[tuple[str, str, list[str], str]] = [
