@@ -7,7 +7,7 @@ from pathlib import Path
 from typing import Any
 
 from tests.support import check, is_here
-from tests.dossier.audits import ENVIRONMENT, called, dossier, record_of
+from tests.dossier.audits import ENVIRONMENT, called, dossier, record_of, rows, with_change
 from tests.dossier.test_evidence import key_of
 from tests.dossier.test_fleets import days_of, machine
 from tests.dossier.test_years import RIGHT, WIDE, day
@@ -147,9 +147,9 @@ def test_spellings(place: Path) -> None:
         for to in whole, place / f"{number}" / "elsewhere", place / f"{number}" / "x" / "another place":
             to.parent.mkdir(exist_ok=True)
             whole = whole.rename(to)
-            for names, cwd in (([whole / "pages", (whole / path).parent], "/"), (["pages", "."], whole),
-                               ([os.path.relpath(whole / name, whole / path) for name in ("pages", path)],
-                                whole / path)):
+            ways = rows(([whole / "pages", (whole / path).parent], "/"), (["pages", "."], whole), (
+                [os.path.relpath(whole / name, whole / path) for name in ("pages", path)], whole / path))
+            for names, cwd in ways:
                 status, out, _ = dossier("verify", "--as-signed", "--signers", place / "signers", *names, cwd=cwd)
                 last = last_of(out.decode())
                 check(f"{what}, {names} in {cwd}", status=(status, 0), last=(
@@ -158,3 +158,59 @@ def test_spellings(place: Path) -> None:
     check("paths that differ", words=(len({in_quotes(in_words(path)) for path in paths}), len(paths)), may_be=([
         may_be(in_words(one), f"/x/{other}", "/x") for one in paths for other in paths if one != other],
         [False] * len(paths) * (len(paths) - 1)))
+
+
+def test_principals(place: Path) -> None:
+    """A day counts by any key of its machine, however the file of signers has its name."""
+    if not is_here("ssh-keygen", "a year that is signed"):
+        return
+    for number, (name, principals) in enumerate((
+            ("web-1", ("web-1", "root@web-1")), ("web-1", ('"backup,web-1"', "backup,root@web-1")),
+            ("web 1", ('"web 1"', '"backup,root@web 1"')))):
+        whole = place / f"{number}"
+        own = machine(whole / "fleet", name)
+        theirs = {**ENVIRONMENT, "XDG_STATE_HOME": str(whole / "theirs")}
+        dossier("audit", *days_of(own), env=theirs)
+        lines = ""
+        for key, principal, path in zip(("one", "two"), principals, days_of(own)):
+            file, line = key_of(whole, key)
+            lines += line.replace(f"{key}@example.org", principal)
+            dossier("sign", "--key", file, path, env=theirs)
+        (whole / "signers").write_text(lines + key_of(whole, "ann")[1])
+        here = {**ENVIRONMENT, "XDG_STATE_HOME": str(whole / "here")}
+        among = "--signers", whole / "signers"
+        dossier("year", "--year", "2001", *among, "--split", whole / "pages", own, env=here)
+        signed = dossier("sign", "--key", whole / "ann", *among, whole / "pages", env=here)
+        status, text = as_signed(whole)
+        lines = (whole / "pages" / f"{called(own)}.days").read_text()
+        check(f"days signed by {principals}", sign=(signed[0], 0), status=(status, 0), by=(
+            [line.split(" ")[1] for line in lines.splitlines()],
+            [word.replace(" ", "\\x20") for word in (name, f"root@{name}")]),
+            last=(last_of(text).startswith("all is as it was signed"), True))
+        shutil.copytree(own, whole / "fleet" / "backup-2")
+        dossier("year", "--year", "2001", *among, "--split", whole / "others", whole / "fleet" / "backup-2", env=here)
+        text = (whole / "others" / f"{called(whole / 'fleet' / 'backup-2')}.days").read_text()
+        check(f"another machine's, signed by {principals}", by=(
+            [line.split(" ")[1] for line in text.splitlines()], ["-", "-"]))
+
+
+COUNTING = """import dossier.fleet.days as days
+few_of = days.few_of
+def counting(captures, folders):
+    with open("{}", "a") as file:
+        file.write(f"{{folders}} ")
+    return few_of(captures, folders)
+days.few_of = counting"""
+
+
+def test_many_machines(place: Path) -> None:
+    """Of each day as many captures are looked for again when a year is verified as when it was made."""
+    fleet, numbers = place / "fleet", list[str]()
+    machines = [machine(fleet, f"web-{number}") for number in (1, 2)]
+    dossier("audit", *days_of(*machines))
+    for command in rows(("year", "--year", "2001", "--split", place / "pages", *machines),
+                        ("verify", place / "pages", fleet)):
+        with_change(COUNTING.format(place / "log"), *command)
+        numbers.append((place / "log").read_text())
+        (place / "log").unlink()
+    check("captures that are looked for again", numbers=(numbers, ["732 " * 4] * 2))
