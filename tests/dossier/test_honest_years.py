@@ -142,7 +142,7 @@ def test_spellings(place: Path) -> None:
         day(own, 0, RIGHT)
         day(own, 1, WIDE, name="2001-09-10" if words[1:] else "2001-09-10 \u0430")
         dossier("audit", *days_of(own))
-        dossier("year", "--year", "2001", "--split", whole / "pages", *(words or [own]), cwd=whole / where)
+        dossier("year", "--year", "2001", "--split", whole / "pages", *(words or [str(own)]), cwd=whole / where)
         dossier("sign", "--key", key, whole / "pages")
         for to in whole, place / f"{number}" / "elsewhere", place / f"{number}" / "x" / "another place":
             to.parent.mkdir(exist_ok=True)
