@@ -23,7 +23,7 @@ from ..folder.result import MISSING, MOST_FOLDERS, NOT_COUNTED, Told, Year
 from ..folder.table import Table
 from ..premise.leap import record_by
 from ..records import replace
-from ..schema import is_time, said, typed
+from ..schema import is_text, is_time, said, typed
 from ..text import plain
 from ..units import DAY, day_of, seconds_of
 from ..verdict.sentences import reason
@@ -35,6 +35,8 @@ NO_DAY = "its name is no day, and it has no audit.json"
 UNKNOWN = f"{AUDIT} was neither made nor verified here, or is of another {CLAIM}"
 NAMESAKES = "more than one machine is called {}, so nobody knows whose key that is"
 ITS_OWN = f"{AUDIT}: it is of the folder of all days, and of none of them"
+VERIFIED, NOBODY = "verified", "-"
+"""Who answers for a day that was made or verified where a year was put together, and for one that is known nowhere."""
 
 
 class DayFolder(NamedTuple):
@@ -49,15 +51,15 @@ class DayFolder(NamedTuple):
 
 class YearCall(NamedTuple):
     """Which year, what is known here, up to which Unix second days have ended, who may have signed what isn't known
-    here, who signed which folder by what is to be verified, how many machines there are, and which last names several
-    of them have, so that no signature counts for these."""
+    here, who answers for which of a machine's folders by what is to be verified, how many machines there are, and
+    which last names several of them have, so that no signature counts for these."""
 
     year: int
     known: Known
     leaps: LeapList
     at: int
     signers: Signers = Signers(None)
-    signed: dict[str, str] = {}
+    answering: dict[str, str] = {}
     machines: int = 1
     namesakes: frozenset[str] = frozenset()
 
@@ -81,9 +83,9 @@ def machines_of(folders: list[str], others: Collection[str] = ()) -> dict[str, l
     for folder in folders:
         above, name = os.path.split(folder)
         if is_day(name) or folder in others:
-            machines.setdefault(above or ".", []).append(name)
+            machines.setdefault(with_name(above), []).append(name)
         else:
-            machines.setdefault(folder, [])
+            machines.setdefault(with_name(folder), [])
     return machines
 
 
@@ -91,6 +93,22 @@ def namesakes(machines: Iterable[str]) -> frozenset[str]:
     """The last names that several machines have, by their folders."""
     names = Counter(os.path.basename(machine) for machine in set(map(absolute, machines)))
     return frozenset(name for name, number in names.items() if number > 1)
+
+
+def with_name(path: str) -> str:
+    """The path of a machine's folder, in one spelling that ends with its name."""
+    path = os.path.normpath(path)
+    return absolute(path) if os.path.basename(path) in (".", "..") else path
+
+
+def in_words(path: str) -> str:
+    """What a folder is called, in words that are another's for no other path."""
+    return plain(path.replace("\\", "\\x5c"))
+
+
+def in_a_line(path: str) -> str:
+    """A path as it stands in a line of a file of days: as it is, if it can."""
+    return path if "\n" not in path and is_text(path) else plain(path)
 
 
 def days_among(folders: list[str], seconds: int, is_alone: bool = False) -> list[str]:
@@ -117,31 +135,40 @@ def year_of(wanted: YearCall, machine: str, names: list[str]) -> Year:
     left = days[MOST_FOLDERS:]
     claims = {same(one.claim): one.claim for one in folders if one.claim}
     common = max(claims, key=Counter(same(one.claim) for one in folders if one.claim).__getitem__, default="")
-    begin, end = seconds_of(f"{wanted.year}-01-01T00:00:00Z"), seconds_of(f"{wanted.year}-12-31T00:00:00Z") + DAY
-    today = wanted.at // DAY * DAY
+    dates, today = dates_of(wanted), day_of(wanted.at)
     kept, beside = dict[str, Told](), dict[str, Told]()
     others += [f"{name} is named twice" for name in twice]
     others += [f"{plain(name)}: {len(left)} folders from it on are more than {MOST_FOLDERS}" for name in left[:1]]
     for one in sorted(folders, key=lambda one: [*WORST_FIRST, one.told.verdict].index(one.told.verdict)):
-        told, first = one.told, seconds_of(f"{one.told.date}T00:00:00Z") if one.told.date else begin
-        if not begin <= first < min(end, today):
-            others += [f"{told.folder}: {told.date} hasn't ended yet"] if first >= today else []
+        told = one.told
+        if told.date and told.date not in dates:
+            others += [f"{plain(told.folder)}: {told.date} hasn't ended yet"] if told.date >= today else []
         elif told.verdict == NOT_COUNTED or (one.claim and same(one.claim) != common):
             why = told.cause if told.verdict == NOT_COUNTED else OTHER
-            others.append(f"{told.folder}: {why}")
+            others.append(f"{plain(told.folder)}: {why}")
             beside.setdefault(told.date, replace(told, verdict=NOT_COUNTED, cause=why, least_ns=None, off=0))
         elif told.date in kept:
-            others.append(f"{told.folder}: {told.date} stands twice, and counts as in {kept[told.date].folder}")
+            others.append(f"{plain(told.folder)}: {told.date} stands twice, and counts as in "
+                          f"{plain(kept[told.date].folder)}")
         else:
             kept[told.date] = told
-    dates = [day_of(second) for second in range(begin, min(end, today), DAY)]
     made = {one.made: None for one in folders if one.made and one.told.date in kept}
     told_of_all = [kept.get(date) or beside.get(date) or Told(date, MISSING) for date in dates]
     captures = {sum_ for one in folders if kept.get(one.told.date) is one.told
                 for sum_ in few_of(one.captures, 366 * wanted.machines)}
-    path = machine if machine.isprintable() else plain(machine)  # (a line feed would make a line of a file of sums)
-    return Year(plain(machine), told_of_all, claims.get(common), sorted(others), list(made), sorted(captures),
-                path=path)
+    return Year(in_words(machine), told_of_all, claims.get(common), sorted(others), list(made), sorted(captures),
+                path=in_a_line(machine))
+
+
+def dates_of(wanted: YearCall) -> list[str]:
+    """The days of the year that have ended."""
+    begin, end = (seconds_of(f"{wanted.year}-{day}T00:00:00Z") for day in ("01-01", "12-31"))
+    return [day_of(second) for second in range(begin, min(end + DAY, wanted.at // DAY * DAY), DAY)]
+
+
+def missing_year(wanted: YearCall, machine: str) -> Year:
+    """The year of a machine that has no folder."""
+    return Year(machine, [Told(date, MISSING) for date in dates_of(wanted)])
 
 
 class Twins:
@@ -195,25 +222,28 @@ def day_folders(wanted: YearCall, folder: Folder, name: str) -> Iterator[DayFold
     named = name if is_day(name) else ""
     try:
         if not named and not folder.has(f"{name}/{AUDIT}"):
-            yield DayFolder(Told("", NOT_COUNTED, plain(name), NO_DAY))
+            yield DayFolder(Told("", NOT_COUNTED, in_a_line(name), NO_DAY))
             return
-        written, by = read_record(folder.data(f"{name}/{AUDIT}")), wanted.signed.get(f"{folder.path}/{name}", "")
+        written, by = read_record(folder.data(f"{name}/{AUDIT}")), wanted.answering.get(name, "")
         record = wanted.known.shown(folder.sum(f"{name}/{AUDIT}"), written)
         signer = signer_of(wanted, folder, name) if by or not record else ""
         if not record and signer and by in ("", signer):
             record, by = written, signer
-        if by and by != signer and wanted.signers.given is not None:
+        if by not in ("", NOBODY, signer) and wanted.signers.given is not None:
             record = None  # (it is said to count by a signature)
         if record and not record.refusal and folder.sum(f"{name}/{CLAIM}") != record.inputs.get(CLAIM):
             record = None
+        unknown = UNKNOWN
+        if by == NOBODY:  # (what was found since doesn't count, and is told)
+            unknown, record = found_since(wanted.known, record), None
     except Fault as error:
-        yield DayFolder(Told(named, NOT_COUNTED, plain(name), plain(error.words)))
+        yield DayFolder(Told(named, NOT_COUNTED, in_a_line(name), plain(error.words)))
         return
     if record is None or record.refusal:
-        why = f"{UNKNOWN}; {NAMESAKES.format(os.path.basename(absolute(folder.path)))}" \
-            if wanted.signers.given is not None and wanted.is_namesake(folder.path) else UNKNOWN
-        verdict, why = (REFUSED, record.refusal.line) if record and record.refusal else (NOT_VERIFIED, why)
-        told = Told(named, verdict, plain(name), plain(why), name=written.name, by=by if record else "",
+        if unknown == UNKNOWN and wanted.signers.given is not None and wanted.is_namesake(folder.path):
+            unknown += f"; {NAMESAKES.format(os.path.basename(absolute(folder.path)))}"
+        verdict, why = (REFUSED, record.refusal.line) if record and record.refusal else (NOT_VERIFIED, unknown)
+        told = Told(named, verdict, in_a_line(name), plain(why), name=written.name, by=by if record else "",
                     says=written.says)
         yield DayFolder(told if named else replace(told, verdict=NOT_COUNTED), made=record.program if record else None)
     else:
@@ -221,6 +251,13 @@ def day_folders(wanted: YearCall, folder: Folder, name: str) -> Iterator[DayFold
         for entry in record_by(wanted.leaps, record).entries:
             one = told_of(name, entry, record, by, dispute)
             yield one._replace(told=replace(one.told, says=says))
+
+
+def found_since(known: Known, record: Record | None) -> str:
+    """The verdicts of what is known here, though it wasn't where a year was put together."""
+    if not record or known.believes:
+        return UNKNOWN
+    return DISPUTED if known.dispute(record) else " and ".join(sorted({*record.verdicts}))
 
 
 def signer_of(wanted: YearCall, folder: Folder, name: str) -> str:
@@ -237,9 +274,9 @@ def told_of(name: str, entry: Entry, record: Record, by: str, dispute: str) -> D
     claim, date = entry.claim, entry.claim.from_[:10]
     if claim.first % DAY or claim.last != claim.first + DAY:
         why = f"{claim.from_} to {claim.to} is no day"
-        return DayFolder(Told(name if is_day(name) else "", NOT_COUNTED, plain(name), why), claim)
-    told = Told(date, DISPUTED, plain(name), dispute, name=record.name, by=by) if dispute else \
-        Told(date, entry.verdict, plain(name), reason(entry), entry.least_ns, known_error(entry), record.name, by)
+        return DayFolder(Told(name if is_day(name) else "", NOT_COUNTED, in_a_line(name), why), claim)
+    told = Told(date, DISPUTED, in_a_line(name), dispute, name=record.name, by=by) if dispute else \
+        Told(date, entry.verdict, in_a_line(name), reason(entry), entry.least_ns, known_error(entry), record.name, by)
     return DayFolder(told, claim, record.program, record.recordings)
 
 

@@ -19,6 +19,7 @@ from ..folder.older import read_any
 from ..folder.placing import keep
 from ..folder.year import Statements, read_statements
 from ..schema import is_time
+from ..text import plain, spelled
 
 NAMESPACE = "ntpaudit-dossier"
 """What a signature is made for: one that was made for anything else doesn't count."""
@@ -81,7 +82,7 @@ class Signers:
         status, said, _ = self.verify(holder, on) if holder else (1, "", "")
         if not status and (key := KEY.search(said)):
             return Signature(GOOD, at, holder, f"{key[1]} {key[2]}")
-        return self.looked_at(at, on)
+        return self.looked_at(at, on, os.path.basename(os.path.dirname(absolute(folder.path))))
 
     def look_at(self, paths: list[str], seconds: int) -> None:
         """Looks at the signatures of folders side by side, so that nobody has to look at those that are good again."""
@@ -100,23 +101,24 @@ class Signers:
                 self.seen[bytes.fromhex(sums)] = names.setdefault((name[0], name[1]), (name[0], name[1]))
 
     def machine_of(self, day: Folder, path: str) -> str:
-        """Who signed a day, if that is its machine, whose folder's path is given: called like that folder, or `..@`
-        that. Nothing if it isn't, or if nobody is named who may sign."""
+        """Who signed a day, in a word, if that is its machine, whose folder's path is given. Nothing if it isn't, or if
+        nobody is named who may sign."""
         if self.given is None:
             return ""
         signature, machine = self.signature_of(day), os.path.basename(absolute(path))
-        is_its_own = signature.signer == machine or signature.signer.endswith(f"@{machine}")
-        return signature.signer if signature.state == GOOD and is_its_own else ""
+        is_its_own = signature.state == GOOD and is_called(signature.signer, machine)
+        return re.sub(r"\s", lambda blank: spelled(blank[0]), plain(signature.signer)) if is_its_own else ""
 
-    def looked_at(self, at: str, on: list[str]) -> Signature:
-        """What `ssh-keygen` says of a private copy of a signature that was made at this time."""
+    def looked_at(self, at: str, on: list[str], machine: str) -> Signature:
+        """What `ssh-keygen` says of a private copy of a signature that was made at this time. Of several who have its
+        key the machine is taken in whose folder it is."""
         status, said, _ = self.keygen("check-novalidate", "-n", NAMESPACE)
         key = KEY.search(said)
         if status or not key:
             return Signature(UNFIT, at)
         signature = Signature(STRANGER, at, key=f"{key[1]} {key[2]}")
         _, named, error = self.keygen("find-principals", *on, "-f", SIGNERS)
-        for signer in named.splitlines():
+        for signer in sorted(named.splitlines(), key=lambda signer: not is_called(signer, machine)):
             status, _, error = self.verify(signer, on)
             if not status:
                 return signature._replace(state=GOOD, signer=signer)
@@ -131,6 +133,11 @@ class Signers:
         tool = find_tool("ssh-keygen", NO_KEYGEN)
         status, said, error = run([tool, "-Y", *words, "-s", SIGNATURE], SIGNED)
         return status, said.decode("utf-8", "replace"), error.decode("utf-8", "replace")
+
+
+def is_called(signer: str, machine: str) -> bool:
+    """Whether a signer is a machine: called like its folder, or `..@` that."""
+    return signer == machine or signer.endswith(f"@{machine}")
 
 
 def sums_of(data: bytes, signature: bytes) -> bytes:

@@ -2,7 +2,7 @@
 somebody can sign it."""
 import os
 import re
-from itertools import dropwhile
+from itertools import dropwhile, groupby
 from typing import NamedTuple
 
 from ..fault import fault
@@ -15,7 +15,8 @@ from ..folder.year import Stated, Statements, read_statements
 from ..records import replace
 from ..text import count, label, listed, plain, spelled
 from ..units import low_ms, ns_ms, ns_up_ms, seconds_of
-from .days import NAMESAKES, Twins, YearCall, namesakes, packed, unpacked, year_of
+from .days import (NAMESAKES, NOBODY, UNKNOWN, VERIFIED, Twins, YearCall, in_words, missing_year, namesakes, packed,
+                   unpacked, year_of)
 from .signature import Signers
 
 RULES = {100_000: "MiFID II's RTS 25 of high-frequency trading, and CAT's 6.8 of exchanges",
@@ -27,9 +28,8 @@ IN_A_SENTENCE, OUT_OF_QUOTES = re.compile("[A-Za-z0-9_./@+-]+"), re.compile(r"[^
 """A name that stands in a sentence as it is; and what is spelled out of any other."""
 
 TWINS, ALIKE = "A recording of these days is that of", "days of the same client, on the same dates"
-VERIFIED, NOBODY, NOTHING = "verified", "-", "0" * 64
-"""Who answers for a day that was made or verified where a year was put together, and for one that is known nowhere; and
-the name of one that has no audit, and what that says."""
+NOTHING = "0" * 64
+"""The name of a day that has no audit, and what that says."""
 
 WORDS = {VERIFIED: "verified", NOBODY: "not verified"}
 PAGE, DAYS = ".html", ".days"
@@ -66,10 +66,10 @@ def statement(year: Year) -> str:
     twins, alike = (listed([in_quotes(machine) for machine in machines]) for machines in (year.twins, year.alike))
     said += [f"{TWINS} {twins} too, so one of them is a copy."] if twins else []
     said += [f"{alike} {'has' if len(year.alike) == 1 else 'have'} {ALIKE}."] if alike else []
-    return " ".join([*said, f"Audited by {in_words(year.programs)}."])
+    return " ".join([*said, f"Audited by {programs_named(year.programs)}."])
 
 
-def in_words(programs: list[Made]) -> str:
+def programs_named(programs: list[Made]) -> str:
     """Programs in a sentence."""
     return "; ".join(f"{made.version or 'ntpaudit'}, SHA-256 {made.sha256}" for made in programs)
 
@@ -140,10 +140,10 @@ def stated_of(year: Year, file: str, sum_: str) -> Stated:
 
 
 def read_lines(data: bytes) -> list[Line]:
-    """The lines of a file of days."""
-    matches = [LINE.fullmatch(line) for line in data.decode("utf-8", "surrogateescape").splitlines()]
-    lines = [Line(*line.groups("")) for line in matches if line]
-    if len(lines) < len(matches):
+    """The lines of a file of days, each with a line feed at its end: a path may have any other mark."""
+    *every, rest = data.decode("utf-8", "surrogateescape").split("\n")
+    lines = [Line(*line.groups("")) for line in map(LINE.fullmatch, every) if line]
+    if rest or len(lines) < len(every):
         raise fault("a file of days isn't one")
     if any(len(line.path) > MOST_OF_A_PATH for line in lines):
         raise fault(f"a file of days names a path of more than {MOST_OF_A_PATH:,} characters")
@@ -189,14 +189,13 @@ def folders_above(path: str) -> set[str]:
 
 def may_be(name: str, machine: str, place: str) -> bool:
     """Whether a machine may have been called so where the year in some folder was made: the path of its folder ends so,
-    or this ends with all of the path that leads there from the year's. What stands before that is no part of a
-    sentence: it has no blank."""
-    called, here = bare(os.path.normpath(name)), plain(absolute(machine))
-    seen = bare(plain(os.path.relpath(absolute(machine), absolute(place)))) or os.path.basename(here)
+    or this ends with all of the path that leads there from the year's."""
+    called, here = bare(os.path.normpath(name)), in_words(absolute(machine))
+    seen = bare(in_words(os.path.relpath(absolute(machine), absolute(place)))) or os.path.basename(here)
     is_so = called == bare(name)
     above = f"/{called}".removesuffix(f"/{seen}") if is_so else os.path.dirname(name)
     return is_so and here.endswith(f"/{called}") or \
-        f"/{called}".endswith(f"/{seen}") and above == plain(above) and " " not in above
+        f"/{called}".endswith(f"/{seen}") and above == plain(above)
 
 
 def bare(path: str) -> str:
@@ -218,7 +217,7 @@ def compared(folder: Folder, known: Known, leaps: LeapList, signers: Signers = S
     statements = read_statements(folder.data(YEAR))
     machines = [machine_in(stated, lines_in(folder, stated)) for stated in statements.machines]
     wanted = YearCall(statements.year, known, leaps, seconds_of(statements.made), signers,
-                      namesakes=namesakes(machines))
+                      machines=len(statements.machines), namesakes=namesakes(machines))
     twins, years = Twins(), list[bytes]()
     for stated in statements.machines:
         if not is_named(folder, stated):
@@ -235,12 +234,11 @@ def compared(folder: Folder, known: Known, leaps: LeapList, signers: Signers = S
     hidden, unseen, others = list[str](), 0, list[str]()
     for number, (stated, data) in enumerate(zip(statements.machines, years)):
         year = twins.of(number, unpacked(data))
-        own = stated if year.days else replace(stated, days=0)
-        if stated_of(year, stated.file, stated.sha256) != own:
+        if stated_of(year, stated.file, stated.sha256) != stated:
             here, year = year.programs, replace(year, programs=programs_in(stated.statement))
             other = [made for made in year.programs if made not in here] or year.programs
-            others.append(f"{BY_ANOTHER}: by {in_words(other)[:MOST_OF_A_NOTE]}; here by {in_words(here) or 'none'}")
-        if stated_of(year, stated.file, stated.sha256) != own:
+            others.append(f"{BY_ANOTHER}: by {programs_named(other)[:MOST_OF_A_NOTE]}; here by {programs_named(here) or 'none'}")
+        if stated_of(year, stated.file, stated.sha256) != stated:
             return Compared(f"{label(stated.machine)}: the statement doesn't follow from its days, as they are known "
                             "here")
         hidden += not_shown(year)
@@ -293,9 +291,9 @@ def machine_in(stated: Stated, lines: list[Line]) -> str:
 def year_stated(stated: Stated, lines: list[Line], wanted: YearCall) -> Year:
     """The year of a machine by the folders that a statement names, as far as they are known here."""
     if not lines:
-        return Year(stated.machine, [])
-    signed = {line.path: line.by for line in lines if line.by not in WORDS}
-    year = year_of(wanted._replace(signed=signed), machine_in(stated, lines),
+        return missing_year(wanted, stated.machine)
+    answering = {os.path.basename(line.path): line.by for line in lines if line.by != VERIFIED}
+    year = year_of(wanted._replace(answering=answering), machine_in(stated, lines),
                    [os.path.basename(line.path) for line in lines])
     return replace(year, machine=stated.machine)
 
@@ -326,13 +324,14 @@ def without_says(stated: Stated, lines: list[Line]) -> str:
 
 def not_shown(year: Year) -> list[str]:
     """The days of a machine that aren't shown, those of one verdict that follow one another together."""
-    runs = list[list[str]]()
-    for before, day in zip([None, *year.days], year.days):
-        if day.verdict == YES:
-            continue
-        if before and before.verdict == day.verdict:
-            runs[-1][1] = day.date
-        else:
-            runs.append([day.date, day.date, day.verdict])
-    return [f"{year.machine} {first if first == last else f'{first} .. {last}'} {verdict}"
-            for first, last, verdict in runs]
+    if not year.days:
+        return [f"{in_quotes(year.machine)} any day, since none had ended"]
+    runs = [(words, list(days)) for words, days in groupby(year.days, said_of) if words != YES]
+    return [f"{in_quotes(year.machine)} {' .. '.join(dict.fromkeys((days[0].date, days[-1].date)))} {words}"
+            for words, days in runs]
+
+
+def said_of(day: Told) -> str:
+    """A day's verdict, and what was found since of one that nobody had verified."""
+    is_found = day.verdict == NOT_VERIFIED and not day.cause.startswith(UNKNOWN)
+    return f"{day.verdict} (here {day.cause})" if is_found else day.verdict

@@ -81,11 +81,11 @@ class Verifier:
             return Verified(difference, [], None)
         is_other = record.program.sha256 != self.program.made.sha256
         making = Making(folder, self.program, record.options, self.leaps, record)
-        made = replace(making.record(earlier_of(folder, record) if is_other else None), signed=record.signed)
+        made = replace(made_by(making, record, earlier_of(folder, record) if is_other else None), signed=record.signed)
         difference = self.compared(folder, record, made, is_other, form < VERSION)
         notes = ["by another build of the program than the audit's"] if is_other else []
         notes += sorted({reason(entry) for entry in made.entries if entry.verdict == UNSUPPORTED})
-        notes += counted_once(made)
+        notes += [made.refusal.line] if made.refusal else counted_once(made)
         if not difference:
             if form == VERSION:
                 self.known.add(sum_of(data), made)
@@ -166,6 +166,17 @@ def known_in(folder: Folder, known: Known) -> tuple[Record, Record | None]:
     data = audit_json(folder)
     record = read_record(data)
     return record, known.shown_now(sum_of(data), record)
+
+
+def made_by(making: Making, record: Record, earlier: dict[str, bytes] | None) -> Record:
+    """What the inputs come to: a refusal only if they were refused for the same reason, or it is a fault."""
+    try:
+        return making.record(earlier)
+    except Fault as error:
+        made = making.refused(error)
+        if made.refusal != record.refusal:
+            raise
+        return made
 
 
 def earlier_of(folder: Folder, record: Record) -> dict[str, bytes]:

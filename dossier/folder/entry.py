@@ -105,7 +105,7 @@ class Move:
     low: Ticks
     high: Ticks
     """By how much its error changed."""
-    rate_ppb: Count
+    rate_ppb: Nanoseconds
     """How fast it moved at the least, in parts of 10^9, if it wasn't stepped."""
     is_step: bool = False
     """Whether no drift that a claim may grant does that."""
@@ -268,7 +268,7 @@ class Figure:
     """A warning with a number: of samples, servers or records, or in the unit of what the claim grants."""
 
     kind: Literal["leap", "sources", "flood", "slip", "drift", "reading", "oscillator", "rate", "offset", "stamps"]
-    count: Count = 0
+    count: Nanoseconds = 0
 
 
 @dataclass(frozen=True)
@@ -456,7 +456,7 @@ class Entry:
     reason: Reason | None = None
     refutation: Refutation | None = None
     """That of the claim; or, at a yes, of the same claim with the bound 0."""
-    warnings: Annotated[list[Alert], length(0, 60)] = field(default_factory=list)
+    warnings: Annotated[list[Alert], length(0, 100_000)] = field(default_factory=list)
     moves: Annotated[list[Move], length(0, FEW)] = field(default_factory=list)
     """When the clock was stepped, if just so often, or moved faster than is granted."""
     parts: Annotated[list[Stretch], length(0, 100)] = field(default_factory=list)

@@ -1,0 +1,216 @@
+"""Tests of honest years that are signed: each is as it was signed, in each of the ways, for whoever verifies it.
+"""
+import json
+import os
+import shutil
+from pathlib import Path
+from typing import Any
+
+from tests.support import check, is_here
+from tests.dossier.audits import ENVIRONMENT, called, dossier, record_of, rows, with_change
+from tests.dossier.test_evidence import key_of
+from tests.dossier.test_fleets import days_of, machine
+from tests.dossier.test_years import RIGHT, WIDE, day
+from tests.tools.wire import records_of
+
+from dossier.fleet.days import in_words
+from dossier.fleet.statements import in_quotes, may_be
+
+WAYS = "", "--answers", "--known", "--second", "--sample 2 --seed x", "--answers --known"
+
+
+def signed_year(place: Path, *machines: Path | str, **how: Any) -> None:
+    """A year of some machines, put into `pages` and signed there."""
+    (key, allowed), signers = key_of(place, "ann"), place / "signers"
+    signers.write_text(allowed)
+    dossier("year", "--year", "2001", "--split", place / "pages", *machines, **how)
+    dossier("sign", "--key", key, place / "pages", **how)
+
+
+def as_signed(place: Path, way: str = "", state: str = "auditor") -> tuple[int | str, str]:
+    """The status of verifying this year in a way, by somebody who has that state; and what is said."""
+    status, out, _ = dossier("verify", "--as-signed", "--signers", place / "signers", *way.split(), place / "pages",
+                             place / "fleet", env={**ENVIRONMENT, "XDG_STATE_HOME": str(place / state)})
+    return status, out.decode()
+
+
+def last_of(text: str) -> str:
+    return text.splitlines()[-1]
+
+
+def test_empty_machine(place: Path) -> None:
+    """A machine without a day is said to be missing, and its number of days is held to the year's."""
+    if not is_here("ssh-keygen", "a year that is signed"):
+        return
+    own, empty = machine(place / "fleet", "web-1"), place / "fleet" / "web-3"
+    empty.mkdir()
+    dossier("audit", *days_of(own))
+    signed_year(place, own, empty)
+    for way in WAYS:
+        status, text = as_signed(place, way)
+        check(f"a machine without a day {way}", status=(status, 0), last=(
+            f"{empty} 2001-01-01 .. 2001-12-31 missing" in last_of(text), True))
+    year = place / "pages" / "year.json"
+    text = year.read_text()
+    at = text.rindex('"days": 365')
+    year.write_text(f'{text[:at]}"days": 3{text[at + 11:]}')
+    check("another number of its days", said=("doesn't follow from its days" in as_signed(place)[1], True))
+    shutil.rmtree(place / "pages")
+    dossier("year", "--year", "9999", "--split", place / "pages", own)
+    dossier("sign", "--key", place / "ann", place / "pages")
+    check("a year of which no day has ended", last=(last_of(as_signed(place)[1]).partition("; ")[2], (
+        f"not shown: {own} any day, since none had ended")))
+
+
+def test_refused_day(place: Path) -> None:
+    """A day whose audit was refused."""
+    if not is_here("ssh-keygen", "a year that is signed"):
+        return
+    own = machine(place / "fleet", "web-1")
+    refused = day(own, 2, RIGHT)
+    (refused / "f.pcap").write_bytes(b"no capture")
+    dossier("audit", *days_of(own))
+    signed_year(place, own)
+    for way in WAYS:
+        for state in (f"state {way}", f"state {way}"):
+            status, text = as_signed(place, way, state)
+            check(f"a refused day {way}", status=(status, 0), last=(f"{own} 2001-09-11 refused" in last_of(text), True))
+
+
+def test_verified_later(place: Path) -> None:
+    """A day that nobody had verified when its year was made is none that is shown, whatever is known of it since."""
+    if not is_here("ssh-keygen", "a year that is signed"):
+        return
+    own = machine(place / "fleet", "web-1", 3)
+    later = own / "2001-09-10", own / "2001-09-11"
+    dossier("audit", own / "2001-09-09")
+    dossier("audit", *later, env={**ENVIRONMENT, "XDG_STATE_HOME": str(place / "theirs")})
+    signed_year(place, own)
+    lines = (place / "pages" / f"{called(own)}.days").read_text().splitlines()
+    check("days that weren't verified", by=([line.split(" ")[1] for line in lines], ["verified", "-", "-"]))
+    known = ["10 not verified (here yes)", "11 not verified (here refuted)"]
+    for way in WAYS:
+        status, text = as_signed(place, way)
+        found = ["10 .. 2001-09-11 not verified"] if "--sample" in way else known
+        check(f"days that were verified later {way}", status=(status, 0), last=([
+            f"{own} 2001-09-{words}" in last_of(text) for words in found], [True] * len(found)))
+
+
+def test_written_is_read(place: Path) -> None:
+    """What `audit` writes it reads: stamps of one packet minutes apart, a great offset in a log, and many logs."""
+    folder = day(place, 0, RIGHT)
+    shutil.copytree(folder, logged := place / "logged")
+    data = (folder / "f.pcap").read_bytes()
+    later = (int.to_bytes(int.from_bytes(one[:4], "little") + 3000, 4, "little") + one[4:] for one in records_of(data))
+    (folder / "g.pcap").write_bytes(data[:24] + b"".join(later))
+    names = ["tracking.log", *(f"{number}.log" for number in range(80))]
+    for name in names:
+        (logged / name).write_text("what is no log\n")
+    (logged / names[0]).write_text("2001-09-09 00:10:00 192.0.2.1 2 0.0 0.1 1.900e+04 N 1 1.0e-05 0.0 0 0 1.0e-05\n")
+    (logged / "evidence.json").write_text(json.dumps({"drift": " ".join(names)}))
+    dossier("audit", folder, logged)
+    for path, kind, least in (folder, "stamps", 2**40), (logged, "offset", 2**40), (logged, "unread", 1):
+        counts = [alert.get("count", 0) for alert in record_of(path)["entries"][0]["warnings"] if alert["kind"] == kind]
+        check(f"{kind} that are many", counts=(counts, lambda counts: max(counts) >= least),
+              said=(b": verified: " in dossier("verify", path)[1], True))
+
+
+SPELLINGS: list[tuple[str, str, list[str], str]] = [
+    ("within its folder", "fleet/web-1", ["."], "fleet/web-1"),
+    ("its days, within its folder", "fleet/web-1", ["2001-09-09", "2001-09-10"], "fleet/web-1"),
+    ("two slashes", "fleet/web-1", ["fleet//web-1"], "."),
+    ("one folder by two paths", "fleet/web-1", ["fleet//web-1/2001-09-09", "./fleet/web-1/2001-09-10"], "."),
+    ("a blank", "our fleet/web 1", ["our fleet/web 1"], "."),
+    ("a blank above", "our fleet/web-1", [], "."),
+    ("a Cyrillic letter", "fleet/web-\u0430", [], "."),
+    ("a Cyrillic letter, within its folder", "fleet/web-\u0430", ["."], "fleet/web-\u0430"),
+    ("a line separator", "fle\u2028et/web\u20281", ["fle\u2028et/web\u20281"], "."),
+    ("signs of a sentence", 'fleet/web-1", all is shown; (\\x22', [], ".")]
+"""What is strange about a machine's path, the path, the words by which its year is made, the whole path if there are
+none, and where."""
+
+
+def test_spellings(place: Path) -> None:
+    """A year verifies however its machine is spelled, and wherever all of it is brought."""
+    if not is_here("ssh-keygen", "a year that is signed"):
+        return
+    key, allowed = key_of(place, "ann")
+    (place / "signers").write_text(allowed)
+    for number, (what, path, words, where) in enumerate(SPELLINGS):
+        whole = place / f"{number}" / "our place"
+        own = whole / path
+        day(own, 0, RIGHT)
+        day(own, 1, WIDE, name="2001-09-10" if words[1:] else "2001-09-10 \u0430")
+        dossier("audit", *days_of(own))
+        dossier("year", "--year", "2001", "--split", whole / "pages", *(words or [str(own)]), cwd=whole / where)
+        dossier("sign", "--key", key, whole / "pages")
+        for to in whole, place / f"{number}" / "elsewhere", place / f"{number}" / "x" / "another place":
+            to.parent.mkdir(exist_ok=True)
+            whole = whole.rename(to)
+            ways = rows(([whole / "pages", (whole / path).parent], "/"), (["pages", "."], whole), (
+                [os.path.relpath(whole / name, whole / path) for name in ("pages", path)], whole / path))
+            for names, cwd in ways:
+                status, out, _ = dossier("verify", "--as-signed", "--signers", place / "signers", *names, cwd=cwd)
+                last = last_of(out.decode())
+                check(f"{what}, {names} in {cwd}", status=(status, 0), last=(
+                    last.startswith("all is as it was signed; not shown: ") and last.count('"') in (0, 6), True))
+    paths = "web-\u0430", "web-\\u0430", "web-\\x5cu0430", "web-a", "web\u20281", "web\\u20281", "web 1", "web\\x201"
+    check("paths that differ", words=(len({in_quotes(in_words(path)) for path in paths}), len(paths)), may_be=([
+        may_be(in_words(one), f"/x/{other}", "/x") for one in paths for other in paths if one != other],
+        [False] * len(paths) * (len(paths) - 1)))
+
+
+def test_principals(place: Path) -> None:
+    """A day counts by any key of its machine, however the file of signers has its name."""
+    if not is_here("ssh-keygen", "a year that is signed"):
+        return
+    for number, (name, principals) in enumerate((
+            ("web-1", ("web-1", "root@web-1")), ("web-1", ('"backup,web-1"', "backup,root@web-1")),
+            ("web 1", ('"web 1"', '"backup,root@web 1"')))):
+        whole = place / f"{number}"
+        own = machine(whole / "fleet", name)
+        theirs = {**ENVIRONMENT, "XDG_STATE_HOME": str(whole / "theirs")}
+        dossier("audit", *days_of(own), env=theirs)
+        lines = ""
+        for key, principal, path in zip(("one", "two"), principals, days_of(own)):
+            file, line = key_of(whole, key)
+            lines += line.replace(f"{key}@example.org", principal)
+            dossier("sign", "--key", file, path, env=theirs)
+        (whole / "signers").write_text(lines + key_of(whole, "ann")[1])
+        here = {**ENVIRONMENT, "XDG_STATE_HOME": str(whole / "here")}
+        among = "--signers", whole / "signers"
+        dossier("year", "--year", "2001", *among, "--split", whole / "pages", own, env=here)
+        signed = dossier("sign", "--key", whole / "ann", *among, whole / "pages", env=here)
+        status, text = as_signed(whole)
+        lines = (whole / "pages" / f"{called(own)}.days").read_text()
+        check(f"days signed by {principals}", sign=(signed[0], 0), status=(status, 0), by=(
+            [line.split(" ")[1] for line in lines.splitlines()],
+            [word.replace(" ", "\\x20") for word in (name, f"root@{name}")]),
+            last=(last_of(text).startswith("all is as it was signed"), True))
+        shutil.copytree(own, whole / "fleet" / "backup-2")
+        dossier("year", "--year", "2001", *among, "--split", whole / "others", whole / "fleet" / "backup-2", env=here)
+        text = (whole / "others" / f"{called(whole / 'fleet' / 'backup-2')}.days").read_text()
+        check(f"another machine's, signed by {principals}", by=(
+            [line.split(" ")[1] for line in text.splitlines()], ["-", "-"]))
+
+
+COUNTING = """import dossier.fleet.days as days
+few_of = days.few_of
+def counting(captures, folders):
+    with open("{}", "a") as file:
+        file.write(f"{{folders}} ")
+    return few_of(captures, folders)
+days.few_of = counting"""
+
+
+def test_many_machines(place: Path) -> None:
+    """Of each day as many captures are looked for again when a year is verified as when it was made."""
+    fleet, numbers = place / "fleet", list[str]()
+    machines = [machine(fleet, f"web-{number}") for number in (1, 2)]
+    dossier("audit", *days_of(*machines))
+    for command in rows(("year", "--year", "2001", "--split", place / "pages", *machines),
+                        ("verify", place / "pages", fleet)):
+        with_change(COUNTING.format(place / "log"), *command)
+        numbers.append((place / "log").read_text())
+        (place / "log").unlink()
+    check("captures that are looked for again", numbers=(numbers, ["732 " * 4] * 2))
