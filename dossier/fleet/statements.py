@@ -237,7 +237,8 @@ def compared(folder: Folder, known: Known, leaps: LeapList, signers: Signers = S
         if stated_of(year, stated.file, stated.sha256) != stated:
             here, year = year.programs, replace(year, programs=programs_in(stated.statement))
             other = [made for made in year.programs if made not in here] or year.programs
-            others.append(f"{BY_ANOTHER}: by {programs_named(other)[:MOST_OF_A_NOTE]}; here by {programs_named(here) or 'none'}")
+            others.append(f"{BY_ANOTHER}: by {programs_named(other)[:MOST_OF_A_NOTE]}; "
+                          f"here by {programs_named(here) or 'none'}")
         if stated_of(year, stated.file, stated.sha256) != stated:
             return Compared(f"{label(stated.machine)}: the statement doesn't follow from its days, as they are known "
                             "here")
