@@ -25,7 +25,7 @@ from ..schema import first_difference, read_typed, said
 from ..text import count, label, plain
 from ..units import SECOND, earliest, latest
 from ..verdict.moments import Moments
-from .days import is_day
+from .days import is_day, namesakes
 from .signature import Signers, signed_in
 from .statements import folders_above, may_be, premises_of
 
@@ -248,7 +248,10 @@ class Working:
         return Row(event, "", path_in(path, found[0]))
 
     def timed(self, machine: str, path: str) -> Timed:
-        return timed(self.call, machine, path, [self.log.events[k] for k in self.own[path]])
+        """What is said of the events of a folder. Of machines that are called alike no signature counts."""
+        is_namesake = os.path.basename(absolute(machine)) in namesakes(self.wanted)
+        call = self.call._replace(signers=Signers(None)) if is_namesake else self.call
+        return timed(call, machine, path, [self.log.events[k] for k in self.own[path]])
 
 
 def path_in(machine: str, name: str) -> str:

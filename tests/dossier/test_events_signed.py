@@ -170,6 +170,10 @@ def test_machines(place: Path) -> None:
     auditor = {**here, "XDG_STATE_HOME": str(place / "auditor")}
     check("verify it elsewhere", status=(as_signed(place, env=auditor)[0], 0), without=(
         b"--signers names who may sign" in dossier("verify", out, place / "fleet", env=auditor)[1], True))
+    shutil.copytree(two, other := place / "london" / "web-2")
+    log = log_of(place / "london", f"machine,time\n{two},{NOON}Z\n{other},{NOON}Z\n")
+    check("keys of namesakes", words=(words_of(dossier("events", "--signers", signers, log, two, other, env=here)[1]),
+                                      ["not verified"] * 2))
     change_signers(place, out, two, auditor)
 
 
