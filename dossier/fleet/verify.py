@@ -85,7 +85,7 @@ class Verifier:
         difference = self.compared(folder, record, made, is_other, form < VERSION)
         notes = ["by another build of the program than the audit's"] if is_other else []
         notes += sorted({reason(entry) for entry in made.entries if entry.verdict == UNSUPPORTED})
-        notes += [made.refusal.line] if made.refusal else counted_once(made)
+        notes += counted_once(made)
         if not difference:
             if form == VERSION:
                 self.known.add(sum_of(data), made)
@@ -355,6 +355,7 @@ def verify(verifier: Verifier, signers: Signers, is_signed: bool, path: str, nam
     verdicts = Counter(made.verdicts if made else ())
     words = ", ".join(f"{number} {verdict}" if len(made.entries) > 1 else verdict
                       for verdict, number in verdicts.items()) if made else ""
+    words += f": {made.refusal.line}" if made and made.refusal else ""
     lines = [*(findings or [f"{'judged' if is_judged else 'verified'}: {words}"]), *unsigned,
              *(f"({note})" for note in [*notes, *others])]
     status, captures = (made.status, sorted(made.recordings)) if made else (NOT_SHOWN, [])

@@ -17,8 +17,8 @@ from typing import Any
 from unittest.mock import patch
 
 from tests.support import DATA, ROOT, SECONDS, check, is_here, run, runnable, wanting
-from tests.dossier.audits import (ENVIRONMENT, PROGRAM, SCRIPT, audited, capture_of, check_page, dossier, folder_of,
-                                  record_of, rows, skipped, table)
+from tests.dossier.audits import (ENVIRONMENT, PROGRAM, SCRIPT, audited, called, capture_of, check_page, dossier,
+                                  folder_of, record_of, rows, skipped, table)
 from tests.dossier.test_captures import records_of
 from tests.dossier.test_evidence import bare_path, key_of, until_it_listens, why_no_recording
 from tests.dossier.test_verdicts import GOOD, good_folder
@@ -706,7 +706,7 @@ def test_daily(place: Path) -> None:
     check_page("the page of the daily unit", (state / "pages" / "index.html").read_text(),
                ["2001/index.html", "2001-09-09.html"])
     check_page("the year of the daily unit", (state / "pages" / "2001" / "index.html").read_text(),
-               ["=2E.html"] * 2)
+               [f"{called(days)}.html"] * 2)
     ones = [dict(labels) for (name, *labels), value in metrics_of(state / "ntpaudit.prom").items()
             if name == "verdict" and value == "1"]
     check("the metrics of the daily unit", ones=(ones, [{"folder": "2001-09-09", "verdict": "yes"}]))
