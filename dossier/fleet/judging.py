@@ -11,9 +11,10 @@ from ..capture.classic import Classic, do_rise
 from ..fault import REFUSED, Fault
 from ..folder.answers import read_counts, read_settled
 from ..folder.claim import Claim
-from ..folder.entry import AGAINST, REFUTED, YES, Alert, Elsewhere, Entry, LeapList, Record, Refutation
-from ..folder.files import CERTIFICATE, CLAIM, CLAIM_OF_0, JOINED, REFUTATION, REPORT, Folder, own_data, sum_of
-from ..folder.files import sum_of_file
+from ..folder.entry import (AGAINST, NOTHING_FITS, REFUTED, YES, Alert, Elsewhere, Entry, LeapList, Record,
+                            Refutation)
+from ..folder.files import (CERTIFICATE, CLAIM, CLAIM_OF_0, CLAIM_OF_DRIFT, ENVELOPE, JOINED, PARTS, REFUTATION, REPORT,
+                            Folder, own_data, sum_of, sum_of_file)
 from ..folder.placing import copy_of
 from ..folder.program import Program
 from ..premise.backing import against, backing
@@ -24,9 +25,9 @@ from ..verdict.making import Inputs, take_inputs, whole_of
 from .audit import change_of
 
 ONLY_MADE = "envelopes were held to their sums, not made again; bounds, reasons, and warnings that take no yes away " \
-    "are as audit.json has them"
-ANSWERS = CERTIFICATE, CLAIM_OF_0, REFUTATION, REPORT
-"""What is copied: of the report it is seen that the program says it again."""
+    "are as audit.json has them, and a copy that was changed may be unseen"
+OWN = {YES: {CERTIFICATE, CLAIM_OF_0, REFUTATION}, REFUTED: {REFUTATION}, NOTHING_FITS: {CLAIM_OF_DRIFT}}
+"""What is left of an answer besides report and envelope."""
 
 
 class Judged(NamedTuple):
@@ -39,7 +40,8 @@ class Judged(NamedTuple):
 class Unjudgeable(Exception):
     """What can't be judged by itself, and has to be made again: another capture than all of them together, one in which
     packets were recorded twice or times fall back, days, a refusal, another form, moves of the clock, no evidence but
-    beside the span, or warnings of what speaks against a premise that aren't one's own."""
+    beside the span, other files than an answer leaves, or warnings of what speaks against a premise that aren't one's
+    own."""
 
 
 class Judging:
@@ -53,6 +55,9 @@ class Judging:
         if record.refusal or record.options.days or len(record.entries) != 1:
             raise Unjudgeable
         entry, = record.entries
+        own = {REPORT, ENVELOPE, *OWN.get(entry.answer, ())}
+        if entry.part != "." or {*entry.outputs} - {JOINED, PARTS} != own:
+            raise Unjudgeable
         if entry.moves or (entry.answer == YES and not entry.refutation):
             raise Unjudgeable  # (nothing says that the moves are so, nor `check` that a course fits the whole capture)
         if isinstance(entry.reason, Elsewhere):
@@ -64,9 +69,8 @@ class Judging:
         capture = self.capture_of(record, taken, claim)
         if claim != entry.claim:
             return Judged(f"the claim of audit.json isn't that of {CLAIM}", capture)
-        for name in ANSWERS:
-            if name in entry.outputs:
-                copy_of(self.folder, name, name)
+        for name in own - {ENVELOPE}:
+            copy_of(self.folder, name, name)
         self.hold_against(entry, taken)
         return Judged(self.difference(entry, capture, record), capture)
 

@@ -17,8 +17,8 @@ from .events import folders_of, is_of_events
 from .signature import signed_in
 from .statements import days_of, folders_above
 
-MOST_DAYS_AT_ONCE = 1_000_000
-"""Days that are verified at once."""
+MOST_DAYS_AT_ONCE, AT_ONCE = 1_000_000, 1_000
+"""Days that are verified at once, and those of which a process reads audit.json."""
 
 
 class Machines(NamedTuple):
@@ -86,6 +86,24 @@ def names_of(plan: Plan, seconds: int) -> dict[str, str]:
             return read_any(folder.data(files.AUDIT)).name
     return plan.stated or {path: name for path, name in run_all(plan.every, work, str, seconds)
                            if isinstance(name, str) and name}
+
+
+def several_among(paths: list[str], seconds: int) -> set[str]:
+    """The folders that have an audit of several days."""
+    chunks = [paths[at:at + AT_ONCE] for at in range(0, len(paths), AT_ONCE)]
+
+    def work(_: str, number: int) -> list[str]:
+        several = list[str]()
+        for path in chunks[number]:
+            with suppress(Fault), Folder(path) as folder:
+                several += [path] * (len(read_any(folder.data(files.AUDIT)).entries) > 1)
+        return several
+    found = set[str]()
+    for _, came in run_all([chunk[0] for chunk in chunks], work, list[str], seconds):
+        if isinstance(came, Refusal):
+            raise Fault(came.line, came.status)
+        found.update(came)
+    return found
 
 
 def beside_years(plan: Plan, named: set[str]) -> set[str]:

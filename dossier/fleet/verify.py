@@ -29,7 +29,7 @@ from .audit import change_of, counted_once
 from .drawing import drawn_of, likelihoods
 from .events import EventsCall, PageOfEvents, difference as difference_of_events, folders_of, is_of_events
 from .judging import ONLY_MADE, Judging, Unjudgeable
-from .planning import Machines, beside_years, is_of_days, names_of, planned
+from .planning import Machines, beside_years, is_of_days, names_of, planned, several_among
 from .signature import GOOD, NONE, UNSEEN, Signers, in_words, signed_in
 from .statements import Compared as YearCompared, compared as year_compared, days_of, folders_above
 from .twins import SeenFolders
@@ -227,9 +227,11 @@ def verify_all(folders: list[str], verifier: Verifier, signers: Signers, seconds
     named = {files.absolute(folder) for folder in folders}
     plan = planned(folders, named, seconds)
     names, beside = (names_of(plan, seconds), beside_years(plan, named)) if how.sample is not None else ({}, set())
-    drawn = drawn_of(names, how.sample or 0, how.seed)
+    several = several_among([*names], seconds)  # (one of them that is drawn would be many days at once)
+    alone = {path: name for path, name in names.items() if path not in several}
+    drawn = drawn_of(alone, how.sample or 0, how.seed)
     verifier.known.believes = how.sample is not None and not how.answers
-    left = set(names).difference(drawn) | beside if how.sample is not None and not how.answers else set()
+    left = set(alone).difference(drawn) | beside if how.sample is not None and not how.answers else set()
     signers.look_at([path for path in plan.every if path not in left or path in plan.stated], seconds)
     told, seen = Tally(how.as_signed, verifier.known.believes), SeenFolders(len(plan.every))
 
@@ -241,7 +243,7 @@ def verify_all(folders: list[str], verifier: Verifier, signers: Signers, seconds
         if path in plan.above and is_of_days(path):
             return Compared(0, ["(folders of an answer to a log are in it)"], is_same=True)
         is_signed = files.absolute(path) in named or (how.as_signed and path not in plan.resting)
-        is_drawn = path in drawn
+        is_drawn = path in drawn or path in several
         return verify(verifier, signers, is_signed, path, named, how._replace(
             answers=how.answers and not is_drawn, known=how.known and not is_drawn), plan.machines)
     for path, came in run_all([path for path in plan.every if path not in left], work, Compared, seconds):
@@ -251,7 +253,10 @@ def verify_all(folders: list[str], verifier: Verifier, signers: Signers, seconds
         twins = seen.twins(path, result.claims, result.captures)
         told.tell(path, result, [f"({words})" for words in twins], plan.stated)
     if how.sample is not None:
-        told.say(likelihoods(len(drawn), len(names)))
+        told.say(likelihoods(len(drawn), len(alone)))
+    if several:
+        told.say(f"({count(len(several), 'folder')} of several days {'was' if len(several) == 1 else 'were'} made again "
+                 "too)")
     if beside & left:
         told.say(f"({count(len(beside), 'day')} beside the year's weren't looked at)")
     if how.answers:

@@ -562,7 +562,8 @@ class Record:
             raise Mangled("kept")
         if bool(self.entries) == bool(self.refusal) or bool(self.entries) != bool(self.leap_seconds):
             raise Mangled("entries")
-        if self.capture not in {"", JOINED, *self.inputs}:
+        if self.capture not in {"", JOINED, *self.inputs} or \
+                self.entries and (self.capture == JOINED) != (JOINED in self.outputs):
             raise Mangled("capture")
 
     @property

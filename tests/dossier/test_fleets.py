@@ -226,6 +226,22 @@ def test_sample(place: Path) -> None:
                                        ["99.9 %", "certainty"]))
 
 
+def test_sample_of_several(place: Path) -> None:
+    """A folder of several days isn't drawn, but made again: else one of the names would stand for many days."""
+    own, month = machine(place / "fleet", "web-1", 3), place / "fleet" / "web-2" / "september"
+    month.mkdir(parents=True)
+    claim = json.loads((days_of(own)[0] / "claim.json").read_text())
+    (month / "claim.json").write_text(json.dumps({**claim, "to": "2001-09-12T00:00:00Z"}))
+    capture_of(month / "f.pcap", *(f"{server}:{WIDE}@{FIRST + 600 * k}" for k in range(432) for server in (1, 2, 3, 4)))
+    dossier("audit", *days_of(own))
+    dossier("audit", "--days", month)
+    dossier("year", "--year", "2001", "--split", place / "pages", own, month.parent)
+    for way in ((), ("--answers",)):
+        out = dossier("verify", *way, "--sample", 1, "--seed", "x", place / "pages", place / "fleet")[1].decode()
+        check(f"several days {way}", said=(out.count("1 of 3 days were drawn"), 1), again=([line in out for line in (
+            f"{month}: verified: 3 refuted", "(1 folder of several days was made again too)")], [True] * 2))
+
+
 def test_says(place: Path) -> None:
     """What a day's audit.json says is what it said when its year was made, though the day isn't drawn; and it may be
     packed and signed since."""
@@ -461,6 +477,28 @@ def test_forged_answers(place: Path) -> None:
              "entries 0 moves is")):
         check(f"by answers: {what} that was forged", status=(said[0], "2" if "taken" in wanted else "1"),
               said=(wanted in said, True))
+
+
+def test_forged_captures(place: Path) -> None:
+    """Another capture than the one that was judged can't be named as what the answers, or times of events, rest on."""
+    folder = day(place / "fleet" / "web-1", 0, RIGHT)
+    dossier("audit", folder)
+    record = json.loads((folder / "audit.json").read_bytes())
+    (folder / "2001-09-09").mkdir()
+    for path in (folder / "joined.pcap", folder / "2001-09-09" / "joined.pcap"):
+        capture_of(path, *(f"{server}:{WIDE}@{FIRST + 600 * k}" for k in range(144) for server in (1, 2, 3, 4)))
+    sum_ = hashlib.sha256(path.read_bytes()).hexdigest()
+    entry, = record["entries"]
+    without = {name: sum_ for name, sum_ in entry["outputs"].items() if name != "refutation.json"}
+    for what, changes, status, words in (
+            ("one that wasn't joined", {"outputs": {**entry["outputs"], "joined.pcap": sum_}}, 2, "taken (capture)"),
+            ("that of a part", {"part": "2001-09-09", "outputs": {**entry["outputs"], "2001-09-09/joined.pcap": sum_}},
+             1, "entries 0 part is `2001-09-09`, and by the inputs `.`"),
+            ("a file less", {"outputs": without}, 1, "refutation.json")):
+        (folder / "audit.json").write_text(json.dumps({**record, "entries": [{**entry, **changes}]}))
+        came, out, _ = dossier("verify", "--answers", folder)
+        check(f"by answers: {what}", status=(came, status), said=(words in out.decode(), True))
+        (folder / "joined.pcap").unlink(missing_ok=True)
 
 
 def test_forged_warnings(place: Path) -> None:
