@@ -27,7 +27,7 @@ from ..schema import is_text, is_time, said, typed
 from ..text import plain
 from ..units import DAY, day_of, seconds_of
 from ..verdict.sentences import reason
-from .signature import Signers
+from .signature import Signers, signed_in
 from .twins import few_of
 
 OTHER = "another claim or client than most days have"
@@ -221,6 +221,7 @@ def day_folders(wanted: YearCall, folder: Folder, name: str) -> Iterator[DayFold
     """What is known of the days that a folder of one has: one, if it is as it should be."""
     named = name if is_day(name) else ""
     try:
+        signed_in(folder, name)
         if not named and not folder.has(f"{name}/{AUDIT}"):
             yield DayFolder(Told("", NOT_COUNTED, in_a_line(name), NO_DAY))
             return

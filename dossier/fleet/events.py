@@ -177,7 +177,7 @@ def known_of(call: EventsCall, machine: str, folder: Folder, written: Record) ->
 def timed(call: EventsCall, machine: str, path: str, events: list[Event]) -> Timed:
     """What is said of the events of a folder, if its audit is known here, or signed by its machine."""
     with Folder(path) as folder:
-        written = read_record(folder.data(AUDIT)) if folder.has(AUDIT) else None
+        written = read_record(folder.data(signed_in(folder))) if folder.has(AUDIT) else None
         record, by = known_of(call, machine, folder, written) if written else (None, "")
         verdict = NOT_VERIFIED if not record else REFUSED if record.refusal else \
             DISPUTED if call.known.dispute(record) else ""

@@ -156,7 +156,7 @@ class Verifier:
 
 
 def audit_json(folder: Folder) -> bytes:
-    if not folder.has(files.AUDIT):
+    if signed_in(folder) != files.AUDIT or not folder.has(files.AUDIT):
         raise fault("not audited", DEVICE)
     return folder.data(files.AUDIT)
 

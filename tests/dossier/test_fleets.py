@@ -94,7 +94,7 @@ def sign_fleet(place: Path, signers: Path, machines: list[Path], here: dict[str,
           said=(b"is signed, so nothing is replaced" in again[2], True))
     beside = dossier("audit", place / "pages", env=here)
     check("nothing is written beside it", status=(beside[0], 5), left=((place / "pages/audit.json").exists(), False),
-          said=(b"year.json is signed, so nothing is written beside it" in beside[1], True))
+          said=(b"year.json is there, so nothing is written beside it" in beside[1], True))
     words_: list[str | Path] = ["verify", "--signers", signers, "--as-signed"]
     named = [place / "pages", place / "fleet"]
     status, out, _ = dossier(*words_, *named, env={**here, "XDG_STATE_HOME": str(place / "auditor")})

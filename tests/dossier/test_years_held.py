@@ -8,6 +8,7 @@ from unittest import mock
 
 from tests.support import check, is_here, run, sum_of
 from tests.dossier.audits import ENVIRONMENT, called, dossier
+from tests.dossier.test_events import NOON, log_of
 from tests.dossier.test_evidence import key_of
 from tests.dossier.test_years import RIGHT, day
 
@@ -176,3 +177,47 @@ def test_large_files_of_days(place: Path) -> None:
         with Folder(str(pages)) as folder:
             days = statements.days_of(folder, {str(place)})
     check("deep paths", days=(len(days), 0), calls=(above.call_count, 0))
+
+
+def answer_of(place: Path, *folders: object) -> Path:
+    """An answer to a log of an event of web-1."""
+    log = log_of(place, f"machine,time\nweb-1,{NOON}Z\n")
+    check("an answer", status=(dossier("events", "--split", place / "answer", log, *folders)[0], 0))
+    return place / "answer"
+
+
+def test_two_things(place: Path) -> None:
+    """A folder is a day, a year or an answer: of one that is two of them nothing is as it was signed."""
+    if not is_here("ssh-keygen", "a year that is signed"):
+        return
+    signers, fleet = signers_of(place, "ann"), place / "fleet"
+    own = day(fleet / "web-1", 0, RIGHT)
+    dossier("audit", own)
+    pages, answer = year_of(place, fleet / "web-1"), answer_of(place, fleet / "web-1")
+    dossier("sign", "--key", place / "ann", pages, answer, own)
+    asked = ["verify", "--as-signed", "--signers", signers]
+    check("one thing each", status=(dossier(*asked, pages, answer, fleet)[0], 0))
+    names, words = {own: "audit.json", pages: "year.json", answer: "events.json"}, "in one folder"
+    for one, other in ((answer, own), (answer, pages), (pages, own), (own, pages), (own, answer)):
+        both = place / "both" / one.relative_to(place)
+        shutil.copytree(place / "fleet", place / "both" / "fleet")
+        shutil.copytree(one, both, dirs_exist_ok=True)
+        for file in other.iterdir():
+            shutil.copy(file, both / file.name)
+        what = f"{one.name} with {names[other]}"
+        (both / "answered.csv").write_text("forged")
+        for way in "", "--answers", "--known", "--second", "--sample 1 --seed x":
+            status, out, _ = dossier(*asked, *way.split(), both, place / "both" / "fleet")
+            check(f"verify {what} {way}", status=(status, 1), said=(words in out.decode(), True), last=(
+                out.decode().splitlines()[-1].startswith("not as it was signed: "), True))
+        for command in (["sign", "--key", place / "ann"], ["audit"], ["audit", "--again"], ["keep"], ["page"],
+                        ["page", "--verify"]):
+            status, out, _ = dossier(*command, both)
+            check(f"{command[0]} {what}", status=(status, lambda status: status > 0),
+                  said=(words in out.decode(), True))
+        if one == own:
+            dossier("year", "--year", "2001", "-o", place / "page.html", both.parent)
+            _, rows, said = dossier("events", place / "log.csv", both.parent)
+            check(f"year and events with {what}", year=(words in (place / "page.html").read_text(), True),
+                  said=(words in said.decode(), True), row=(rows.endswith(b",refused\n"), True))
+        shutil.rmtree(place / "both")
