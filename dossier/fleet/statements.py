@@ -238,7 +238,7 @@ def bare(path: str) -> str:
 
 class Compared(NamedTuple):
     """The first difference between what stands in a year and what its days come to, by what is known here, nothing if
-    there is none; the days that aren't shown; what is worth a note; and which days hadn't ended."""
+    there is none; the days that aren't shown; what is worth a note; and which days hadn't ended, if some had."""
 
     difference: str
     hidden: list[str] = []
@@ -284,9 +284,9 @@ def compared(folder: Folder, known: Known, leaps: LeapList, signers: Signers = S
     notes += [UNSEEN_OF.format(count(unseen, "day"))] * bool(unseen)
     notes += [] if wrong else [PAGES if statements.pages else ANY_PAGES]
     notes += unanswered_in(folder, statements) if statements.pages else []
-    rest = max(f"{statements.year}-01-01", statements.made[:10])
-    is_early = rest <= f"{statements.year}-12-31"
-    return Compared(wrong, hidden, notes, [f"days from {rest} on, which hadn't ended when it was made"] * is_early)
+    made, first, last = statements.made[:10], *(f"{statements.year}-{day}" for day in ("01-01", "12-31"))
+    rest = [f"days from {max(first, made)} on, which hadn't ended when it was made"] * (made <= last)
+    return Compared(wrong, hidden + rest * (made <= first), notes, rest * (made > first))
 
 
 def programs_in(statement: str) -> list[Made]:

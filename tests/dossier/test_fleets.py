@@ -197,7 +197,7 @@ def test_sample(place: Path) -> None:
         check(f"drawn by {seed}", days=(days[0], days[1]), said=(
             "3 of 8 days were drawn and made again: had 1 % of all been bad (1), one would have been drawn with 37.5 %"
             in out.decode(), True))
-    other = [own / "2002-01-01", place / "fleet" / "web-2" / "2001-09-09"]
+    other = [own / "2001-12-31", place / "fleet" / "web-2" / "2001-09-09"]
     for path in other:
         shutil.copytree(own / "2001-09-09", path)
     status, again, _ = dossier("verify", "--sample", 3, "--seed", "x", place / "pages", place / "fleet")
