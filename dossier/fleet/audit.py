@@ -69,6 +69,8 @@ def audit(wanted: AuditCall, path: str, _: int) -> Audited:
     """
     with Folder(path) as folder, wanted.known.alone(folder):
         is_ones_own(folder.place)
+        if (name := signed_in(folder)) != files.AUDIT:
+            raise fault(f"{name} is there, so nothing is written beside it", USAGE)
         old = known_record(folder, wanted.known)
         if old and not wanted.again and is_same(folder, old, wanted):
             return result_of(path, old, wanted.known, " (unchanged)")
@@ -81,8 +83,6 @@ def audited_anew(wanted: AuditCall, path: str, old: Record | None) -> Audited:
     with Folder(path) as folder:
         if is_signed and not wanted.again:
             raise fault(SIGNED, USAGE)
-        if (name := signed_in(folder)) != files.AUDIT and folder.has(files.SIGNATURES[name]):
-            raise fault(f"{name} is signed, so nothing is written beside it", USAGE)
         for day in folders_of_days(folder, wanted.options):
             if folder.has(f"{day}/{files.AUDIT}"):
                 raise fault(f"{day} has an audit of its own, which --days would overwrite")
@@ -202,7 +202,7 @@ def change_of(folder: Folder, record: Record, taken: dict[str, str] | None = Non
             return (f"{label(name)} was changed since the audit ({short(folder.sum(name))}, {files.AUDIT} has "
                     f"{short(sum_)})")
     parts = ["", *(f"{day}/" for day in folders_of_days(folder, record.options))]
-    left = {f"{part}{name}" for part in parts for name in LEFT} | {files.YEAR}
+    left = {f"{part}{name}" for part in parts for name in LEFT}
     more = next(filter(folder.has, sorted(left - record.outputs.keys())), None)
     return f"{more} isn't of this audit: {files.AUDIT} has no sum of it" if more else ""
 

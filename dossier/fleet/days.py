@@ -8,6 +8,7 @@ import os
 from collections import Counter
 from collections.abc import Collection, Iterable, Iterator
 from contextlib import suppress
+from functools import cache
 from hashlib import sha256
 from zlib import compress, decompress
 from typing import NamedTuple
@@ -27,7 +28,7 @@ from ..schema import is_text, is_time, said, typed
 from ..text import plain
 from ..units import DAY, day_of, seconds_of
 from ..verdict.sentences import reason
-from .signature import Signers
+from .signature import Signers, signed_in
 from .twins import few_of
 
 OTHER = "another claim or client than most days have"
@@ -135,7 +136,7 @@ def year_of(wanted: YearCall, machine: str, names: list[str]) -> Year:
     left = days[MOST_FOLDERS:]
     claims = {same(one.claim): one.claim for one in folders if one.claim}
     common = max(claims, key=Counter(same(one.claim) for one in folders if one.claim).__getitem__, default="")
-    dates, today = dates_of(wanted), day_of(wanted.at)
+    dates, today = dates_of(wanted.year, wanted.at), day_of(wanted.at)
     kept, beside = dict[str, Told](), dict[str, Told]()
     others += [f"{name} is named twice" for name in twice]
     others += [f"{plain(name)}: {len(left)} folders from it on are more than {MOST_FOLDERS}" for name in left[:1]]
@@ -160,15 +161,17 @@ def year_of(wanted: YearCall, machine: str, names: list[str]) -> Year:
                 path=in_a_line(machine))
 
 
-def dates_of(wanted: YearCall) -> list[str]:
-    """The days of the year that have ended."""
-    begin, end = (seconds_of(f"{wanted.year}-{day}T00:00:00Z") for day in ("01-01", "12-31"))
-    return [day_of(second) for second in range(begin, min(end + DAY, wanted.at // DAY * DAY), DAY)]
+@cache
+def dates_of(year: int, at: int) -> list[str]:
+    """The days of a year that had ended at a Unix second."""
+    begin, end = (seconds_of(f"{year}-{day}T00:00:00Z") for day in ("01-01", "12-31"))
+    return [day_of(second) for second in range(begin, min(end + DAY, at // DAY * DAY), DAY)]
 
 
-def missing_year(wanted: YearCall, machine: str) -> Year:
-    """The year of a machine that has no folder."""
-    return Year(machine, [Told(date, MISSING) for date in dates_of(wanted)])
+@cache
+def missing_days(year: int, at: int) -> list[Told]:
+    """The days of a machine that has no folder."""
+    return [Told(date, MISSING) for date in dates_of(year, at)]
 
 
 class Twins:
@@ -221,6 +224,7 @@ def day_folders(wanted: YearCall, folder: Folder, name: str) -> Iterator[DayFold
     """What is known of the days that a folder of one has: one, if it is as it should be."""
     named = name if is_day(name) else ""
     try:
+        signed_in(folder, name)
         if not named and not folder.has(f"{name}/{AUDIT}"):
             yield DayFolder(Told("", NOT_COUNTED, in_a_line(name), NO_DAY))
             return

@@ -25,9 +25,9 @@ from ..schema import first_difference, read_typed, said
 from ..text import count, label, plain
 from ..units import SECOND, earliest, latest
 from ..verdict.moments import Moments
-from .days import is_day, namesakes
+from .days import in_words, is_day, namesakes
 from .signature import Signers, signed_in
-from .statements import folders_above, may_be, premises_of
+from .statements import folders_above, misplaced, premises_of, renamed
 
 INDEX = "index.html"
 NO_MACHINE = "no folder of this machine"
@@ -177,7 +177,7 @@ def known_of(call: EventsCall, machine: str, folder: Folder, written: Record) ->
 def timed(call: EventsCall, machine: str, path: str, events: list[Event]) -> Timed:
     """What is said of the events of a folder, if its audit is known here, or signed by its machine."""
     with Folder(path) as folder:
-        written = read_record(folder.data(AUDIT)) if folder.has(AUDIT) else None
+        written = read_record(folder.data(signed_in(folder))) if folder.has(AUDIT) else None
         record, by = known_of(call, machine, folder, written) if written else (None, "")
         verdict = NOT_VERIFIED if not record else REFUSED if record.refusal else \
             DISPUTED if call.known.dispute(record) else ""
@@ -326,14 +326,20 @@ def folders_of(folder: Folder, named: set[str]) -> dict[str, str]:
     days = dict[str, str]()
     for resting in read_events(folder.data(EVENTS)).machines:
         machine = machine_at(folder, resting)
-        if not may_be(plain(resting.machine), machine.path, folder.path):
-            raise fault(f"{plain(resting.machine)}: its folder is {plain(machine.path)}, which has another name")
+        if why := misplaced(plain(resting.machine), machine.path, folder.path):
+            raise fault(f"{plain(resting.machine)}: its folder is {plain(machine.path)}, {why}")
         for name, sum_ in resting.days.items():
             path = os.path.normpath(os.path.join(machine.path, name))
             if named.isdisjoint(folders_above(path)):
                 raise fault(f"{path} is in no folder that is named: if it may be read, name it too")
             days[path] = sum_
     return days
+
+
+def renamed_in(folder: Folder) -> list[str]:
+    """A note of an answer's machines that were called otherwise than their folders are here."""
+    machines = [machine_at(folder, resting) for resting in read_events(folder.data(EVENTS)).machines]
+    return renamed((in_words(machine.named), machine.path) for machine in machines)
 
 
 def difference(folder: Folder, call: EventsCall) -> str:

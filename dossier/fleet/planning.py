@@ -12,6 +12,7 @@ from ..folder.files import Folder
 from ..folder.jobs import run_all, run_one
 from ..folder.older import read_any
 from ..folder.result import Below
+from ..folder.year import read_statements
 from .days import is_day
 from .events import folders_of, is_of_events
 from .signature import signed_in
@@ -32,7 +33,8 @@ class Machines(NamedTuple):
 class Plan(NamedTuple):
     """The folders that are looked at, in order; those of days on which a year's statements rest, each with its name for
     good; of folders with a year's machines all days in them; those in which are folders of an answer to a log; the days
-    on which a year or an answer rests, for which a signature of that is one; and the machines of all."""
+    on which a year or an answer rests, for which a signature of that is one; the machines of all; and how many days
+    beside a year's are of another time, and aren't looked at."""
 
     every: list[str]
     stated: dict[str, str]
@@ -40,12 +42,13 @@ class Plan(NamedTuple):
     above: list[str] = []
     resting: frozenset[str] = frozenset()
     machines: Machines = Machines()
+    of_others: int = 0
 
 
 def planned(folders: list[str], named: set[str], seconds: int) -> Plan:
     """Which folders are verified, for what was named."""
     stated, below, of_events, above = dict[str, str](), dict[str, list[str]](), list[str](), set[str]()
-    resting = set[str]()
+    resting, spans, others = set[str](), list[tuple[str, str]](), list[str]()
     for folder in folders:
         found = days_below(folder, named, seconds)
         resting.update(found.days)
@@ -55,27 +58,34 @@ def planned(folders: list[str], named: set[str], seconds: int) -> Plan:
             above.update(path for day in found.days for path in folders_above(day) if path != files.absolute(day))
         else:
             stated.update(found.days)
+            spans.append(found.span)
     below_of = dict[str, list[str]]()
     for machine in {os.path.dirname(day) for day in stated}:
         for path in named & folders_above(machine):
             below_of.setdefault(path, []).append(machine)
     beside = {folder: days_beside(folder, below_of[files.absolute(folder)], seconds)
               for folder in folders if files.absolute(folder) in below_of}
-    counted = named.union(map(files.absolute, stated))
+    counted = named.union(map(files.absolute, resting))
     for folder, result in beside.items():
         if not isinstance(result, Refusal):
-            others = [day for day in result if files.absolute(day) not in counted]
-            below[folder] += others
-            counted.update(map(files.absolute, others))
+            for day in (day for day in result if files.absolute(day) not in counted):
+                (below[folder] if is_of_years(os.path.basename(day), spans) else others).append(day)
+            counted.update(map(files.absolute, result))
             result.clear()
     every = [each for folder in folders for each in (*below[folder], folder) if each not in of_events]
     every = list(dict.fromkeys(every)) + of_events if of_events else every
     above_of = [folder for folder in folders if files.absolute(folder) in above]
-    days = [path for path in every if path in stated or is_day(os.path.basename(path))]
+    days = [path for path in every + others if path in stated or is_day(os.path.basename(path))]
     own = frozenset(os.path.dirname(files.absolute(day)) for day in days)
     split = [os.path.split(machine) for machine in own]
     machines = Machines(own, frozenset(name for _, name in split), frozenset(place for place, _ in split))
-    return Plan(every, stated, beside, above_of, frozenset(resting), machines)
+    return Plan(every, stated, beside, above_of, frozenset(resting), machines, len(others))
+
+
+def is_of_years(name: str, spans: list[tuple[str, str]]) -> bool:
+    """Whether what stands beside days of years is called after a day of one that had ended when that was made, or isn't
+    called after a day."""
+    return not is_day(name) or any(name[:4] == year and name < made for year, made in spans)
 
 
 def names_of(plan: Plan, seconds: int) -> dict[str, str]:
@@ -119,8 +129,11 @@ def days_below(path: str, named: set[str], seconds: int) -> Below:
         with Folder(path) as folder:
             if is_of_events(folder):
                 return Below({day: name for day, name in folders_of(folder, named).items() if is_there(day)}, True)
-            days = days_of(folder, named) if signed_in(folder) == files.YEAR else {}
-            return Below({day: name for day, name in days.items() if is_there(day)})
+            if signed_in(folder) != files.YEAR:
+                return Below({})
+            days, year = days_of(folder, named), read_statements(folder.data(files.YEAR))
+            return Below({day: name for day, name in days.items() if is_there(day)},
+                         span=(str(year.year), year.made[:10]))
     result = run_one(path, work, Below, seconds)
     return Below({}) if isinstance(result, Refusal) else result
 

@@ -10,7 +10,7 @@ from contextlib import suppress
 from datetime import datetime
 from typing import NamedTuple
 
-from ..fault import Fault
+from ..fault import Fault, fault
 from ..folder.entry import Record
 from ..folder.events import Events, read_events
 from ..folder.files import AUDIT, EVENTS, SIGNATURE, SIGNATURES, YEAR, Folder, absolute, data_named, sum_of
@@ -157,9 +157,13 @@ def holder_of(signers: bytes, signature: bytes) -> str:
     return ""
 
 
-def signed_in(folder: Folder) -> str:
-    """What is signed of a folder: its audit.json, a year's statements, or on what an answer to a log rests."""
-    return next(filter(folder.has, SIGNATURES), AUDIT)
+def signed_in(folder: Folder, day: str = "") -> str:
+    """What is signed of a folder, or of a day's in it: its audit.json, a year's statements, or on what an answer to a
+    log rests. One that has two of them is refused: the files of one would be nobody's."""
+    found = [name for name in SIGNATURES if folder.has(os.path.join(day, name))]
+    if found[1:]:
+        raise fault(f"{' and '.join(found)} are in one folder, which is a day, a year, or an answer to a log")
+    return found[0] if found else AUDIT
 
 
 def time_of(name: str, data: bytes) -> str:

@@ -2,6 +2,7 @@
 somebody can sign it."""
 import os
 import re
+from collections.abc import Iterable
 from itertools import dropwhile, groupby
 from typing import NamedTuple
 
@@ -15,7 +16,7 @@ from ..folder.year import Stated, Statements, read_statements
 from ..records import replace
 from ..text import count, label, listed, plain, spelled
 from ..units import low_ms, ns_ms, ns_up_ms, seconds_of
-from .days import (NAMESAKES, NOBODY, UNKNOWN, VERIFIED, Twins, YearCall, in_words, missing_year, namesakes, packed,
+from .days import (NAMESAKES, NOBODY, UNKNOWN, VERIFIED, Twins, YearCall, in_words, missing_days, namesakes, packed,
                    unpacked, year_of)
 from .signature import Signers
 
@@ -39,8 +40,8 @@ ANY_PAGES = "its pages weren't looked at: `year --split` makes them again in ano
 PROGRAM = re.compile(r"(ntpaudit [0-9]+(?:\.[0-9]+)*(?: \(logic [0-9a-f]+\))?), SHA-256 ([0-9a-f]{64})")
 BY_ANOTHER = "made by another program than the one by which its days are known here"
 UNSEEN_OF = "of {} the signature by which it counts wasn't looked at (--signers FILE does)"
-MOST_OF_A_PATH, MOST_OF_A_NOTE = 4_096, 200
-"""Characters of a path in a file of days, and of a statement in a note."""
+MOST_LINES, MOST_OF_A_PATH, MOST_OF_A_NOTE = 366, 4_096, 200
+"""Lines of a file of days, and characters of a path in it, and of a statement in a note."""
 
 
 def statement(year: Year) -> str:
@@ -142,6 +143,8 @@ def stated_of(year: Year, file: str, sum_: str) -> Stated:
 def read_lines(data: bytes) -> list[Line]:
     """The lines of a file of days, each with a line feed at its end: a path may have any other mark."""
     *every, rest = data.decode("utf-8", "surrogateescape").split("\n")
+    if len(every) > MOST_LINES:
+        raise fault(f"a file of days has more than {MOST_LINES} lines")
     lines = [Line(*line.groups("")) for line in map(LINE.fullmatch, every) if line]
     if rest or len(lines) < len(every):
         raise fault("a file of days isn't one")
@@ -194,8 +197,38 @@ def may_be(name: str, machine: str, place: str) -> bool:
     seen = bare(in_words(os.path.relpath(absolute(machine), absolute(place)))) or os.path.basename(here)
     is_so = called == bare(name)
     above = f"/{called}".removesuffix(f"/{seen}") if is_so else os.path.dirname(name)
-    return is_so and here.endswith(f"/{called}") or \
+    return is_so and ends_so(name, machine) or \
         f"/{called}".endswith(f"/{seen}") and above == plain(above)
+
+
+def ends_so(name: str, machine: str) -> bool:
+    """Whether the path of a machine's folder here ends as the one by which it was called."""
+    return in_words(absolute(machine)).endswith(f"/{bare(os.path.normpath(name))}")
+
+
+def is_within(path: str, place: str) -> bool:
+    """Whether a folder is another one, or in it."""
+    return f"{absolute(path)}/".startswith(f"{absolute(place).rstrip('/')}/")
+
+
+def misplaced(name: str, machine: str, place: str) -> str:
+    """Why a folder isn't that of the machine of which a year or an answer in some folder speaks; nothing if it may be.
+    In that very folder whoever made it may have laid days of his own."""
+    if is_within(machine, place):
+        return "which is within the folder that rests on it"
+    return "" if may_be(name, machine, place) else "which has another name"
+
+
+def renamed(machines: Iterable[tuple[str, str]]) -> list[str]:
+    """A note of machines that were called otherwise than their folders are here."""
+    return first_of([f"{in_quotes(name)} is {label(path)} here" for name, path in machines if not ends_so(name, path)],
+                    "machine")
+
+
+def first_of(notes: list[str], what: str) -> list[str]:
+    """The first of some notes, and how many more there are of such."""
+    more = f" ({count(len(notes) - 1, f'more {what}')} too)" if notes[1:] else ""
+    return [f"{note}{more}" for note in notes[:1]]
 
 
 def bare(path: str) -> str:
@@ -205,20 +238,22 @@ def bare(path: str) -> str:
 
 class Compared(NamedTuple):
     """The first difference between what stands in a year and what its days come to, by what is known here, nothing if
-    there is none; the days that aren't shown; and what is worth a note."""
+    there is none; the days that aren't shown; what is worth a note; and which days hadn't ended, if some had."""
 
     difference: str
     hidden: list[str] = []
     notes: list[str] = []
+    rest: list[str] = []
 
 
 def compared(folder: Folder, known: Known, leaps: LeapList, signers: Signers = Signers(None)) -> Compared:
     """What of a year stands as its days are."""
     statements = read_statements(folder.data(YEAR))
     machines = [machine_in(stated, lines_in(folder, stated)) for stated in statements.machines]
+    names = ((stated.machine, path) for stated, path in zip(statements.machines, machines) if path != stated.machine)
     wanted = YearCall(statements.year, known, leaps, seconds_of(statements.made), signers,
                       machines=len(statements.machines), namesakes=namesakes(machines))
-    twins, years = Twins(), list[bytes]()
+    twins, years = Twins(), list[bytes | Year]()
     for stated in statements.machines:
         if not is_named(folder, stated):
             return Compared(f"{label(stated.file)} isn't the file that {YEAR} names")
@@ -230,10 +265,10 @@ def compared(folder: Folder, known: Known, leaps: LeapList, signers: Signers = S
                 without_says(stated, lines) * bool(statements.pages):
             return Compared(wrong)
         twins.add(year)
-        years.append(packed(year))
+        years.append(packed(year) if lines else year)
     hidden, unseen, others = list[str](), 0, list[str]()
     for number, (stated, data) in enumerate(zip(statements.machines, years)):
-        year = twins.of(number, unpacked(data))
+        year = twins.of(number, data if isinstance(data, Year) else unpacked(data))
         if stated_of(year, stated.file, stated.sha256) != stated:
             here, year = year.programs, replace(year, programs=programs_in(stated.statement))
             other = [made for made in year.programs if made not in here] or year.programs
@@ -245,11 +280,13 @@ def compared(folder: Folder, known: Known, leaps: LeapList, signers: Signers = S
         hidden += not_shown(year)
         unseen += sum(year.signers.values()) if signers.given is None else 0
     wrong = other_page(folder, statements) if statements.pages else ""
-    more = f" ({count(len(others) - 1, 'more statement')} too)" if others[1:] else ""
-    notes = [f"{other}{more}" for other in others[:1]]
+    notes = first_of(others, "statement") + renamed(names)
     notes += [UNSEEN_OF.format(count(unseen, "day"))] * bool(unseen)
     notes += [] if wrong else [PAGES if statements.pages else ANY_PAGES]
-    return Compared(wrong, hidden, notes + (unanswered_in(folder, statements) if statements.pages else []))
+    notes += unanswered_in(folder, statements) if statements.pages else []
+    made, first, last = statements.made[:10], *(f"{statements.year}-{day}" for day in ("01-01", "12-31"))
+    rest = [f"days from {max(first, made)} on, which hadn't ended when it was made"] * (made <= last)
+    return Compared(wrong, hidden + rest * (made <= first), notes, rest * (made > first))
 
 
 def programs_in(statement: str) -> list[Made]:
@@ -280,8 +317,9 @@ def has_one_machine(folder: Folder, stated: Stated, lines: list[Line]) -> str:
     machines = {os.path.dirname(line.path) or "." for line in lines}
     if len(machines) > 1:
         return f"{label(stated.file)} has days of several machines"
-    other = next((machine for machine in machines if not may_be(stated.machine, machine, folder.path)), "")
-    return f"{label(stated.machine)}: its days are in {other}, which has another name" if other else ""
+    wrong = next(((machine, why) for machine in machines if (why := misplaced(stated.machine, machine, folder.path))),
+                 None)
+    return f"{label(stated.machine)}: its days are in {', '.join(wrong)}" if wrong else ""
 
 
 def machine_in(stated: Stated, lines: list[Line]) -> str:
@@ -292,7 +330,7 @@ def machine_in(stated: Stated, lines: list[Line]) -> str:
 def year_stated(stated: Stated, lines: list[Line], wanted: YearCall) -> Year:
     """The year of a machine by the folders that a statement names, as far as they are known here."""
     if not lines:
-        return missing_year(wanted, stated.machine)
+        return Year(stated.machine, missing_days(wanted.year, wanted.at))
     answering = {os.path.basename(line.path): line.by for line in lines if line.by != VERIFIED}
     year = year_of(wanted._replace(answering=answering), machine_in(stated, lines),
                    [os.path.basename(line.path) for line in lines])
@@ -325,8 +363,6 @@ def without_says(stated: Stated, lines: list[Line]) -> str:
 
 def not_shown(year: Year) -> list[str]:
     """The days of a machine that aren't shown, those of one verdict that follow one another together."""
-    if not year.days:
-        return [f"{in_quotes(year.machine)} any day, since none had ended"]
     runs = [(words, list(days)) for words, days in groupby(year.days, said_of) if words != YES]
     return [f"{in_quotes(year.machine)} {' .. '.join(dict.fromkeys((days[0].date, days[-1].date)))} {words}"
             for words, days in runs]

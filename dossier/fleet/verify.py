@@ -27,7 +27,7 @@ from ..verdict.second import Second
 from ..verdict.sentences import reason
 from .audit import change_of, counted_once
 from .drawing import drawn_of, likelihoods
-from .events import EventsCall, PageOfEvents, difference as difference_of_events, folders_of, is_of_events
+from .events import EventsCall, PageOfEvents, difference as difference_of_events, folders_of, is_of_events, renamed_in
 from .judging import ONLY_MADE, Judging, Unjudgeable
 from .planning import Machines, beside_years, is_of_days, names_of, planned, several_among
 from .signature import GOOD, NONE, UNSEEN, Signers, in_words, signed_in
@@ -156,7 +156,7 @@ class Verifier:
 
 
 def audit_json(folder: Folder) -> bytes:
-    if not folder.has(files.AUDIT):
+    if signed_in(folder) != files.AUDIT or not folder.has(files.AUDIT):
         raise fault("not audited", DEVICE)
     return folder.data(files.AUDIT)
 
@@ -257,6 +257,8 @@ def verify_all(folders: list[str], verifier: Verifier, signers: Signers, seconds
     if several:
         told.say(f"({count(len(several), 'folder')} of several days {'was' if len(several) == 1 else 'were'} made again "
                  "too)")
+    if plan.of_others:
+        told.say(f"({count(plan.of_others, 'day')} of another time beside the year's weren't looked at)")
     if beside & left:
         told.say(f"({count(len(beside), 'day')} beside the year's weren't looked at)")
     if how.answers:
@@ -300,8 +302,6 @@ class Tally:
                 AS_SIGNED.format("what was made again" if self.is_of_some else "all")
             nothing = "nothing else" if self.others else "nothing of it" if self.is_of_some else "nothing, all is shown"
             self.say(f"{first}; not shown: {', '.join(hidden) or nothing}")
-        elif self.is_of_some and self.of_years:  # (these days weren't looked at one by one)
-            self.worst = summed(self.worst, NOT_SHOWN)
         return self.worst
 
 
@@ -343,7 +343,9 @@ def verify(verifier: Verifier, signers: Signers, is_signed: bool, path: str, nam
                 notes += found.notes
                 lines = [*(findings or [words_of(signed, verifier.known)]), *unsigned, *(f"({n})" for n in notes)]
                 is_same = not findings and not unsigned
-                return Compared(0 if is_same else NOT_SHOWN, lines, is_same, hidden=found.hidden)
+                is_shown = not (found.hidden and verifier.known.believes)  # (days weren't looked at one by one)
+                return Compared(0 if is_same and is_shown else NOT_SHOWN, lines, is_same, hidden=found.hidden +
+                                found.rest)
             earlier = before(verifier, folder, how) if how.known else None
             difference, others, made, is_judged = \
                 earlier or (verifier.judge(folder) if how.answers else verifier.verify(folder))
@@ -407,7 +409,7 @@ def difference_of_days(verifier: Verifier, folder: Folder, named: set[str], sign
         folders_of(folder, named)
         call = EventsCall(Asked(), verifier.known, verifier.leaps, verifier.program, SECONDS, page=verifier.page,
                           signers=signers)
-        return YearCompared(difference_of_events(folder, call))
+        return YearCompared(difference_of_events(folder, call), notes=renamed_in(folder))
     days_of(folder, named)
     return year_compared(folder, verifier.known, verifier.leaps, signers)
 

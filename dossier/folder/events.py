@@ -3,10 +3,11 @@ from typing import Annotated, Literal
 
 from ..fault import fault
 from ..records import dataclass, field
-from ..schema import Name, Sum, Text, Time, is_time, length, matching, or_nothing, read_typed
+from ..schema import Name, Rule, Sum, Text, Time, is_time, length, matching, or_nothing, read_typed
 from ..units import now
 from .entry import SKEW, Made
 from .files import EVENTS
+from .result import MOST_FOLDERS
 
 MOST_OF_A_PATH = 4_096
 
@@ -20,6 +21,8 @@ def is_path(path: str) -> bool:
 
 
 Path = Annotated[str, is_path]
+FEW = Rule(lambda names: len(names) <= MOST_FOLDERS, (("maxProperties", MOST_FOLDERS),))
+"""No more names than folders of a machine are looked at."""
 Order = Literal["given", "time", "earliest", "latest"]
 Unit = Literal["second", "minute", "day"]
 
@@ -44,8 +47,8 @@ class Resting:
 
     machine: Path
     path: Path
-    days: dict[Name, Annotated[str, matching("[0-9a-f]{64}|")]] = field(default_factory=dict)
-    by: dict[Name, Text] = field(default_factory=dict)
+    days: Annotated[dict[Name, Annotated[str, matching("[0-9a-f]{64}|")]], FEW] = field(default_factory=dict)
+    by: Annotated[dict[Name, Text], FEW] = field(default_factory=dict)
     """Who signed those of them that count by that, since nobody made them again where the answer was made."""
 
 

@@ -28,7 +28,7 @@ YEAR = "year.json"
 EVENTS, LOG, ANSWERED = "events.json", "events.csv", "answered.csv"
 """On what an answer to a log of events rests, the log as it was given, and the same with the answer."""
 SIGNATURES = {name: f"{name}.sig" for name in (AUDIT, YEAR, EVENTS)}
-"""The signature of each that is signed. The first of them that a folder has says what the folder is."""
+"""The signature of each that is signed. The one of them that a folder has says what the folder is."""
 SIGNATURE = SIGNATURES[AUDIT]
 LIST = "pages.sums"
 """The sums of the pages that a call left in a folder, as `sha256sum` has them."""

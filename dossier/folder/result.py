@@ -295,11 +295,12 @@ class Timed:
 
 @dataclass(frozen=True)
 class Below:
-    """The days on which what stands in a folder rests, each with its name for good, and whether that is an answer to a
-    log of events."""
+    """The days on which what stands in a folder rests, each with its name for good; whether that is an answer to a log
+    of events; and of a year its number, and the day on which it was made."""
 
     days: dict[str, str]
     is_of_events: bool = False
+    span: tuple[str, str] = ("", "")
 
 
 @dataclass(frozen=True)

@@ -5,8 +5,10 @@ if it still is what was left. Nothing that is signed is replaced.
 """
 import os
 import re
+from collections.abc import Iterable
 
 from ..fault import USAGE, Fault, fault
+from ..fleet.statements import is_within
 from ..folder.entry import line_of_sum
 from ..folder.files import LIST, SIGNATURES, Folder, sum_of
 from ..folder.placing import take_away
@@ -27,10 +29,12 @@ def page_of(path: str) -> str:
 
 
 class Split:
-    """What a call leaves in such a folder."""
+    """What a call leaves in such a folder, which isn't one on which that rests, or above one."""
 
-    def __init__(self, path: str):
+    def __init__(self, path: str, resting: Iterable[str] = ()):
         self.path, self.before, self.left = path, dict[str, str](), dict[str, str]()
+        if inside := next((folder for folder in resting if is_within(folder, path)), ""):
+            raise fault(f"nothing is written into {path}: a folder that is named is in it ({inside})", USAGE)
         try:
             with Folder(path) as folder:
                 signed = next(filter(folder.has, SIGNATURES.values()), "")

@@ -62,7 +62,7 @@ def test_signed(place: Path) -> None:
         text.splitlines()[-1], "all is as it was signed; not shown: nothing, all is shown"))
     before = contents(out)
     check("audit a signed answer", run=(dossier("audit", out)[:2], (5, (
-        f"refused       {out}: ntpaudit-dossier: events.json is signed, so nothing is written beside it\n").encode())))
+        f"refused       {out}: ntpaudit-dossier: events.json is there, so nothing is written beside it\n").encode())))
     for name, words in (("events", asked), ("year", ["year", "--split", out, asked[-1]]),
                         ("page", ["page", "--split", out, place / "fleet" / "web-1" / DAY])):
         status, _, err = dossier(*words)

@@ -94,7 +94,7 @@ def sign_fleet(place: Path, signers: Path, machines: list[Path], here: dict[str,
           said=(b"is signed, so nothing is replaced" in again[2], True))
     beside = dossier("audit", place / "pages", env=here)
     check("nothing is written beside it", status=(beside[0], 5), left=((place / "pages/audit.json").exists(), False),
-          said=(b"year.json is signed, so nothing is written beside it" in beside[1], True))
+          said=(b"year.json is there, so nothing is written beside it" in beside[1], True))
     words_: list[str | Path] = ["verify", "--signers", signers, "--as-signed"]
     named = [place / "pages", place / "fleet"]
     status, out, _ = dossier(*words_, *named, env={**here, "XDG_STATE_HOME": str(place / "auditor")})
@@ -197,7 +197,7 @@ def test_sample(place: Path) -> None:
         check(f"drawn by {seed}", days=(days[0], days[1]), said=(
             "3 of 8 days were drawn and made again: had 1 % of all been bad (1), one would have been drawn with 37.5 %"
             in out.decode(), True))
-    other = [own / "2002-01-01", place / "fleet" / "web-2" / "2001-09-09"]
+    other = [own / "2001-12-31", place / "fleet" / "web-2" / "2001-09-09"]
     for path in other:
         shutil.copytree(own / "2001-09-09", path)
     status, again, _ = dossier("verify", "--sample", 3, "--seed", "x", place / "pages", place / "fleet")

@@ -10,7 +10,7 @@ from tests.support import check, is_here
 from tests.dossier.audits import ENVIRONMENT, called, dossier, record_of, rows, with_change
 from tests.dossier.test_evidence import key_of
 from tests.dossier.test_fleets import days_of, machine
-from tests.dossier.test_years import RIGHT, WIDE, day
+from tests.dossier.test_years import DAY, FIRST, RIGHT, WIDE, day
 from tests.tools.wire import records_of
 
 from dossier.fleet.days import in_words
@@ -59,7 +59,7 @@ def test_empty_machine(place: Path) -> None:
     dossier("year", "--year", "9999", "--split", place / "pages", own)
     dossier("sign", "--key", place / "ann", place / "pages")
     check("a year of which no day has ended", last=(last_of(as_signed(place)[1]).partition("; ")[2], (
-        f"not shown: {own} any day, since none had ended")))
+        "not shown: days from 9999-01-01 on, which hadn't ended when it was made")))
 
 
 def test_refused_day(place: Path) -> None:
@@ -214,3 +214,57 @@ def test_many_machines(place: Path) -> None:
         numbers.append((place / "log").read_text())
         (place / "log").unlink()
     check("captures that are looked for again", numbers=(numbers, ["732 " * 4] * 2))
+
+
+def test_goes_on(place: Path) -> None:
+    """A year stays as it was signed when its fleet goes on; but days of its own beside it are looked at."""
+    if not is_here("ssh-keygen", "a year that is signed"):
+        return
+    own = machine(place / "fleet", "web-1")
+    dossier("audit", *days_of(own))
+    signed_year(place, own)
+    note = "days of another time beside the year's weren't looked at)"
+    check("nothing beside it", said=(note in as_signed(place)[1], False))
+    for name in "2002-01-05", "2000-12-31", "2002-01-06":
+        shutil.copytree(own / "2001-09-09", own / name)
+    (own / "2002-01-05" / "audit.json").unlink()
+    shutil.copytree(own, place / "fleet" / "web-2", ignore=shutil.ignore_patterns("2001-*"))
+    for way in WAYS:
+        status, text = as_signed(place, way)
+        check(f"days of other years {way}", status=(status, 0), said=((f"(6 {note}" in text.splitlines(), "/2002-" in
+                                                                       text, "/2000-" in text), (True, False, False)))
+    status, out, _ = dossier("verify", "--as-signed", "--signers", place / "signers", place / "pages", place / "fleet",
+                             own / "2002-01-05")
+    check("one of them is named", status=(status, 1), said=(
+        f"{own}/2002-01-05: ntpaudit-dossier: not audited" in out.decode(), True), beside=(
+        f"(5 {note}" in out.decode(), True))
+    shutil.copytree(own / "2001-09-09", own / "2001-12-31")
+    status, text = as_signed(place)
+    check("a day of the year", status=(status, 1), said=(f"{own}/2001-12-31: nobody signed it" in text, True))
+
+
+EARLY = """import dossier.page.years as years
+write_year = years.write_year
+years.write_year = lambda folders, wanted, *more: write_year(folders, wanted._replace(at={}), *more)"""
+
+
+def test_not_ended(place: Path) -> None:
+    """Of a year that was made before its end the last line says from when on it has no days."""
+    if not is_here("ssh-keygen", "a year that is signed"):
+        return
+    own = machine(place / "fleet", "web-1", 3)
+    dossier("audit", *days_of(own))
+    signers, rest = place / "signers", "days from 2001-09-11 on, which hadn't ended when it was made"
+    key, allowed = key_of(place, "ann")
+    signers.write_text(allowed)
+    with_change(EARLY.format(FIRST + 2 * DAY + 7), "year", "--year", "2001", "--split", place / "pages", own)
+    dossier("sign", "--key", key, place / "pages")
+    status, text = as_signed(place)
+    check("a year that was made early", status=(status, 0), said=(last_of(text).endswith(rest), True),
+          beside=("(1 day of another time beside the year's weren't looked at)" in text, True))
+    out = dossier("verify", "--sample", "1", "--seed", "x", place / "pages", own)[1].decode()
+    check("without a signature", said=(rest in out, False))
+    shutil.rmtree(place / "pages")
+    dossier("year", "--year", "2001", "--split", place / "pages", own)
+    dossier("sign", "--key", key, place / "pages")
+    check("a year that has ended", said=("hadn't ended" in as_signed(place)[1], False))

@@ -162,7 +162,7 @@ def is_valid(schema: Any, value: Any, known: dict[str, Any]) -> bool:
                 return all(is_valid(each, item, known) for each, item in zip(rule, value))
             case "items":
                 return all(rule and is_valid(rule, item, known) for item in value[len(schema.get("prefixItems", [])):])
-            case "minItems" | "maxItems":
+            case "minItems" | "maxItems" | "maxProperties":
                 return bool(len(value) >= rule if word == "minItems" else len(value) <= rule)
             case "minimum" | "maximum":
                 return bool(value >= rule if word == "minimum" else value <= rule)

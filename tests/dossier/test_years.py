@@ -152,7 +152,7 @@ def strange_statements(year: dict[str, Any], sums: str) -> Iterator[tuple[str, l
     """Statements that don't follow from a machine's days: what is wrong, all statements, all days, and what is said."""
     (machine,), more = year["machines"], "web 2) was right on each day. And that of ("
     odd = sums.replace(" verified ", "  ")
-    many = "".join(f"{sums[:64]} verified ../fleet/web 1/{1000 + number}-01-01\n" for number in range(5000))
+    many = "".join(f"{sums[:64]} verified ../fleet/web 1/{1000 + number}-01-01\n" for number in range(300))
     long = f"{sums[:64]} verified ../fleet/web 1{'/x' * 2048}/2001-09-09\n"
     other, follow = "which has another name", "doesn't follow from its days"
     for name, changes, days, said in (
@@ -345,14 +345,13 @@ def test_midnight(place: Path) -> None:
                                     for server in (1, 2, 3, 4)))
     (folder / "claim.json").write_text(json.dumps(claim))
     dossier("audit", "--days", folder)
-    for name in "2001-09-25/report.txt", "year.json":
-        (folder / name).parent.mkdir(exist_ok=True)
-        (folder / name).touch()
-        status, out, _ = dossier("verify", folder)
-        check(f"days beside {name}", run=((status, out.decode().partition(":")[2].partition(":")[0]),
-                                          (1, f" {name} isn't of this audit")))
-        (folder / name).unlink()
-    (folder / "2001-09-25").rmdir()
+    other = folder / "2001-09-25" / "report.txt"
+    other.parent.mkdir()
+    other.touch()
+    status, out, _ = dossier("verify", folder)
+    check("days beside a report", run=((status, out.decode().partition(":")[2].partition(":")[0]),
+                                       (1, f" {other.relative_to(folder)} isn't of this audit")))
+    shutil.rmtree(other.parent)
     own = folder / "2001-09-10" / "audit.json"
     own.touch()
     check("a day with an audit of its own", run=(dossier("audit", "--days", "--again", folder)[0], 2),

@@ -7,12 +7,16 @@ from typing import Any
 from unittest import mock
 
 from tests.support import check, is_here, run, sum_of
-from tests.dossier.audits import ENVIRONMENT, called, dossier
+from tests.dossier.audits import ENVIRONMENT, called, dossier, rows
+from tests.dossier.test_events import NOON, log_of
 from tests.dossier.test_evidence import key_of
 from tests.dossier.test_years import RIGHT, day
 
-from dossier.fleet import statements
+from dossier import units
+from dossier.fleet import days, statements
 from dossier.folder.files import Folder
+from dossier.folder.registry import Known
+from dossier.premise.leap import read_list
 
 OWN = "a machine's key signs its own days alone"
 FOLLOWS = "verified: its statements follow from the audits of its days"
@@ -170,9 +174,138 @@ def test_large_files_of_days(place: Path) -> None:
         check(f"another file of days of {size} bytes", status=(status, 1), said=(
             f"{pages}: {file.name} isn't the file that year.json names" in out.decode().splitlines(), True))
     deep = f"{place}{'/x' * 1500}"
-    file.write_text("".join(f"{'0' * 64} verified {deep}/{number}\n" for number in range(400)))
+    file.write_text("".join(f"{'0' * 64} verified {deep}/{number}\n" for number in range(360)))
     change_lines(pages, "", "")
     with mock.patch.object(statements, "folders_above", wraps=statements.folders_above) as above:
         with Folder(str(pages)) as folder:
             days = statements.days_of(folder, {str(place)})
     check("deep paths", days=(len(days), 0), calls=(above.call_count, 0))
+
+
+def answer_of(place: Path, *folders: object) -> Path:
+    """An answer to a log of an event of web-1."""
+    log = log_of(place, f"machine,time\nweb-1,{NOON}Z\n")
+    check("an answer", status=(dossier("events", "--split", place / "answer", log, *folders)[0], 0))
+    return place / "answer"
+
+
+def test_two_things(place: Path) -> None:
+    """A folder is a day, a year or an answer: of one that is two of them nothing is as it was signed."""
+    if not is_here("ssh-keygen", "a year that is signed"):
+        return
+    signers, fleet = signers_of(place, "ann"), place / "fleet"
+    own = day(fleet / "web-1", 0, RIGHT)
+    dossier("audit", own)
+    pages, answer = year_of(place, fleet / "web-1"), answer_of(place, fleet / "web-1")
+    dossier("sign", "--key", place / "ann", pages, answer, own)
+    asked = ["verify", "--as-signed", "--signers", signers]
+    check("one thing each", status=(dossier(*asked, pages, answer, fleet)[0], 0))
+    names, words = {own: "audit.json", pages: "year.json", answer: "events.json"}, "in one folder"
+    for one, other in ((answer, own), (answer, pages), (pages, own), (own, pages), (own, answer)):
+        both = place / "both" / one.relative_to(place)
+        shutil.copytree(place / "fleet", place / "both" / "fleet")
+        shutil.copytree(one, both, dirs_exist_ok=True)
+        for file in other.iterdir():
+            shutil.copy(file, both / file.name)
+        what = f"{one.name} with {names[other]}"
+        (both / "answered.csv").write_text("forged")
+        for way in "", "--answers", "--known", "--second", "--sample 1 --seed x":
+            status, out, _ = dossier(*asked, *way.split(), both, place / "both" / "fleet")
+            check(f"verify {what} {way}", status=(status, 1), said=(words in out.decode(), True), last=(
+                out.decode().splitlines()[-1].startswith("not as it was signed: "), True))
+        for command in f"sign --key {place}/ann", "audit", "audit --again", "keep", "page", "page --verify":
+            status, out, _ = dossier(*command.split(), both)
+            check(f"{command} {what}", status=(status, lambda status: status > 0),
+                  said=(words in out.decode(), True))
+        if one == own:
+            dossier("year", "--year", "2001", "-o", place / "page.html", both.parent)
+            _, rows, said = dossier("events", place / "log.csv", both.parent)
+            check(f"year and events with {what}", year=(words in (place / "page.html").read_text(), True),
+                  said=(words in said.decode(), True), row=(rows.endswith(b",refused\n"), True))
+        shutil.rmtree(place / "both")
+
+
+def test_days_within(place: Path) -> None:
+    """Days in the folder of a year or an answer, laid there by who made it, are none of a machine's."""
+    if not is_here("ssh-keygen", "a year that is signed"):
+        return
+    signers, fleet = signers_of(place, "ann"), place / "fleet"
+    dossier("audit", day(fleet / "web-1", 0, RIGHT))
+    log, within = log_of(place, f"machine,time\nweb-1,{NOON}Z\n"), "a folder that is named is in it"
+    for command, split in rows((["year", "--year", "2001"], fleet), (["year"], fleet / "web-1"), (["year"], place),
+                               (["events", log], fleet), (["events", log], fleet / "web-1" / "2001-09-09")):
+        status, _, said = dossier(*command[:1], "--split", split, *command[1:], fleet / "web-1" / "2001-09-09")
+        check(f"{command[0]} into {split.name}", status=(status, 5), said=(within in said.decode(), True),
+              left=(sorted(path.name for path in fleet.iterdir()), ["web-1"]))
+    pages, answer = year_of(place, "fleet/web-1", cwd=place), answer_of(place, fleet / "web-1")
+    for folder in pages, answer:
+        shutil.copytree(fleet / "web-1", folder / "web-1")
+    change_lines(pages, "../fleet/web-1/", "web-1/")
+    text = (answer / "events.json").read_text()
+    (answer / "events.json").write_text(text.replace('"../fleet/web-1"', '"web-1"'))
+    for folder, name in (pages, "year.json"), (answer, "events.json"):
+        words = f"{folder}/web-1, which is within the folder that rests on it"
+        told = dossier("sign", "--key", place / "ann", folder)
+        check(f"sign {folder.name} with days in it", status=(told[0], lambda status: status in (1, 2)),
+              said=(words in told[1].decode(), True))
+        sign(place, "ann", folder / name)
+        for way in "", "--answers", "--sample 1 --seed x":
+            status, out, _ = dossier("verify", "--as-signed", "--signers", signers, *way.split(), folder, fleet)
+            check(f"{folder.name} with days in it {way}", status=(status, 1), said=(words in out.decode(), True))
+
+
+def test_called_otherwise(place: Path) -> None:
+    """A machine that was called otherwise than its folder is here is named."""
+    london = place / "fleet" / "london"
+    for number in 0, 1:
+        dossier("audit", day(london / f"web-{number}", number, RIGHT))
+    named = "web-0", "web-1"
+    dossier("year", "--year", "2001", "--split", "pages", *named, cwd=london)
+    log = log_of(place, f"machine,time\nweb-0,{NOON}Z\n")
+    dossier("events", "--split", "answer", log, *named, cwd=london)
+    asked = ["verify", "--known", "fleet/london/pages", "fleet/london/answer", "fleet"]
+    check("as they are called", said=("web-0 here" in dossier(*asked, cwd=place)[1].decode(), False))
+    for name in "web-0", "web-1":
+        for file in "pages/year.json", "answer/events.json":
+            text = (london / file).read_text().replace(f'"machine": "{name}"', f'"machine": "fleet/paris/{name}"')
+            (london / file).write_text(text.replace(f"({name})", f"(fleet/paris/{name})"))
+        more = " (1 more machine too)" if name == "web-1" else ""
+        out = dossier(*asked, cwd=place)[1].decode().splitlines()
+        words = "(fleet/paris/web-0 is fleet/london/web-0 here"
+        check(f"other names up to {name}", year=(f"fleet/london/pages: {words}{more})" in out, True), answer=(
+            f"fleet/london/answer: {words})" in out, True))
+    dossier("year", "--year", "2001", "--split", "pages", "../london/web-0", cwd=london)
+    check("the end of a path", said=(
+        "pages: (fleet/paris" in dossier(*asked, cwd=place)[1].decode(), False))
+
+
+def test_many_lines(place: Path) -> None:
+    """A file of days has no more lines than a year has days, an answer's machine no more folders than are looked at,
+    and a machine without a day takes no time."""
+    own = place / "fleet" / "web-1"
+    dossier("audit", day(own, 0, RIGHT))
+    pages, answer = year_of(place, own), answer_of(place, own)
+    kept = json.loads((pages / "year.json").read_text())
+    (pages / "e.days").touch()
+    machines = [{**kept["machines"][0], "machine": f"m{k}", "statement": f"Of m{k} nothing is known here.", "shown": 0,
+                 "file": "e.days", "sha256": sum_of(b"")} for k in range(9)]
+    (pages / "year.json").write_text(json.dumps({**kept, "machines": machines, "pages": {}}))
+    with (mock.patch("dossier.fleet.days.day_of", wraps=units.day_of) as day_of,
+          mock.patch("dossier.fleet.statements.packed", wraps=days.packed) as packed, Folder(str(pages)) as folder):
+        found = statements.compared(folder, Known(str(place / "state"), False), read_list(None))
+    check("empty machines", difference=(found.difference, ""), hidden=(len(found.hidden), 9),
+          calls=((day_of.call_count < 400, packed.call_count), (True, 0)))
+    (pages / "year.json").write_text(json.dumps(kept))
+    file = pages / f"{called(own)}.days"
+    line, = file.read_text().splitlines(keepends=True)
+    file.write_text(line + "".join(line.replace("2001-09-09", f"x{number}") for number in range(366)))
+    change_lines(pages, "", "")
+    status, out, _ = dossier("verify", "--known", pages, own.parent)
+    check("too many days", status=(status, lambda status: status > 0),
+          said=("a file of days has more than 366 lines" in out.decode(), True))
+    text = (answer / "events.json").read_text()
+    for number, said in (4_000, "isn't what the log"), (4_001, "isn't one that is taken (machines 0 days)"):
+        more = "".join(f'"{name}": "", ' for name in range(1, number))
+        (answer / "events.json").write_text(text.replace('"days": {', f'"days": {{{more}', 1))
+        out = dossier("verify", answer, own.parent)[1]
+        check(f"{number} folders of an answer", said=(said in out.decode(), True))
