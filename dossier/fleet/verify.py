@@ -255,8 +255,8 @@ def verify_all(folders: list[str], verifier: Verifier, signers: Signers, seconds
     if how.sample is not None:
         told.say(likelihoods(len(drawn), len(alone)))
     if several:
-        told.say(f"({count(len(several), 'folder')} of several days {'was' if len(several) == 1 else 'were'} made again "
-                 "too)")
+        were = "was" if len(several) == 1 else "were"
+        told.say(f"({count(len(several), 'folder')} of several days {were} made again too)")
     if plan.of_others:
         told.say(f"({count(plan.of_others, 'day')} of another time beside the year's weren't looked at)")
     if beside & left:

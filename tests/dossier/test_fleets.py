@@ -495,7 +495,8 @@ def test_forged_captures(place: Path) -> None:
             ("that of a part", {"part": "2001-09-09", "outputs": {**entry["outputs"], "2001-09-09/joined.pcap": sum_}},
              1, "entries 0 part is `2001-09-09`, and by the inputs `.`"),
             ("a file less", {"outputs": without}, 1, "refutation.json")):
-        (folder / "audit.json").write_text(json.dumps({**record, "entries": [{**entry, **changes}]}))
+        record["entries"] = [entry | changes]
+        (folder / "audit.json").write_text(json.dumps(record))
         came, out, _ = dossier("verify", "--answers", folder)
         check(f"by answers: {what}", status=(came, status), said=(words in out.decode(), True))
         (folder / "joined.pcap").unlink(missing_ok=True)
