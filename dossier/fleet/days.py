@@ -14,17 +14,17 @@ from zlib import compress, decompress
 from typing import NamedTuple
 
 from ..fault import Fault
-from ..folder.claim import Claim
+from ..folder.claim import Claim, parts_of
 from ..folder.entry import (DISPUTED, NOT_VERIFIED, REFUSED, WORST_FIRST, Entry, LeapList, Made, Record, Refusal,
                             read_record)
-from ..folder.files import AUDIT, CLAIM, SIGNATURE, Folder, absolute
+from ..folder.files import AUDIT, CLAIM, SIGNATURE, Folder, absolute, sum_of
 from ..folder.jobs import run_one
 from ..folder.registry import Known
 from ..folder.result import MISSING, MOST_FOLDERS, NOT_COUNTED, Told, Year
 from ..folder.table import Table
 from ..premise.leap import record_by
 from ..records import replace
-from ..schema import is_text, is_time, said, typed
+from ..schema import is_text, is_time, read_typed, said, typed
 from ..text import plain
 from ..units import DAY, day_of, seconds_of
 from ..verdict.sentences import reason
@@ -235,7 +235,7 @@ def day_folders(wanted: YearCall, folder: Folder, name: str) -> Iterator[DayFold
             record, by = written, signer
         if by not in ("", NOBODY, signer) and wanted.signers.given is not None:
             record = None  # (it is said to count by a signature)
-        if record and not record.refusal and folder.sum(f"{name}/{CLAIM}") != record.inputs.get(CLAIM):
+        if record and not record.refusal and not is_of_claim(folder, record, f"{name}/"):
             record = None
         unknown = UNKNOWN
         if by == NOBODY:  # (what was found since doesn't count, and is told)
@@ -255,6 +255,15 @@ def day_folders(wanted: YearCall, folder: Folder, name: str) -> Iterator[DayFold
         for entry in record_by(wanted.leaps, record).entries:
             one = told_of(name, entry, record, by, dispute)
             yield one._replace(told=replace(one.told, says=says))
+
+
+def is_of_claim(folder: Folder, record: Record, within: str = "") -> bool:
+    """Whether the claim of a folder, or of a day's in it, is that of its audit, as a whole or by days."""
+    data = folder.data(f"{within}{CLAIM}")
+    claim: Claim = read_typed(CLAIM, Claim, data)
+    parts = parts_of(claim, record.options.days)
+    return sum_of(data) == record.inputs.get(CLAIM) and \
+        [part.claim for part in parts] == [entry.claim for entry in record.entries]
 
 
 def found_since(known: Known, record: Record | None) -> str:

@@ -25,7 +25,7 @@ from ..schema import first_difference, read_typed, said
 from ..text import count, label, plain
 from ..units import SECOND, earliest, latest
 from ..verdict.moments import Moments
-from .days import in_words, is_day, namesakes
+from .days import in_words, is_day, is_of_claim, namesakes
 from .signature import Signers, signed_in
 from .statements import folders_above, misplaced, premises_of, renamed
 
@@ -170,8 +170,7 @@ def known_of(call: EventsCall, machine: str, folder: Folder, written: Record) ->
     record = call.known.shown(folder.sum(AUDIT), written)
     by = call.signers.machine_of(folder, machine) if not record or folder.path in call.signed else ""
     record = written if by and not record else record
-    is_of_claim = record and (record.refusal or folder.sum(CLAIM) == record.inputs.get(CLAIM))
-    return (record, by) if is_of_claim else (None, "")
+    return (record, by) if record and (record.refusal or is_of_claim(folder, record)) else (None, "")
 
 
 def timed(call: EventsCall, machine: str, path: str, events: list[Event]) -> Timed:
@@ -342,25 +341,34 @@ def renamed_in(folder: Folder) -> list[str]:
     return renamed((in_words(machine.named), machine.path) for machine in machines)
 
 
-def difference(folder: Folder, call: EventsCall) -> str:
-    """The first difference between what stands in a folder and what its log and the folders of machines come to."""
+def difference(folder: Folder, call: EventsCall) -> tuple[str, int]:
+    """The first difference between what stands in a folder and what its log and the folders of machines come to; and
+    of how many events no time is known."""
     kept = read_events(folder.data(EVENTS))
     data, machines = folder.data(LOG), [machine_at(folder, resting) for resting in kept.machines]
     if sum_of(data) != kept.log:
-        return f"{LOG} isn't the file that {EVENTS} names"
+        return f"{LOG} isn't the file that {EVENTS} names", 0
     signed = {path_in(machine.path, name) for machine, own in zip(machines, kept.machines) for name in own.by}
     if signed and call.signers.given is None:
-        return NO_SIGNERS
+        return NO_SIGNERS, 0
     call = call._replace(asked=kept.asked, signed=frozenset(signed))
     answer = Working(call, read_log(data, kept.asked.machine, kept.asked.time), machines).answer()
     made, files = stated(call, data, answer, kept.made, folder.path)
+    return other_file(folder, files) or other_words(kept, made), sum(not row.time for row in answer.rows)
+
+
+def other_file(folder: Folder, files: dict[str, bytes]) -> str:
+    """The first file of an answer that isn't as it was made now; nothing if there is none."""
     for name, file in files.items():
         if not folder.has(name):
             return f"{name} isn't there"
         if folder.data(name) != file:
             return f"{name} isn't what the log and the folders come to{where(folder.data(name), file)}"
-    if INDEX not in files and folder.has(INDEX):
-        return f"{INDEX} isn't of this answer"
+    return f"{INDEX} isn't of this answer" if INDEX not in files and folder.has(INDEX) else ""
+
+
+def other_words(kept: Events, made: Events) -> str:
+    """What stands in an answer otherwise than it was made now."""
     differs = first_difference(said(kept), said(replace(made, program=kept.program, signed=kept.signed)))
     return f"{EVENTS}:{differs[0]} isn't what the log and the folders come to" if differs else ""
 

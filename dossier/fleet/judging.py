@@ -8,6 +8,7 @@ from itertools import pairwise
 from typing import NamedTuple
 
 from ..capture.classic import Classic, do_rise
+from ..capture.recording import read_recording
 from ..fault import REFUSED, Fault
 from ..folder.answers import read_counts, read_settled
 from ..folder.claim import Claim
@@ -21,6 +22,7 @@ from ..premise.backing import against, backing
 from ..premise.leap import alerts_of, entry_by, look_up, stretch
 from ..records import replace
 from ..schema import read_typed
+from ..units import SECOND
 from ..verdict.making import Inputs, take_inputs, whole_of
 from .audit import change_of
 
@@ -72,6 +74,8 @@ class Judging:
         for name in own - {ENVELOPE}:
             copy_of(self.folder, name, name)
         self.hold_against(entry, taken)
+        if entry.answer == REFUTED and self.is_beside(claim, capture):
+            raise Unjudgeable
         return Judged(self.difference(entry, capture, record), capture)
 
     def capture_of(self, record: Record, taken: Inputs, claim: Claim) -> str:
@@ -102,6 +106,11 @@ class Judging:
         by_own, is_whole = entry_by(self.leaps, entry), entry.leap.from_ <= leap.from_ and leap.to <= entry.leap.to
         if not is_whole or by_own.verdict != entry.verdict or of_premises(own) != of_premises(by_own.warnings):
             raise Unjudgeable
+
+    def is_beside(self, claim: Claim, capture: str) -> bool:
+        """Whether no packet was recorded within the span, so that what refutes the claim is no evidence."""
+        recording = read_recording(self.program, CLAIM, capture, self.whole.extent)
+        return recording.around(claim.first * SECOND, claim.last * SECOND) is not None
 
     def difference(self, entry: Entry, capture: str, record: Record) -> str:
         """Has the program judge each answer. The first that it doesn't accept, or of which it says something else."""

@@ -13,6 +13,7 @@ from ..folder.jobs import run_all, run_one
 from ..folder.older import read_any
 from ..folder.result import Below
 from ..folder.year import read_statements
+from ..text import listed
 from .days import is_day
 from .events import folders_of, is_of_events
 from .signature import signed_in
@@ -33,8 +34,8 @@ class Machines(NamedTuple):
 class Plan(NamedTuple):
     """The folders that are looked at, in order; those of days on which a year's statements rest, each with its name for
     good; of folders with a year's machines all days in them; those in which are folders of an answer to a log; the days
-    on which a year or an answer rests, for which a signature of that is one; the machines of all; and how many days
-    beside a year's are of another time, and aren't looked at."""
+    on which a year or an answer rests, for which a signature of that is one; the machines of all; how many days
+    beside a year's are of another time, and aren't looked at; the years; and whether there are answers to logs."""
 
     every: list[str]
     stated: dict[str, str]
@@ -43,6 +44,14 @@ class Plan(NamedTuple):
     resting: frozenset[str] = frozenset()
     machines: Machines = Machines()
     of_others: int = 0
+    years: tuple[str, ...] = ()
+    has_answers: bool = False
+
+    @property
+    def speaks_of(self) -> str:
+        """Of what it is said that all is shown, where nothing isn't."""
+        of = f" of {listed(sorted({*self.years}))}" if self.years else ""
+        return f"{of} that answers to logs rest on" if self.has_answers else f"{of}, all is shown"
 
 
 def planned(folders: list[str], named: set[str], seconds: int) -> Plan:
@@ -79,7 +88,8 @@ def planned(folders: list[str], named: set[str], seconds: int) -> Plan:
     own = frozenset(os.path.dirname(files.absolute(day)) for day in days)
     split = [os.path.split(machine) for machine in own]
     machines = Machines(own, frozenset(name for _, name in split), frozenset(place for place, _ in split))
-    return Plan(every, stated, beside, above_of, frozenset(resting), machines, len(others))
+    return Plan(every, stated, beside, above_of, frozenset(resting), machines, len(others),
+                tuple(year for year, _ in spans if year), bool(of_events))
 
 
 def is_of_years(name: str, spans: list[tuple[str, str]]) -> bool:

@@ -94,7 +94,7 @@ def difference_of_days(call: SignCall, folder: Folder) -> str:
         return found.difference or next((note for note in found.notes if note.startswith(BY_ANOTHER)), "")
     folders_of(folder, {"/"})
     return difference_of_events(folder, EventsCall(Asked(), call.known, call.leaps, find_program(), SECONDS,
-                                                   page=call.page, signers=call.signers))
+                                                   page=call.page, signers=call.signers))[0]
 
 
 def sign(call: SignCall, signed: bytes, signature: bytes, path: str, _: int) -> Said:

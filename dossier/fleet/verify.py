@@ -84,8 +84,7 @@ class Verifier:
         made = replace(made_by(making, record, earlier_of(folder, record) if is_other else None), signed=record.signed)
         difference = self.compared(folder, record, made, is_other, form < VERSION)
         notes = ["by another build of the program than the audit's"] if is_other else []
-        notes += sorted({reason(entry) for entry in made.entries if entry.verdict == UNSUPPORTED})
-        notes += counted_once(made)
+        notes += notes_of(made)
         if not difference:
             if form == VERSION:
                 self.known.add(sum_of(data), made)
@@ -153,6 +152,11 @@ class Verifier:
         kept, own = ({"entries": [{"verdict": verdict} for verdict in one.verdicts]} for one in (record, made))
         differs = first_difference(said(by_own), said(made)) or first_difference(kept, own)
         return f"{files.AUDIT}:{in_words_of(*differs)}" if differs else ""
+
+
+def notes_of(record: Record) -> list[str]:
+    """What is worth a note of an audit."""
+    return sorted({reason(entry) for entry in record.entries if entry.verdict == UNSUPPORTED}) + counted_once(record)
 
 
 def audit_json(folder: Folder) -> bytes:
@@ -227,13 +231,14 @@ def verify_all(folders: list[str], verifier: Verifier, signers: Signers, seconds
     named = {files.absolute(folder) for folder in folders}
     plan = planned(folders, named, seconds)
     names, beside = (names_of(plan, seconds), beside_years(plan, named)) if how.sample is not None else ({}, set())
-    several = several_among([*names], seconds)  # (one of them that is drawn would be many days at once)
+    numbers = Counter(names.values())  # (one that is drawn would be many days at once)
+    several = several_among([*names], seconds).union(path for path, name in names.items() if numbers[name] > 1)
     alone = {path: name for path, name in names.items() if path not in several}
     drawn = drawn_of(alone, how.sample or 0, how.seed)
     verifier.known.believes = how.sample is not None and not how.answers
     left = set(alone).difference(drawn) | beside if how.sample is not None and not how.answers else set()
     signers.look_at([path for path in plan.every if path not in left or path in plan.stated], seconds)
-    told, seen = Tally(how.as_signed, verifier.known.believes), SeenFolders(len(plan.every))
+    told, seen = Tally(how.as_signed, verifier.known.believes, plan.speaks_of), SeenFolders(len(plan.every))
 
     def work(path: str, _: int) -> Compared:  # (a year's signature is one for its days)
         if path in plan.beside and is_of_days(path):
@@ -256,7 +261,7 @@ def verify_all(folders: list[str], verifier: Verifier, signers: Signers, seconds
         told.say(likelihoods(len(drawn), len(alone)))
     if several:
         were = "was" if len(several) == 1 else "were"
-        told.say(f"({count(len(several), 'folder')} of several days {were} made again too)")
+        told.say(f"({count(len(several), 'folder')} of several days, or of one name, {were} made again too)")
     if plan.of_others:
         told.say(f"({count(plan.of_others, 'day')} of another time beside the year's weren't looked at)")
     if beside & left:
@@ -269,8 +274,8 @@ def verify_all(folders: list[str], verifier: Verifier, signers: Signers, seconds
 class Tally:
     """What is printed of folders, and what comes of all."""
 
-    def __init__(self, as_signed: bool, is_of_some: bool):
-        self.as_signed, self.is_of_some, self.worst, self.before = as_signed, is_of_some, 0, 0
+    def __init__(self, as_signed: bool, is_of_some: bool, all_: str):
+        self.as_signed, self.is_of_some, self.all, self.worst, self.before = as_signed, is_of_some, all_, 0, 0
         self.others, self.of_years = list[str](), list[str]()
         self.hidden: dict[bool, list[str]] = {False: [], True: []}
 
@@ -300,7 +305,7 @@ class Tally:
             hidden = [*self.of_years, *(self.hidden[True] if is_by_days else []), *self.hidden[False]]
             first = f"not as it was signed: {', '.join(self.others)}" if self.others else \
                 AS_SIGNED.format("what was made again" if self.is_of_some else "all")
-            nothing = "nothing else" if self.others else "nothing of it" if self.is_of_some else "nothing, all is shown"
+            nothing = "nothing else" if self.others else "nothing of it" if self.is_of_some else f"nothing{self.all}"
             self.say(f"{first}; not shown: {', '.join(hidden) or nothing}")
         return self.worst
 
@@ -311,14 +316,16 @@ AS_SIGNED, BEFORE = "{} is as it was signed", "that was here before"
 def before(verifier: Verifier, folder: Folder, how: How) -> Verified | None:
     """What an earlier call made of a folder's audit.json, if that is enough, and the files that it names have the sizes
     that they had then. What was refused, or has to be judged by a second program that hasn't done so, is done anew."""
-    record, sum_ = read_record(audit_json(folder)), sum_of(audit_json(folder))
-    if record.refusal or not verifier.known.have_sizes(sum_, sizes_of(folder, record)) or \
-            record_by(verifier.leaps, record).verdicts != record.verdicts or not verifier.is_judged_twice(record):
+    data = audit_json(folder)
+    record, sum_ = read_any(data), sum_of(data)
+    if form_of(data) < VERSION or record.refusal or not verifier.is_judged_twice(record) or \
+            record_by(verifier.leaps, record).verdicts != record.verdicts or \
+            not verifier.known.have_sizes(sum_, sizes_of(folder, record)):
         return None
     if verifier.known.shown(sum_, record):
-        return Verified("", [BEFORE], record)
+        return Verified("", [*notes_of(record), BEFORE], record)
     if how.answers and verifier.known.answers.of(sum_):
-        return Verified("", [BEFORE], record, is_judged=True)
+        return Verified("", [*notes_of(record), BEFORE], record, is_judged=True)
     return None
 
 
@@ -409,7 +416,9 @@ def difference_of_days(verifier: Verifier, folder: Folder, named: set[str], sign
         folders_of(folder, named)
         call = EventsCall(Asked(), verifier.known, verifier.leaps, verifier.program, SECONDS, page=verifier.page,
                           signers=signers)
-        return YearCompared(difference_of_events(folder, call), notes=renamed_in(folder))
+        differs, untimed = difference_of_events(folder, call)
+        return YearCompared(differs, notes=renamed_in(folder), rest=[f"{count(untimed, 'event')} without a time"] *
+                            bool(untimed))
     days_of(folder, named)
     return year_compared(folder, verifier.known, verifier.leaps, signers)
 
@@ -422,5 +431,5 @@ def words_of(name: str, known: Known) -> str:
     """What is said of a year's statements, or of an answer to a log, by what is known of the days."""
     follow, days = RESTS[name]
     if known.believes:
-        return f"{follow} what {days} say of themselves, of which some were made again"
+        return f"{follow} what {days} say of themselves, of which those that were drawn were made again"
     return f"verified: {follow} the audits of {days}" + (", by their answers" if known.believed else "")

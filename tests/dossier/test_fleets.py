@@ -239,7 +239,12 @@ def test_sample_of_several(place: Path) -> None:
     for way in ((), ("--answers",)):
         out = dossier("verify", *way, "--sample", 1, "--seed", "x", place / "pages", place / "fleet")[1].decode()
         check(f"several days {way}", said=(out.count("1 of 3 days were drawn"), 1), again=([line in out for line in (
-            f"{month}: verified: 3 refuted", "(1 folder of several days was made again too)")], [True] * 2))
+            f"{month}: verified: 3 refuted", "(1 folder of several days, or of one name, was made again too)")],
+            [True] * 2))
+    shutil.copytree(days_of(own)[0], own / "copy")
+    out = dossier("verify", "--sample", 1, "--seed", "x", *days_of(own))[1].decode()
+    check("two of one name", said=(("1 of 2 days were drawn" in out, "(2 folders of several days, or of one name, were "
+                                    "made again too)" in out), (True, True)))
 
 
 def test_says(place: Path) -> None:
@@ -359,6 +364,17 @@ def test_known(place: Path) -> None:
     by_two = [dossier("verify", "--known", "--second", *days_of(own))[1].decode() for _ in range(2)]
     check("by two programs", asked=([out.count("(judged by two programs)") for out in by_two], [2, 0]),
           before=([out.count(before) for out in by_two], [0, 2]))
+    (against := day(place / "fleet" / "web-2", 0, RIGHT, reading_ns=60_000) / "evidence.json").write_text(
+        json.dumps({"reading": "late.json"}))
+    (against.parent / "late.json").write_text(json.dumps(measured(70_000)))
+    dossier("audit", against.parent)
+    notes = [{line.partition(": (")[2] for line in dossier("verify", *how, against.parent)[1].decode().splitlines()}
+             for how in ((), ("--known",))]
+    check("notes of what is known", notes=(notes[1], notes[0] | {before[1:], ""}))
+    record = json.loads((against.parent / "audit.json").read_bytes())
+    (against.parent / "audit.json").write_text(json.dumps({**record, "dossier": record["dossier"] - 1}))
+    older = dossier("verify", "--known", against.parent)[:2]
+    check("an older form", same=(older, dossier("verify", against.parent)[:2]))
     (refused := day(own, 2, RIGHT) / "f.pcap").write_text("none")
     dossier("audit", refused.parent)
     check("refused", before=(before in dossier("verify", "--known", refused.parent)[1].decode(), False))
@@ -500,6 +516,20 @@ def test_forged_captures(place: Path) -> None:
         came, out, _ = dossier("verify", "--answers", folder)
         check(f"by answers: {what}", status=(came, status), said=(words in out.decode(), True))
         (folder / "joined.pcap").unlink(missing_ok=True)
+
+
+def test_beside_the_span(place: Path) -> None:
+    """What refutes a claim is no evidence if nothing was recorded within the span, whatever audit.json says of it."""
+    folder = day(place / "fleet" / "web-1", 0, WIDE)
+    capture_of(folder / "f.pcap", *(f"{server}:{WIDE}@{FIRST + DAY + 60 * k}" for k in range(1, 21)
+                                    for server in (1, 2, 3, 4)))
+    dossier("audit", folder)
+    record = json.loads((folder / "audit.json").read_bytes())
+    record["entries"][0].update(verdict="refuted", reason={"why": "exceeds"})
+    (folder / "audit.json").write_text(json.dumps(record))
+    status, out, _ = dossier("verify", "--answers", folder)
+    check("by answers: no evidence as refuted", status=(status, 1), said=(
+        "entries 0 verdict is `refuted`, and by the inputs `no evidence`" in out.decode(), True))
 
 
 def test_forged_warnings(place: Path) -> None:

@@ -309,3 +309,21 @@ def test_many_lines(place: Path) -> None:
         (answer / "events.json").write_text(text.replace('"days": {', f'"days": {{{more}', 1))
         out = dossier("verify", answer, own.parent)[1]
         check(f"{number} folders of an answer", said=(said in out.decode(), True))
+
+
+def test_claims_of_others(place: Path) -> None:
+    """A day that counts by its machine's signature has the claim of which its audit speaks: else one audit would stand
+    for many days, of which a sample draws all or none."""
+    if not is_here("ssh-keygen", "a fleet that signs"):
+        return
+    signers, own = signers_of(place, "web-1"), {**ENVIRONMENT, "XDG_STATE_HOME": str(place / "own")}
+    machine = place / "fleet" / "web-1"
+    dossier("audit", first := day(machine, 0, RIGHT), env=own)
+    shutil.copytree(first, second := machine / "2001-09-10")
+    audit = second / "audit.json"
+    audit.write_text(audit.read_text().replace("2001-09-10T", "2001-09-11T").replace("2001-09-09T", "2001-09-10T"))
+    for folder in (first, second):
+        sign(place, "web-1", folder / "audit.json")
+    pages = year_of(place, "--signers", signers, machine, env={**ENVIRONMENT, "XDG_STATE_HOME": str(place / "here")})
+    lines = (pages / f"{called(machine)}.days").read_text().splitlines()
+    check("a claim of another day", by=([line.split()[1] for line in lines], ["web-1", "-"]))
