@@ -25,6 +25,16 @@ pub fn field_name(code: u8) -> &'static str
     }
 }
 
+/// Whether a field of a claim is called so.
+pub(crate) fn is_field(name: &str) -> bool {
+    for code in 1..10u8 {
+        if field_name(code) == name {
+            return true;
+        }
+    }
+    false
+}
+
 /// What has to stand in a field that holds one number, of this code; the last is `reading_ns`.
 fn number_sentence(code: u8) -> Sentence
     ensures { IsSentence result }

@@ -3,7 +3,7 @@
 ghost use Rattle.std.specs.Prelude.{IfOk};
 ghost use Rattle.fault_words.specs.Explanation.{IsToldQuietly};
 
-use crate::claim_field::field_name;
+use crate::claim_field::{field_name, is_field};
 use crate::quote::quoted;
 use crate::seen::Seen;
 use claim_file::{ClaimFault, read_claim, read_time};
@@ -65,20 +65,10 @@ fn unknown_name(alloc: Global, value: &Value) -> Result<Seen, AllocError>
     let Some(members) = value.as_object() else {
         return Ok(Seen::nothing(alloc));
     };
-    match members.keys().find(|name| !is_known(name.as_str())) {
+    match members.keys().find(|name| !is_field(name.as_str())) {
         Some(name) => this_text(alloc, name.as_str()),
         None => Ok(Seen::nothing(alloc)),
     }
-}
-
-/// Whether a claim may have this name.
-fn is_known(name: &str) -> bool {
-    for code in 1..10u8 {
-        if field_name(code) == name {
-            return true;
-        }
-    }
-    false
 }
 
 /// What stands in the field of this code.

@@ -8,11 +8,11 @@ ghost use Rattle.std.specs.Prelude.{◌≤◌, IfOk};
 ghost use Rattle.claim_file.specs.Claim.{data_of as claim_data, max_bound_ns};
 ghost use Rattle.finder.specs.Reach.{IsTabled};
 
-use crate::carried::{MOST_BOUND_NS, claim_with};
+use crate::carried::MOST_BOUND_NS;
 use crate::longest::{Pace, is_as_long, longest_piece};
 use crate::trial::trial;
 use certificate::MAX_PIECES;
-use claim_file::Claim;
+use claim_file::{Claim, with_bound};
 use std::alloc::{AllocError, Global};
 use sweep::BestTable;
 
@@ -77,7 +77,7 @@ fn is_likely_enough(
     requires tables { IsTabled (claim_data claim.now) tables.now }
     requires in_range { bound_ns ≤ max_bound_ns }
 {
-    let claim = claim_with(alloc, claim, bound_ns)?;
+    let claim = with_bound(alloc, claim, bound_ns)?;
     Ok(is_likely_carried(tables, &claim, is_near))
 }
 
