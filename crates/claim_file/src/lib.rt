@@ -27,7 +27,9 @@ pub mod laws;
 mod reading;
 mod time;
 
-pub use claim::{Claim, with_bound};
+pub use claim::{
+    Claim, MAX_BOUND_NS, MAX_DRIFT_PPB, MAX_FALSE, MAX_READING_NS, MAX_SERVERS, with_bound,
+};
 pub use fault::ClaimFault;
 pub use group::group_count;
 pub use reading::read_claim;

@@ -8,7 +8,7 @@ ghost use Rattle.claim_file.specs.Fields.{fields_data};
 ghost use Rattle.claim_file.specs.Reading as spec;
 
 use crate::address::{self, read_address, read_addresses};
-use crate::claim::Claim;
+use crate::claim::{Claim, MAX_BOUND_NS, MAX_DRIFT_PPB, MAX_FALSE, MAX_READING_NS, MAX_SERVERS};
 use crate::fault::ClaimFault;
 use crate::fields::{Fields, read_fields};
 use crate::group::read_groups;
@@ -16,16 +16,6 @@ use crate::time::read_time;
 use era_unfold::{ns_down, ns_up};
 use json_text::parse;
 use std::alloc::Global;
-
-const MAX_SERVERS: usize = 32;
-
-const MAX_FALSE: u64 = 31;
-
-const MAX_BOUND_NS: u64 = 1_000_000_000_000_000;
-
-const MAX_DRIFT_PPB: u64 = 500_000_000;
-
-const MAX_READING_NS: u64 = 1_000_000_000;
 
 /// The claim that the bytes of a JSON text say, or the first fault that it has.
 ///

@@ -13,15 +13,12 @@ use crate::longest::tables_for;
 use crate::neediest::likely_bound;
 use crate::reach::{Reach, longest_ends};
 use crate::trial::trial;
-use claim_file::{Claim, with_bound};
+use claim_file::{Claim, MAX_BOUND_NS, with_bound};
 use era_unfold::TICKS_PER_SECOND;
 use feasibility::Groups;
 use sample_interval::SampleSource;
 use std::alloc::{AllocError, Global};
 use sweep::BestTable;
-
-/// The greatest bound that a claim may have, in nanoseconds: a million seconds.
-pub(crate) const MOST_BOUND_NS: u64 = 1_000_000_000_000_000;
 
 /// The least bound with which a certificate is found.
 #[derive(Clone, Copy, Debug, PartialEq, Eq)]
@@ -71,12 +68,12 @@ fn least_bound_by(
     ensures { (samples : List TheSample) → AreTablesFor samples (claim_data claim.now) tables.now →
         FindsLeastBound samples (claim_data claim.now) result }
 {
-    let widest = try_bound(alloc, tables, claim, MOST_BOUND_NS)?;
+    let widest = try_bound(alloc, tables, claim, MAX_BOUND_NS)?;
     if widest.is_some() {
         return Ok(None);
     }
     let mut least = 0;
-    let mut bound_ns = MOST_BOUND_NS;
+    let mut bound_ns = MAX_BOUND_NS;
     let mut tick = claim.first as u64;
     while least < bound_ns {
         let tried_ns = trial(least, bound_ns, near);
