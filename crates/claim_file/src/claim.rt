@@ -1,12 +1,6 @@
 //! A claim, which keeps every limit that a calculation asks for.
 
-ghost use Rattle.std.specs.Prelude.{◌≡◌, ◌≤◌, IfOk};
-ghost use Rattle.claim_file.specs.Claim as spec;
-ghost use Rattle.claim_file.specs.Claim.{data_of, max_bound_ns};
 ghost use Rattle.claim_file.specs.Limits.{IsLawful};
-
-use era_unfold::ns_down;
-use std::alloc::{AllocError, Global};
 
 /// The most servers that a claim may name.
 pub const MAX_SERVERS: usize = 32;
@@ -62,26 +56,4 @@ pub struct Claim {
       reading = reading;
       reading_ns = reading_ns;
     }) },
-}
-
-/// The same claim with a bound of this many nanoseconds, at most 10^15.
-///
-/// The only error is that memory has run out.
-pub fn with_bound(alloc: Global, claim: &Claim, bound_ns: u64) -> Result<Claim, AllocError>
-    requires in_range { bound_ns ≤ max_bound_ns }
-    ensures { IfOk result (λ other. data_of other ≡ spec.with_bound (data_of claim.now) bound_ns) }
-{
-    Ok(Claim {
-        client: claim.client,
-        servers: Vec::from_slice(alloc, claim.servers.as_slice())?,
-        groups: Vec::from_slice(alloc, claim.groups.as_slice())?,
-        false_max: claim.false_max,
-        first: claim.first,
-        last: claim.last,
-        bound: ns_down(bound_ns),
-        bound_ns,
-        drift_ppb: claim.drift_ppb,
-        reading: claim.reading,
-        reading_ns: claim.reading_ns,
-    })
 }

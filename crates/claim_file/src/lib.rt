@@ -27,10 +27,8 @@ pub mod laws;
 mod reading;
 mod time;
 
-pub use claim::{
-    Claim, MAX_BOUND_NS, MAX_DRIFT_PPB, MAX_FALSE, MAX_READING_NS, MAX_SERVERS, with_bound,
-};
+pub use claim::{Claim, MAX_BOUND_NS, MAX_DRIFT_PPB, MAX_FALSE, MAX_READING_NS, MAX_SERVERS};
 pub use fault::ClaimFault;
 pub use group::group_count;
-pub use reading::read_claim;
+pub use reading::{read_claim, with_bound};
 pub use time::read_time;
