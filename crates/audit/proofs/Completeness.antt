@@ -3,7 +3,7 @@ use Rattle.audit.proofs.Common.{◌≡◌, ◌≢◌, ℕ, zero, suc, ◌&&◌, 
 use Rattle.audit.proofs.PacketParts.{usable}
 use Rattle.audit.proofs.RecordFrames.{SaidBy, frame_at, said_by}
 use Rattle.audit.proofs.ExchangeRecords.{AreInPlace, given_among, gives_reply, gives_request, holds_request, three_pass, distance_is, window_at}
-use Rattle.audit.proofs.Uniqueness.{floor_same, ceiling_same}
+use Rattle.audit.proofs.ClaimText.{floor_same, ceiling_same}
 
 -- ---- lists
 

@@ -12,7 +12,6 @@ pub mod RecordFrames
 pub mod Frames
 pub mod ExchangeRecords
 pub mod ClaimText
-pub mod Uniqueness
 pub mod Completeness
 pub mod Admission
 pub mod Headline

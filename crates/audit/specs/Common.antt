@@ -37,7 +37,7 @@ pub use Rattle.checker.specs.Verdict.{verdict_of}
 pub use Rattle.checker.specs.declared.verdict.Verdict.{Verdict}
 pub use Rattle.checker.specs.declared.verdict.Why.{Why}
 pub use Rattle.checker.specs.declared.verdict.Why.TheVariants.{Contradiction}
-pub use Rattle.claim_file.specs.Claim.{ClaimData, IsLawful, data_of, group_count, max_bound_ns}
+pub use Rattle.claim_file.specs.Claim.{ClaimData, IsLawful, data_of, group_count, max_bound_ns, with_bound}
 pub use Rattle.claim_file.specs.Group.{IsInGroup}
 pub use Rattle.claim_file.specs.Reading.{claim_of}
 pub use Rattle.claim_file.specs.Time.{IsTime}
@@ -64,7 +64,7 @@ pub use Rattle.feasibility.specs.DriftSettlement.{SettlesFit}
 pub use Rattle.feasibility.specs.DriftTest.{is_refuted_with_drift}
 pub use Rattle.finder.specs.Answer.{FindsEnvelope}
 pub use Rattle.finder.specs.Carried.{FindsLeastBound, IsCarried, piece_holding}
-pub use Rattle.finder.specs.Envelope.{EnvelopeData, IsLeast, envelope_of, with_bound}
+pub use Rattle.finder.specs.Envelope.{EnvelopeData, IsLeast, envelope_of}
 pub use Rattle.finder.specs.Fewest.{NoneOfFewIsAccepted, stretch_over}
 pub use Rattle.finder.specs.Found.{FoundData, certificate, data_of as found_data, found_of, hull_at, nothing}
 pub use Rattle.finder.specs.NearestRefutation.{IsNearestRefutation, NoneIsRefuted, nearest_refutation}

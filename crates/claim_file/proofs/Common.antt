@@ -30,7 +30,7 @@ unfoldable pub use Rattle.serde_json.proofs.OnLiterals.{serde_json_on_literals}
 pub use Rattle.serde_json.specs.Data.{array, string}
 pub use Rattle.serde_json.specs.View.{items_of, items_view}
 pub use Rattle.claim_file.specs.Address.{address_of, addresses_of, are_different, whole}
-pub use Rattle.claim_file.specs.Claim.{ClaimData, IsLawful, IsWithoutGap, data_of, group_count, max_bound}
+pub use Rattle.claim_file.specs.Claim.{ClaimData, IsLawful, IsWithoutGap, data_of, group_count, max_bound, max_bound_ns, with_bound}
 pub use Rattle.claim_file.specs.Fault.{Answers}
 pub use Rattle.claim_file.specs.Fields.{FieldsData, all_of, fields_data, fields_of, number_lists_of, numbers_of}
 pub use Rattle.claim_file.specs.Fields.{texts_of}

@@ -1,5 +1,5 @@
 -- A claim that is read is lawful.
-use Rattle.claim_file.proofs.Common.{◌≡◌, ◌≢◌, ℕ, zero, suc, ◌^◌, ◌<◌, ◌≤◌, true, false, List, [], ◌∷◌, length, Option, Some, Result, Ok, Err, sym, ◌∙◌, subst, arith, true≢false, and_parts, leb-true, not-true, ints, bytes_eq-Decides, given_by, All, AllPairs, IfOk, list_any, bytes_eq, floor_of, ceiling_of, ticks_down, ticks_up, ClaimFault, Groups, address_of, addresses_of, are_different, ClaimData, IsLawful, IsWithoutGap, max_bound, given, Answers, FieldsData, groups_of, NamedData, named_of, is_in_range, claim_with, claim_from, claim_of, time_of}
+use Rattle.claim_file.proofs.Common.{◌≡◌, ◌≢◌, ℕ, zero, suc, ◌^◌, ◌<◌, ◌≤◌, true, false, List, [], ◌∷◌, length, Option, Some, Result, Ok, Err, sym, ◌∙◌, subst, arith, true≢false, and_parts, leb-true, not-true, ints, bytes_eq-Decides, given_by, All, AllPairs, IfOk, list_any, bytes_eq, floor_of, ceiling_of, ticks_down, ticks_up, ClaimFault, Groups, address_of, addresses_of, are_different, ClaimData, IsLawful, IsWithoutGap, max_bound, max_bound_ns, with_bound, given, Answers, FieldsData, groups_of, NamedData, named_of, is_in_range, claim_with, claim_from, claim_of, time_of}
 use Rattle.std.proofs.lemmas.List.Folds.{list_any_at}
 use Rattle.claim_file.proofs.Groupings.{groups_of-range, groups_of-without_gap}
 use Rattle.claim_file.proofs.Made.{IsMade, claim_made, fields_made}
@@ -112,3 +112,25 @@ pub numbered_read : {A : Type 0} (answer : Result A ClaimFault) (shown : A → C
     Answers answer shown (claim_from f) → IfOk answer (λ claim. IsWithoutGap (shown claim).groups)
 numbered_read (Ok claim) shown f exact = (made-lawful (shown claim) (fields_made f (shown claim) exact)).1
 numbered_read (Err fault) shown f exact = tt
+
+-- the same claim with another bound
+pub with_bound_lawful : (c : ClaimData) (n : ℕ) → IsLawful c → n ≤ max_bound_ns → IsLawful (with_bound c n)
+with_bound_lawful c n is few = record {
+  some_server = is.some_server;
+  few_servers = is.few_servers;
+  addresses_differ = is.addresses_differ;
+  client_is_no_server = is.client_is_no_server;
+  group_for_each = is.group_for_each;
+  groups_in_range = is.groups_in_range;
+  few_false = is.few_false;
+  span_begins = is.span_begins;
+  span_forward = is.span_forward;
+  span_ends = is.span_ends;
+  bound_not_negative = omega (arith, ints);
+  bound_in_range = omega (arith, ints, bound_ticks n few);
+  bound_ns_in_range = few;
+  drift_in_range = is.drift_in_range;
+  reading_not_negative = is.reading_not_negative;
+  reading_in_range = is.reading_in_range;
+  reading_ns_in_range = is.reading_ns_in_range;
+}

@@ -2,6 +2,21 @@
 
 ghost use Rattle.claim_file.specs.Limits.{IsLawful};
 
+/// The most servers that a claim may name.
+pub const MAX_SERVERS: usize = 32;
+
+/// The most groups of servers that may be false.
+pub const MAX_FALSE: u64 = 31;
+
+/// The greatest bound in nanoseconds: a million seconds.
+pub const MAX_BOUND_NS: u64 = 1_000_000_000_000_000;
+
+/// The greatest drift in parts of 10^9: a half.
+pub const MAX_DRIFT_PPB: u64 = 500_000_000;
+
+/// The greatest allowance for readings in nanoseconds: a second.
+pub const MAX_READING_NS: u64 = 1_000_000_000;
+
 /// A claim: the client's clock stayed within a bound of UTC over a span, if at most `false_max`
 /// groups of servers are false.
 #[derive(Debug, Drop)]

@@ -1,7 +1,8 @@
 //! What a claim says: whose clock, which servers, how far from UTC at most, and when.
 //!
 //! `read_claim` gives the claim that a text says, or why it says none. What it gives keeps every
-//! limit that a calculation asks for. `group_count` says how many groups its servers are in.
+//! limit that a calculation asks for. `group_count` says how many groups its servers are in, and
+//! `with_bound` is the same claim with another bound.
 //!
 //! What a text is read as, from `answer` of `worked_examples/src/readers/claims.rt`, which the gate
 //! runs:
@@ -26,8 +27,8 @@ pub mod laws;
 mod reading;
 mod time;
 
-pub use claim::Claim;
+pub use claim::{Claim, MAX_BOUND_NS, MAX_DRIFT_PPB, MAX_FALSE, MAX_READING_NS, MAX_SERVERS};
 pub use fault::ClaimFault;
 pub use group::group_count;
-pub use reading::read_claim;
+pub use reading::{read_claim, with_bound};
 pub use time::read_time;

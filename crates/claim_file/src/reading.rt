@@ -1,31 +1,22 @@
-//! What the text of a claim says.
+//! What the text of a claim says, and the same claim with another bound.
 
 ghost use Rattle.std.specs.Prelude.{◌≡◌, ◌≤◌, ◌∷◌, IfOk, IsTrue, length, pos};
 ghost use Rattle.claim_file.specs.Address.{are_different};
-ghost use Rattle.claim_file.specs.Claim.{data_of, IsLawful, IsWithoutGap};
+ghost use Rattle.claim_file.specs.Claim as claim_spec;
+ghost use Rattle.claim_file.specs.Claim.{data_of, IsLawful, IsWithoutGap, max_bound_ns};
 ghost use Rattle.claim_file.specs.Fault.{Answers};
 ghost use Rattle.claim_file.specs.Fields.{fields_data};
 ghost use Rattle.claim_file.specs.Reading as spec;
 
 use crate::address::{self, read_address, read_addresses};
-use crate::claim::Claim;
+use crate::claim::{Claim, MAX_BOUND_NS, MAX_DRIFT_PPB, MAX_FALSE, MAX_READING_NS, MAX_SERVERS};
 use crate::fault::ClaimFault;
 use crate::fields::{Fields, read_fields};
 use crate::group::read_groups;
 use crate::time::read_time;
 use era_unfold::{ns_down, ns_up};
 use json_text::parse;
-use std::alloc::Global;
-
-const MAX_SERVERS: usize = 32;
-
-const MAX_FALSE: u64 = 31;
-
-const MAX_BOUND_NS: u64 = 1_000_000_000_000_000;
-
-const MAX_DRIFT_PPB: u64 = 500_000_000;
-
-const MAX_READING_NS: u64 = 1_000_000_000;
+use std::alloc::{AllocError, Global};
 
 /// The claim that the bytes of a JSON text say, or the first fault that it has.
 ///
@@ -113,6 +104,28 @@ fn claim_with(fields: &Fields<'_>, named: Named, groups: Vec<u8>) -> Claim
         reading: ns_up(fields.reading_ns),
         reading_ns: fields.reading_ns,
     }
+}
+
+/// The same claim with a bound of this many nanoseconds, at most 10^15.
+///
+/// The only error is that memory has run out.
+pub fn with_bound(alloc: Global, claim: &Claim, bound_ns: u64) -> Result<Claim, AllocError>
+    requires in_range { bound_ns ≤ max_bound_ns }
+    ensures { IfOk result (λ other. data_of other ≡ claim_spec.with_bound (data_of claim.now) bound_ns) }
+{
+    Ok(Claim {
+        client: claim.client,
+        servers: Vec::from_slice(alloc, claim.servers.as_slice())?,
+        groups: Vec::from_slice(alloc, claim.groups.as_slice())?,
+        false_max: claim.false_max,
+        first: claim.first,
+        last: claim.last,
+        bound: ns_down(bound_ns),
+        bound_ns,
+        drift_ppb: claim.drift_ppb,
+        reading: claim.reading,
+        reading_ns: claim.reading_ns,
+    })
 }
 
 /// Whether the numbers are within their limits, and the span isn't backward.

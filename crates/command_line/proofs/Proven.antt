@@ -11,7 +11,8 @@ use Rattle.command_line.specs.Proven.{AreKnown, CallForCheck, IsProvenBySums, pl
 use Rattle.command_line.specs.Run.{Runs}
 use Rattle.command_line.specs.Words.{IsReadOnce, MeansBy}
 use Rattle.program.specs.Response.{AnswersBy, AreRead, IsRead, Responds}
-use Rattle.program.specs.Run.{AnswersOver, IsAnsweredOver, Says}
+use Rattle.program.specs.Run.{AnswersOver, IsAnsweredOver}
+use Rattle.program.specs.Says.{Says}
 use Rattle.program.specs.Files.{HasBytesOf, IsFeedOf, Standing}
 use Rattle.program.specs.About.{inputs_of}
 use Rattle.program.specs.Invocation.{told_of}

@@ -17,7 +17,8 @@ pub use Rattle.program.specs.Inputs.{sums_of}
 pub use Rattle.program.specs.Invocation.{IsRefusedBy, is_human, judged_of, judged_places, second_of}
 pub use Rattle.program.specs.Opening.{AreOpened, Place, Places, place}
 pub use Rattle.program.specs.Response.{names_of}
-pub use Rattle.program.specs.Run.{IsBare, IsUntouched, Says}
+pub use Rattle.program.specs.Run.{IsBare, IsUntouched}
+pub use Rattle.program.specs.Says.{Says}
 pub use Rattle.program.specs.World.{World, world}
 pub use Rattle.program.specs.declared.invocation.Invocation.{Invocation}
 pub use Rattle.program.specs.declared.invocation.JudgedPaths.{JudgedPaths}

@@ -6,6 +6,7 @@ ghost use Rattle.fault_words.specs.Sentence.{IsSentence};
 
 use crate::remedy::{self, WRITE_NANOSECONDS};
 use crate::sentence::{Sentence, says};
+use claim_file::{MAX_BOUND_NS, MAX_DRIFT_PPB, MAX_FALSE, MAX_READING_NS};
 
 /// What the field of this code, from 1 to 9, is called; nothing for another number.
 pub fn field_name(code: u8) -> &'static str
@@ -23,6 +24,27 @@ pub fn field_name(code: u8) -> &'static str
         9 => "groups",
         _ => "",
     }
+}
+
+/// The greatest number that may stand in the field of this code; any, if it has no number.
+pub(crate) fn most_in(code: u8) -> u64 {
+    match code {
+        3 => MAX_FALSE,
+        6 => MAX_BOUND_NS,
+        7 => MAX_DRIFT_PPB,
+        8 => MAX_READING_NS,
+        _ => u64::MAX,
+    }
+}
+
+/// Whether a field of a claim is called so.
+pub(crate) fn is_field(name: &str) -> bool {
+    for code in 1..10u8 {
+        if field_name(code) == name {
+            return true;
+        }
+    }
+    false
 }
 
 /// What has to stand in a field that holds one number, of this code; the last is `reading_ns`.

@@ -3,10 +3,10 @@
 ghost use Rattle.std.specs.Prelude.{IfOk};
 ghost use Rattle.fault_words.specs.Explanation.{IsToldQuietly};
 
-use crate::claim_field::field_name;
+use crate::claim_field::{field_name, is_field, most_in};
 use crate::quote::quoted;
 use crate::seen::Seen;
-use claim_file::{ClaimFault, read_claim, read_time};
+use claim_file::{ClaimFault, MAX_SERVERS, read_claim, read_time};
 use json_text::parse;
 use serde_json::Value;
 use std::alloc::{AllocError, Global};
@@ -65,20 +65,10 @@ fn unknown_name(alloc: Global, value: &Value) -> Result<Seen, AllocError>
     let Some(members) = value.as_object() else {
         return Ok(Seen::nothing(alloc));
     };
-    match members.keys().find(|name| !is_known(name.as_str())) {
+    match members.keys().find(|name| !is_field(name.as_str())) {
         Some(name) => this_text(alloc, name.as_str()),
         None => Ok(Seen::nothing(alloc)),
     }
-}
-
-/// Whether a claim may have this name.
-fn is_known(name: &str) -> bool {
-    for code in 1..10u8 {
-        if field_name(code) == name {
-            return true;
-        }
-    }
-    false
 }
 
 /// What stands in the field of this code.
@@ -153,23 +143,17 @@ fn at_range(alloc: Global, value: &Value) -> Result<Seen, AllocError>
     ensures { IfOk result IsToldQuietly }
 {
     let count = server_count(value);
-    if count == 0 || 32 < count {
+    if count == 0 || MAX_SERVERS < count {
         let seen = format!(in alloc; "; it has {count}")?;
         return Ok(Seen::of_field(2, false, seen));
     }
-    if 31 < number_at(value, 3) {
-        return at_field(alloc, value, 3);
+    for code in 1..10u8 {
+        let is_backward = code == 4 && time_at(value, 5) < time_at(value, 4);
+        if is_backward || most_in(code) < number_at(value, code) {
+            return at_field(alloc, value, code);
+        }
     }
-    if time_at(value, 5) < time_at(value, 4) {
-        return at_field(alloc, value, 4);
-    }
-    if 1_000_000_000_000_000 < number_at(value, 6) {
-        return at_field(alloc, value, 6);
-    }
-    if 500_000_000 < number_at(value, 7) {
-        return at_field(alloc, value, 7);
-    }
-    at_field(alloc, value, 8)
+    Ok(Seen::nothing(alloc))
 }
 
 /// The first address that stands twice.

@@ -50,7 +50,7 @@ pub use Rattle.checker.specs.declared.verdict.Verdict.{Verdict}
 pub use Rattle.checker.specs.declared.verdict.Verdict.TheVariants.{No, Yes}
 pub use Rattle.checker.specs.declared.verdict.Why.{Why}
 pub use Rattle.checker.specs.declared.verdict.Why.TheVariants.{Cut, Exceeds, Uncovered}
-pub use Rattle.claim_file.specs.Claim.{ClaimData, IsLawful, data_of, max_bound, max_bound_ns, max_drift_ppb}
+pub use Rattle.claim_file.specs.Claim.{ClaimData, IsLawful, data_of, max_bound, max_bound_ns, max_drift_ppb, with_bound}
 pub use Rattle.claim_file.specs.Group.{servers_of}
 pub use Rattle.feasibility.specs.Cover.{HasSmallCover, IsCover, SomeCourse, group_of, size_of}
 pub use Rattle.feasibility.specs.Groups.{AreApart, HoldsOne, HoldsOneOr64, holds}
@@ -86,7 +86,7 @@ unfoldable pub use Rattle.finder.specs.Entry.{best_hull}
 pub use Rattle.finder.specs.Envelope.{AreInside, EnvelopeData, HasNoEnds, IsBelowLimit, IsCertified, IsFirstInNeed}
 pub use Rattle.finder.specs.Envelope.{IsFirstWithout, IsInside, IsLawfulEnvelope, IsLawfulPiece, IsLeast, IsLeastBound}
 pub use Rattle.finder.specs.Envelope.{IsNotCertified, PieceHullData, envelope_to, least_of, nanoseconds_of}
-pub use Rattle.finder.specs.Envelope.{piece_hull_at, piece_hulls, reach_of, with_bound, with_need, with_piece}
+pub use Rattle.finder.specs.Envelope.{piece_hull_at, piece_hulls, reach_of, with_need, with_piece}
 unfoldable pub use Rattle.finder.specs.Envelope.{envelope_of}
 pub use Rattle.finder.specs.Fewest.{AreLongest, IsLongest, IsNoWider, IsOfLongest, IsStuck, IsTooLong, NoneIsAccepted}
 pub use Rattle.finder.specs.Fewest.{NoneOfFewIsAccepted, end_after, hull_over, next_tick, piece_over, pieces_over}

@@ -5,8 +5,7 @@
 -- Where some course of events fits, no tick's hull is empty, and then no certificate that may be
 -- written carries a lesser bound, and each wider one has a certificate too.
 use Rattle.std.specs.Prelude.{◌≡◌, ◌≢◌, ◌⊎◌, ℕ, pos, ◌+◌, ◌*◌, ◌/◌, ◌<◌, ◌≤◌, ℤ, ◌-ℤ◌, ◌≤ℤ◌, ◌<ℤ◌, unsigned_abs, List, Option, Result, IfOk, IfSome, MatchOption}
-use Rattle.finder.specs.Common.{AllocError, ticks_per_second, CertificateData, ClaimData, max_bound_ns, Hull, Empty, Sample}
-use Rattle.finder.specs.Envelope.{with_bound}
+use Rattle.finder.specs.Common.{AllocError, ticks_per_second, CertificateData, ClaimData, max_bound_ns, with_bound, Hull, Empty, Sample}
 use Rattle.finder.specs.Fewest.{IsOfLongest, IsStuck, IsTooLong, NoneOfFewIsAccepted, end_after, hull_over, next_tick, stretch_over}
 use Rattle.finder.specs.Piece.{stretch_at}
 use Rattle.finder.specs.Refusal.{HoldsWhole}

@@ -12,7 +12,7 @@ pub use Rattle.checker.specs.Traceability.{HoldsError, IsContradicted, IsObserve
 pub use Rattle.checker.specs.Verdict.{hull_fault, parts_after, parts_fault, verdict_of}
 pub use Rattle.checker.specs.declared.verdict.Verdict.{Verdict}
 pub use Rattle.checker.specs.declared.verdict.Verdict.TheVariants.{Yes}
-pub use Rattle.claim_file.specs.Claim.{ClaimData, data_of, max_bound_ns, max_drift_ppb}
+pub use Rattle.claim_file.specs.Claim.{ClaimData, data_of, max_bound_ns, max_drift_ppb, with_bound}
 pub use Rattle.era_unfold.specs.Nanoseconds.{nanoseconds_per_second, ticks_down}
 pub use Rattle.era_unfold.specs.Ratio.{ceiling_of}
 pub use Rattle.era_unfold.specs.Window.{ticks_per_second}

@@ -136,22 +136,6 @@ module _ (samples : List Sample) (claim : ClaimData) (step : ℕ) where
 
 -- ---- a bound that is claimed
 
--- the same claim with a bound of m nanoseconds
-abbrev pub with_bound : ClaimData → ℕ → ClaimData
-with_bound claim m = record {
-  client = claim.client;
-  servers = claim.servers;
-  groups = claim.groups;
-  false_max = claim.false_max;
-  first = claim.first;
-  last = claim.last;
-  bound = pos (ticks_down m);
-  bound_ns = m;
-  drift_ppb = claim.drift_ppb;
-  reading = claim.reading;
-  reading_ns = claim.reading_ns;
-}
-
 -- a certificate is found
 abbrev pub IsCertified : Result FoundData FindFault → Type 0
 IsCertified answer = (found : CertificateData) × (answer ≡ Ok (certificate found))

@@ -1,10 +1,10 @@
 //! The least bound that a certificate carries.
 
 ghost use Rattle.std.specs.Prelude.{◌≡◌, ◌≤◌, pos, ◌≤ℤ◌, List, length, Option, IfOk, MatchOption};
+ghost use Rattle.finder.specs.Common as common;
 ghost use Rattle.finder.specs.Common.{data_of as claim_data, max_bound_ns, most_exchanges, Sample as TheSample, AreSamplesOf};
 ghost use Rattle.finder.specs.Carried as spec;
 ghost use Rattle.finder.specs.Carried.{FindsLeastBound, IsCarried, StopsAt};
-ghost use Rattle.finder.specs.Envelope.{with_bound};
 ghost use Rattle.finder.specs.Piece.{IsStep};
 ghost use Rattle.finder.specs.Reach.{AreTablesFor, IsTabled};
 
@@ -13,15 +13,12 @@ use crate::longest::tables_for;
 use crate::neediest::likely_bound;
 use crate::reach::{Reach, longest_ends};
 use crate::trial::trial;
-use claim_file::Claim;
-use era_unfold::{TICKS_PER_SECOND, ns_down};
+use claim_file::{Claim, MAX_BOUND_NS, with_bound};
+use era_unfold::TICKS_PER_SECOND;
 use feasibility::Groups;
 use sample_interval::SampleSource;
 use std::alloc::{AllocError, Global};
 use sweep::BestTable;
-
-/// The greatest bound that a claim may have, in nanoseconds: a million seconds.
-pub(crate) const MOST_BOUND_NS: u64 = 1_000_000_000_000_000;
 
 /// The least bound with which a certificate is found.
 #[derive(Clone, Copy, Debug, PartialEq, Eq)]
@@ -71,12 +68,12 @@ fn least_bound_by(
     ensures { (samples : List TheSample) → AreTablesFor samples (claim_data claim.now) tables.now →
         FindsLeastBound samples (claim_data claim.now) result }
 {
-    let widest = try_bound(alloc, tables, claim, MOST_BOUND_NS)?;
+    let widest = try_bound(alloc, tables, claim, MAX_BOUND_NS)?;
     if widest.is_some() {
         return Ok(None);
     }
     let mut least = 0;
-    let mut bound_ns = MOST_BOUND_NS;
+    let mut bound_ns = MAX_BOUND_NS;
     let mut tick = claim.first as u64;
     while least < bound_ns {
         let tried_ns = trial(least, bound_ns, near);
@@ -103,35 +100,15 @@ fn try_bound(
     requires in_range { bound_ns ≤ max_bound_ns }
     ensures { IfOk result (λ stop. (samples : List TheSample) →
         AreTablesFor samples (claim_data claim.now) tables.now →
-        MatchOption stop (IsCarried samples (with_bound (claim_data claim.now) bound_ns))
-        (λ tick. StopsAt samples (with_bound (claim_data claim.now) bound_ns) (pos tick))) }
+        MatchOption stop (IsCarried samples (common.with_bound (claim_data claim.now) bound_ns))
+        (λ tick. StopsAt samples (common.with_bound (claim_data claim.now) bound_ns) (pos tick))) }
 {
-    let claim = claim_with(alloc, claim, bound_ns)?;
+    let claim = with_bound(alloc, claim, bound_ns)?;
     match longest_ends(alloc, tables, &claim)? {
         Reach::End(_) => Ok(None),
         Reach::Stuck { begin, .. } => Ok(Some(begin)),
         Reach::TooLong { begin } => Ok(Some(begin)),
     }
-}
-
-/// The same claim with a bound of this many nanoseconds.
-pub(crate) fn claim_with(alloc: Global, claim: &Claim, bound_ns: u64) -> Result<Claim, AllocError>
-    requires in_range { bound_ns ≤ max_bound_ns }
-    ensures { IfOk result (λ other. claim_data other ≡ with_bound (claim_data claim.now) bound_ns) }
-{
-    Ok(Claim {
-        client: claim.client,
-        servers: Vec::from_slice(alloc, claim.servers.as_slice())?,
-        groups: Vec::from_slice(alloc, claim.groups.as_slice())?,
-        false_max: claim.false_max,
-        first: claim.first,
-        last: claim.last,
-        bound: ns_down(bound_ns),
-        bound_ns,
-        drift_ppb: claim.drift_ppb,
-        reading: claim.reading,
-        reading_ns: claim.reading_ns,
-    })
 }
 
 /// The number of the piece that holds a tick of the span, from 0, if the span is cut every `step_s`

@@ -8,11 +8,10 @@ ghost use Rattle.std.specs.Prelude.{◌≤◌, IfOk};
 ghost use Rattle.claim_file.specs.Claim.{data_of as claim_data, max_bound_ns};
 ghost use Rattle.finder.specs.Reach.{IsTabled};
 
-use crate::carried::{MOST_BOUND_NS, claim_with};
 use crate::longest::{Pace, is_as_long, longest_piece};
 use crate::trial::trial;
 use certificate::MAX_PIECES;
-use claim_file::Claim;
+use claim_file::{Claim, MAX_BOUND_NS, with_bound};
 use std::alloc::{AllocError, Global};
 use sweep::BestTable;
 
@@ -33,7 +32,7 @@ pub(crate) fn likely_least(
     if is_likely_enough(alloc, tables, claim, start, false)? {
         return Ok(start);
     }
-    let likely = least_from(alloc, tables, claim, start, MOST_BOUND_NS, false)?;
+    let likely = least_from(alloc, tables, claim, start, MAX_BOUND_NS, false)?;
     least_from(alloc, tables, claim, start, likely, true)
 }
 
@@ -54,7 +53,7 @@ fn least_from(
     ensures lawful { IfOk result (λ bound_ns. bound_ns ≤ max_bound_ns) }
 {
     let mut low = start;
-    let mut high = MOST_BOUND_NS;
+    let mut high = MAX_BOUND_NS;
     while low < high {
         let bound_ns = trial(low, high, near);
         if is_likely_enough(alloc, tables, claim, bound_ns, is_near)? {
@@ -77,7 +76,7 @@ fn is_likely_enough(
     requires tables { IsTabled (claim_data claim.now) tables.now }
     requires in_range { bound_ns ≤ max_bound_ns }
 {
-    let claim = claim_with(alloc, claim, bound_ns)?;
+    let claim = with_bound(alloc, claim, bound_ns)?;
     Ok(is_likely_carried(tables, &claim, is_near))
 }
 

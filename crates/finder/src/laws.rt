@@ -2,11 +2,11 @@
 //! for every number.
 
 ghost use Rattle.std.specs.Prelude.{◌≡◌, ◌⊎◌, ℕ, ◌<◌, ◌≤◌, ◌*◌, ℤ, ◌≤ℤ◌, pos, Bool, true, List, [], Ok, All, length, slice_get};
-ghost use Rattle.finder.specs.Common.{CertificateData, PieceData, ClaimData, max_drift_ppb, IsLawful as IsLawfulExchange, Exchange, Sample, Course, Fits, HoldsError, IsObservedIn, IsWithin, samples_of, parts_after, parts_fault, hull_fault, verdict_of, Verdict, SomeCourse, is_inside, piece_hull, IsPiece, Stretch, AreSamplesOf};
+ghost use Rattle.finder.specs.Common.{CertificateData, PieceData, ClaimData, max_drift_ppb, IsLawful as IsLawfulExchange, Exchange, Sample, Course, Fits, HoldsError, IsObservedIn, IsWithin, samples_of, parts_after, parts_fault, hull_fault, verdict_of, Verdict, SomeCourse, is_inside, piece_hull, with_bound, IsPiece, Stretch, AreSamplesOf};
 ghost use Rattle.claim_file.specs.Claim.{IsLawful};
 ghost use Rattle.finder.specs.Carried.{GetStuck, HoldsTick, IsCarried, IsNeverEmpty, IsTick, piece_holding};
 ghost use Rattle.finder.specs.Entry.{best_entries, best_hull, parts_named};
-ghost use Rattle.finder.specs.Envelope.{EnvelopeData, IsCertified, IsLeast, IsNotCertified, envelope_of, least_of, with_bound};
+ghost use Rattle.finder.specs.Envelope.{EnvelopeData, IsCertified, IsLeast, IsNotCertified, envelope_of, least_of};
 ghost use Rattle.finder.specs.Fewest.{AreLongest, IsNoWider, IsOfLongest, IsStuck, IsTooLong, stretch_over};
 ghost use Rattle.finder.specs.Found.{found_of, hull_at};
 ghost use Rattle.finder.specs.Leeway.{HasFalse};

@@ -12,12 +12,11 @@ ghost use Rattle.finder.specs.Neediest as spec;
 ghost use Rattle.finder.specs.Neediest.{AreHalves, IsBoundless, IsGap, IsNeediest, IsWithin, NeedsAtMost, has_say, need_of, tick_without};
 ghost use Rattle.finder.specs.Reach.{IsTabled, OfTables};
 
-use crate::carried::MOST_BOUND_NS;
 use crate::least::{nanoseconds_of, reach_of};
 use crate::leeway::group_of;
 use crate::longest::{parts_over, tick_after};
 use arrayvec::ArrayVec;
-use claim_file::Claim;
+use claim_file::{Claim, MAX_BOUND_NS};
 use feasibility::Groups;
 use intersection::kinds::Hull;
 use sample_interval::PARTS;
@@ -85,9 +84,9 @@ pub(crate) fn in_nanoseconds(ticks: u128) -> u64
     ensures { result ≤ max_bound_ns }
 {
     if 1_000_000 << 32 <= ticks {
-        return MOST_BOUND_NS;
+        return MAX_BOUND_NS;
     }
-    nanoseconds_of(ticks).min(u128::from(MOST_BOUND_NS)) as u64
+    nanoseconds_of(ticks).min(u128::from(MAX_BOUND_NS)) as u64
 }
 
 /// How many gaps are looked into for each of some covers: all in all 4 for each sample and 100,000

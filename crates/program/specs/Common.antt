@@ -24,6 +24,7 @@ pub use Rattle.report.specs.Conclusion.{Answers, Concludes, conclusion_of, refus
 pub use Rattle.report.specs.Delivery.{IsDelivered}
 pub use Rattle.report.specs.FaultText.{input_word}
 pub use Rattle.report.specs.Input.{IsInputFault, ReadsWhole, read_failed}
+pub use Rattle.report.specs.Publication.{IsUnwritten}
 pub use Rattle.report.specs.Reading.{IsFromOutside}
 pub use Rattle.report.specs.Reports.{whole_text}
 pub use Rattle.report.specs.Run.{RunState, bare_state, capture_state, no_feed, run_state}

@@ -7,7 +7,8 @@ pub mod Inputs
 pub mod Invocation
 pub mod Opening
 pub mod Response
-pub mod Order
 pub mod Run
+pub mod Order
+pub mod Says
 pub mod Table
 pub mod World

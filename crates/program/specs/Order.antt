@@ -1,11 +1,17 @@
 -- What `order` does over the files of two clocks: when the first showed its reading is read of its
 -- own, and then the second is asked.
 use Rattle.std.specs.Prelude.{◌≡◌, ◌⊎◌, ◌+◌, ℕ, List, [], ◌∷◌, Result, Ok, Err, IfErr, IfOk, IfSome, string_bytes}
-use Rattle.program.specs.Common.{FeedState, SinkState, GiveWhen, HasRead, When, Input, Capture, Claim, RunFault, IsFromOutside, inputs_read, no_feed, no_second, run_state, ticks_asked}
-use Rattle.program.specs.Files.{FilesState, IsFeedOf}
-use Rattle.program.specs.Opening.{IsFirstUnopened, Place, place}
+use Rattle.audit.specs.declared.question.Request.TheVariants as requests
 use Rattle.audit.specs.declared.question.reading.AtReading.{AtReading}
+use Rattle.program.specs.Common.{FeedState, SinkState, GiveWhen, HasRead, When, Input, Capture, Claim, RunFault, Concludes, IsFromOutside, IsUnwritten, conclusion_of, inputs_read, no_feed, no_second, run_state, ticks_asked}
+use Rattle.program.specs.Files.{FilesState, IsFeedOf}
+use Rattle.program.specs.Invocation.{places_of, requested}
+use Rattle.program.specs.Opening.{IsFirstUnopened, Place, place}
+use Rattle.program.specs.Run.{AnswersTo, IsBare}
+use Rattle.program.specs.World.{World, world}
+use Rattle.program.specs.declared.asked.Asked.TheVariants as asks
 use Rattle.program.specs.declared.invocation.Shown.{Shown}
+use Rattle.program.specs.declared.run.Response.{Response}
 
 -- what is opened of a clock, in this order
 abbrev pub shown_order : Shown → List Place
@@ -34,6 +40,7 @@ pub record IsReadBy (reading : AtReading) (claim capture : FeedState) (read : Re
   pub refused : IfErr read (λ fault. IfSome
       (inputs_read no_second claim.remaining no_feed.remaining capture.remaining)
       (λ known. IsFromOutside fault ⊎ (known ≡ Err fault)))
+  pub unwritten : IfErr read (λ fault. IsUnwritten (Err fault))
 
 -- Both were opened and read.
 pub record IsSeen (shown : Shown) (before after : FilesState) (read : Result When RunFault)
@@ -51,3 +58,32 @@ pub record TellsWhen (shown : Shown) (before after : FilesState) (read : Result 
   pub standing : after.standing ≡ before.standing
   pub undrafted : after.drafts ≡ before.drafts
   pub tells : IsUnseen shown before after read ⊎ IsSeen shown before after read
+
+-- It can't be said when the first clock showed its reading: that is told, and nothing else is done.
+pub record IsOrderUnknown (first : Shown) (before after : World) (response : Response)
+    : Type 0 where
+  pub fault : RunFault
+  pub tells : TellsWhen first before.files after.files (Err fault)
+  pub untouched : after.out ≡ before.out
+  pub concludes : Concludes (Err fault) before.err after.err
+  pub conclusion_is : response.conclusion ≡ conclusion_of (Err fault)
+  pub bare : IsBare response
+  pub asked_is : response.asked ≡ asks.Question first.paths
+
+-- It is known, and the second clock is asked which reading was first.
+pub record IsOrderAsked (first second : Shown) (before after : World) (response : Response)
+    : Type 0 where
+  pub between : FilesState
+  pub when : When
+  pub tells : TellsWhen first before.files between (Ok when)
+  pub answers : AnswersTo second.paths.output
+      (requested (requests.OrderAfter (record { first = when; second = second.reading }))
+      second.paths)
+      (places_of second.paths) (world between before.out before.err) after
+      response.hindrance response.summed response.conclusion
+  pub asked_is : response.asked ≡ asks.Question second.paths
+
+-- what `order` does over the files of two clocks
+abbrev pub Orders : Shown → Shown → World → World → Response → Type 0
+Orders first second before after response =
+    IsOrderUnknown first before after response ⊎ IsOrderAsked first second before after response

@@ -1,26 +1,19 @@
--- What a command line does over files: what is opened by which path, what is written, and how
--- that is reported.
-use Rattle.std.specs.Prelude.{◌≡◌, ◌⊎◌, ◌+◌, ℕ, List, [], ◌∷◌, Option, Some, None, Ok, Err, codes, String, string_bytes}
-use Rattle.audit.specs.declared.question.Request.TheVariants as requests
-use Rattle.program.specs.Common.{option_map, Global, FeedState, When, list_report, IsDelivered, whole_text, bare_state, capture_state, Answers, Concludes, conclusion_of, refused_conclusion, Conclusion, RunFault, Capture, Yes, Feeds}
+-- What a question does over files: what is opened by which path, what is written, and how that is
+-- reported.
+use Rattle.std.specs.Prelude.{◌≡◌, ◌⊎◌, ◌+◌, ℕ, List, [], ◌∷◌, Option, Some, None, String, string_bytes}
+use Rattle.program.specs.Common.{option_map, Global, FeedState, list_report, capture_state, Answers, Conclusion, Capture, Feeds}
 use Rattle.program.specs.Drafted.{IsDraftedOver}
-use Rattle.program.specs.Files.{FilesState, IsFeedOf}
-use Rattle.program.specs.Invocation.{Asking, judged_of, judged_places, listed_name, places_of, requested, second_of}
+use Rattle.program.specs.Files.{IsFeedOf}
+use Rattle.program.specs.Invocation.{Asking}
 use Rattle.program.specs.Opening.{AreOpened, Places, order_of, place}
-use Rattle.program.specs.Order.{TellsWhen}
 use Rattle.program.specs.Response.{Responds, names_of}
-use Rattle.program.specs.World.{IsUnopened, World, world}
-use Rattle.program.specs.declared.asked.Asked.TheVariants as asks
-use Rattle.program.specs.declared.invocation.Invocation.{Invocation}
-use Rattle.program.specs.declared.invocation.Invocation.TheVariants as calls
-use Rattle.program.specs.declared.invocation.Shown.{Shown}
+use Rattle.program.specs.World.{IsUnopened, World}
 use Rattle.program.specs.declared.hindrance.Hindrance.{Hindrance}
 use Rattle.program.specs.declared.response.Summed.{Summed}
 use Rattle.program.specs.declared.run.Response.{Response}
 
 -- The capture was opened, and listed.
-pub record IsListed (path : List ℕ) (before after : World) (conclusion : Conclusion)
-    : Type 0 where
+pub record IsListed (path : List ℕ) (before after : World) (conclusion : Conclusion) : Type 0 where
   pub capture : FeedState
   pub capture_after : FeedState
   pub capture_is : IsFeedOf (before.files.standing path) capture
@@ -65,8 +58,7 @@ IsAnsweredTo (Some file) asking places before after hindrance summed conclusion 
 abbrev pub AnswersTo : Option (String Global) → Asking → Places → World → World
     → Option Hindrance → Option Summed → Conclusion → Type 0
 AnswersTo file asking places before after hindrance summed conclusion =
-    (IsUnopened (order_of places) before after conclusion
-    × (hindrance ≡ None) × (summed ≡ None))
+    (IsUnopened (order_of places) before after conclusion × (hindrance ≡ None) × (summed ≡ None))
     ⊎ IsAnsweredTo file asking places before after hindrance summed conclusion
 
 -- No file was opened or put into its place, and nothing written on the output.
@@ -78,51 +70,3 @@ pub record IsUntouched (before after : World) : Type 0 where
 pub record IsBare (response : Response) : Type 0 where
   pub unsummed : response.summed ≡ None
   pub unhindered : response.hindrance ≡ None
-
--- It can't be said when the first clock showed its reading: that is told, and nothing else is done.
-pub record IsOrderUnknown (first : Shown) (before after : World) (response : Response)
-    : Type 0 where
-  pub fault : RunFault
-  pub tells : TellsWhen first before.files after.files (Err fault)
-  pub untouched : after.out ≡ before.out
-  pub concludes : Concludes (Err fault) before.err after.err
-  pub conclusion_is : response.conclusion ≡ conclusion_of (Err fault)
-  pub bare : IsBare response
-  pub asked_is : response.asked ≡ asks.Question first.paths
-
--- It is known, and the second clock is asked which reading was first.
-pub record IsOrderAsked (first second : Shown) (before after : World) (response : Response)
-    : Type 0 where
-  pub between : FilesState
-  pub when : When
-  pub tells : TellsWhen first before.files between (Ok when)
-  pub answers : AnswersTo second.paths.output
-      (requested (requests.OrderAfter (record { first = when; second = second.reading }))
-      second.paths)
-      (places_of second.paths) (world between before.out before.err) after
-      response.hindrance response.summed response.conclusion
-  pub asked_is : response.asked ≡ asks.Question second.paths
-
--- the response to a command line
-abbrev pub Says : Invocation → World → World → Response → Type 0
-Says (calls.List listed) before after response =
-    Lists (listed_name listed) before after response.conclusion × IsBare response
-Says (calls.Ask request paths) before after response = AnswersTo paths.output
-    (requested request paths) (places_of paths) before after
-    response.hindrance response.summed response.conclusion
-Says (calls.Judge judgement paths) before after response =
-    AnswersOver (judged_of judgement paths)
-    (judged_places (second_of judgement) paths) before after response.summed response.conclusion
-    × (response.hindrance ≡ None)
-Says (calls.Order first second) before after response =
-    IsOrderUnknown first before after response ⊎ IsOrderAsked first second before after response
-Says (calls.Show text) before after response = (after.files ≡ before.files)
-    × Answers (Some (whole_text (string_bytes text) Yes))
-    (bare_state before.out) (bare_state after.out) before.err after.err response.conclusion
-    × IsBare response
-Says (calls.Refuse text) before after response = IsUntouched before after
-    × IsDelivered (string_bytes text) before.err after.err
-    × (response.conclusion ≡ refused_conclusion) × IsBare response
-Says (calls.RefuseTime shown) before after response = IsUntouched before after
-    × IsDelivered (codes "ntpaudit: time\n") before.err after.err
-    × (response.conclusion ≡ refused_conclusion) × IsBare response

@@ -6,7 +6,8 @@ ghost use Rattle.program.specs.Asked.{IsAskedBy};
 ghost use Rattle.program.specs.Files.{MayDraft, MayOpen};
 ghost use Rattle.program.specs.Invocation.{judged_of, judged_places, listed_name, places_of, requested, second_of};
 ghost use Rattle.program.specs.Order.{IsReadBy, TellsWhen};
-ghost use Rattle.program.specs.Run.{AnswersOver, AnswersTo, Lists, Says};
+ghost use Rattle.program.specs.Run.{AnswersOver, AnswersTo, Lists};
+ghost use Rattle.program.specs.Says.{Says};
 ghost use Rattle.program.specs.World.{world};
 
 use crate::asked::Asked;

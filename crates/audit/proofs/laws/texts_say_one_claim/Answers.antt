@@ -1,4 +1,4 @@
-use Rattle.audit.proofs.Uniqueness.{one_claim}
+use Rattle.audit.proofs.ClaimText.{one_claim}
 use Rattle.audit.proofs.laws.texts_say_one_claim.Goals as goal
 
 pub returns : goal.returns

@@ -8,4 +8,5 @@ returns g c = record {
   has_read = λ sink sink'. read_over g.N.Feed.state (c.read_when-when.ensures.has_read sink sink');
   when = c.read_when-when.ensures.when;
   refused = c.read_when-when.ensures.refused;
+  unwritten = c.read_when-when.ensures.unwritten;
 }
