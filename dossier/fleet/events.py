@@ -13,7 +13,7 @@ from ..fault import NOT_SHOWN, fault, summed
 from ..folder.claim import Claim
 from ..folder.entry import AGAINST, DISPUTED, NOT_VERIFIED, REFUSED, LeapList, Record, Refusal, read_record
 from ..folder.events import Asked, Events, Resting, read_events
-from ..folder.files import ANSWERED, AUDIT, CLAIM, EVENTS, LOG, Folder, absolute, sum_of
+from ..folder.files import ANSWERED, AUDIT, CLAIM, EVENTS, LIST, LOG, SIGNATURES, Folder, absolute, sum_of
 from ..folder.jobs import T, Work, run_all
 from ..folder.log import ADDED, Event, Log, read_log
 from ..folder.program import Program
@@ -35,6 +35,8 @@ NO_FOLDER = "no folder of this time"
 TWICE = "in two folders of this machine"
 NAMESAKES = "two machines have this name"
 AS_SIGNED = "{} as signed by {}"
+OWN = EVENTS, SIGNATURES[EVENTS], LIST, LOG, ANSWERED, INDEX
+"""The files of an answer's folder."""
 NOT_MADE = "Some days are as {} signed them: nobody made them again where this was put together."
 NO_SIGNERS = "days count in it by their machines' signatures: --signers names who may sign"
 MOST_NOTES = 20
@@ -325,7 +327,7 @@ def folders_of(folder: Folder, named: set[str]) -> dict[str, str]:
     days = dict[str, str]()
     for resting in read_events(folder.data(EVENTS)).machines:
         machine = machine_at(folder, resting)
-        if why := misplaced(plain(resting.machine), machine.path, folder.path):
+        if why := misplaced(plain(resting.machine), machine.path, folder.path, named):
             raise fault(f"{plain(resting.machine)}: its folder is {plain(machine.path)}, {why}")
         for name, sum_ in resting.days.items():
             path = os.path.normpath(os.path.join(machine.path, name))

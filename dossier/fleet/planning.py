@@ -3,6 +3,7 @@ rest, and all days beside these.
 """
 import os
 from contextlib import suppress
+from itertools import filterfalse
 from typing import NamedTuple
 
 from ..fault import Fault, fault
@@ -17,7 +18,7 @@ from ..text import listed
 from .days import is_day
 from .events import folders_of, is_of_events
 from .signature import signed_in
-from .statements import days_of, folders_above
+from .statements import days_of, folders_above, has_days
 
 MOST_DAYS_AT_ONCE, AT_ONCE = 1_000_000, 1_000
 """Days that are verified at once, and those of which a process reads audit.json."""
@@ -34,8 +35,9 @@ class Machines(NamedTuple):
 class Plan(NamedTuple):
     """The folders that are looked at, in order; those of days on which a year's statements rest, each with its name for
     good; of folders with a year's machines all days in them; those in which are folders of an answer to a log; the days
-    on which a year or an answer rests, for which a signature of that is one; the machines of all; how many days
-    beside a year's are of another time, and aren't looked at; the years; and whether there are answers to logs."""
+    on which an answer rests, or a year though they aren't named themselves, for which a signature of that is one; the
+    machines of all; how many days beside a year's are of another time, and aren't looked at; the years; and whether
+    there are answers to logs."""
 
     every: list[str]
     stated: dict[str, str]
@@ -57,13 +59,14 @@ class Plan(NamedTuple):
 def planned(folders: list[str], named: set[str], seconds: int) -> Plan:
     """Which folders are verified, for what was named."""
     stated, below, of_events, above = dict[str, str](), dict[str, list[str]](), list[str](), set[str]()
-    resting, spans, others = set[str](), list[tuple[str, str]](), list[str]()
+    resting, answered, spans, others = set[str](), set[str](), list[tuple[str, str]](), list[str]()
     for folder in folders:
         found = days_below(folder, named, seconds)
         resting.update(found.days)
         below[folder] = [day for day in found.days if not found.is_of_events or files.absolute(day) not in named]
         if found.is_of_events:
             of_events.append(folder)
+            answered.update(map(files.absolute, found.days))
             above.update(path for day in found.days for path in folders_above(day) if path != files.absolute(day))
         else:
             stated.update(found.days)
@@ -72,9 +75,10 @@ def planned(folders: list[str], named: set[str], seconds: int) -> Plan:
     for machine in {os.path.dirname(day) for day in stated}:
         for path in named & folders_above(machine):
             below_of.setdefault(path, []).append(machine)
-    beside = {folder: days_beside(folder, below_of[files.absolute(folder)], seconds)
+    rests = set(map(files.absolute, resting))
+    beside = {folder: days_beside(folder, below_of[files.absolute(folder)], rests, seconds)
               for folder in folders if files.absolute(folder) in below_of}
-    counted = named.union(map(files.absolute, resting))
+    counted = named | rests
     for folder, result in beside.items():
         if not isinstance(result, Refusal):
             for day in (day for day in result if files.absolute(day) not in counted):
@@ -88,6 +92,8 @@ def planned(folders: list[str], named: set[str], seconds: int) -> Plan:
     own = frozenset(os.path.dirname(files.absolute(day)) for day in days)
     split = [os.path.split(machine) for machine in own]
     machines = Machines(own, frozenset(name for _, name in split), frozenset(place for place, _ in split))
+    resting = {path for path in every if files.absolute(path) in answered or (
+        path in resting and files.absolute(path) not in named)}
     return Plan(every, stated, beside, above_of, frozenset(resting), machines, len(others),
                 tuple(year for year, _ in spans if year), bool(of_events))
 
@@ -148,25 +154,44 @@ def days_below(path: str, named: set[str], seconds: int) -> Below:
     return Below({}) if isinstance(result, Refusal) else result
 
 
-def days_beside(path: str, machines: list[str], seconds: int) -> list[str] | Refusal:
+def days_beside(path: str, machines: list[str], rests: set[str], seconds: int) -> list[str] | Refusal:
     """The folders of all days in a folder, in those in it, in those of machines below it, and in those beside these;
-    and the folders among these that can't be looked into."""
+    and the folders among these that can't be looked into. In one on which a year rests parts of its audit are none."""
     def work(path: str, _: int) -> list[str]:
         places, days = [path, *folders_in(path, are_days=False), *machines], list[str]()
         for place in {os.path.dirname(machine) or "." for machine in machines}:
             if files.absolute(path) in folders_above(place):
                 places.append(place)
-                with suppress(Fault):
-                    places += folders_in(place, are_days=False)
+                places += others_in(place)
             is_few(places)
         for place in sorted({files.absolute(place): place for place in places}.values()):
             try:
-                days += folders_in(place, are_days=True)
+                found = folders_in(place, are_days=True)
+                days += filterfalse(is_of_days, found) if files.absolute(place) in rests else found
             except Fault:
                 days.append(place)
             is_few(days)
         return days
     return run_one(path, work, list[str], seconds)
+
+
+def machines_below(folders: list[str], seconds: int) -> frozenset[str]:
+    """What machines are called whose folders are in those that are named, or in a folder in these. (What is called so
+    and has no days may be of whoever signs.)"""
+    def work(*_: object) -> list[str]:
+        places = [place for folder in folders for place in (folder, *others_in(folder))]
+        return sorted({os.path.basename(path) for place in places for path in others_in(place) if has_days(path)})
+    result = run_one("", work, list[str], seconds)
+    if isinstance(result, Refusal):
+        raise Fault(result.line, result.status)
+    return frozenset(result)
+
+
+def others_in(place: str) -> list[str]:
+    """The folders in one that aren't called after a day; none if it can't be looked into."""
+    with suppress(Fault):
+        return folders_in(place, are_days=False)
+    return []
 
 
 def folders_in(place: str, are_days: bool) -> list[str]:

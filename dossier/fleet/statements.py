@@ -2,11 +2,13 @@
 somebody can sign it."""
 import os
 import re
-from collections.abc import Iterable
+from collections.abc import Collection, Iterable
+from contextlib import suppress
+from functools import cache
 from itertools import dropwhile, groupby
 from typing import NamedTuple
 
-from ..fault import fault
+from ..fault import Fault, fault
 from ..folder.claim import Claim
 from ..folder.entry import NOT_VERIFIED, YES, LeapList, Made
 from ..folder.files import AUDIT, LIST, SIGNATURES, YEAR, Folder, absolute, limit_of
@@ -16,8 +18,8 @@ from ..folder.year import Stated, Statements, read_statements
 from ..records import replace
 from ..text import count, label, listed, plain, spelled
 from ..units import low_ms, ns_ms, ns_up_ms, seconds_of
-from .days import (NAMESAKES, NOBODY, UNKNOWN, VERIFIED, Twins, YearCall, in_words, missing_days, namesakes, packed,
-                   unpacked, year_of)
+from .days import (NAMESAKES, NOBODY, UNKNOWN, VERIFIED, Twins, YearCall, in_words, is_day, missing_days, namesakes,
+                   packed, unpacked, year_of)
 from .signature import Signers
 
 RULES = {100_000: "MiFID II's RTS 25 of high-frequency trading, and CAT's 6.8 of exchanges",
@@ -211,12 +213,24 @@ def is_within(path: str, place: str) -> bool:
     return f"{absolute(path)}/".startswith(f"{absolute(place).rstrip('/')}/")
 
 
-def misplaced(name: str, machine: str, place: str) -> str:
+def misplaced(name: str, machine: str, place: str, named: Collection[str]) -> str:
     """Why a folder isn't that of the machine of which a year or an answer in some folder speaks; nothing if it may be.
-    In that very folder whoever made it may have laid days of his own."""
+    In that very folder whoever made it may have laid days of his own, and another machine in its own."""
     if is_within(machine, place):
         return "which is within the folder that rests on it"
-    return "" if may_be(name, machine, place) else "which has another name"
+    if not may_be(name, machine, place):
+        return "which has another name"
+    above = sorted(folders_above(os.path.dirname(absolute(machine))), key=len)
+    other = next((path for path in dropwhile(lambda path: path not in named, above) if has_days(path)), "")
+    return f"which is within {label(other)}, a folder that has days of its own" if other else ""
+
+
+@cache
+def has_days(path: str) -> bool:
+    """Whether folders in one are called after days, as those of a machine are."""
+    with suppress(Fault), Folder(path) as folder:
+        return any(is_day(name) and folder.is_folder(name) for name in folder.names())
+    return False
 
 
 def renamed(machines: Iterable[tuple[str, str]]) -> list[str]:
@@ -246,19 +260,20 @@ class Compared(NamedTuple):
     rest: list[str] = []
 
 
-def compared(folder: Folder, known: Known, leaps: LeapList, signers: Signers = Signers(None)) -> Compared:
-    """What of a year stands as its days are."""
+def compared(folder: Folder, known: Known, leaps: LeapList, signers: Signers = Signers(None),
+             named: Collection[str] = ("/",), others: Collection[str] = ()) -> Compared:
+    """What of a year stands as its days are, in the folders that are named, beside others of machines."""
     statements = read_statements(folder.data(YEAR))
     machines = [machine_in(stated, lines_in(folder, stated)) for stated in statements.machines]
     names = ((stated.machine, path) for stated, path in zip(statements.machines, machines) if path != stated.machine)
     wanted = YearCall(statements.year, known, leaps, seconds_of(statements.made), signers,
-                      machines=len(statements.machines), namesakes=namesakes(machines))
+                      machines=len(statements.machines), namesakes=namesakes([*machines, *others]))
     twins, years = Twins(), list[bytes | Year]()
     for stated in statements.machines:
         if not is_named(folder, stated):
             return Compared(f"{label(stated.file)} isn't the file that {YEAR} names")
         lines = lines_in(folder, stated)
-        if wrong := has_one_machine(folder, stated, lines):
+        if wrong := has_one_machine(folder, stated, lines, named):
             return Compared(wrong)
         year = year_stated(stated, lines, wanted)
         if wrong := other_days(stated, lines, year, wanted) or \
@@ -283,7 +298,8 @@ def compared(folder: Folder, known: Known, leaps: LeapList, signers: Signers = S
     notes = first_of(others, "statement") + renamed(names)
     notes += [UNSEEN_OF.format(count(unseen, "day"))] * bool(unseen)
     notes += [] if wrong else [PAGES if statements.pages else ANY_PAGES]
-    notes += unanswered_in(folder, statements) if statements.pages else []
+    own = {YEAR, SIGNATURES[YEAR], LIST, *statements.pages, *(stated.file for stated in statements.machines)}
+    notes += unanswered_in(folder, own) if statements.pages else []
     made, first, last = statements.made[:10], *(f"{statements.year}-{day}" for day in ("01-01", "12-31"))
     rest = [f"days from {max(first, made)} on, which hadn't ended when it was made"] * (made <= last)
     return Compared(wrong, hidden + rest * (made <= first), notes, rest * (made > first))
@@ -305,20 +321,19 @@ def other_page(folder: Folder, statements: Statements) -> str:
     return f"{label(other)} isn't a file that {YEAR} names" if other else ""
 
 
-def unanswered_in(folder: Folder, statements: Statements) -> list[str]:
-    """A note of the files in a year's folder that are nobody's word, if there are any."""
-    own = {YEAR, SIGNATURES[YEAR], LIST, *statements.pages, *(stated.file for stated in statements.machines)}
-    others = [name for name in folder.names() if name not in own and not folder.is_folder(name)]
+def unanswered_in(folder: Folder, own: Collection[str]) -> list[str]:
+    """A note of what is in a folder besides its own files, which is nobody's word, if there is anything."""
+    others = [name for name in folder.names() if name not in own]
     more = f" and {count(len(others) - 1, 'more file')}" if others[1:] else ""
     return [f"nobody answers for {label(others[0])}{more}"] if others else []
 
 
-def has_one_machine(folder: Folder, stated: Stated, lines: list[Line]) -> str:
+def has_one_machine(folder: Folder, stated: Stated, lines: list[Line], named: Collection[str]) -> str:
     machines = {os.path.dirname(line.path) or "." for line in lines}
     if len(machines) > 1:
         return f"{label(stated.file)} has days of several machines"
-    wrong = next(((machine, why) for machine in machines if (why := misplaced(stated.machine, machine, folder.path))),
-                 None)
+    wrong = next(((machine, why) for machine in machines
+                  if (why := misplaced(stated.machine, machine, folder.path, named))), None)
     return f"{label(stated.machine)}: its days are in {', '.join(wrong)}" if wrong else ""
 
 

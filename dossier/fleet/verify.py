@@ -27,11 +27,13 @@ from ..verdict.second import Second
 from ..verdict.sentences import reason
 from .audit import change_of, counted_once
 from .drawing import drawn_of, likelihoods
-from .events import EventsCall, PageOfEvents, difference as difference_of_events, folders_of, is_of_events, renamed_in
+from .events import (OWN, EventsCall, PageOfEvents, difference as difference_of_events, folders_of, is_of_events,
+                     renamed_in)
 from .judging import ONLY_MADE, Judging, Unjudgeable
-from .planning import Machines, beside_years, is_of_days, names_of, planned, several_among
+from .planning import Machines, beside_years, is_of_days, machines_below, names_of, planned, several_among
 from .signature import GOOD, NONE, UNSEEN, Signers, in_words, signed_in
-from .statements import Compared as YearCompared, compared as year_compared, days_of, folders_above
+from .statements import (Compared as YearCompared, compared as year_compared, days_of, folders_above,
+                         unanswered_in)
 from .twins import SeenFolders
 
 SHOWN, MOST_OF_A_DISPUTE = 80, 1000
@@ -238,6 +240,8 @@ def verify_all(folders: list[str], verifier: Verifier, signers: Signers, seconds
     verifier.known.believes = how.sample is not None and not how.answers
     left = set(alone).difference(drawn) | beside if how.sample is not None and not how.answers else set()
     signers.look_at([path for path in plan.every if path not in left or path in plan.stated], seconds)
+    below = machines_below(folders, seconds) if signers.given is not None else frozenset()
+    machines = plan.machines._replace(names=plan.machines.names | below)
     told, seen = Tally(how.as_signed, verifier.known.believes, plan.speaks_of), SeenFolders(len(plan.every))
 
     def work(path: str, _: int) -> Compared:  # (a year's signature is one for its days)
@@ -247,10 +251,10 @@ def verify_all(folders: list[str], verifier: Verifier, signers: Signers, seconds
             return Compared(0, ["(a year's days are in it)"], is_same=True)
         if path in plan.above and is_of_days(path):
             return Compared(0, ["(folders of an answer to a log are in it)"], is_same=True)
-        is_signed = files.absolute(path) in named or (how.as_signed and path not in plan.resting)
+        is_signed = path not in plan.resting and (how.as_signed or files.absolute(path) in named)
         is_drawn = path in drawn or path in several
         return verify(verifier, signers, is_signed, path, named, how._replace(
-            answers=how.answers and not is_drawn, known=how.known and not is_drawn), plan.machines)
+            answers=how.answers and not is_drawn, known=how.known and not is_drawn), machines)
     for path, came in run_all([path for path in plan.every if path not in left], work, Compared, seconds):
         result = Compared(came.status, [came.line]) if isinstance(came, Refusal) else came
         if how.answers and result.sum and result.is_same:
@@ -345,7 +349,7 @@ def verify(verifier: Verifier, signers: Signers, is_signed: bool, path: str, nam
                 unsigned.append(in_words(signature))
             if (signed := signed_in(folder)) in RESTS:
                 verifier.known.renew()
-                found = difference_of_days(verifier, folder, named, signers)
+                found = difference_of_days(verifier, folder, named, signers, machines)
                 findings += filter(None, [found.difference])
                 notes += found.notes
                 lines = [*(findings or [words_of(signed, verifier.known)]), *unsigned, *(f"({n})" for n in notes)]
@@ -380,7 +384,8 @@ def verify(verifier: Verifier, signers: Signers, is_signed: bool, path: str, nam
 
 def is_machines(folder: Folder, signer: str, machines: Machines) -> bool:
     """Whether a machine signed what isn't a day of its own: a year or an answer to a log, or a day of another one. A
-    machine is what is called so, among those that are looked at, beside their folders, or in what is signed."""
+    machine is what is called so, among those that are looked at, beside their folders, below what is named, or in what
+    is signed."""
     own, signed, path = signer.rpartition("@")[2], signed_in(folder), files.absolute(folder.path)
     above, names, places = os.path.dirname(path), machines.names, machines.places
     if signed == files.AUDIT:
@@ -409,7 +414,8 @@ def is_in(place: str, name: str) -> bool:
 OWN_DAYS = "a machine's key signs its own days alone"
 
 
-def difference_of_days(verifier: Verifier, folder: Folder, named: set[str], signers: Signers) -> YearCompared:
+def difference_of_days(verifier: Verifier, folder: Folder, named: set[str], signers: Signers,
+                       machines: Machines) -> YearCompared:
     """The first difference between a year's statements, or an answer to a log, and what their days come to, by what is
     known of these now; and the days of a year that aren't shown."""
     if is_of_events(folder):
@@ -417,10 +423,10 @@ def difference_of_days(verifier: Verifier, folder: Folder, named: set[str], sign
         call = EventsCall(Asked(), verifier.known, verifier.leaps, verifier.program, SECONDS, page=verifier.page,
                           signers=signers)
         differs, untimed = difference_of_events(folder, call)
-        return YearCompared(differs, notes=renamed_in(folder), rest=[f"{count(untimed, 'event')} without a time"] *
-                            bool(untimed))
+        return YearCompared(differs, notes=renamed_in(folder) + unanswered_in(folder, OWN),
+                            rest=[f"{count(untimed, 'event')} without a time"] * bool(untimed))
     days_of(folder, named)
-    return year_compared(folder, verifier.known, verifier.leaps, signers)
+    return year_compared(folder, verifier.known, verifier.leaps, signers, named, machines.folders)
 
 
 RESTS = {files.YEAR: ("its statements follow from", "its days"),

@@ -8,6 +8,7 @@ from typing import Any
 
 from tests.support import check, is_here
 from tests.dossier.audits import ENVIRONMENT, called, dossier, record_of, rows, with_change
+from tests.dossier.test_events import NOON, log_of
 from tests.dossier.test_evidence import key_of
 from tests.dossier.test_fleets import days_of, machine
 from tests.dossier.test_years import DAY, FIRST, RIGHT, WIDE, day
@@ -75,6 +76,42 @@ def test_refused_day(place: Path) -> None:
         for state in (f"state {way}", f"state {way}"):
             status, text = as_signed(place, way, state)
             check(f"a refused day {way}", status=(status, 0), last=(f"{own} 2001-09-11 refused" in last_of(text), True))
+
+
+def test_folder_of_days(place: Path) -> None:
+    """A folder of days whose machine is named by itself."""
+    if not is_here("ssh-keygen", "a year that is signed"):
+        return
+    own, other = machine(place / "fleet", "web-1"), place / "fleet" / "web-2"
+    folder = day(other, 0, RIGHT, "sept", to="2001-09-11T00:00:00Z", client="192.0.2.11")
+    dossier("audit", *days_of(own))
+    dossier("audit", "--days", folder)
+    signed_year(place, own, other)
+    asked = ["verify", "--known", "--as-signed", "--signers", place / "signers", place / "pages"]
+    for named in [place / "fleet"], [own, other]:
+        status, out, _ = dossier(*asked, *named)
+        check(f"{len(named)} folders are named", status=(status, 0), said=("not audited" in out.decode(), False))
+    hidden = folder / "2001-09-10"
+    shutil.copy(own / "2001-09-10" / "audit.json", hidden)
+    status, out, _ = dossier(*asked, own, other)
+    check("an audit among the parts", status=(status, 1), said=(f"{hidden}: nobody signed it" in out.decode(), True))
+
+
+def test_days_of_answers(place: Path) -> None:
+    """A day on which an answer rests that is signed needs no signature of its own, named by itself or not."""
+    if not is_here("ssh-keygen", "an answer that is signed"):
+        return
+    own = machine(place / "fleet", "web-1")
+    dossier("audit", *days_of(own))
+    (place / "signers").write_text(key_of(place, "ann")[1])
+    dossier("events", "--split", place / "answer", log_of(place, f"machine,time\nweb-1,{NOON}Z\n"), own)
+    dossier("sign", "--key", place / "ann", place / "answer")
+    for named in own, own / "2001-09-09", own / ".." / "web-1" / "2001-09-09":
+        told = dossier("verify", "--as-signed", "--signers", place / "signers", place / "answer", named)
+        check(f"an answer with {named}", status=(told[0], 0), said=("nobody signed it" in told[1].decode(), False))
+    status, out, _ = dossier("verify", "--as-signed", "--signers", place / "signers", place / "answer", *days_of(own))
+    check("another day", status=(status, 1), said=(f"{own}/2001-09-10: nobody signed it" in out.decode(), True),
+          times=(out.decode().count("nobody signed it"), 1))
 
 
 def test_verified_later(place: Path) -> None:

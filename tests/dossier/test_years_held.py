@@ -102,6 +102,59 @@ def test_keys_of_machines(place: Path) -> None:
               said=(told[1].decode().count(OWN), int(is_others)))
 
 
+def test_keys_of_two_levels(place: Path) -> None:
+    """A machine's key signs its own days alone, in a fleet of sites too; that of a site signs what is of its machines.
+    """
+    if not is_here("ssh-keygen", "a fleet that signs"):
+        return
+    names = "web-1", "web-9", "paris"
+    signers, fleet = signers_of(place, *names), place / "fleet"
+    own, _ = day(fleet / "paris" / "web-1", 0, RIGHT), day(fleet / "london" / "web-9", 0, RIGHT, client="192.0.2.11")
+    dossier("audit", own)
+    pages, answer = year_of(place, own.parent), answer_of(place, own.parent)
+    for file, named in rows((pages / "year.json", [pages, fleet]), (answer / "events.json", [answer, fleet])):
+        for name in names:
+            sign(place, name, file)
+            is_others = name != "paris"
+            told = dossier("verify", "--as-signed", "--signers", signers, "--known", *named)
+            check(f"{file.name} signed by {name}", status=(told[0], int(is_others)),
+                  said=(OWN in told[1].decode(), is_others))
+
+
+def test_namesakes_of_two_years(place: Path) -> None:
+    """Of two machines of one name, each of a year of its own, none has a key if both years are verified at once."""
+    if not is_here("ssh-keygen", "a fleet that signs"):
+        return
+    signers, own = signers_of(place, "web-1", "ann"), {**ENVIRONMENT, "XDG_STATE_HOME": str(place / "own")}
+    years = list[Path]()
+    for number, site in enumerate(("paris", "london")):
+        folder = day(place / "fleet" / site / "web-1", 0, RIGHT, drift_ppb=number)
+        dossier("audit", folder, env=own)
+        sign(place, "web-1", folder / "audit.json")
+        years.append(year_of(place, "--signers", signers, folder.parent).rename(place / site))
+        sign(place, "ann", years[-1] / "year.json")
+    words = "more than one machine is called web-1, so nobody knows whose key that is"
+    for named in years[:1], years[1:], years:
+        status, out, _ = dossier("verify", "--as-signed", "--signers", signers, *named, place / "fleet")
+        check(f"{len(named)} years of machines of one name", status=(status, int(named == years)),
+              said=(out.decode().count(words), 2 * (named == years)))
+
+
+def test_machine_within(place: Path) -> None:
+    """A folder that a machine laid into its own, beside its days, is no other machine's."""
+    fleet = place / "fleet"
+    own, within = day(fleet / "web-2", 0, RIGHT), day(fleet / "web-2" / "web-1", 0, RIGHT, drift_ppb=1)
+    dossier("audit", own, within)
+    words = f"web-2/web-1, which is within {own.parent}, a folder that has days of its own"
+    for folder in year_of(place, within.parent), answer_of(place, within.parent):
+        for way in ["verify", "--known", fleet], ["verify", "--answers", fleet], ["sign", "--key", place / "ann"]:
+            status, out, _ = dossier(*way, folder)
+            check(f"{way[:2]} {folder.name}", status=(status, lambda status: status > 0),
+                  said=(words in out.decode(), True))
+        out = dossier("verify", "--known", folder, within.parent)[1]
+        check(f"{folder.name}, named by itself", said=(f"{folder}: verified: " in out.decode(), True))
+
+
 def test_lines_without_says(place: Path) -> None:
     """Each line of days has the sum of what an audit says, or the year is older than sums of pages."""
     own = place / "fleet" / "web-1"
@@ -130,6 +183,14 @@ def test_files_of_nobody(place: Path) -> None:
         for name in names:
             (pages / name).touch()
         check(f"with {names[0]}", said=(f"{pages}: {said}" in dossier(*asked)[1].decode().splitlines(), True))
+    (pages / "2001").mkdir()
+    check("with a folder", said=("(nobody answers for 2001 and 3 more files)" in dossier(*asked)[1].decode(), True))
+    answer = answer_of(place, own)
+    for is_beside in False, True:
+        (answer / ("answered-corrected.csv" if is_beside else "answered.csv")).touch()
+        told = dossier("verify", "--known", answer, place / "fleet")[1].decode()
+        check(f"an answer, and another one: {is_beside}", said=(words in told, is_beside), named=(
+            f"{answer}: ({words} answered-corrected.csv)" in told.splitlines(), is_beside))
     shutil.copy(pages / f"{called(own)}.days", pages / "web-9.days")
     status, out, _ = dossier(*asked)
     check("a file of days that nobody names", status=(status, 1),
