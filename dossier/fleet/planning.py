@@ -52,8 +52,9 @@ class Plan(NamedTuple):
     @property
     def speaks_of(self) -> str:
         """Of what it is said that all is shown, where nothing isn't."""
-        of = f" of {listed(sorted({*self.years}))}" if self.years else ""
-        return f"{of} that answers to logs rest on" if self.has_answers else f"{of}, all is shown"
+        if self.has_answers and not self.years:
+            return " that an answer rests on"  # (other days of its machines weren't looked at)
+        return f"{f' of {listed(sorted({*self.years}))}' if self.years else ''}, all is shown"
 
 
 def planned(folders: list[str], named: set[str], seconds: int) -> Plan:
@@ -92,10 +93,17 @@ def planned(folders: list[str], named: set[str], seconds: int) -> Plan:
     own = frozenset(os.path.dirname(files.absolute(day)) for day in days)
     split = [os.path.split(machine) for machine in own]
     machines = Machines(own, frozenset(name for _, name in split), frozenset(place for place, _ in split))
-    resting = {path for path in every if files.absolute(path) in answered or (
-        path in resting and files.absolute(path) not in named)}
+    by_itself = named.difference(day for day in answered if not has_signature(day))
+    resting = {path for path in every if files.absolute(path) in rests - by_itself}
     return Plan(every, stated, beside, above_of, frozenset(resting), machines, len(others),
                 tuple(year for year, _ in spans if year), bool(of_events))
+
+
+def has_signature(path: str) -> bool:
+    """Whether a day has a signature of its own, which has to be good if the day is named."""
+    with suppress(Fault), Folder(path) as folder:
+        return folder.has(files.SIGNATURE)
+    return False
 
 
 def is_of_years(name: str, spans: list[tuple[str, str]]) -> bool:

@@ -59,7 +59,7 @@ def test_signed(place: Path) -> None:
     check("verify it without signers", status=(status, 0), told=(f"(signed at {at}, it says; " in said.decode(), True))
     status, text = as_signed(place)
     check("verify it as signed", status=(status, 0), last=(
-        text.splitlines()[-1], "all is as it was signed; not shown: nothing that answers to logs rest on"))
+        text.splitlines()[-1], "all is as it was signed; not shown: nothing that an answer rests on"))
     before = contents(out)
     check("audit a signed answer", run=(dossier("audit", out)[:2], (5, (
         f"refused       {out}: ntpaudit-dossier: events.json is there, so nothing is written beside it\n").encode())))

@@ -112,6 +112,10 @@ def test_days_of_answers(place: Path) -> None:
     status, out, _ = dossier("verify", "--as-signed", "--signers", place / "signers", place / "answer", *days_of(own))
     check("another day", status=(status, 1), said=(f"{own}/2001-09-10: nobody signed it" in out.decode(), True),
           times=(out.decode().count("nobody signed it"), 1))
+    dossier("sign", "--key", key_of(place, "eve")[0], own / "2001-09-09")
+    for named, status in ((own, 0), (own / "2001-09-09", 1)):
+        check(f"a stranger's signature below {named}", status=(dossier(
+            "verify", "--as-signed", "--signers", place / "signers", place / "answer", named)[0], status))
 
 
 def test_verified_later(place: Path) -> None:
