@@ -15,7 +15,7 @@ from ..folder.placing import take_away
 from ..schema import is_name
 from .templates import put
 
-MOST_OF_A_NAME = 200
+MAX_OF_A_NAME = 200
 ESCAPED = re.compile(rb"[^A-Za-z0-9._/-]|^\.|^index$")
 LINE = re.compile(r"([0-9a-f]{64})  ([A-Za-z0-9._+=-]+)")
 
@@ -25,7 +25,7 @@ def page_of(path: str) -> str:
     digits of what isn't a letter, a digit, or one of `._-`. One that is too long ends with a part of its sum."""
     name = ESCAPED.sub(lambda match: b"=%02X" % match[0][0] + match[0][1:], os.fsencode(os.path.normpath(path)))
     words = name.decode().replace("/", "+")
-    return words if len(words) <= MOST_OF_A_NAME else f"{words[:MOST_OF_A_NAME - 34]}=={sum_of(name)[:32]}"
+    return words if len(words) <= MAX_OF_A_NAME else f"{words[:MAX_OF_A_NAME - 34]}=={sum_of(name)[:32]}"
 
 
 class Split:
