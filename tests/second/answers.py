@@ -118,25 +118,31 @@ def when(evidence: Evidence, time: str) -> When:
 
 def order(first: Evidence, second: Evidence, time: str, other_time: str) -> Answer:
     """Which of two readings was first: those of two clocks, or of one if it's the same evidence. By its drift a clock
-    runs fast at most, so its readings are apart by so much of true time at least."""
+    runs fast or slow at most, so its readings are apart by so much of true time at least, and at most."""
     ticks, others = reading_of(time), reading_of(other_time)
     if not ticks or not others:
         return 5, []
     one, other = when(first, time), when(second, other_time)
     if "empty" in (one, other):
         return 1, ["nothing fits"]
+    apart, most = list[int](), list[int]()
+    if not isinstance(one, str) and not isinstance(other, str):
+        (earliest, latest), (other_earliest, other_latest) = one, other
+        apart = [other_earliest - latest, earliest - other_latest]
+        most = [other_latest - earliest, latest - other_earliest]
     if first is second:
-        rate = 10**9 + first.claim["drift_ppb"]
-        apart = [gap * 10**9 // rate if gap > 0 else -1 for gap in (others[0] - ticks[1], ticks[0] - others[1])]
-        if max(apart) >= 0:
-            return before(apart)
-    if isinstance(one, str) or isinstance(other, str):
+        drift, gaps = first.claim["drift_ppb"], (others[0] - ticks[1], ticks[0] - others[1])
+        if max(gaps) >= 0:
+            which = gaps.index(max(gaps))
+            least = gaps[which] * 10**9 // (10**9 + drift)
+            return before([max([least, *apart[which:which + 1]]) if k == which else -1 for k in range(2)])
+        own = [ceiling(ends * 10**9, 10**9 - drift) for ends in (others[1] - ticks[0], ticks[1] - others[0])]
+        most = [min(pair) for pair in zip(own, most or own)]
+    if not most:
         return 1, ["open"]
-    (earliest, latest), (other_earliest, other_latest) = one, other
-    apart = [other_earliest - latest, earliest - other_latest]
-    if max(apart) > 0:
+    if apart and max(apart) > 0:
         return before(apart)
-    earlier, later = (ceiling(most * 10**9, TICKS) for most in (other_latest - earliest, latest - other_earliest))
+    earlier, later = (ceiling(ends * 10**9, TICKS) for ends in most)
     return 1, [f"open: first may be {earlier} ns earlier or {later} ns later"]
 
 

@@ -14,5 +14,6 @@ pub use Rattle.line_writer.specs.declared.field.Style.TheVariants.{Columns, Plai
 pub use Rattle.pairing.specs.declared.exchange.Exchange.{Exchange}
 pub use Rattle.reading_time.specs.Reading.{IsLawfulReading, ReadingData, reading_data}
 pub use Rattle.sample_interval.specs.Moment.{IsInWindow}
+pub use Rattle.sample_interval.specs.Widening.{IsRate}
 pub use Rattle.sample_interval.specs.declared.kinds.Sample.{Sample}
 pub use Rattle.span_cover.specs.declared.part.Part.{Part}

@@ -2,9 +2,9 @@
 --
 -- Two courses of events may have different finenesses: a time in parts of 1/n tick and one in parts
 -- of 1/n' tick are compared as parts of 1/(n * n') tick.
-use Rattle.std.specs.Prelude.{◌≡◌, ℕ, ◌+◌, ◌-◌, ◌*◌, ◌/◌, ◌^◌, nat_le, nat_lt, ℤ, ◌≤◌, pos, ◌+ℤ◌, ◌-ℤ◌, ◌*ℤ◌, ◌≤ℤ◌, int_lt, unsigned_abs, ⊤, Bool, ◌&&◌, List, if◌then◌else◌}
+use Rattle.std.specs.Prelude.{◌≡◌, ℕ, ◌+◌, ◌-◌, ◌*◌, ◌/◌, ◌^◌, max, min, nat_le, ℤ, ◌≤◌, pos, ◌+ℤ◌, ◌-ℤ◌, ◌*ℤ◌, ◌≤ℤ◌, int_lt, unsigned_abs, ⊤, Bool, ◌&&◌, List, if◌then◌else◌}
 use Rattle.sample_interval.specs.Moment.{DriftsWithin}
-use Rattle.sample_interval.specs.Widening.{billion}
+use Rattle.sample_interval.specs.Widening.{billion, widening}
 use Rattle.true_time.specs.Common.{Course, Fits, IsObservedIn, samples_of, ClaimData, Exchange, ReadingData, Sample}
 use Rattle.true_time.specs.declared.order.Order.{Order}
 use Rattle.true_time.specs.declared.order.Order.TheVariants.{FirstBefore, Never, Open, SecondBefore, Unknown}
@@ -44,12 +44,40 @@ order_of (when.Between first last) (when.Between first' last') =
 abbrev pub least_time : ℕ → ℕ → ℕ
 least_time ppb ticks = (ticks * billion) / (billion + ppb)
 
--- the order of two readings of one clock that haven't a tick in common
+-- true time that has gone by at most meanwhile, rounded up to a tick
+abbrev pub most_time : ℕ → ℕ → ℕ
+most_time ppb ticks = ticks + widening ppb ticks
+
+-- one was before the other by this at least, or by what an order says
+abbrev pub first_by : ℕ → Order → Order
+first_by least (FirstBefore ticks) = FirstBefore (max least ticks)
+first_by least (SecondBefore ticks) = FirstBefore least
+first_by least (Open earlier later) = FirstBefore least
+first_by least Unknown = FirstBefore least
+first_by least Never = FirstBefore least
+
+abbrev pub second_by : ℕ → Order → Order
+second_by least (SecondBefore ticks) = SecondBefore (max least ticks)
+second_by least (FirstBefore ticks) = SecondBefore least
+second_by least (Open earlier later) = SecondBefore least
+second_by least Unknown = SecondBefore least
+second_by least Never = SecondBefore least
+
+-- either may have been first, neither by more than this
+abbrev pub open_by : ℕ → ℕ → Order → Order
+open_by earlier later (Open e l) = Open (min earlier e) (min later l)
+open_by earlier later Unknown = Open earlier later
+open_by earlier later (FirstBefore ticks) = FirstBefore ticks
+open_by earlier later (SecondBefore ticks) = SecondBefore ticks
+open_by earlier later Never = Never
+
+-- The order of two readings of one clock, of which an order is known: that of their ticks, or an
+-- open one if one begins before the other ends.
 abbrev pub order_by_readings : ℕ → ReadingData → ReadingData → Order → Order
 order_by_readings ppb r r' order =
-    if nat_lt r.end r'.begin then FirstBefore (least_time ppb (r'.begin - r.end))
-    else if nat_lt r'.end r.begin then SecondBefore (least_time ppb (r.begin - r'.end))
-    else order
+    if nat_le r.end r'.begin then first_by (least_time ppb (r'.begin - r.end)) order
+    else if nat_le r'.end r.begin then second_by (least_time ppb (r.begin - r'.end)) order
+    else open_by (most_time ppb (r'.end - r.begin)) (most_time ppb (r.end - r'.begin)) order
 
 -- the order of two readings of one clock, if by when they were it is this one
 abbrev pub order_of_one : ℕ → ReadingData → ReadingData → Order → Order

@@ -11,6 +11,7 @@ ghost use Rattle.true_time.specs.When.{HoldsWhen, IsDuring};
 
 use crate::when::When;
 use finder::laws::best_hulls_hold_the_error;
+use sample_interval::laws::widening_is_one_number;
 
 /// In every course of events that fits, whenever the clock shows a reading, true time lies between
 /// the earliest and the latest that the hull over the reading's ticks gives.
@@ -48,4 +49,5 @@ pub fn readings_tell_the_order()
 {
     moments_hold();
     orders_are_so();
+    widening_is_one_number();
 }

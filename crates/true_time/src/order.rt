@@ -1,11 +1,13 @@
 //! Which of two readings was first.
 
 ghost use Rattle.std.specs.Prelude.{◌≡◌, ◌<◌, ◌≤◌, ◌^◌, ◌-ℤ◌, IsTrue, unsigned_abs};
+ghost use Rattle.true_time.specs.Common.{IsRate};
 ghost use Rattle.true_time.specs.Order as spec;
 ghost use Rattle.true_time.specs.Order.{IsShort, is_near};
 ghost use Rattle.true_time.specs.TrueTime.{reading_over};
 
 use crate::when::When;
+use sample_interval::widen;
 
 /// A billion, of which a rate of drift counts parts.
 const BILLION: u128 = 1_000_000_000;
@@ -109,27 +111,87 @@ fn least_time(drift_ppb: u32, ticks: u64) -> u128
     u128::from(ticks) * BILLION / (BILLION + u128::from(drift_ppb))
 }
 
-/// The order of two readings of one clock: that of their ticks, or this one if they have one in
-/// common.
+/// True time that goes by at most meanwhile, rounded up to a tick.
+fn most_time(drift_ppb: u32, ticks: u64) -> u128
+    requires { IsRate drift_ppb }
+    ensures exact { result ≡ spec.most_time drift_ppb ticks }
+    ensures at_most { result ≤ 2 ^ 127 }
+{
+    u128::from(ticks) + widen(drift_ppb, i128::from(ticks)).unsigned_abs()
+}
+
+/// The first was before the second by this at least, or by what an order says.
+fn first_by(least: u128, order: Order) -> Order
+    requires least { least ≤ 2 ^ 127 }
+    requires short { IsShort order }
+    ensures exact { result ≡ spec.first_by least order }
+    ensures short { IsShort result }
+{
+    match order {
+        Order::FirstBefore(ticks) => Order::FirstBefore(least.max(ticks)),
+        _ => Order::FirstBefore(least),
+    }
+}
+
+/// The second was before the first by this at least, or by what an order says.
+fn second_by(least: u128, order: Order) -> Order
+    requires least { least ≤ 2 ^ 127 }
+    requires short { IsShort order }
+    ensures exact { result ≡ spec.second_by least order }
+    ensures short { IsShort result }
+{
+    match order {
+        Order::SecondBefore(ticks) => Order::SecondBefore(least.max(ticks)),
+        _ => Order::SecondBefore(least),
+    }
+}
+
+/// Either may have been first, neither by more than this.
+fn open_by(earlier: u128, later: u128, order: Order) -> Order
+    requires earlier { earlier ≤ 2 ^ 127 }
+    requires later { later ≤ 2 ^ 127 }
+    requires short { IsShort order }
+    ensures exact { result ≡ spec.open_by earlier later order }
+    ensures short { IsShort result }
+{
+    match order {
+        Order::Open {
+            earlier: e,
+            later: l,
+        } => Order::Open {
+            earlier: earlier.min(e),
+            later: later.min(l),
+        },
+        Order::Unknown => Order::Open { earlier, later },
+        _ => order,
+    }
+}
+
+/// The order of two readings of one clock, of which an order is known: that of their ticks, or an
+/// open one if one begins before the other ends.
 fn order_by_readings(drift_ppb: u32, first: (u64, u64), second: (u64, u64), order: Order) -> Order
-    requires { IsShort order }
+    requires rate { IsRate drift_ppb }
+    requires short { IsShort order }
     ensures exact { result ≡ spec.order_by_readings drift_ppb
         (reading_over first.0 first.1) (reading_over second.0 second.1) order }
     ensures short { IsShort result }
 {
-    if first.1 < second.0 {
-        Order::FirstBefore(least_time(drift_ppb, second.0 - first.1))
-    } else if second.1 < first.0 {
-        Order::SecondBefore(least_time(drift_ppb, first.0 - second.1))
+    if first.1 <= second.0 {
+        first_by(least_time(drift_ppb, second.0 - first.1), order)
+    } else if second.1 <= first.0 {
+        second_by(least_time(drift_ppb, first.0 - second.1), order)
     } else {
-        order
+        let earlier = most_time(drift_ppb, second.1.saturating_sub(first.0));
+        let later = most_time(drift_ppb, first.1.saturating_sub(second.0));
+        open_by(earlier, later, order)
     }
 }
 
 /// Which of two readings of one clock was first, if by when they were it is this one. A reading is
 /// given by the first tick for which it stands and the last; the drift is in parts of 10^9.
 pub fn order_of_one(drift_ppb: u32, first: (u64, u64), second: (u64, u64), order: Order) -> Order
-    requires { IsShort order }
+    requires rate { IsRate drift_ppb }
+    requires short { IsShort order }
     ensures exact { result ≡ spec.order_of_one drift_ppb
         (reading_over first.0 first.1) (reading_over second.0 second.1) order }
     ensures short { IsShort result }

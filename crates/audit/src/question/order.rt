@@ -77,6 +77,7 @@ fn whens_in(
 
 /// The order of two readings of the clock, which were then.
 fn order_in(asked: OrderWithin, first: When, second: When, evidence: &Evidence) -> Order
+    requires evidence { IsLawfulEvidence evidence.now }
     requires first { first ≡
         spec.when_in (ticks_asked asked.first.begin asked.first.end) (evidence_data evidence.now) }
     requires second { second ≡
