@@ -2,6 +2,7 @@
 rest, and all days beside these.
 """
 import os
+from collections.abc import Callable
 from contextlib import suppress
 from itertools import filterfalse
 from typing import NamedTuple
@@ -61,8 +62,9 @@ def planned(folders: list[str], named: set[str], seconds: int) -> Plan:
     """Which folders are verified, for what was named."""
     stated, below, of_events, above = dict[str, str](), dict[str, list[str]](), list[str](), set[str]()
     resting, answered, spans, others = set[str](), set[str](), list[tuple[str, str]](), list[str]()
+    with_days = those_among(folders, rests_on_days, seconds)
     for folder in folders:
-        found = days_below(folder, named, seconds)
+        found = days_below(folder, named, seconds) if folder in with_days else Below({})
         resting.update(found.days)
         below[folder] = [day for day in found.days if not found.is_of_events or files.absolute(day) not in named]
         if found.is_of_events:
@@ -122,22 +124,28 @@ def names_of(plan: Plan, seconds: int) -> dict[str, str]:
                            if isinstance(name, str) and name}
 
 
-def several_among(paths: list[str], seconds: int) -> set[str]:
-    """The folders that have an audit of several days."""
+def is_of_several(folder: Folder) -> bool:
+    """Whether a folder has an audit of several days."""
+    return len(read_any(folder.data(files.AUDIT)).entries) > 1
+
+
+def rests_on_days(folder: Folder) -> bool:
+    """Whether a year's statements are in a folder, or an answer to a log."""
+    return folder.has(files.YEAR) or folder.has(files.EVENTS)
+
+
+def those_among(paths: list[str], is_one: Callable[[Folder], bool], seconds: int) -> set[str]:
+    """The folders of which something is so, many at a process; and all of those that took too long together."""
     chunks = [paths[at:at + AT_ONCE] for at in range(0, len(paths), AT_ONCE)]
 
     def work(_: str, number: int) -> list[str]:
-        several = list[str]()
+        found = list[str]()
         for path in chunks[number]:
             with suppress(Fault), Folder(path) as folder:
-                several += [path] * (len(read_any(folder.data(files.AUDIT)).entries) > 1)
-        return several
-    found = set[str]()
-    for _, came in run_all([chunk[0] for chunk in chunks], work, list[str], seconds):
-        if isinstance(came, Refusal):
-            raise Fault(came.line, came.status)
-        found.update(came)
-    return found
+                found += [path] * is_one(folder)
+        return found
+    results = [came for _, came in run_all([chunk[0] for chunk in chunks], work, list[str], seconds)]
+    return {path for chunk, came in zip(chunks, results) for path in (chunk if isinstance(came, Refusal) else came)}
 
 
 def beside_years(plan: Plan, named: set[str]) -> set[str]:

@@ -30,7 +30,8 @@ from .drawing import drawn_of, likelihoods
 from .events import (OWN, EventsCall, PageOfEvents, difference as difference_of_events, folders_of, is_of_events,
                      renamed_in)
 from .judging import ONLY_MADE, Judging, Unjudgeable
-from .planning import Machines, beside_years, is_of_days, machines_below, names_of, planned, several_among
+from .planning import (Machines, beside_years, is_of_days, is_of_several, machines_below, names_of, planned,
+                       those_among)
 from .signature import GOOD, NONE, UNSEEN, Signers, in_words, signed_in
 from .statements import (Compared as YearCompared, compared as year_compared, days_of, folders_above,
                          unanswered_in)
@@ -234,7 +235,8 @@ def verify_all(folders: list[str], verifier: Verifier, signers: Signers, seconds
     plan = planned(folders, named, seconds)
     names, beside = (names_of(plan, seconds), beside_years(plan, named)) if how.sample is not None else ({}, set())
     numbers = Counter(names.values())  # (one that is drawn would be many days at once)
-    several = several_among([*names], seconds).union(path for path, name in names.items() if numbers[name] > 1)
+    alike = {path for path, name in names.items() if numbers[name] > 1}
+    several = those_among([*names], is_of_several, seconds) | alike
     alone = {path: name for path, name in names.items() if path not in several}
     drawn = drawn_of(alone, how.sample or 0, how.seed)
     verifier.known.believes = how.sample is not None and not how.answers
