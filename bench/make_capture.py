@@ -14,7 +14,7 @@ import struct
 import sys
 from collections.abc import Iterator
 
-MOST_RECORDS = 4_000_000
+MAX_RECORDS = 4_000_000
 START = 1_700_000_000
 SECONDS_TO_1970 = 2_208_988_800
 SERVERS = 8
@@ -96,9 +96,9 @@ def main() -> None:
     kind.add_argument("--only-ntp", action="store_true")
     words.add_argument("--interval", type=int, default=0)
     given = words.parse_args()
-    most_records = MOST_RECORDS if given.bytes else given.records
-    if not 0 <= most_records <= MOST_RECORDS:
-        words.error(f"a capture has at most {MOST_RECORDS} records")
+    most_records = MAX_RECORDS if given.bytes else given.records
+    if not 0 <= most_records <= MAX_RECORDS:
+        words.error(f"a capture has at most {MAX_RECORDS} records")
     records, packets, size = 0, 0, 24
     with open(given.file, "wb", buffering=1 << 20) as out:
         out.write(struct.pack("<IHHiIII", 0xA1B2C3D4, 2, 4, 0, 0, 262_144, 1))
@@ -111,7 +111,7 @@ def main() -> None:
             out.write(frame)
             records, packets, size = records + 1, packets + is_ntp, size + 16 + len(frame)
     if given.bytes and size < given.bytes:
-        sys.exit(f"{MOST_RECORDS} records have only {size} bytes: take --big-frames")
+        sys.exit(f"{MAX_RECORDS} records have only {size} bytes: take --big-frames")
     print(f"records {records} packets {packets}")
 
 

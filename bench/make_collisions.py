@@ -24,7 +24,7 @@ from make_capture import START, udp
 
 CLIENT, SERVER, PORT = (192, 0, 2, 100), (192, 0, 2, 1), 49152
 STATE, MULTIPLIER = 0x243F6A8885A308D3, 0x9E3779B97F4A7C15
-MOST_ENTRIES_OF_A_GROUP = 9
+MAX_ENTRIES_OF_A_GROUP = 9
 
 SEARCH = r"""
 #include <stdint.h>
@@ -60,7 +60,7 @@ def colliding(count: int) -> tuple[int, ...]:
     low, high = PORT & 255, PORT >> 8
     start, multiplier = fold(STATE, fold(STATE, 0, 8), 8), fold(STATE, 1, 8) | 1
     state = fold(fold(start, 0, 1), low | high << 8 | high << 16, 2)
-    bits = (count // MOST_ENTRIES_OF_A_GROUP).bit_length() + 1
+    bits = (count // MAX_ENTRIES_OF_A_GROUP).bit_length() + 1
     with tempfile.TemporaryDirectory() as folder:
         source, search = Path(folder) / "search.c", Path(folder) / "search"
         source.write_text(SEARCH)

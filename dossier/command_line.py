@@ -10,7 +10,7 @@ from typing import TYPE_CHECKING, Any, NamedTuple, NoReturn
 
 from . import VERSION
 from .fault import DEVICE, MEMORY, MISSING, USAGE, Fault, Stopped, fault
-from .folder.claim import MOST_BOUND, MOST_DRIFT, OSCILLATOR, UNKNOWN_READING
+from .folder.claim import MAX_BOUND, MAX_DRIFT, OSCILLATOR, UNKNOWN_READING
 from .folder.jobs import SECONDS, answer
 from .folder.program import Program, find_program
 from .folder.registry import Known, state_of
@@ -130,15 +130,15 @@ OPTIONS = [
     Option("draft", "captures", "CAPTURE", "captures of one client", {"nargs": "+"}),
     Option("draft", "--client", "ADDRESS", "the client; the one that asks most if it is left out"),
     Option("draft", "--day", "", "claim whole days (UTC)"),
-    Option("draft", "--bound-ns", (0, MOST_BOUND),
+    Option("draft", "--bound-ns", (0, MAX_BOUND),
            "the bound that is to be shown, in nanoseconds; the least one if it is left out"),
-    Option("draft", "--drift-ppb", (0, MOST_DRIFT),
+    Option("draft", "--drift-ppb", (0, MAX_DRIFT),
            "oscillator and client together, in parts of 10^9; else by the client's configuration; else the oscillator "
            "alone"),
     Option("draft", "--chrony", "FILE", "chronyd's configuration, which limits the drift", REPEATED, "client"),
     Option("draft", "--ntpd", "FILE", "ntpd's configuration", REPEATED, "client"),
     Option("draft", "--tracking", "FILE", "chronyd's tracking.log, or its messages", REPEATED),
-    Option("draft", "--oscillator-ppb", (0, MOST_DRIFT),
+    Option("draft", "--oscillator-ppb", (0, MAX_DRIFT),
            f"the oscillator alone, to which the configuration adds; {OSCILLATOR} if it is left out",
            {"default": OSCILLATOR}),
     Option("draft", "--evidence", "FILE", "write what was read from the client's files to FILE, for evidence.json"),
@@ -436,7 +436,7 @@ def tidy(folder: str) -> str:
 def correction_of(given: argparse.Namespace) -> "Correction | None":
     """What the client's configuration and log say, if they are given."""
     from .folder.files import piped_or_named
-    from .premise.client import MOST_OF_A_TEXT, configuration
+    from .premise.client import MAX_OF_A_TEXT, configuration
     from .premise.correction import correction
     from .premise.tracking import read_tracking
     if (given.tracking and not given.chrony) or (given.evidence and not (given.chrony or given.ntpd)):
@@ -444,7 +444,7 @@ def correction_of(given: argparse.Namespace) -> "Correction | None":
     client = configuration(given.chrony, given.ntpd)
     if client is None:
         return None
-    logs = {os.path.basename(path): piped_or_named(path, MOST_OF_A_TEXT) for path in given.tracking or ()}
+    logs = {os.path.basename(path): piped_or_named(path, MAX_OF_A_TEXT) for path in given.tracking or ()}
     log = read_tracking(logs, client.step_s, now()) if logs else None
     return correction(given.oscillator_ppb, client, log, now())
 

@@ -19,7 +19,7 @@ from typing import NamedTuple
 from ..fault import Fault, fault
 from ..folder.claim import Claim, Part
 from ..folder.entry import Alert, Figure, Torn
-from ..folder.files import BLOCK, JOINED, MOST_OF_A_CAPTURE, mapped, own, size_of, sum_of_file, too_big
+from ..folder.files import BLOCK, JOINED, MAX_OF_A_CAPTURE, mapped, own, size_of, sum_of_file, too_big
 from ..folder.jobs import find_tool, stream
 from ..folder.placing import ROOM, Copy, cut_off, keep, move
 from ..folder.program import Program
@@ -33,12 +33,12 @@ MARGIN, HALVES = 3600, ("01-01", "07-01")
 """Seconds beside a span whose records speak about it too; and the days on which half-years begin."""
 MANY = 1_000_000
 """Records that are listed at once."""
-MOST_AT_ONCE = 1 << 26
+MAX_AT_ONCE = 1 << 26
 """Bytes of a capture that is unpacked with others by one call."""
 NO_ZSTD = "is packed by zstd, which isn't installed to unpack it"
-MOST_UNTHINNED = 1 << 31
+MAX_UNTHINNED = 1 << 31
 """Of a capture that isn't thinned out."""
-NEXT, MOST_FALLS = 160, 1000
+NEXT, MAX_FALLS = 160, 1000
 """Records that are next to others, for each server; and how often the times of a capture may fall back for that."""
 MINUTE = 60 << 32
 """In ticks."""
@@ -173,7 +173,7 @@ def thinned(whole: AuditedCapture, claim: Claim, program: Program) -> AuditedCap
     than the program takes, or great ones: what comes from afar can't make a day too big. The program's own listing says
     which are its requests, and which answer one, some at a time; these are kept as they were recorded."""
     capture = Classic(whole.path, whole.extent)
-    if len(capture.extent.stamps) < classic.MOST_RECORDS and capture.size < MOST_UNTHINNED:
+    if len(capture.extent.stamps) < classic.MAX_RECORDS and capture.size < MAX_UNTHINNED:
         return whole
     client, servers = re.escape(claim.client), "|".join(map(re.escape, claim.servers))
     request = re.compile(rf"(?m)^(\d+) \S+ ({client}:\d+) ((?:{servers}):\d+) \S+ m3 (?:\S+ ){{8}}(\S+) (\S+)".encode())
@@ -190,7 +190,7 @@ def thinned(whole: AuditedCapture, claim: Claim, program: Program) -> AuditedCap
 
     def ask(block: bytes) -> None:
         for _, source, server, *stamps in request.findall(block):
-            if len(asked) < classic.MOST_RECORDS:
+            if len(asked) < classic.MAX_RECORDS:
                 asked.update((source, server, stamp) for stamp in stamps if stamp.strip(b"0"))
 
     def kept() -> Iterator[bytes]:
@@ -258,7 +258,7 @@ def are_unpacked_at_once(copies: dict[str, str]) -> bool:
     """Unpacks copies, each into the file that is named, by one call of zstd: a call for each of a day's hours takes
     longer than the hour. False if they aren't as large as they say of themselves, or don't say it."""
     sizes = [size_said(copy) for copy in copies]
-    if not sizes or 0 in sizes or max(sizes) > MOST_AT_ONCE or sum(sizes) > MOST_OF_A_CAPTURE:
+    if not sizes or 0 in sizes or max(sizes) > MAX_AT_ONCE or sum(sizes) > MAX_OF_A_CAPTURE:
         return False
     left, rest = bytearray(), list(zip(copies.values(), sizes))
 
@@ -298,8 +298,8 @@ def unpack(name: str, copy: str, take: Callable[[bytes], object]) -> bool:
     def take_some(block: bytes) -> None:
         nonlocal size
         size += len(block)
-        if size > MOST_OF_A_CAPTURE:
-            raise too_big(name, MOST_OF_A_CAPTURE)
+        if size > MAX_OF_A_CAPTURE:
+            raise too_big(name, MAX_OF_A_CAPTURE)
         take(block)
     return (gunzip if begins(copy, GZIP) else unzstd)(name, copy, take_some)
 
@@ -381,7 +381,7 @@ def around(whole: Classic, falls: list[int], part: Part) -> Callable[[str], bool
 def falls_in(stamps: array[int]) -> list[int]:
     """The records whose times are before those of the records before them; none if there are many."""
     falls = [] if do_rise(stamps) else [k for k in range(1, len(stamps)) if stamps[k] < stamps[k - 1]]
-    return falls if len(falls) <= MOST_FALLS else []
+    return falls if len(falls) <= MAX_FALLS else []
 
 
 def put(whole: Classic, runs: Runs, path: str) -> bool:

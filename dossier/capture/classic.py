@@ -24,11 +24,11 @@ MAGICS = {bytes.fromhex(magic): form for magic, form in (
 """Of the first four bytes the order of all others, and the units to a second."""
 HEADER, HEAD = 24, 16
 """Bytes of a capture's header, and of a record's."""
-MOST_RECORDS, MOST_CAPTURED = 4_000_000, 262_144
+MAX_RECORDS, MAX_CAPTURED = 4_000_000, 262_144
 """Records of a capture, and bytes of each, that the program takes."""
-MOST_ALIKE = 4096
+MAX_ALIKE = 4096
 """Records of one length that are read at once."""
-MOST_RUNS = 1 << 19
+MAX_RUNS = 1 << 19
 """Of records that follow one another in time there are some for each day, however long a capture is."""
 AT_ONCE = 1 << 16
 """Records whose times are compared together."""
@@ -76,7 +76,7 @@ class Classic:
         while at <= size:
             seconds, part, captured = head(self.data, at)
             end = at + HEAD + captured
-            if captured > MOST_CAPTURED or part >= unit or end > self.size:
+            if captured > MAX_CAPTURED or part >= unit or end > self.size:
                 return
             yield seconds * unit + part, at, end
             at = end
@@ -94,14 +94,14 @@ class Classic:
         """Goes from record to record, and over those of one length that follow one another at once."""
         head, at, stamps = Struct(f"{self.order}III").unpack_from, HEADER, array("Q")
         before, alike = -1, 1
-        while self.is_one and at + HEAD <= self.size and len(stamps) < MOST_RECORDS:
+        while self.is_one and at + HEAD <= self.size and len(stamps) < MAX_RECORDS:
             seconds, part, captured = head(self.data, at)
             length = HEAD + captured
-            if captured > MOST_CAPTURED or length > self.size - at:
+            if captured > MAX_CAPTURED or length > self.size - at:
                 break
             if captured == before:
-                alike = min(MOST_ALIKE, 2 * alike)
-                some = self.data[at : at + length * min(alike, MOST_RECORDS - len(stamps))]
+                alike = min(MAX_ALIKE, 2 * alike)
+                some = self.data[at : at + length * min(alike, MAX_RECORDS - len(stamps))]
                 own = self.stamps_of(some[: len(some) // length * length], length)
                 stamps.frombytes(own)
                 at += len(own) // 8 * length
@@ -130,7 +130,7 @@ class Classic:
         """Whether it ends inside the record that begins there."""
         head = self.data[end : end + HEAD]
         captured = int.from_bytes(head[8:12], "little" if self.order == "<" else "big")
-        return 0 < len(head) < HEAD or (len(head) == HEAD and self.size - end - HEAD < captured <= MOST_CAPTURED)
+        return 0 < len(head) < HEAD or (len(head) == HEAD and self.size - end - HEAD < captured <= MAX_CAPTURED)
 
     def renewed(self, begin: int, end: int, unit: int) -> bytes:
         """A record in the order and the unit of a new capture."""
@@ -148,7 +148,7 @@ def do_rise(stamps: array[int]) -> bool:
 
 def new_header(unit: int, kind: tuple[int, int, int]) -> bytes:
     major, minor, link = kind
-    return NEW_HEADER.pack(NEW_MAGIC[unit], major, minor, 0, 0, MOST_CAPTURED, link)
+    return NEW_HEADER.pack(NEW_MAGIC[unit], major, minor, 0, 0, MAX_CAPTURED, link)
 
 
 def write(path: str, blocks: Iterable[bytes]) -> None:
@@ -251,7 +251,7 @@ def in_a_row(captures: list[Classic], is_known: bool) -> list[Classic] | None:
         return None
     if is_known and row != [capture for capture in captures if capture.extent.stamps]:
         return None
-    return row if sum(len(capture.extent.stamps) for capture in row) < MOST_RECORDS else None
+    return row if sum(len(capture.extent.stamps) for capture in row) < MAX_RECORDS else None
 
 
 def runs_of(capture: Classic, spans: list[tuple[int, int]]) -> list[Runs]:
@@ -259,7 +259,7 @@ def runs_of(capture: Classic, spans: list[tuple[int, int]]) -> list[Runs]:
     The spans have to be in order, as their ends."""
     begins, ends = ([second * capture.unit for second in side] for side in zip(*spans))
     runs_in: list[Runs] = [[] for _ in spans]
-    left, end = MOST_RUNS, HEADER
+    left, end = MAX_RUNS, HEADER
     for time, begin, end in capture.rows():
         for runs in runs_in[bisect_left(ends, time) : bisect_right(begins, time)]:
             if runs and runs[-1][1] == begin:

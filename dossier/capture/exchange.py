@@ -10,7 +10,7 @@ from collections.abc import Callable
 ANY, OWN, OWN_OF_AN_HOUR = 1_000_000, 10_000_000, 40_000_000
 """Bytes that are kept in a minute of whatever comes, and in all; and in an hour of what comes beyond the former."""
 MINUTE, HOUR = 60, 3600
-MOST_ASKED = 1 << 17
+MAX_ASKED = 1 << 17
 """Requests whose answers are known by."""
 IPV4, TAGGED, UDP, NTP = b"\x08\x00", b"\x81\x00", 17, b"\0\x7b"
 REQUEST, REPLY, LEAST_PAYLOAD = 3, 4, 48
@@ -65,6 +65,6 @@ class Keeping:
         for stamp in (data[ntp + 40 : ntp + 48], data[ntp + 32 : ntp + 40]):  # (the latter in interleaved mode)
             if any(stamp):
                 self.asked[back + stamp] = None
-        while len(self.asked) > MOST_ASKED:
+        while len(self.asked) > MAX_ASKED:
             del self.asked[next(iter(self.asked))]
         return True

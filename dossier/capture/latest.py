@@ -16,7 +16,7 @@ from .classic import HEADER
 from .recorder import RecorderFile
 from .tail import Ending, Growing
 
-MOST_READ = 64_000_000
+MAX_READ = 64_000_000
 """Bytes that are read of a recorder's files."""
 LOOKED_AT = 8
 """Files whose records are held to the time when something was written last."""
@@ -46,7 +46,7 @@ def latest(folder: Folder, files: Iterable[RecorderFile], order: list[str], seco
     endings, header, ahead = list[Ending](), b"", 0
     for file, at in in_order(folder, files, order, now, bad):
         ahead = max(ahead, at - now)
-        left, room = seconds - sum(one.seconds for one in endings), MOST_READ - sum(len(one.data) for one in endings)
+        left, room = seconds - sum(one.seconds for one in endings), MAX_READ - sum(len(one.data) for one in endings)
         if left <= 0 or header and file.header != header:
             continue
         own = file.ending(left, max(GAP, seconds // 4), room, bad)
@@ -70,7 +70,7 @@ def in_order(folder: Folder, files: Iterable[RecorderFile], order: list[str], no
             if folder.size(one.name) < HEADER:
                 continue
             file, at = Growing(folder, one.name), folder.written_ns(one.name) // SECOND
-            if not order and number < LOOKED_AT and abs(at - (last := file.last(MOST_READ))) > FITS:
+            if not order and number < LOOKED_AT and abs(at - (last := file.last(MAX_READ))) > FITS:
                 at = last
             growing.append((place.get(one.name, -1), at <= now + AHEAD, at, -number, file))
         except Fault as wrong:

@@ -16,7 +16,7 @@ from .classic import NEW_HEAD, new_header, write
 MAGIC = bytes.fromhex("0a0d0d0a")
 SECTION, INTERFACE, OLD_PACKET, SIMPLE_PACKET, PACKET = 0x0A0D0D0A, 1, 2, 3, 6
 OPTION_RESOLUTION, OPTION_OFFSET = 9, 14
-MOST_INTERFACES, MOST_IN_A_BLOCK = 1000, 1 << 24
+MAX_INTERFACES, MAX_IN_A_BLOCK = 1000, 1 << 24
 
 
 class Interface(NamedTuple):
@@ -51,7 +51,7 @@ class Pcapng:
                 order = "<" if self.data[at + 8 : at + 12] == bytes.fromhex("4d3c2b1a") else ">"
             head = self.data[at : at + 8]
             kind, length = Struct(f"{order}II").unpack(head) if len(head) == 8 else (0, 12)
-            if length < 12 or length % 4 or length > MOST_IN_A_BLOCK:
+            if length < 12 or length % 4 or length > MAX_IN_A_BLOCK:
                 raise fault(f"{self.name} is damaged at byte {at}")
             if at + length > len(self.data):
                 self.torn_at = at
@@ -62,9 +62,9 @@ class Pcapng:
     def interfaces(self) -> list[Interface]:
         """All of its interfaces, of all sections: by these the unit is chosen in which it is rewritten."""
         every = (interface_of(order, body) for kind, order, body in self.blocks() if kind == INTERFACE)
-        known = list(islice(every, MOST_INTERFACES + 1))
-        if len(known) > MOST_INTERFACES:
-            raise fault(f"{self.name} has more than {MOST_INTERFACES:,} interfaces, so it is damaged")
+        known = list(islice(every, MAX_INTERFACES + 1))
+        if len(known) > MAX_INTERFACES:
+            raise fault(f"{self.name} has more than {MAX_INTERFACES:,} interfaces, so it is damaged")
         return known
 
     def packets(self) -> Iterator[Packet]:

@@ -15,12 +15,12 @@ from typing import NamedTuple
 
 from ..fault import fault
 from ..folder.files import Folder
-from .classic import HEAD, HEADER, MAGICS, MOST_CAPTURED
+from .classic import HEAD, HEADER, MAGICS, MAX_CAPTURED
 
-MOST_LENGTH, HOUR = HEAD + MOST_CAPTURED, 3600
+MAX_LENGTH, HOUR = HEAD + MAX_CAPTURED, 3600
 FIRST = 1 << 20
 """Bytes that are read of the end at first; and then twice as many each time."""
-MOST_PLACES = 1 << 19
+MAX_PLACES = 1 << 19
 """Places at which records are looked for in one file. Who makes more ways than that has all of the file read from its
 begin, where there is but one."""
 HEADS = {"<": re.compile(rb"(?s)(?=.{7}[\0-\x3b]..[\0-\4]\0)"), ">": re.compile(rb"(?s)(?=.{4}[\0-\x3b]...\0[\0-\4])")}
@@ -32,18 +32,18 @@ class Heads:
 
     def __init__(self, order: str, unit: int):
         self.order, self.unit, self.pattern, self.unpack = order, unit, HEADS[order], Struct(f"{order}IIII").unpack_from
-        self.left = MOST_PLACES
+        self.left = MAX_PLACES
 
     def after(self, data: bytes, at: int) -> int | None:
         """Where the record that begins there ends; None if none can."""
         _, part, captured, length = self.unpack(data, at)
-        return at + HEAD + captured if part < self.unit and captured <= min(length, MOST_CAPTURED) else None
+        return at + HEAD + captured if part < self.unit and captured <= min(length, MAX_CAPTURED) else None
 
     def meeting(self, data: bytes) -> int | None:
         """Where all ways that begin in the longest record's stretch have come together; None if they don't, or if too
         many places would have to be looked at."""
-        starts = (match.start() for match in self.pattern.finditer(data, 0, MOST_LENGTH + HEAD))
-        ways = [start for start in starts if start < MOST_LENGTH]
+        starts = (match.start() for match in self.pattern.finditer(data, 0, MAX_LENGTH + HEAD))
+        ways = [start for start in starts if start < MAX_LENGTH]
         heapify(ways)
         while ways and self.left > 0:
             self.left -= 1
@@ -111,7 +111,7 @@ class Growing:
     def hours(self) -> set[int]:
         """The hours since 1970 in which the times of its records lie, as far as these can be told apart."""
         hours, data, at = set[int](), b"", HEADER
-        while len(data) < MOST_LENGTH and (block := self.folder.part(self.name, at, at + FIRST)):
+        while len(data) < MAX_LENGTH and (block := self.folder.part(self.name, at, at + FIRST)):
             data, at, end = data + block, at + len(block), 0
             for second, _, end in self.heads.walk(data, 0):
                 hours.add(second // HOUR)

@@ -6,7 +6,7 @@ from ..fault import fault
 from ..folder.program import Program
 from ..records import dataclass, field
 
-MOST_PAIRS = 100_000
+MAX_PAIRS = 100_000
 """Of addresses that have asked or answered one another."""
 NONE = "0" * 16
 """A timestamp that isn't set."""
@@ -48,8 +48,8 @@ def read_traffic(program: Program, capture: str) -> Traffic:
             if words[0] == "records":
                 seen.packets = int(words[3])
                 continue
-            if len(receive) + len(seen.references) > MOST_PAIRS:
-                raise fault(f"more than {MOST_PAIRS:,} pairs of addresses are in the capture: record by a filter")
+            if len(receive) + len(seen.references) > MAX_PAIRS:
+                raise fault(f"more than {MAX_PAIRS:,} pairs of addresses are in the capture: record by a filter")
             (source, source_port), (destination, destination_port) = (word.split(":") for word in words[2:4])
             if words[5] == "m3" and destination_port == "123":
                 seen.asked[source][destination] += 1

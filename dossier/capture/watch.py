@@ -47,7 +47,7 @@ BUFFER = "16384"
 """KiB in which the kernel holds packets while this process is busy."""
 COUNTED, LOST = re.compile(r"(\d+) packets? captured"), re.compile(r"(\d+) packets? dropped by kernel")
 OF_ROOT = "name one of root's own, such as /srv/web-1, since tcpdump needs root"
-ENDING, MOST_NAMED = ".recording", 20
+ENDING, MAX_NAMED = ".recording", 20
 
 
 @dataclass(frozen=True)
@@ -371,7 +371,7 @@ class Watch:
                 return
         name = f"{self.wanted.interface}-{now().replace(':', '')}.pcap"
         self.file, self.rotates, self.retries = Begun(self.folder.place, name, self.header), since_boot() + HOUR, 0.0
-        self.files = [*self.files, self.file.name][-MOST_NAMED:]
+        self.files = [*self.files, self.file.name][-MAX_NAMED:]
         self.is_well("room", f"there is room again: {self.file.name} is begun")
         self.is_well("file", f"{self.file.name} is begun")
 

@@ -30,7 +30,7 @@ from ..text import note, plain
 from ..units import DAY, civil, day_of, seconds_of
 from .clearing import clear
 
-FOREVER, MOST_DAYS_BACK = 1 << 40, 31
+FOREVER, MAX_DAYS_BACK = 1 << 40, 31
 """Later than any Unix second; and the days before today that are made if none is named."""
 QUIET = HOUR = 3600
 """Seconds without a packet after which the last file of a recorder counts as finished; and in an hour."""
@@ -116,12 +116,12 @@ def plan(source: str, target: str, date: str | None) -> Days:
     status = max((wrong.status for wrong in faults), default=0)
     if date:
         return Days(notes, [folder_of(day_named(date))], shown, status=status)
-    oldest = today - MOST_DAYS_BACK
+    oldest = today - MAX_DAYS_BACK
     first = max(min((recorded.begin // DAY + 1 for recorded in past), default=today), oldest)
     before = sorted(number for number in map(day_named, made) if number < today)
     newest = max([*before, *(one.end // DAY for one in past)], default=today)
-    if first < today and max(today - newest, first - max(before, default=first)) > MOST_DAYS_BACK:
-        raise fault(f"more than {MOST_DAYS_BACK} days went by since the newest day or recording: is the clock right? "
+    if first < today and max(today - newest, first - max(before, default=first)) > MAX_DAYS_BACK:
+        raise fault(f"more than {MAX_DAYS_BACK} days went by since the newest day or recording: is the clock right? "
                     "--date makes a day of them", USAGE)
     return Days(notes, [folder_of(number) for number in range(first, today)], shown,
                 [folder_of(number) for number in before if oldest <= number < first], status)

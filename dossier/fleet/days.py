@@ -20,7 +20,7 @@ from ..folder.entry import (DISPUTED, NOT_VERIFIED, REFUSED, WORST_FIRST, Entry,
 from ..folder.files import AUDIT, CLAIM, SIGNATURE, Folder, absolute, sum_of
 from ..folder.jobs import run_one
 from ..folder.registry import Known
-from ..folder.result import MISSING, MOST_FOLDERS, NOT_COUNTED, Told, Year
+from ..folder.result import MISSING, MAX_FOLDERS, NOT_COUNTED, Told, Year
 from ..folder.table import Table
 from ..premise.leap import record_by
 from ..records import replace
@@ -131,15 +131,15 @@ def year_of(wanted: YearCall, machine: str, names: list[str]) -> Year:
     with Folder(machine) as folder:
         twice = [name for name, number in Counter(names).items() if number > 1]
         days = sorted(set(names)) or [name for name in folder.names() if folder.is_folder(name)]
-        folders = [one for name in days[:MOST_FOLDERS] for one in day_folders(wanted, folder, name)]
+        folders = [one for name in days[:MAX_FOLDERS] for one in day_folders(wanted, folder, name)]
         others = [ITS_OWN] * folder.has(AUDIT)
-    left = days[MOST_FOLDERS:]
+    left = days[MAX_FOLDERS:]
     claims = {same(one.claim): one.claim for one in folders if one.claim}
     common = max(claims, key=Counter(same(one.claim) for one in folders if one.claim).__getitem__, default="")
     dates, today = dates_of(wanted.year, wanted.at), day_of(wanted.at)
     kept, beside = dict[str, Told](), dict[str, Told]()
     others += [f"{name} is named twice" for name in twice]
-    others += [f"{plain(name)}: {len(left)} folders from it on are more than {MOST_FOLDERS}" for name in left[:1]]
+    others += [f"{plain(name)}: {len(left)} folders from it on are more than {MAX_FOLDERS}" for name in left[:1]]
     for one in sorted(folders, key=lambda one: [*WORST_FIRST, one.told.verdict].index(one.told.verdict)):
         told = one.told
         if told.date and told.date not in dates:

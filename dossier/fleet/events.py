@@ -18,7 +18,7 @@ from ..folder.jobs import T, Work, run_all
 from ..folder.log import ADDED, Event, Log, read_log
 from ..folder.program import Program
 from ..folder.registry import Known
-from ..folder.result import MOST_FOLDERS, Spans, Timed
+from ..folder.result import MAX_FOLDERS, Spans, Timed
 from ..premise.leap import record_by
 from ..records import replace
 from ..schema import first_difference, read_typed, said
@@ -39,7 +39,7 @@ OWN = EVENTS, SIGNATURES[EVENTS], LIST, LOG, ANSWERED, INDEX
 """The files of an answer's folder."""
 NOT_MADE = "Some days are as {} signed them: nobody made them again where this was put together."
 NO_SIGNERS = "days count in it by their machines' signatures: --signers names who may sign"
-MOST_NOTES = 20
+MAX_NOTES = 20
 """Lines that are told of events without a folder."""
 
 
@@ -136,7 +136,7 @@ def spans_of(machine: Machine) -> Spans:
     spans = list[tuple[str, int, int]]()
     with Folder(machine.path) as folder:
         every = [name for name in folder.names() if folder.is_folder(name)] if machine.names is None else machine.names
-        for name in sorted(set(every))[:MOST_FOLDERS]:
+        for name in sorted(set(every))[:MAX_FOLDERS]:
             file = CLAIM if name == "." else f"{name}/{CLAIM}"
             if folder.has(file):
                 claim: Claim = read_typed(CLAIM, Claim, folder.data(file))
@@ -268,8 +268,8 @@ def notes_of(rows: list[Row]) -> list[str]:
             lines.setdefault((row.event.machine, words), []).append(row.event.line)
     notes = [f"line {own[0]}{f' and {count(len(own) - 1, others)}' if own[1:] else ''}: {label(machine)}: {words}"
              for (machine, words), own in lines.items() for others in ["other"]]
-    more = len(notes) - MOST_NOTES
-    return notes[:MOST_NOTES] + ([f"and {count(more, 'more such note')}"] if more > 0 else [])
+    more = len(notes) - MAX_NOTES
+    return notes[:MAX_NOTES] + ([f"and {count(more, 'more such note')}"] if more > 0 else [])
 
 
 def sorted_rows(rows: list[Row], order: str) -> list[Row]:

@@ -41,8 +41,8 @@ MINUTE, HOUR = 60, 60
 """Seconds; and minutes of the band."""
 MARGIN = 128
 """Seconds before the minutes that are named whose records speak about them too."""
-MOST_PIECES = 10_000
-MOST_SECONDS = 60
+MAX_PIECES = 10_000
+MAX_SECONDS = 60
 """Seconds for the minutes of a recorder, and for each hour of them."""
 SINCE, CUT = "since.pcap", "last.pcap"
 """Private files: parts of what was recorded."""
@@ -117,7 +117,7 @@ def moments(wanted: NowCall) -> list[Moment]:
     side: none holds up the others, or blinds them."""
     told = {moment.recorder: moment for moment in answer(lambda *_: recorders(wanted), list[Moment])}
     jobs = min(len(told), len(os.sched_getaffinity(0)))
-    looks, most = [], MOST_SECONDS * ceil_div(wanted.minutes, HOUR)
+    looks, most = [], MAX_SECONDS * ceil_div(wanted.minutes, HOUR)
     for recorder, result in run_all(list(told), partial(look, wanted), Moment, most, jobs):
         looks.append(replace(told[recorder], verdict=REFUSED, bad=[plain(result.line)])
                      if isinstance(result, Refusal) else result)
@@ -217,7 +217,7 @@ def minutes(wanted: NowCall, hearing: Hearing, moment: Moment, end: int, silent:
         settled, own, capture = fitting(program, own, settled, capture, 2 * hearing.poll)
         before = "nothing fits with what was before"
     keep(CLAIM, own.text)
-    step, fits = 1 + span // MOST_PIECES, settled.answer != NOTHING_FITS
+    step, fits = 1 + span // MAX_PIECES, settled.answer != NOTHING_FITS
     words = ("envelope", CLAIM, capture, "--servers", "--least", "--step", str(step))
     envelope = read_envelope(program.run(*words).text)
     leaps = look_up(wanted.leaps, own.first, own.last)

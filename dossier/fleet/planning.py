@@ -21,7 +21,7 @@ from .events import folders_of, is_of_events
 from .signature import signed_in
 from .statements import days_of, folders_above, has_days
 
-MOST_DAYS_AT_ONCE, AT_ONCE = 1_000_000, 1_000
+MAX_DAYS_AT_ONCE, AT_ONCE = 1_000_000, 1_000
 """Days that are verified at once, and those of which a process reads audit.json."""
 
 
@@ -219,8 +219,8 @@ def folders_in(place: str, are_days: bool) -> list[str]:
 
 def is_few(days: list[str]) -> None:
     """Refuses more than may be verified at once."""
-    if len(days) > MOST_DAYS_AT_ONCE:
-        raise fault(f"more than {MOST_DAYS_AT_ONCE:,} days are in the folder")
+    if len(days) > MAX_DAYS_AT_ONCE:
+        raise fault(f"more than {MAX_DAYS_AT_ONCE:,} days are in the folder")
 
 
 def is_there(path: str) -> bool:

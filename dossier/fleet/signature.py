@@ -30,7 +30,7 @@ PLAIN_NAME = re.compile(rb"[A-Za-z0-9][A-Za-z0-9@._-]*")
 NO_KEYGEN = "ssh-keygen isn't installed, which makes signatures and looks at them"
 SIGNED, SIGNERS = "signed", "signers"
 """Private copies of what was signed, and of who may sign."""
-MOST_AT_ONCE = 8
+MAX_AT_ONCE = 8
 """Signatures that are looked at side by side."""
 READERS: dict[str, Callable[[bytes], Record | Statements | Events]] = {
     AUDIT: read_any, YEAR: read_statements, EVENTS: read_events}
@@ -93,7 +93,7 @@ class Signers:
                     return []
                 return [sums_of(folder.data(signed), folder.data(SIGNATURES[signed])).hex(), found.signer, found.key]
         names = dict[tuple[str, str], tuple[str, str]]()
-        jobs = max(1, min(MOST_AT_ONCE, len(os.sched_getaffinity(0)), len(paths)))
+        jobs = max(1, min(MAX_AT_ONCE, len(os.sched_getaffinity(0)), len(paths)))
         is_needed = self.given is not None and len(paths) > 1
         for _, came in run_all(paths if is_needed else [], work, list[str], seconds, jobs):
             if isinstance(came, list) and came:

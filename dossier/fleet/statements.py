@@ -42,7 +42,7 @@ ANY_PAGES = "its pages weren't looked at: `year --split` makes them again in ano
 PROGRAM = re.compile(r"(ntpaudit [0-9]+(?:\.[0-9]+)*(?: \(logic [0-9a-f]+\))?), SHA-256 ([0-9a-f]{64})")
 BY_ANOTHER = "made by another program than the one by which its days are known here"
 UNSEEN_OF = "of {} the signature by which it counts wasn't looked at (--signers FILE does)"
-MOST_LINES, MOST_OF_A_PATH, MOST_OF_A_NOTE = 366, 4_096, 200
+MAX_LINES, MAX_OF_A_PATH, MAX_OF_A_NOTE = 366, 4_096, 200
 """Lines of a file of days, and characters of a path in it, and of a statement in a note."""
 
 
@@ -145,13 +145,13 @@ def stated_of(year: Year, file: str, sum_: str) -> Stated:
 def read_lines(data: bytes) -> list[Line]:
     """The lines of a file of days, each with a line feed at its end: a path may have any other mark."""
     *every, rest = data.decode("utf-8", "surrogateescape").split("\n")
-    if len(every) > MOST_LINES:
-        raise fault(f"a file of days has more than {MOST_LINES} lines")
+    if len(every) > MAX_LINES:
+        raise fault(f"a file of days has more than {MAX_LINES} lines")
     lines = [Line(*line.groups("")) for line in map(LINE.fullmatch, every) if line]
     if rest or len(lines) < len(every):
         raise fault("a file of days isn't one")
-    if any(len(line.path) > MOST_OF_A_PATH for line in lines):
-        raise fault(f"a file of days names a path of more than {MOST_OF_A_PATH:,} characters")
+    if any(len(line.path) > MAX_OF_A_PATH for line in lines):
+        raise fault(f"a file of days names a path of more than {MAX_OF_A_PATH:,} characters")
     return lines
 
 
@@ -287,7 +287,7 @@ def compared(folder: Folder, known: Known, leaps: LeapList, signers: Signers = S
         if stated_of(year, stated.file, stated.sha256) != stated:
             here, year = year.programs, replace(year, programs=programs_in(stated.statement))
             other = [made for made in year.programs if made not in here] or year.programs
-            others.append(f"{BY_ANOTHER}: by {programs_named(other)[:MOST_OF_A_NOTE]}; "
+            others.append(f"{BY_ANOTHER}: by {programs_named(other)[:MAX_OF_A_NOTE]}; "
                           f"here by {programs_named(here) or 'none'}")
         if stated_of(year, stated.file, stated.sha256) != stated:
             return Compared(f"{label(stated.machine)}: the statement doesn't follow from its days, as they are known "

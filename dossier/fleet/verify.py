@@ -37,7 +37,7 @@ from .statements import (Compared as YearCompared, compared as year_compared, da
                          unanswered_in)
 from .twins import SeenFolders
 
-SHOWN, MOST_OF_A_DISPUTE = 80, 1000
+SHOWN, MAX_OF_A_DISPUTE = 80, 1000
 """Characters of a value that are shown of a difference, and of what is disputed."""
 OPEN_ONCE = f"what is {OPEN} was judged by one program: it states nothing that the second could judge"
 
@@ -129,7 +129,7 @@ class Verifier:
         if faults and not disputes:
             raise faults[0]
         if closed:
-            self.known.judge(made, self.second.sha256, now(), "; ".join(disputes)[:MOST_OF_A_DISPUTE])
+            self.known.judge(made, self.second.sha256, now(), "; ".join(disputes)[:MAX_OF_A_DISPUTE])
         said = [self.second.judged] if closed and not disputes else []
         return said + [OPEN_ONCE] * (len(closed) < len(made.entries))
 

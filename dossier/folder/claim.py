@@ -8,13 +8,13 @@ from ..records import dataclass, field, replace
 from ..schema import Address, Small, Time, length, said, within
 from ..units import DAY, civil, day_of, seconds_of
 
-MOST_BOUND, MOST_DRIFT = 10**15, 500_000_000
+MAX_BOUND, MAX_DRIFT = 10**15, 500_000_000
 """What a claim can grant, in nanoseconds and in parts of 10^9."""
 OSCILLATOR = 100_000
 """Parts in 10^9 by which an oscillator alone gains or loses at most, by most data sheets."""
 UNKNOWN_READING = 100_000
 """Nanoseconds of a reading allowance that are proposed where nothing is known of the stamps."""
-MOST_DAYS_OF_A_SPAN = 1100
+MAX_DAYS_OF_A_SPAN = 1100
 """Of a span that is audited day by day."""
 COMPACT = json.JSONEncoder(separators=(",", ":"))
 
@@ -26,8 +26,8 @@ class Claim:
     false_max: Small
     from_: Time
     to: Time
-    bound_ns: Annotated[int, within(0, MOST_BOUND)]
-    drift_ppb: Annotated[int, within(0, MOST_DRIFT)]
+    bound_ns: Annotated[int, within(0, MAX_BOUND)]
+    drift_ppb: Annotated[int, within(0, MAX_DRIFT)]
     reading_ns: Annotated[int, within(0, 10**9)]
     groups: list[list[Small]] = field(default_factory=list)
 
@@ -73,8 +73,8 @@ def parts_of(claim: Claim, days: bool) -> Iterator[Part]:
     if not days:
         yield Part(".", claim)
         return
-    if claim.last - claim.first > MOST_DAYS_OF_A_SPAN * DAY:
-        raise fault(f"the span has more than {MOST_DAYS_OF_A_SPAN:,} days: audit fewer at once")
+    if claim.last - claim.first > MAX_DAYS_OF_A_SPAN * DAY:
+        raise fault(f"the span has more than {MAX_DAYS_OF_A_SPAN:,} days: audit fewer at once")
     begin = claim.first
     while begin < claim.last or begin == claim.first:
         end = min(claim.last, begin - begin % DAY + DAY)

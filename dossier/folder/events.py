@@ -7,21 +7,21 @@ from ..schema import Name, Rule, Sum, Text, Time, is_time, length, matching, or_
 from ..units import now
 from .entry import SKEW, Made
 from .files import EVENTS
-from .result import MOST_FOLDERS
+from .result import MAX_FOLDERS
 
-MOST_OF_A_PATH = 4_096
+MAX_OF_A_PATH = 4_096
 
 
 def is_path(path: str) -> bool:
     """Whether it may be the path of a folder, its bytes as Python has them."""
     try:
-        return len(path.encode("utf-8", "surrogateescape")) <= MOST_OF_A_PATH and "\0" not in path
+        return len(path.encode("utf-8", "surrogateescape")) <= MAX_OF_A_PATH and "\0" not in path
     except UnicodeEncodeError:
         return False
 
 
 Path = Annotated[str, is_path]
-FEW = Rule(lambda names: len(names) <= MOST_FOLDERS, (("maxProperties", MOST_FOLDERS),))
+FEW = Rule(lambda names: len(names) <= MAX_FOLDERS, (("maxProperties", MAX_FOLDERS),))
 """No more names than folders of a machine are looked at."""
 Order = Literal["given", "time", "earliest", "latest"]
 Unit = Literal["second", "minute", "day"]

@@ -46,7 +46,7 @@ LIMITS = {CLAIM: SMALL, EVIDENCE: SMALL, CLAIM_OF_0: SMALL, CLAIM_OF_DRIFT: SMAL
           REPORT: JSON, AUDIT: JSON, EVENTS: 1 << 28, CERTIFICATE: 1 << 27, ENVELOPE: LARGE, PARTS: LARGE,
           **dict.fromkeys(SIGNATURES.values(), SMALL)}
 """Bytes that a file may have by its name."""
-MOST_OF_A_CAPTURE, MOST_NAMES = 1 << 32, 100_000
+MAX_OF_A_CAPTURE, MAX_NAMES = 1 << 32, 100_000
 """The program holds a capture in memory for as long as it takes to hold it to its sum."""
 
 KINDS = {stat.S_IFIFO: "a FIFO", stat.S_IFLNK: "a link", stat.S_IFDIR: "a folder", stat.S_IFSOCK: "a socket",
@@ -75,7 +75,7 @@ def limit_of(name: str) -> int:
     """The bytes that a file of this name may have."""
     file = name.rpartition("/")[2]
     other = JSON if file.endswith((".json", ".days")) else LARGE
-    return LIMITS.get(file, MOST_OF_A_CAPTURE if is_capture(file) or file == JOINED else other)
+    return LIMITS.get(file, MAX_OF_A_CAPTURE if is_capture(file) or file == JOINED else other)
 
 
 def unreadable(name: str, error: OSError) -> Fault:
@@ -188,11 +188,11 @@ class Folder:
         """The names in the folder, sorted."""
         try:
             with os.scandir(self.place) as entries:
-                names = [entry.name for entry in islice(entries, MOST_NAMES + 1)]
+                names = [entry.name for entry in islice(entries, MAX_NAMES + 1)]
         except OSError as error:
             raise fault(f"the folder can't be read ({error.strerror})", DEVICE) from None
-        if len(names) > MOST_NAMES:
-            raise fault(f"more than {MOST_NAMES:,} files are in the folder")
+        if len(names) > MAX_NAMES:
+            raise fault(f"more than {MAX_NAMES:,} files are in the folder")
         return sorted(names)
 
     def has(self, name: str) -> bool:

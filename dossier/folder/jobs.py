@@ -27,7 +27,7 @@ from .placing import END, ROOM, make_private, nameless, write
 from .progress import Progress
 
 SECONDS = 600
-MOST_ROOM, MOST_FILES, MOST_OF_A_RESULT = 1 << 34, 1 << 14, 1 << 27
+MAX_ROOM, MAX_FILES, MAX_OF_A_RESULT = 1 << 34, 1 << 14, 1 << 27
 """Bytes of copies and files that are open in one folder's process, and bytes of its result."""
 PART = 3, 4
 """Of the machine's memory, and of what is free for copies, all folders together take no more than this part."""
@@ -67,7 +67,7 @@ def bounds_of(seconds: int, jobs: int, place: str = ".") -> Bounds:
     with suppress(OSError, ValueError):
         memory = min(memory, int(own_data("/sys/fs/cgroup/memory.max")) * part // of)
     free = os.statvfs(place)
-    room = min(MOST_ROOM, free.f_bavail * free.f_frsize * part // of)
+    room = min(MAX_ROOM, free.f_bavail * free.f_frsize * part // of)
     return Bounds(seconds, memory // jobs // 2, room // jobs)
 
 
@@ -190,7 +190,7 @@ class Process(Generic[T]):
         """Takes what came of its result. Whether there is more to come."""
         block = os.read(self.output, BLOCK)
         self.data += block
-        return bool(block) and len(self.data) <= MOST_OF_A_RESULT
+        return bool(block) and len(self.data) <= MAX_OF_A_RESULT
 
     def result(self) -> T | Refusal:
         """What it handed back, or why it handed nothing back. It is ended, and all that it called."""
@@ -201,7 +201,7 @@ class Process(Generic[T]):
             return result
         if time.monotonic() >= self.end or ended_by == signal.SIGXCPU:
             return refusal_by(fault(f"not done within {self.bounds.seconds} s (--limit)"))
-        if len(self.data) > MOST_OF_A_RESULT:
+        if len(self.data) > MAX_OF_A_RESULT:
             return refusal_by(fault("its result is too big"))
         return refusal_by(fault("the process of this folder was ended", MEMORY))
 
@@ -247,7 +247,7 @@ def limit(parent: int, bounds: Bounds, copies: str) -> None:
     signal.setitimer(signal.ITIMER_REAL, MOMENT, MOMENT)
     gc.disable()
     for kind, most in ((resource.RLIMIT_DATA, bounds.memory), (resource.RLIMIT_CPU, bounds.seconds),
-                       (resource.RLIMIT_FSIZE, bounds.room), (resource.RLIMIT_NOFILE, MOST_FILES),
+                       (resource.RLIMIT_FSIZE, bounds.room), (resource.RLIMIT_NOFILE, MAX_FILES),
                        (resource.RLIMIT_CORE, 0)):
         hard = resource.getrlimit(kind)[1]
         most = most if hard == resource.RLIM_INFINITY else min(most, hard)

@@ -15,7 +15,7 @@ from ..units import DAY, LAST_SECOND, SECOND
 
 ADDED = "earliest", "latest", "verdict"
 """The columns that an answer has behind those of the log."""
-MOST_OF_A_LOG, MOST_EVENTS = 1 << 28, 1_000_000
+MAX_OF_A_LOG, MAX_EVENTS = 1 << 28, 1_000_000
 """Bytes and rows of a log."""
 MARK = "\ufeff"
 """What some programs write before a text, a byte order mark."""
@@ -165,8 +165,8 @@ def read_log(data: bytes, machine: str, time: str) -> Log:
     events, ends = list[Event](), list[str]()
     for number, row, fields in rows:
         body, own = parted(number, row)
-        if len(events) == MOST_EVENTS:
-            raise fault(f"line {number} of the log is that of more than {MOST_EVENTS:,} events: give a part of it")
+        if len(events) == MAX_EVENTS:
+            raise fault(f"line {number} of the log is that of more than {MAX_EVENTS:,} events: give a part of it")
         events.append(event_of(number, body, fields, names, columns))
         ends.append(own)
     return Log(mark + head, end or "\n", events, ends, columns)

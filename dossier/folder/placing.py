@@ -14,10 +14,10 @@ from collections.abc import Iterable, Iterator
 from contextlib import contextmanager, suppress
 
 from ..fault import DEVICE, Fault, fault
-from .files import (BLOCK, FILE, HOME, MOST_OF_A_CAPTURE, OF_A_FILE, Folder, folder_at, held, kind_of, own, parent_of,
+from .files import (BLOCK, FILE, HOME, MAX_OF_A_CAPTURE, OF_A_FILE, Folder, folder_at, held, kind_of, own, parent_of,
                     read_named)
 
-MOST_NAMESAKES = 1000
+MAX_NAMESAKES = 1000
 """Files of a recorder that would have one name."""
 END = signal.SIGUSR1
 """What ends the process of a folder, but not while it is undisturbed: a signal for which Python has no handler, which
@@ -116,7 +116,7 @@ def nameless(place: str) -> Iterator[int]:
         yield file
 
 
-def copy_named(path: str, to: str, most: int = MOST_OF_A_CAPTURE) -> None:
+def copy_named(path: str, to: str, most: int = MAX_OF_A_CAPTURE) -> None:
     """Makes a private copy of a file that the command line names."""
     with Copy(to) as copy:
         read_named(path, copy.take, most)
@@ -268,12 +268,12 @@ class Begun:
 
     def __init__(self, place: int, name: str, header: bytes):
         self.place, self.size, flags = place, 0, os.O_WRONLY | os.O_CREAT | os.O_EXCL | os.O_NOFOLLOW | os.O_CLOEXEC
-        for self.name in (name, *(f"{name}{number}" for number in range(1, MOST_NAMESAKES))):
+        for self.name in (name, *(f"{name}{number}" for number in range(1, MAX_NAMESAKES))):
             with suppress(FileExistsError):
                 self.file = os.open(self.name, flags, 0o666, dir_fd=place)
                 break
         else:
-            raise fault(f"{name} stands there {MOST_NAMESAKES:,} times", DEVICE)
+            raise fault(f"{name} stands there {MAX_NAMESAKES:,} times", DEVICE)
         try:
             self.take(header)
         except OSError:

@@ -17,7 +17,7 @@ BESIDE = f"{ROOT.removesuffix('/share/ntpaudit')}/bin" if ROOT.endswith("/share/
 """Where programs stand that were installed with this, or copied."""
 SUMS = "sums"
 """A private file with the sums of the operands of a call."""
-MOST_OF_WORDS = 1000
+MAX_OF_WORDS = 1000
 """Characters of a line of the program's words that are kept."""
 
 
@@ -67,7 +67,7 @@ def in_words(refusal: Fault, called: list[str]) -> Fault:
         _, error = stream([*called, "--human"], lambda _: None)
         line, *words = lines_of(error) or [""]
         if line == refusal.line and len(words) == 2 and all(said.startswith("  ") for said in words):
-            refusal.why, refusal.what = (plain(said.strip()[:MOST_OF_WORDS]) for said in words)
+            refusal.why, refusal.what = (plain(said.strip()[:MAX_OF_WORDS]) for said in words)
     return refusal
 
 

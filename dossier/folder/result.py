@@ -10,7 +10,7 @@ from .entry import NOTHING_FITS, WORST_FIRST, YES, Day, Made, Move, Piece, side_
 
 MISSING, NOT_COUNTED = "missing", "not counted"
 """There is no folder of a day; there is one, and it isn't counted."""
-MOST_FOLDERS = 4000
+MAX_FOLDERS = 4000
 """Folders of a machine that are looked at."""
 
 
@@ -173,7 +173,7 @@ class Year:
     """Each day of the year that has ended, in order."""
     claim: Claim | None = None
     """That of most days, whose span doesn't matter."""
-    others: Annotated[list[Text], length(0, 2 * MOST_FOLDERS)] = field(default_factory=list)
+    others: Annotated[list[Text], length(0, 2 * MAX_FOLDERS)] = field(default_factory=list)
     programs: list[Made] = field(default_factory=list)
     captures: list[Sum] = field(default_factory=list)
     """Sums of its days' captures."""
@@ -276,7 +276,7 @@ class Days:
 class Spans:
     """The folders of a machine that have a claim, each with its span in Unix seconds."""
 
-    folders: Annotated[list[tuple[str, Seconds, Seconds]], length(0, MOST_FOLDERS)]
+    folders: Annotated[list[tuple[str, Seconds, Seconds]], length(0, MAX_FOLDERS)]
 
 
 @dataclass(frozen=True)

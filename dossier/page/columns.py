@@ -13,7 +13,7 @@ from ..units import DAY, TICKS
 from ..verdict.judgement import is_beyond
 
 COLUMNS = 1000
-MOST_STROKES = 10_000
+MAX_STROKES = 10_000
 """Strokes in a picture; with many servers the columns are fewer."""
 SECONDS = [1, 2, 5, 10, 15, 30, 60, 120, 300, 600, 900, 1800, 3600, 7200, 10800, 21600, 43200]
 TICKS_PER_MS = TICKS / 1000
@@ -34,7 +34,7 @@ def cells_of(envelope: Envelope, bound: int) -> list[Cell]:
     """The cells of a picture, from left to right."""
     first, last = envelope.begins[0], envelope.ends[-1]
     width = max(1, last - first)
-    columns = min(COLUMNS, MOST_STROKES // max(1, len(envelope.servers)))
+    columns = min(COLUMNS, MAX_STROKES // max(1, len(envelope.servers)))
     if first == last:
         edges = [(0, 1, 0.0, 1.0)]
     elif len(envelope.hulls) <= columns:

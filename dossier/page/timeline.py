@@ -10,7 +10,7 @@ from ..fleet.days import days_among, is_day
 from ..fleet.events import (Answered, EventsCall, Row, Working, csv_of, latest_so_far, machines_in, notes_of,
                             stated)
 from ..folder.files import EVENTS, data_named
-from ..folder.log import MOST_OF_A_LOG, other_fields, read_log, reading_of
+from ..folder.log import MAX_OF_A_LOG, other_fields, read_log, reading_of
 from ..schema import json_text
 from ..text import note
 from ..units import DAY, SECOND, TICKS, ceil_div, civil, earliest, latest, now, thousandths
@@ -20,13 +20,13 @@ from .templates import page, put, templates
 
 LENGTHS = {"second": 1, "minute": 60, "day": DAY}
 """Seconds of a timeline."""
-MOST_ROWS, FEW = 500, 6
+MAX_ROWS, FEW = 500, 6
 """Events on a page, and of each the others that are named from which it can't be told."""
 MARKS = {"second": 10, "minute": 6, "day": 24}
 """Into how many parts a timeline is cut."""
 HEIGHT, LEAST = 16, 24
 """Pixels of a bar's row, and how wide a bar is at least, in the picture's own units."""
-MOST_OF_A_TEXT = 80
+MAX_OF_A_TEXT = 80
 
 
 class Bar(NamedTuple):
@@ -104,7 +104,7 @@ def bars(answer: Answered, rows: list[Row], begin: int) -> Iterator[Bar]:
         assert row.time
         beside = ", ".join(filter(None, other_fields(answer.log, row.event)))
         width = thousandths(ceil_div((row.time[1] - row.time[0]) * 1_000_000, TICKS))
-        yield Bar(row.event.line, row.event.machine, row.event.reading.text, beside[:MOST_OF_A_TEXT],
+        yield Bar(row.event.line, row.event.machine, row.event.reading.text, beside[:MAX_OF_A_TEXT],
                   earliest(row.time[0]), latest(row.time[1]), width, row.words,
                   bar_of(row, begin, LENGTHS[unit], MARKS[unit]), others[:FEW], len(others[FEW:]), is_cut)
 
@@ -120,7 +120,7 @@ def page_of(answer: Answered, made: str) -> bytes:
     """The page of an answer, as it was put together at a time."""
     begin, unit = begin_of(answer), answer.asked.page or "second"
     every = shown(answer, begin)
-    rows, timed = every[:MOST_ROWS], sum(row.time is not None for row in answer.rows)
+    rows, timed = every[:MAX_ROWS], sum(row.time is not None for row in answer.rows)
     return page("events.html", 0, title=answer.asked.title, made=made, bars=list(bars(answer, rows, begin)),
                 begin=civil(begin), unit=unit, marks=marks_of(begin, unit), number=len(answer.rows), timed=timed,
                 machines=len({row.event.machine for row in answer.rows}), beside=timed - len(every),
@@ -134,11 +134,11 @@ def write_events(file: str, folders: list[str], call: EventsCall, split: str | N
         raise fault("--page takes --split: the page is written beside the log and its answer", USAGE)
     if call.asked.begin and not reading_of(call.asked.begin):
         raise fault("--from names a time, such as 2026-11-22T07:03:40Z", USAGE)
-    place = Split(split, folders) if split else None
+    place = Split(split, folders, EVENTS) if split else None
     if call.asked.page:
         templates()
     try:
-        data = data_named(file, MOST_OF_A_LOG)
+        data = data_named(file, MAX_OF_A_LOG)
         log = read_log(data, call.asked.machine, call.asked.time)
     except Fault as error:
         raise error.of(os.path.basename(file)) from None

@@ -96,7 +96,7 @@ def write_year(folders: list[str], wanted: YearCall, pages: Pages, seconds: int,
     """Writes the year. The status is that of the worst machine that couldn't be looked at; 0 if all could."""
     others = days_among([folder for folder in folders if not is_day(os.path.basename(folder))], seconds, is_alone=True)
     names, worst, packs = machines_of(folders, others), 0, list[bytes]()
-    split, twins = Split(pages.split, folders) if pages.split else None, Twins()
+    split, twins = Split(pages.split, folders, YEAR) if pages.split else None, Twins()
     wanted = wanted._replace(machines=len(names), namesakes=namesakes(names))
     templates()
 

@@ -28,7 +28,7 @@ if TYPE_CHECKING:
 Kind = TypeVar("Kind")
 IS_NO_LOG = re.compile(r"(?i)\.(conf|pdf|html?|md|odt|docx?|xlsx?|png|jpe?g)$")
 """The name of a text for a person, or of a configuration."""
-MOST_OF_A_LOG = 1 << 26
+MAX_OF_A_LOG = 1 << 26
 """Bytes of a file that isn't named as a log."""
 
 
@@ -63,7 +63,7 @@ def backing(folder: Folder, inputs: Collection[str]) -> Backing:
         if name in known or is_capture(name):
             continue
         is_log = name in named("drift") and not IS_NO_LOG.search(name)
-        log, lines = log_of(folder, name, step) if is_log or folder.size(name) <= MOST_OF_A_LOG else (None, 0)
+        log, lines = log_of(folder, name, step) if is_log or folder.size(name) <= MAX_OF_A_LOG else (None, 0)
         if is_log or log and log.last != UNKNOWN:
             logs += [log] if log else []
             unread |= {name: lines} if lines else {}

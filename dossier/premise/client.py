@@ -16,7 +16,7 @@ NTPD: Final = "ntpd"
 SLEW = Fraction(10**9, 12)
 """Parts in 10^9 by which chronyd slews at most if `maxslewrate` isn't set: a twelfth."""
 SLEW_OF_NTPD = 500_000
-MOST_OF_A_TEXT = 1 << 28
+MAX_OF_A_TEXT = 1 << 28
 """A larger log or configuration is refused."""
 STEP_OF_NTPD = "0.128"
 """Seconds from which ntpd steps if `tinker step` isn't set."""
@@ -46,7 +46,7 @@ class Configuration:
 
 
 def lines_of(path: str) -> tuple[bytes, list[str]]:
-    data = piped_or_named(path, MOST_OF_A_TEXT)
+    data = piped_or_named(path, MAX_OF_A_TEXT)
     return data, data.decode("utf-8", "replace").splitlines()
 
 

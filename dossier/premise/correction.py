@@ -3,7 +3,7 @@ that rests on, as JSON for evidence.json to name."""
 from typing import Literal
 
 from ..fault import Fault, fault
-from ..folder.claim import MOST_DRIFT
+from ..folder.claim import MAX_DRIFT
 from ..records import dataclass
 from ..schema import Count, Mangled, Time
 from ..units import seconds_of
@@ -51,6 +51,6 @@ def correction(oscillator_ppb: int, settings: Configuration, log: Tracking | Non
     if log:  # (what it shows, is granted)
         oscillator_ppb = max(oscillator_ppb, tracking.greatest(log, 0, seconds_of(log.last))[0])
     drift = oscillator_ppb + settings.slew_ppb
-    if drift > MOST_DRIFT:
+    if drift > MAX_DRIFT:
         raise fault(f"a drift of {drift} by the configuration is more than a claim can grant")
     return Correction("drift", oscillator_ppb, drift, settings, log, made)

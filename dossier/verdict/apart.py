@@ -14,7 +14,7 @@ from typing import NamedTuple
 from ..capture.classic import Classic, Extent
 from ..capture.recording import closing_of
 from ..folder.answers import Envelope, read_settled
-from ..folder.claim import MOST_BOUND, Claim
+from ..folder.claim import MAX_BOUND, Claim
 from ..folder.entry import Gap, Hull
 from ..folder.placing import keep
 from ..folder.program import Program
@@ -173,7 +173,7 @@ class Conflicts(NamedTuple):
 
 def conflicts_in(program: Program, claim: Claim, capture: str) -> Conflicts:
     """What conflicts in a capture, each server for itself."""
-    keep(SUSPECTS, replace(claim, groups=[], false_max=0, bound_ns=MOST_BOUND).text)
+    keep(SUSPECTS, replace(claim, groups=[], false_max=0, bound_ns=MAX_BOUND).text)
     group = {claim.servers[k]: number for number, own in enumerate(claim.grouped) for k in own}
     pairs = [{low, high} for low, _, high, _ in read_settled(program.run("settle", SUSPECTS, capture).text).conflicts]
     return Conflicts(pairs, [{group[server] for server in pair} for pair in pairs])

@@ -11,7 +11,7 @@ from typing import NamedTuple
 from ..capture.classic import HEADER, Classic, Extent, write
 from ..capture.recording import Samples, read_recording
 from ..folder.answers import read_settled
-from ..folder.claim import MOST_BOUND, Claim
+from ..folder.claim import MAX_BOUND, Claim
 from ..folder.entry import FEW
 from ..folder.placing import ROOM, keep
 from ..folder.program import Program
@@ -19,7 +19,7 @@ from ..records import replace
 
 ANY, SOME = "any.claim.json", "some.pcap"
 """Private files: the claim with the greatest bound, and a part of the capture."""
-MOST_CALLS, MOST_BYTES = 1000, 1 << 33
+MAX_CALLS, MAX_BYTES = 1000, 1 << 33
 """Of the program, to find all breaks; and bytes that it is given for that."""
 
 
@@ -42,12 +42,12 @@ class BreakSearch:
     """Looks for the breaks of a capture."""
 
     def __init__(self, program: Program, claim: Claim, capture: str, extent: Extent | None):
-        self.program, self.calls, self.bytes = program, MOST_CALLS, MOST_BYTES
+        self.program, self.calls, self.bytes = program, MAX_CALLS, MAX_BYTES
         self.whole = Classic(capture, extent)
         self.begins = array("Q", (begin for _, begin, _ in self.whole.rows()))
         self.number = len(self.begins)
         self.begins.append(self.whole.extent.end)
-        self.left, self.any = list[int](), replace(claim, bound_ns=MOST_BOUND).text
+        self.left, self.any = list[int](), replace(claim, bound_ns=MAX_BOUND).text
         keep(ANY, self.any)
         samples, self.other = Samples(), array("I", range(self.number))
         """The record of the reply to a request, and of the request that a reply is to."""
@@ -88,7 +88,7 @@ class BreakSearch:
     def is_one(self, wide: Break, claim: Claim) -> bool:
         """Whether the records of a break, its ends among them, fall into two stretches by a claim, and each exchange of
         theirs into one of the two."""
-        keep(ANY, replace(claim, bound_ns=MOST_BOUND).text)
+        keep(ANY, replace(claim, bound_ns=MAX_BOUND).text)
         left = self.from_left(wide.after, wide.by + 1)
         self.cut(wide.after, wide.by + 1, SOME)
         requests = [wide.after + request for own in read_recording(self.program, ANY, SOME).by_address.values()

@@ -25,7 +25,7 @@ from .alerts import TO_DO, warning_words
 from .parts import Parting
 from .sentences import moved
 
-MOST_SERVERS = 32
+MAX_SERVERS = 32
 NO_BOUND = 1_000_000_000
 """Nanoseconds that stand in a draft for which no bound is known."""
 UNKNOWN = "00000000"
@@ -101,9 +101,9 @@ class Draft:
             self.remarks.insert(0, f"drift_ppb is {wanted.drift_ppb}, an oscillator alone: {NOT_IN_IT}")
         if mode := seen.interleaving(client, sorted(seen.answered[client], key=number_of)):
             self.remark(warning_words(OfServers("interleaved", mode)))
-        servers = sorted((server for server, _ in seen.answered[client].most_common(MOST_SERVERS)), key=number_of)
-        if len(seen.answered[client]) > MOST_SERVERS:
-            self.remark(f"A claim names at most {MOST_SERVERS} servers: those that answered least are left out.")
+        servers = sorted((server for server, _ in seen.answered[client].most_common(MAX_SERVERS)), key=number_of)
+        if len(seen.answered[client]) > MAX_SERVERS:
+            self.remark(f"A claim names at most {MAX_SERVERS} servers: those that answered least are left out.")
         reading = wanted.reading(client)
         claim = Claim(client, servers, 0, civil(0), civil(0), 0, wanted.drift_ppb, reading.ns)
         keep(CLAIM, claim.text)

@@ -9,7 +9,7 @@ from typing import NamedTuple
 from ..capture.recording import Recording
 from ..capture.traffic import Traffic, number_of
 from ..folder.answers import Envelope, Settled, read_advice, read_settled
-from ..folder.claim import MOST_DRIFT, OSCILLATOR, Claim, Part
+from ..folder.claim import MAX_DRIFT, OSCILLATOR, Claim, Part
 from ..folder.entry import (FEW, NO_EVIDENCE, NOTHING_FITS, OPEN, REFUTED, YES, Again, Alert, AtTick, Bare, Between,
                             Caught, Cause, Conflict, Elsewhere, Entry, Falls, Far, Figure, ForATime, Gap, Gaps,
                             Hull, LeapList, Misfit, Move, OfServers, OneReference, Piece, Quiet, Reason, Server,
@@ -68,7 +68,7 @@ class Beside(NamedTuple):
 
 def more_drift(claim: Claim) -> int:
     """The drift that is tried where nothing fits, in parts of 10^9."""
-    return min(max(MORE * claim.drift_ppb, OSCILLATOR), MOST_DRIFT)
+    return min(max(MORE * claim.drift_ppb, OSCILLATOR), MAX_DRIFT)
 
 
 def judge(part: Part, recording: Recording, beside: Beside, texts: Texts, step: int,

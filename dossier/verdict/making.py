@@ -16,7 +16,7 @@ from ..fault import DEVICE, Fault, fault
 from ..folder.claim import Claim, parts_of
 from ..folder.entry import Entry, LeapList, Options, Record, Refusal, is_made_anew, is_packable, refusal_by
 from ..folder.evidence import evidence_files
-from ..folder.files import (CLAIM, JOINED, MOST_OF_A_CAPTURE, Folder, is_capture, own_data, size_of, sum_of,
+from ..folder.files import (CLAIM, JOINED, MAX_OF_A_CAPTURE, Folder, is_capture, own_data, size_of, sum_of,
                             sum_of_file, too_big)
 from ..folder.placing import copy_of, copy_unsummed, move
 from ..folder.program import Program
@@ -136,8 +136,8 @@ def make(taken: Inputs, options: Options, leaps: LeapList, backed: Backing, prog
     claim = read_claim(program, copy)
     parts = list(parts_of(claim, options.days))
     whole = whole_of(taken, claim, program)
-    if size_of(whole.path) > MOST_OF_A_CAPTURE:
-        raise too_big(JOINED, MOST_OF_A_CAPTURE)
+    if size_of(whole.path) > MAX_OF_A_CAPTURE:
+        raise too_big(JOINED, MAX_OF_A_CAPTURE)
     taken.capture = JOINED if whole.is_made else name
     made = {JOINED: sum_of_file(JOINED)} if whole.is_made else {}
     sums = {CLAIM: taken.sums[CLAIM], whole.path: made.get(JOINED) or taken.sums[name]}

@@ -14,7 +14,7 @@ from typing import NamedTuple
 from ..capture.classic import Extent
 from ..capture.recording import Recording, read_recording
 from ..folder.answers import Envelope, read_envelope, read_settled
-from ..folder.claim import MOST_DRIFT, Claim
+from ..folder.claim import MAX_DRIFT, Claim
 from ..folder.entry import FEW, NOTHING_FITS, YES, Beyond, Gap, Hull, Move, Stretch, side_of
 from ..folder.placing import keep
 from ..folder.program import Program
@@ -28,7 +28,7 @@ ALONE = "alone.claim.json"
 """A private file: a claim of some servers, or of some time."""
 ENOUGH = 8
 """Exchanges of a group that a stretch has to have, of more groups than may be wrong."""
-MOST_PARTS = 100
+MAX_PARTS = 100
 ROUND = 8
 """Records for each server, of two for an exchange, in which each that isn't silent is asked and answers."""
 OFTEN = 6
@@ -200,7 +200,7 @@ class Parting:
         until, since = (0, 0) if is_doubted or isinstance(around[0], str) or isinstance(around[1], str) else (
             (earliest + down(around[1][0])) // SECOND - 2, ceil_div(latest + up(around[0][1]), SECOND) + 2)
         rate = down(min(abs(size[0]), abs(size[1]))) * SECOND // longest
-        if wide is not None and are_apart and (rate > MOST_DRIFT or behind.first < before.last):
+        if wide is not None and are_apart and (rate > MAX_DRIFT or behind.first < before.last):
             return Move(before.last, behind.first, *wide, 0, True, max(0, until), max(0, since))
         self.hidden = max([self.hidden, *(up(hull[1] - hull[0]) for hull in near if not isinstance(hull, str))])
         rate = max(rate, self.claim.drift_ppb)
@@ -339,7 +339,7 @@ def in_parts(program: Program, parting: Parting, step: int) -> Parted:
         parted.apart.extend(time for time in search_of(program, claim, side.path, None, envelope, gaps).missed
                             if time.samples >= SEVERAL)
         parted.texts.append(text)
-    return parted._replace(parts=parted.parts[-MOST_PARTS:])
+    return parted._replace(parts=parted.parts[-MAX_PARTS:])
 
 
 def split(envelope: Envelope, gaps: list[Gap], claim: Claim) -> list[Stretch]:
@@ -350,7 +350,7 @@ def split(envelope: Envelope, gaps: list[Gap], claim: Claim) -> list[Stretch]:
         if not is_in:
             own = pieces_of(envelope, begin, at)
             stretches.append(Stretch(own.begins[0], own.ends[-1], outermost(own.hulls), beyond_in(own, bound)))
-    return stretches[-MOST_PARTS:]
+    return stretches[-MAX_PARTS:]
 
 
 def at_leaps(leaps: Iterable[int], first: int, last: int, times: list[int],

@@ -15,7 +15,7 @@ from ..text import plain
 
 NAME, JUDGE = "ntpaudit-recheck", "ntpaudit-judge"
 COUNTS = "one", "two", "three"
-MOST_OF_A_LINE = 1000
+MAX_OF_A_LINE = 1000
 """Bytes that one may say of an answer: it says a line."""
 
 
@@ -52,11 +52,11 @@ class OtherProgram(NamedTuple):
 
         def take(block: bytes) -> None:
             said.extend(block)
-            if len(said) > MOST_OF_A_LINE:
+            if len(said) > MAX_OF_A_LINE:
                 raise fault(f"the {self.name} says more of {what} than a line")
         status, error = stream([self.path, claim, capture, *answers, "--drift"], take)
         if status not in (0, 1):
-            why = plain((lines_of(error) or [f"status {status}, and no line"])[0][:MOST_OF_A_LINE])
+            why = plain((lines_of(error) or [f"status {status}, and no line"])[0][:MAX_OF_A_LINE])
             raise fault(f"the {self.name} doesn't judge {what} ({why})")
         return status, plain(said.decode("utf-8", "replace").removesuffix("\n"))
 

@@ -117,10 +117,10 @@ def why_off(entry: Entry) -> str:
 def off_times(entry: Entry) -> str:
     """The longest times beyond the bound, of all parts, in their order."""
     times = [(part, time) for part in entry.parts for time in part.beyond]
-    longest = sorted(times, key=lambda one: one[1].from_ - one[1].to)[:MOST_TIMES]
+    longest = sorted(times, key=lambda one: one[1].from_ - one[1].to)[:MAX_TIMES]
     told = listed([f"{ahead(time.hull)} UTC {from_to(time.from_, time.to)}{where(entry, part)}"
                    for part, time in times if (part, time) in longest])
-    return told + (f" and at {len(times) - MOST_TIMES} other times" if len(times) > MOST_TIMES else "")
+    return told + (f" and at {len(times) - MAX_TIMES} other times" if len(times) > MAX_TIMES else "")
 
 
 def ahead(hull: tuple[int, int]) -> str:
@@ -131,8 +131,8 @@ def ahead(hull: tuple[int, int]) -> str:
 
 def why_gap(entry: Entry, cause: Gaps) -> str:
     """When nothing was heard, and what holds at all other times."""
-    told = cause.gaps if len(cause.gaps) <= MOST_TIMES else sorted(
-        sorted(cause.gaps, key=lambda gap: gap.after - gap.by)[:MOST_TIMES], key=lambda gap: gap.after)
+    told = cause.gaps if len(cause.gaps) <= MAX_TIMES else sorted(
+        sorted(cause.gaps, key=lambda gap: gap.after - gap.by)[:MAX_TIMES], key=lambda gap: gap.after)
     more = f" And so it was at {cause.count - len(told):,} other times." if cause.count > len(told) else ""
     return f"{' '.join(map(silent, told))}{more} Nothing shows how the clock went on then.{in_parts(entry)}"
 
@@ -155,8 +155,8 @@ def in_parts(entry: Entry) -> str:
     if not known:
         return ""
     parts = listed([f"{range_ms(*hull)} {from_to(part.from_, part.to)}{where(entry, part)}"
-                    for part, hull in known[:MOST_TIMES]])
-    more = f", and in {len(known) - MOST_TIMES} other parts what audit.json has" if len(known) > MOST_TIMES else ""
+                    for part, hull in known[:MAX_TIMES]])
+    more = f", and in {len(known) - MAX_TIMES} other parts what audit.json has" if len(known) > MAX_TIMES else ""
     off = f" It was {off_times(entry)}, and so beyond the bound." if any(part.beyond for part in entry.parts) else ""
     is_spared = isinstance(entry.reason, Misfit) and entry.reason.count
     if_true = "if so many were wrong and what else the claim grants is true" if is_spared else \
@@ -164,7 +164,7 @@ def in_parts(entry: Entry) -> str:
     return f" Its error (below 0 it was behind) lay within {parts}{more}, {if_true}.{off}"
 
 
-MOST_TIMES = 4
+MAX_TIMES = 4
 """Times that a sentence names."""
 
 
@@ -302,7 +302,7 @@ def after_moves(entry: Entry) -> str:
     mend = f" At the end it was beyond the bound. {MEND}" if entry.ends_off else ""
     spans = [f'`"from": "{civil(first)}", "to": "{civil(last)}"`' for first, last in claimable(entry)]
     claims = (f" Claim a part of it by itself, in a folder of its own with a copy of the capture: "
-              f"{listed(spans[:MOST_TIMES])} in its {CLAIM}." if spans else "")
+              f"{listed(spans[:MAX_TIMES])} in its {CLAIM}." if spans else "")
     drift = "" if all(move.is_step for move in entry.moves) else \
         " Or grant as much drift as the client may make (`ntpaudit-dossier draft --chrony`)."
     leap = leap_near(entry)

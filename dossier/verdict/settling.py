@@ -11,7 +11,7 @@ from ..capture.twice import ONCE, repeated, without
 from ..fault import MISSING, Fault, fault
 from ..folder import files
 from ..folder.answers import read_caught, read_counts, read_envelope, read_settled
-from ..folder.claim import MOST_BOUND, Part
+from ..folder.claim import MAX_BOUND, Part
 from ..folder.entry import NO_EVIDENCE, NOTHING_FITS, REFUTED, YES, Entry, Gap, Move, Silence
 from ..folder.files import sum_of, sum_of_file
 from ..folder.placing import keep, make_private, move
@@ -24,11 +24,11 @@ from .judgement import Beside, Texts, judge, more_drift
 from .parts import ALONE, Parting, at_leaps, in_parts, split
 from .seen import read_shown
 
-MOST_LINES = 1_000_000
+MAX_LINES = 1_000_000
 """Of an envelope: a line for each piece and for each server in it."""
 NEAR, AROUND = "near.pcap", "around.pcap"
 """Private files: what was recorded in the span and near it; and with that what is next to it."""
-MOST_ADDED = 3
+MAX_ADDED = 3
 """Groups, more than the claim grants, that are taken for wrong where nothing fits."""
 MANY_PIECES = 10_000
 """The envelope has pieces of 1, 4, 16, .. s, the least with which it has no more than these."""
@@ -46,8 +46,8 @@ class Settling:
         self.claim = part.within(files.CLAIM)
         self.step = step or envelope_step_of(part)
         size = ((part.claim.last - part.claim.first) // self.step + 1) * (len(part.claim.servers) + 1)
-        if size > MOST_LINES:
-            raise fault(f"the envelope has {size:,} lines, and a folder may have {MOST_LINES:,}: --step makes fewer")
+        if size > MAX_LINES:
+            raise fault(f"the envelope has {size:,} lines, and a folder may have {MAX_LINES:,}: --step makes fewer")
         self.sums = dict(sums)
         self.left: dict[str, str] = {}
 
@@ -116,7 +116,7 @@ class Settling:
         """With how many wrong groups, fewer than half, a course of events fits, or it is known how the clock moved, and
         where it breaks then; 0 if with none."""
         claim = self.part.claim
-        for most in range(claim.false_max + 1, min(claim.false_max + MOST_ADDED, (len(claim.grouped) - 1) // 2) + 1):
+        for most in range(claim.false_max + 1, min(claim.false_max + MAX_ADDED, (len(claim.grouped) - 1) // 2) + 1):
             more = replace(claim, false_max=most)
             other = Parting(self.program, more, self.capture, self.extent, parting.leaps, True)
             if other.moves or not other.search.left:
@@ -136,7 +136,7 @@ class Settling:
     def broken(self, texts: Texts, around_to: Callable[[str], bool], leaps: list[int]) -> Parting | None:
         """Where the capture breaks, with what was recorded next to it, if no course of events fits that."""
         capture, extent = (AROUND, None) if around_to(AROUND) else (self.capture, self.extent)
-        keep(ANY, replace(self.part.claim, bound_ns=MOST_BOUND).text)
+        keep(ANY, replace(self.part.claim, bound_ns=MAX_BOUND).text)
         is_broken = read_settled(texts.settled if capture == self.capture else self.call("settle", ANY, capture)
                                  ).answer == NOTHING_FITS
         return Parting(self.program, self.part.claim, capture, extent, leaps) if is_broken else None
@@ -215,7 +215,7 @@ class Settling:
             return Texts(text, self.keep(files.REPORT, said))
         texts = Texts(text, self.keep(files.REPORT, text))
         if answer == NOTHING_FITS:
-            granted = {"drift_ppb": more_drift(self.part.claim), "bound_ns": MOST_BOUND}
+            granted = {"drift_ppb": more_drift(self.part.claim), "bound_ns": MAX_BOUND}
             return texts._replace(other=self.settled(files.CLAIM_OF_DRIFT, **granted))
         return texts
 

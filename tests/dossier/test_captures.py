@@ -327,22 +327,22 @@ def test_limits_of_captures(place: Path) -> None:
     from dossier.fault import Fault
     bomb, seen = place / "bomb.gz", list[str]()
     bomb.write_bytes(gzip.compress(bytes(50_000_000)))
-    with patch.object(captures, "MOST_OF_A_CAPTURE", 10_000_000):
+    with patch.object(captures, "MAX_OF_A_CAPTURE", 10_000_000):
         try:
             captures.unpacked("bomb.pcap.gz", str(bomb))
         except Fault as fault:
             seen.append(fault.words)
     from dossier.capture import classic
-    capture, runs = classic.Classic(str(DATA / "clients-us.pcap")), classic.MOST_RUNS
+    capture, runs = classic.Classic(str(DATA / "clients-us.pcap")), classic.MAX_RUNS
     spans = [(1_795_331_000 + 2 * k, 1_795_331_000 + 2 * k + 1) for k in range(30)]
     kept = sum(map(len, classic.runs_of(capture, spans)))
-    classic.MOST_RUNS = kept - 1
+    classic.MAX_RUNS = kept - 1
     try:
         classic.runs_of(capture, spans)
     except Fault as fault:
         seen.append(fault.words)
     finally:
-        classic.MOST_RUNS = runs
+        classic.MAX_RUNS = runs
     check("times that go back and forth",
           said=(seen[1:], ["the times of the capture go back and forth between days too often"]), some=(kept > 3, True))
     check("a gzip that grows", said=(seen[:1], ["bomb.pcap.gz is too big: it has more than 10,000,000 bytes"]),

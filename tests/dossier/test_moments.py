@@ -515,7 +515,7 @@ def test_each_by_itself(place: Path) -> None:
     recorded(rec, begin, (begin, last + 1, RIGHT))
     slow = recorded(rec, last - 300, (last - 300, last + 1, RIGHT), interface="eth1")
     hangs = stand_in(place / "hangs", f'cmp -s latest.pcap "{slow}" && exec sleep 1000')
-    status, out, err = with_change("from dossier.fleet import now; now.MOST_SECONDS = 4", "now", "--from", rec,
+    status, out, err = with_change("from dossier.fleet import now; now.MAX_SECONDS = 4", "now", "--from", rec,
                                    "--claim", claim_in(place), env=hangs)
     lines = {line.split("  ")[0]: line.split("  ")[2] for line in out.decode().splitlines()}
     check("a recorder that takes long", status=(status, 1), verdicts=(lines, {"eth0": "yes", "eth1": "refused"}),
@@ -533,14 +533,14 @@ def test_all_of_a_recorder(place: Path) -> None:
         whole = CAPTURE([f"{k}:{RIGHT}@{begin + part}x4000" for k in (1, 2, 3, 4)])
         kept(place / "rec", begin + part, whole[:24] + b"".join(
             sorted(records_of(whole), key=lambda record: struct.unpack_from("<II", record))))
-    before, left = latest.MOST_READ, ROOM.left
+    before, left = latest.MAX_READ, ROOM.left
     try:
-        latest.MOST_READ, ROOM.left = each + 2_000_000, 1 << 30
+        latest.MAX_READ, ROOM.left = each + 2_000_000, 1 << 30
         with chdir(place), Folder(str(place / "rec")) as folder:
             found = latest.latest(folder, list(begun_files(folder)), [], 9000, begin + 8000, [])
             size = Path(found.path).stat().st_size
     finally:
-        latest.MOST_READ, ROOM.left = before, left
+        latest.MAX_READ, ROOM.left = before, left
     check("all files of a recorder", last=(found.last, begin + 7999),
           kept=(each + 500_000 < size <= each + 2_000_000, True))
 
@@ -637,7 +637,7 @@ def test_tail(place: Path) -> None:
 def test_many_ways(place: Path) -> None:
     """Packets in which records seem to stand at every 16 bytes, each way leading into the next packet: the search for
     one's begin ends after as many places as it may look at, and then the file is read from its own begin."""
-    from dossier.capture.tail import MOST_PLACES, Growing
+    from dossier.capture.tail import MAX_PLACES, Growing
     from dossier.folder.files import Folder
     length, count, begin = 1424, 20_000, 1_000_000_000
     way = struct.pack("<IIII", begin + 5_000, 0, length, length)
@@ -648,6 +648,6 @@ def test_many_ways(place: Path) -> None:
     with Folder(str(place)) as folder:
         file = Growing(folder, "f.pcap")
         own_last = file.ending(9, 60, 1 << 30, [])
-        check("many ways", size=(len(data) // 16 > 3 * MOST_PLACES, True),
+        check("many ways", size=(len(data) // 16 > 3 * MAX_PLACES, True),
               same=(own_last and own_last.data == b"".join(own[-10:]), True), last=(file.last(), begin + count - 1),
               left=(file.heads.left, 0))

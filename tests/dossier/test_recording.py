@@ -340,9 +340,9 @@ def test_kept() -> None:
     while keeps(strange, 1000):
         pass
     check("another hour", request=(keeps(asked), True))
-    for number in range(exchange.MOST_ASKED + 9):
+    for number in range(exchange.MAX_ASKED + 9):
         keeping.is_own(data := frame(mine, server, (5000, 123), 3, transmit=1000 + number), 0, len(data))
-    check("requests that are known", number=(len(keeping.asked), exchange.MOST_ASKED))
+    check("requests that are known", number=(len(keeping.asked), exchange.MAX_ASKED))
     keeping, keeping.any = exchange.Keeping(lambda: now[0]), 0
     check("where there is half of all", kept=([keeps(data) for data in (strange, asked, answer, strange)],
                                               [False, True, True, False]))

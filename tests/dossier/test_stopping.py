@@ -117,14 +117,14 @@ def test_bounds(place: Path) -> None:
     all_jobs = [jobs.bounds_of(600, number) for number in (1, 4)]
     check("one budget for all jobs", memory=(all_jobs[0].memory // 4, all_jobs[1].memory),
           most=(2 * all_jobs[0].memory < os.sysconf("SC_PAGE_SIZE") * os.sysconf("SC_PHYS_PAGES"), True))
-    most, traffic.MOST_PAIRS = traffic.MOST_PAIRS, 3
+    most, traffic.MAX_PAIRS = traffic.MAX_PAIRS, 3
     try:
         traffic.read_traffic(running_program(), str(DATA / "clients-us.pcap"))
         told = ""
     except Exception as fault:
         told = str(fault)
     finally:
-        traffic.MOST_PAIRS = most
+        traffic.MAX_PAIRS = most
     check("many addresses", said=("pairs of addresses" in told, True))
 
 
@@ -169,15 +169,15 @@ def test_flood(place: Path) -> None:
     first, *rest = records_of(whole)
     spoilt = first[:4] + b"\xff\xff\xff\xff" + first[8:]
     (damaged / "f.pcap").write_bytes(whole[:24] + first + b"".join(rest[:99]) + spoilt + b"".join(rest[99:]))
-    kept, captures.MANY, classic.MOST_RECORDS = (captures.MANY, classic.MOST_RECORDS), 16, 60
-    most = captures.MOST_UNTHINNED
+    kept, captures.MANY, classic.MAX_RECORDS = (captures.MANY, classic.MAX_RECORDS), 16, 60
+    most = captures.MAX_UNTHINNED
     try:
         found = dict(jobs.run_all([str(flooded), str(plain)], auditing(place), Audited, 600))
         refused = jobs.run_one(str(damaged), auditing(place), Audited)
-        classic.MOST_RECORDS, captures.MOST_UNTHINNED = kept[1], 5000
+        classic.MAX_RECORDS, captures.MAX_UNTHINNED = kept[1], 5000
         found |= jobs.run_all([str(great)], auditing(place), Audited, 600)
     finally:
-        captures.MANY, classic.MOST_RECORDS, captures.MOST_UNTHINNED = *kept, most
+        captures.MANY, classic.MAX_RECORDS, captures.MAX_UNTHINNED = *kept, most
     check("a flood of great packets",
           same=((great / "joined.pcap").read_bytes(), (flooded / "joined.pcap").read_bytes()))
     check("a flood that is damaged", status=(refused.status, 2),

@@ -12,7 +12,7 @@ from tests.second.rules import Sample
 
 STAMPS = 2**64
 FROM_1900_TO_1970 = 2_208_988_800
-MOST_PRECISION = 16
+MAX_PRECISION = 16
 
 
 class Packet(NamedTuple):
@@ -40,7 +40,7 @@ def read_packet(line: str) -> Packet:
     rest = int(f["delay"]) * 2**15 + int(f["dispersion"]) * 2**16
     return Packet(int(f["record"]), f["source"].split(":"), f["destination"].split(":"), f["version"], f["mode"],
                   f["leap"], int(f["stratum"][1:]), precision,
-                  0 if precision > MOST_PRECISION else rest + 2 ** max(0, 32 + precision), f["origin"], f["receive"],
+                  0 if precision > MAX_PRECISION else rest + 2 ** max(0, 32 + precision), f["origin"], f["receive"],
                   f["transmit"], int(f["first"]), int(f["last"]))
 
 
@@ -58,7 +58,7 @@ def reason_of(reply: Packet, requests: list[Packet]) -> str | Packet:
         return "leap"
     if not 1 <= reply.stratum <= 15:
         return "stratum"
-    if reply.precision > MOST_PRECISION:
+    if reply.precision > MAX_PRECISION:
         return "precision"
     if zero in (reply.origin, reply.receive, reply.transmit):
         return "zero"

@@ -12,8 +12,8 @@ from tests.second.claims import Certificate, Claim
 from tests.second.columns import TICKS
 from tests.second.rules import BILLION, Ends, Hull, Sample
 
-MOST_PIECES = 100_000
-MOST_BOUND_NS = 10**15
+MAX_PIECES = 100_000
+MAX_BOUND_NS = 10**15
 """The greatest lawful bound."""
 
 
@@ -146,7 +146,7 @@ def farthest(is_good: Callable[[int], bool], known: int, last: int, guess: int) 
     return below
 
 
-def ends_of(span: tuple[int, int], hulls: Over, bound: int, most: int = MOST_PIECES) -> tuple[list[int], Stop | None]:
+def ends_of(span: tuple[int, int], hulls: Over, bound: int, most: int = MAX_PIECES) -> tuple[list[int], Stop | None]:
     """The ends of the pieces, each of which is as long as it can be; and where they stop, if they do."""
     (begin, last), ends, length = span, list[int](), 1
     while not ends or begin < last:
@@ -168,7 +168,7 @@ class Pieces:
         self.known: dict[tuple[int, int], tuple[list[int], Stop | None]] = {}
         self.judged = False
 
-    def ends(self, bound: int, most: int = MOST_PIECES) -> tuple[list[int], Stop | None]:
+    def ends(self, bound: int, most: int = MAX_PIECES) -> tuple[list[int], Stop | None]:
         if (bound, most) not in self.known:
             self.known[bound, most] = ends_of(self.span, self.hulls, bound, most)
         return self.known[bound, most]
@@ -214,10 +214,10 @@ def least(claim: Claim, samples: list[Sample], step: int) -> tuple[int, int] | N
 
     def is_carried(bound_ns: int) -> bool:
         return ends_of(span, hulls, bound_in_ticks(bound_ns))[1] is None
-    if not is_carried(MOST_BOUND_NS):
+    if not is_carried(MAX_BOUND_NS):
         return None
     found = neediest(hulls, *span, 4 * len(samples) + 100)
-    limit = min(rules.ceiling(found[0] * BILLION, TICKS), MOST_BOUND_NS) if found else 0
+    limit = min(rules.ceiling(found[0] * BILLION, TICKS), MAX_BOUND_NS) if found else 0
     bound_ns = first_carried(is_carried, limit)
     return bound_ns, piece_of(claim, hulls, bound_ns, step)
 
@@ -225,8 +225,8 @@ def least(claim: Claim, samples: list[Sample], step: int) -> tuple[int, int] | N
 def first_carried(is_carried: Callable[[int], bool], limit: int) -> int:
     """A bound that is carried where one less isn't, from a limit on below which none is: the greatest is carried."""
     below, over, way = limit - 1, limit, 1
-    while over < MOST_BOUND_NS and not is_carried(over):
-        below, over, way = over, min(over + way, MOST_BOUND_NS), 2 * way
+    while over < MAX_BOUND_NS and not is_carried(over):
+        below, over, way = over, min(over + way, MAX_BOUND_NS), 2 * way
     while over - below > 1:
         middle = (below + over) // 2
         below, over = (below, middle) if is_carried(middle) else (middle, over)

@@ -218,7 +218,7 @@ def certificate_wrong(question: Question, claim: Claim, ran: Ran) -> str:
     """What is wrong with a certificate of fewest pieces: each lies inside the bound, and with one more tick doesn't."""
     begin, last = question.span
     bound, printed = rules.bound_of(claim), json.loads(ran[1])["pieces"]
-    if ran[0] or ran[2] or not 0 < len(printed) <= pieces.MOST_PIECES or printed[-1]["upto"] != last:
+    if ran[0] or ran[2] or not 0 < len(printed) <= pieces.MAX_PIECES or printed[-1]["upto"] != last:
         return f"{short(ran)}, which doesn't reach to {last}"
     for number, piece in enumerate(printed):
         end = piece["upto"]
@@ -284,9 +284,9 @@ def least_wrong(question: Question, line: str) -> str:
         return f"the line {line!r}"
     told = answers.told_least(line)
     if told is None:
-        return "" if question.ends(pieces.MOST_BOUND_NS)[1] else "none, and the greatest bound has a certificate"
+        return "" if question.ends(pieces.MAX_BOUND_NS)[1] else "none, and the greatest bound has a certificate"
     bound_ns, piece = told
-    if not 0 <= bound_ns <= pieces.MOST_BOUND_NS:
+    if not 0 <= bound_ns <= pieces.MAX_BOUND_NS:
         return f"{line}, which isn't lawful"
     return carried_wrong(question, bound_ns) or below_wrong(question, bound_ns, piece)
 

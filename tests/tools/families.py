@@ -27,7 +27,7 @@ WIDTH = 42_000_000
 """Ticks on both sides of zero that a server of the right time leaves open: some 10 ms."""
 
 CLIENT = bytes((192, 0, 2, 10))
-MOST_SERVERS = 32
+MAX_SERVERS = 32
 FILES = Path(__file__).resolve().parents[2] / "data" / "slow"
 
 Row = tuple[int, int, int, int, int]
@@ -80,9 +80,9 @@ def address(server: int) -> bytes:
 
 def blocks(exchanges: Exchanges) -> Iterator[bytes]:
     """The capture, some exchanges at a time: each request and then its reply, big-endian, in nanoseconds."""
-    asks = [LENGTHS + frame(CLIENT, address(s), (40000, 123), b"\x23" + bytes(39)) for s in range(MOST_SERVERS)]
+    asks = [LENGTHS + frame(CLIENT, address(s), (40000, 123), b"\x23" + bytes(39)) for s in range(MAX_SERVERS)]
     answer = struct.pack(">BBbbII4sQ", 0x24, 1, 6, -32, 0, 0, b"GPS", 0)
-    answers = [LENGTHS + frame(address(s), CLIENT, (123, 40000), answer) for s in range(MOST_SERVERS)]
+    answers = [LENGTHS + frame(address(s), CLIENT, (123, 40000), answer) for s in range(MAX_SERVERS)]
     yield struct.pack(">IHHIIII", 0xA1B23C4D, 2, 4, 0, 0, 262144, 1)
     out = bytearray()
     for mark, (server, asked, answered, receive, transmit) in enumerate(exchanges.rows(), 0x5000000000000001):

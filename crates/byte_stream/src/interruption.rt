@@ -2,4 +2,4 @@
 
 /// How many times an interrupted call is made in all before it counts as failed. Only a device that
 /// never gets to work is interrupted this often.
-pub(crate) const MOST_TRIES: u32 = 1_000;
+pub(crate) const MAX_TRIES: u32 = 1_000;

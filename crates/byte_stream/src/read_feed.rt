@@ -3,7 +3,7 @@
 ghost use Rattle.std.specs.Prelude.{◌≡◌};
 
 use crate::feed::{Feed, FeedFault};
-use crate::interruption::MOST_TRIES;
+use crate::interruption::MAX_TRIES;
 use std::io::{ErrorKind, Read};
 
 /// The bytes of a reader. It takes no memory of its own.
@@ -49,7 +49,7 @@ impl<R: Read> Feed for ReadFeed<R> {
         record { remaining = R.remaining s.reader; taken = s.taken; faults = s.faults } };
 
     fn pull(&mut self, into: &mut [u8]) -> Result<usize, FeedFault> {
-        for _try in 0..MOST_TRIES {
+        for _try in 0..MAX_TRIES {
             match self.reader.read(into) {
                 Ok(count) => {
                     self.taken = self.taken.saturating_add(count as u64);

@@ -3,7 +3,7 @@
 ghost use Rattle.std.specs.Prelude.{◌≡◌, ◌+◌, ◌<◌, ◌≤◌, ℕ, length, take, MatchOption, true};
 ghost use Rattle.std.specs.Io.KnownBytes.{Appends, Keeps};
 
-use crate::interruption::MOST_TRIES;
+use crate::interruption::MAX_TRIES;
 use crate::sink::{Sink, SinkFault};
 use std::io::{ErrorKind, Write};
 
@@ -40,7 +40,7 @@ fn write_some<W: Write>(writer: &mut W, bytes: &[u8]) -> Option<usize>
         (λ n. (0 < n) × (n ≤ length bytes.now)
         × Appends (W.contents writer.old) (W.contents writer.new) (take n bytes.now)) }
 {
-    for _ in 0..MOST_TRIES {
+    for _ in 0..MAX_TRIES {
         match writer.write(bytes) {
             Ok(0) => return None,
             Ok(n) => return Some(n),
@@ -58,7 +58,7 @@ fn write_some<W: Write>(writer: &mut W, bytes: &[u8]) -> Option<usize>
 fn flush_all<W: Write>(writer: &mut W) -> bool
     ensures { Keeps (W.contents writer.old) (W.contents writer.new) }
 {
-    for _ in 0..MOST_TRIES {
+    for _ in 0..MAX_TRIES {
         match writer.flush() {
             Ok(()) => return true,
             Err(error) => {

@@ -15,7 +15,7 @@ use std::alloc::{AllocError, Global};
 
 /// How many ticks beyond the bound a hull over a tick may reach, though no whole error at a whole
 /// reading there is beyond it. The marks' moves are rounded up, and the tick has two ends.
-const MOST_ROUNDING: u8 = 3;
+const MAX_ROUNDING: u8 = 3;
 
 /// A refutation where the pieces of some case stop under a bound of so many ticks more, if one is
 /// found.
@@ -74,7 +74,7 @@ pub(crate) fn find_refutation<X: ToExchange>(
     ensures { IfOk result
         (IsRefutedIfFound (claim_data claim.now) (map X.shown exchanges.now)) }
 {
-    for more in 0..=MOST_ROUNDING {
+    for more in 0..=MAX_ROUNDING {
         let found = refutation_under(alloc, exchanges, claim, conflicts, covers, tables, more)?;
         if found.is_some() {
             return Ok(found);

@@ -6,7 +6,7 @@ ghost use Rattle.fault_words.specs.Quote as spec;
 use std::alloc::{AllocError, Global};
 
 /// How many characters of what stands in a file are shown at most.
-const MOST_SHOWN: usize = 40;
+const MAX_SHOWN: usize = 40;
 
 /// Whether a character turns the direction in which those beside it are shown (Unicode's
 /// Bidi_Control), so that a name could be read as another.
@@ -49,7 +49,7 @@ fn front(alloc: Global, text: &str) -> Result<String, AllocError>
     ensures quiet { IfOk result (λ out. spec.IsQuiet (string_bytes out)) }
 {
     let mut out = String::new(alloc);
-    for c in text.chars().take(MOST_SHOWN) {
+    for c in text.chars().take(MAX_SHOWN) {
         add_shown(&mut out, alloc, c)?;
     }
     Ok(out)
@@ -61,7 +61,7 @@ pub fn quoted(alloc: Global, text: &str) -> Result<String, AllocError>
     ensures quiet { IfOk result (λ out. spec.IsQuiet (string_bytes out)) }
 {
     let mut out = front(alloc, text)?;
-    if MOST_SHOWN < text.chars().count() {
+    if MAX_SHOWN < text.chars().count() {
         out.push_str("..")?;
     }
     Ok(out)

@@ -12,13 +12,13 @@ use pcap_reader::{Capture, CaptureFault, RecordSource};
 use std::alloc::{AllocError, Global};
 
 /// One more than the records that a capture has at most: its end.
-pub(crate) const MOST_CALLS: u32 = 4_000_001;
+pub(crate) const MAX_CALLS: u32 = 4_000_001;
 
 /// How many whole records a source gives before this fault, if it has it.
 fn whole_records<S: RecordSource>(source: &mut S, fault: &CaptureFault) -> Option<u32>
     requires room { (S.state source.old).fault_count < 2 ^ 64 - 1 }
 {
-    for count in 0..MOST_CALLS {
+    for count in 0..MAX_CALLS {
         match source.next_record() {
             Ok(Some(_)) => {}
             Ok(None) => return None,

@@ -3,7 +3,7 @@
 ghost use Rattle.std.specs.Prelude.{◌^◌, ◌-◌, ◌<◌, ◌≤◌, IfSome};
 ghost use Rattle.byte_stream.specs.State.{IsReadable};
 
-use crate::record_count::MOST_CALLS;
+use crate::record_count::MAX_CALLS;
 use crate::slip::Recorded;
 use byte_stream::Feed;
 use pcap_reader::{Capture, RecordSource};
@@ -35,7 +35,7 @@ fn times_of<S: RecordSource>(source: &mut S) -> Option<Recorded>
     ensures { IfSome result (λ times. times.first ≤ times.last) }
 {
     let mut seen: Option<Recorded> = None;
-    for _call in 0..MOST_CALLS {
+    for _call in 0..MAX_CALLS {
         match source.next_record() {
             Ok(Some(head)) => seen = Some(with_second(seen, head.sec)),
             Ok(None) | Err(_) => return seen,

@@ -7,7 +7,7 @@ ghost use Rattle.finder.specs.Leeway.{IsHeld, IsHeldAtAll, greatest_of, turned, 
 ghost use Rattle.finder.specs.declared.side.Side.{Side};
 
 use crate::leeway::{false_groups, least_leeway, leeways_at};
-use crate::nearest_refutation::{GREATEST_ERROR, LEAST_ERROR_BELOW};
+use crate::nearest_refutation::{MAX_ERROR_ABOVE, MAX_ERROR_BELOW};
 use crate::side::Side;
 use certificate::Refutation;
 use claim_file::Claim;
@@ -138,7 +138,7 @@ fn error_within(side: Side, most: i128) -> i64
     ensures { result ≡ turned side (int_min most (greatest_of side)) }
 {
     match side {
-        Side::Above => most.min(GREATEST_ERROR) as i64,
-        Side::Below => -most.min(LEAST_ERROR_BELOW) as i64,
+        Side::Above => most.min(MAX_ERROR_ABOVE) as i64,
+        Side::Below => -most.min(MAX_ERROR_BELOW) as i64,
     }
 }

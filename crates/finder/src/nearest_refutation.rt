@@ -14,10 +14,10 @@ use intersection::kinds::Interval;
 use pairing::ToExchange;
 
 /// The greatest error of a refutation, in ticks.
-pub(crate) const GREATEST_ERROR: i128 = (1 << 63) - 1;
+pub(crate) const MAX_ERROR_ABOVE: i128 = (1 << 63) - 1;
 
 /// How far below zero the least error of a refutation is, in ticks.
-pub(crate) const LEAST_ERROR_BELOW: i128 = 1 << 63;
+pub(crate) const MAX_ERROR_BELOW: i128 = 1 << 63;
 
 /// Looks for a refutation of a claim: the one with the least error above the bound, or, if there is
 /// none, the one with the greatest error below it on the other side. It names just the servers that
@@ -55,10 +55,10 @@ fn nearest_error(rooms: &[Interval; 32], claim: &Claim) -> Option<i128>
         result ≡ nearest_error (claim_data claim.now) xs }
     ensures in_range { IfSome result IsErrorOf64Bits }
 {
-    if let Some(error) = nearest(rooms, claim, Side::Above, GREATEST_ERROR) {
+    if let Some(error) = nearest(rooms, claim, Side::Above, MAX_ERROR_ABOVE) {
         return Some(error);
     }
-    match nearest(rooms, claim, Side::Below, LEAST_ERROR_BELOW) {
+    match nearest(rooms, claim, Side::Below, MAX_ERROR_BELOW) {
         Some(error) => Some(-error),
         None => None,
     }

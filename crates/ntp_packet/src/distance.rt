@@ -10,7 +10,7 @@ use crate::NtpView;
 const UNIT_TICKS: u64 = 65536;
 
 /// The greatest precision with a root distance, in log2 seconds: 18 hours.
-const GREATEST_PRECISION: i8 = 16;
+const MAX_PRECISION: i8 = 16;
 
 #[tactic(auto, unfolding(crate::specs::Header::root_distance_of))]
 impl NtpView<'_> {
@@ -24,7 +24,7 @@ impl NtpView<'_> {
         ensures greatest { IfSome result (λ ticks. ticks < 2 ^ 50) }
     {
         let precision = self.precision();
-        if precision > GREATEST_PRECISION {
+        if precision > MAX_PRECISION {
             return None;
         }
         let half_delay = u64::from(self.root_delay()) * (UNIT_TICKS / 2);

@@ -15,7 +15,7 @@ use crate::index::{Index, Key, Place};
 use crate::refusal::Refusal;
 
 /// The greatest number of exchanges of a capture.
-const MOST_EXCHANGES: usize = 1_000_000;
+const MAX_EXCHANGES: usize = 1_000_000;
 
 /// The one and only request of a reply to this server, or why there is none. `guess` is where it is
 /// looked for first, as in `Index::find_near`.
@@ -70,7 +70,7 @@ pub(crate) fn join(
         let reply = exchanges[number];
         match find_request(index, reply.server, reply.request, &mut guess) {
             Ok(request) => {
-                if kept == MOST_EXCHANGES {
+                if kept == MAX_EXCHANGES {
                     return Err(PairFault::TooManyExchanges);
                 }
                 exchanges[kept] = CompactExchange { request, ..reply };

@@ -15,10 +15,10 @@ use crate::format::{Format, RecordHead};
 pub(crate) const RECORD_HEADER: usize = 16;
 
 /// The most bytes that a record may hold.
-const MOST_CAPTURED: u32 = 262_144;
+const MAX_CAPTURED: u32 = 262_144;
 
 /// The most records of a capture.
-const MOST_RECORDS: u32 = 4_000_000;
+const MAX_RECORDS: u32 = 4_000_000;
 
 /// How many bytes show the next record's header, or that there may be none: one, after the last
 /// record.
@@ -28,7 +28,7 @@ pub(crate) fn head_size(given: u32) -> usize
     ensures last { most_records ≤ given → result ≡ 1 }
     ensures header { given < most_records → result ≡ 16 }
 {
-    if given < MOST_RECORDS {
+    if given < MAX_RECORDS {
         RECORD_HEADER
     } else {
         1
@@ -49,7 +49,7 @@ fn read_head(
         (λ fault. head_fault format place bytes.now ≡ Some fault) }
 {
     let captured = u32_in(format.order, &bytes[8..]);
-    if captured > MOST_CAPTURED {
+    if captured > MAX_CAPTURED {
         return Err(CaptureFault::TooLong(place));
     }
     let sub = u32_in(format.order, &bytes[4..]);
@@ -84,7 +84,7 @@ pub(crate) fn first_head(
     ensures record_fault { IfErr result IsRecordFault }
     ensures fault { IfErr result (ShowsFault format number place bytes.now) }
 {
-    if number >= MOST_RECORDS {
+    if number >= MAX_RECORDS {
         return Err(CaptureFault::TooMany);
     }
     if bytes.len() < RECORD_HEADER {

@@ -12,7 +12,7 @@ use byte_stream::{Feed, FeedFault};
 
 /// The most bytes that are ever pulled: a header, 4,000,000 records of 262,160 bytes, and one
 /// byte more.
-const MOST_TAKEN: u64 = 1_048_640_000_025;
+const MAX_TAKEN: u64 = 1_048_640_000_025;
 
 impl<F: Feed> Buffered<F> {
     /// Pulls until at least `wanted` bytes are held or the feed is at its end. If they are held
@@ -71,7 +71,7 @@ fn room(place: u64, length: usize) -> usize
     requires { place ≤ most_taken }
     ensures { result ≡ min length (most_taken - place) }
 {
-    let left = MOST_TAKEN - place;
+    let left = MAX_TAKEN - place;
     if left < length as u64 {
         left as usize
     } else {

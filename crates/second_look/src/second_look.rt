@@ -19,7 +19,7 @@ use std::io::{ErrorKind, IsTerminal};
 use std::os::unix::fs::FileTypeExt;
 
 /// How many bytes of a file are looked at, if there are no more.
-const MOST_SEEN: u64 = 1_048_576;
+const MAX_SEEN: u64 = 1_048_576;
 
 /// How many bytes are looked at of a larger file.
 const FRONT: usize = 64;
@@ -188,7 +188,7 @@ fn look_at_bytes(
     fault: &RunFault,
 ) -> Result<Seen, AllocError> {
     let alloc = rt.alloc();
-    if let Ok(bytes) = read_input(alloc, &mut ReadFeed::new(file), input, MOST_SEEN) {
+    if let Ok(bytes) = read_input(alloc, &mut ReadFeed::new(file), input, MAX_SEEN) {
         return look(alloc, fault, bytes.as_slice(), true);
     }
     let mut front = [0; FRONT];

@@ -3,8 +3,8 @@ use Rattle.pcap_reader.proofs.RecordFault.{fault_at_most, fault_at_short, fault_
 use Rattle.pcap_reader.proofs.Prefix.{head_fault_front}
 use Rattle.pcap_reader.proofs.record.first_head.Goals as goal
 
-pub returns-then-number-ge-MOST_RECORDS-clause-fault : goal.returns-then-number-ge-MOST_RECORDS-clause-fault
-returns-then-number-ge-MOST_RECORDS-clause-fault c rest end = fault_at_most _ _ _ _ (omega arith)
+pub returns-then-number-ge-MAX_RECORDS-clause-fault : goal.returns-then-number-ge-MAX_RECORDS-clause-fault
+returns-then-number-ge-MAX_RECORDS-clause-fault c rest end = fault_at_most _ _ _ _ (omega arith)
 
 pub returns-then-bytes-lt-RECORD_HEADER-clause-fault : goal.returns-then-bytes-lt-RECORD_HEADER-clause-fault
 returns-then-bytes-lt-RECORD_HEADER-clause-fault c rest end = grind (arith, length-append, fault_at_short)
