@@ -261,6 +261,15 @@ def test_two_things(place: Path) -> None:
     dossier("sign", "--key", place / "ann", pages, answer, own)
     asked = ["verify", "--as-signed", "--signers", signers]
     check("one thing each", status=(dossier(*asked, pages, answer, fleet)[0], 0))
+    for one in own, pages, answer:
+        other = shutil.copytree(one, place / "other", ignore=shutil.ignore_patterns("*.sig"))
+        before = sorted(other.iterdir())
+        for kind, command in (pages, ["year", "--year", "2001"]), (answer, ["events", place / "log.csv"]):
+            if one != kind:
+                status, _, said = dossier(*command[:1], "--split", other, *command[1:], fleet / "web-1")
+                check(f"{command[0]} into {one.name}", status=(status, 5), left=(sorted(other.iterdir()), before),
+                      said=("is a day, a year, or an answer to a log: name another one" in said.decode(), True))
+        shutil.rmtree(other)
     names, words = {own: "audit.json", pages: "year.json", answer: "events.json"}, "in one folder"
     for one, other in ((answer, own), (answer, pages), (pages, own), (own, pages), (own, answer)):
         both = place / "both" / one.relative_to(place)
