@@ -6,7 +6,8 @@ from itertools import groupby
 from typing import NamedTuple
 
 from ..fault import fault
-from ..fleet.days import Twins, YearCall, days_among, is_day, machines_of, namesakes, packed, unpacked, year_of
+from ..fleet.days import (Twins, YearCall, days_among, in_a_line, is_day, machines_of, namesakes, packed, unpacked,
+                          year_of)
 from ..fleet.statements import DAYS, PAGE, lines_of, stated_of, statement
 from ..folder.entry import YES, Refusal
 from ..folder.files import YEAR
@@ -101,6 +102,8 @@ def write_year(folders: list[str], wanted: YearCall, pages: Pages, seconds: int,
     templates()
 
     def work(machine: str, _: int) -> Year:
+        if split and in_a_line(machine) != machine:
+            raise fault("no line of a file of days can have its path: call its folder otherwise")
         return year_of(wanted, machine, names[machine])
     for machine, result in run_all(list(names), work, Year, seconds, min(jobs, len(names))):
         if isinstance(result, Refusal):
