@@ -19,7 +19,7 @@ from typing import NamedTuple
 from ..fault import Fault, fault
 from ..folder.claim import Claim, Part
 from ..folder.entry import Alert, Figure, Torn
-from ..folder.files import BLOCK, JOINED, MAX_OF_A_CAPTURE, mapped, own, size_of, sum_of, sum_of_file, too_big
+from ..folder.files import BLOCK, JOINED, MAX_OF_A_CAPTURE, mapped, own, size_of, sum_of_file, too_big
 from ..folder.jobs import find_tool, stream
 from ..folder.placing import ROOM, Copy, cut_off, keep, move
 from ..folder.program import Program
@@ -254,27 +254,26 @@ def sum_of_unpacked(name: str, copy: str) -> str:
     return digest.hexdigest() if is_packed(copy) else sum_of_file(copy)
 
 
-def unpacked_at_once(copies: dict[str, str]) -> dict[str, str]:
+def are_unpacked_at_once(copies: dict[str, str]) -> bool:
     """Unpacks copies, each into the file that is named, by one call of zstd: a call for each of a day's hours takes
-    longer than the hour. Their SHA-256; nothing if they aren't as large as they say of themselves, or don't say it."""
+    longer than the hour. False if they aren't as large as they say of themselves, or don't say it."""
     sizes = [size_said(copy) for copy in copies]
     if not sizes or 0 in sizes or max(sizes) > MAX_AT_ONCE or sum(sizes) > MAX_OF_A_CAPTURE:
-        return {}
-    sums, left = dict[str, str](), bytearray()
+        return False
+    left, rest = bytearray(), list(zip(copies.values(), sizes))
 
     def take(block: bytes) -> None:
         left.extend(block)
-        while len(sums) < len(sizes) and len(left) >= sizes[len(sums)]:
-            path, size = list(copies.values())[len(sums)], sizes[len(sums)]
-            keep(path, whole := bytes(left[:size]))
-            sums[path] = sum_of(whole)
+        while rest and len(left) >= rest[0][1]:
+            path, size = rest.pop(0)
+            keep(path, bytes(left[:size]))
             del left[:size]
         if len(left) > max(sizes):
             raise fault("packed files hold more than they say")
     with suppress(Fault):
         status, _ = stream([find_tool("zstd", NO_ZSTD), "-dcq", "--", *copies], take)
-        return sums if not status and not left else {}
-    return {}
+        return not status and not left and not rest
+    return False
 
 
 def size_said(copy: str) -> int:

@@ -279,6 +279,8 @@ def signer_of(wanted: YearCall, folder: Folder, name: str) -> str:
         return ""
     with Folder(os.path.join(folder.path, name)) as day:
         signer = wanted.signers.machine_of(day, folder.path)
+        if signer in (VERIFIED, NOBODY):  # (in a line of a file of days that says something else)
+            return ""
         return signer if day.sum(AUDIT) == folder.sum(f"{name}/{AUDIT}") else ""
 
 

@@ -27,7 +27,7 @@ from ..units import SECOND, earliest, latest
 from ..verdict.moments import Moments
 from .days import in_words, is_day, is_of_claim, namesakes
 from .signature import Signers, signed_in
-from .statements import folders_above, misplaced, premises_of, renamed
+from .statements import folders_above, is_within, misplaced, premises_of, renamed
 
 INDEX = "index.html"
 NO_MACHINE = "no folder of this machine"
@@ -331,6 +331,8 @@ def folders_of(folder: Folder, named: set[str]) -> dict[str, str]:
             raise fault(f"{plain(resting.machine)}: its folder is {plain(machine.path)}, {why}")
         for name, sum_ in resting.days.items():
             path = os.path.normpath(os.path.join(machine.path, name))
+            if is_within(path, folder.path):
+                raise fault(f"{plain(resting.machine)}: a folder of it is {plain(path)}, which rests on it")
             if named.isdisjoint(folders_above(path)):
                 raise fault(f"{path} is in no folder that is named: if it may be read, name it too")
             days[path] = sum_

@@ -64,9 +64,20 @@ class Judging:
             raise Unjudgeable  # (nothing says that the moves are so, nor `check` that a course fits the whole capture)
         if isinstance(entry.reason, Elsewhere):
             raise Unjudgeable  # (that the refutation is of another time)
-        taken = take_inputs(self.folder, record)
+        held = {record.capture} & {*record.inputs} if entry.answer == YES else set[str]()
+        taken = take_inputs(self.folder, record, {name: record.inputs[name] for name in held})
         if changed := change_of(self.folder, record, taken.sums):
             return Judged(changed, "")
+        try:
+            return self.judged_by(record, entry, taken, own)
+        except Fault:
+            taken.sums |= {name: sum_of_file(taken.copies[name]) for name in held}
+            if changed := change_of(self.folder, record, taken.sums):
+                return Judged(changed, "")
+            raise
+
+    def judged_by(self, record: Record, entry: Entry, taken: Inputs, own: set[str]) -> Judged:
+        """By these inputs. A certificate's capture is held to its sum when it is judged: a fault if that is another."""
         claim: Claim = read_typed(CLAIM, Claim, own_data(CLAIM))
         capture = self.capture_of(record, taken, claim)
         if claim != entry.claim:
@@ -87,7 +98,6 @@ class Judging:
             raise Unjudgeable
         if any(alert.kind == "twice" or alert not in entry.warnings for alert in whole.alerts):
             raise Unjudgeable
-        # (a certificate's capture is held to its sum when it is judged)
         if whole.is_made and entry.answer != YES and sum_of_file(JOINED) != entry.outputs.get(JOINED):
             raise Unjudgeable
         self.whole = Classic(whole.path, whole.extent)
@@ -98,10 +108,12 @@ class Judging:
         """Holds what speaks against a premise, and so the verdict, to the folder's own evidence and one's own list of
         leap seconds, over all that was recorded."""
         claim, stamps = entry.claim, self.whole.extent.stamps
-        if not do_rise(stamps) and any(before >> 32 > after >> 32 for before, after in pairwise(stamps)):
-            raise Unjudgeable  # (times that fall back by a second speak against one)
-        ends = self.whole.nanoseconds([min(stamps), max(stamps)]) if stamps else []
-        leap = look_up(self.leaps, *stretch(claim, ends))
+        ends = [*stamps[:1], *stamps[-1:]]
+        if not do_rise(stamps):
+            if any(before >> 32 > after >> 32 for before, after in pairwise(stamps)):
+                raise Unjudgeable  # (times that fall back by a second speak against one)
+            ends = [min(stamps), max(stamps)]
+        leap = look_up(self.leaps, *stretch(claim, self.whole.nanoseconds(ends)))
         own = [*against(backing(self.folder, taken.sums), claim, leap, []), *alerts_of(leap, self.leaps)]
         by_own, is_whole = entry_by(self.leaps, entry), entry.leap.from_ <= leap.from_ and leap.to <= entry.leap.to
         if not is_whole or by_own.verdict != entry.verdict or of_premises(own) != of_premises(by_own.warnings):

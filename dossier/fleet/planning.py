@@ -2,6 +2,7 @@
 rest, and all days beside these.
 """
 import os
+from collections.abc import Callable
 from contextlib import suppress
 from itertools import filterfalse
 from typing import NamedTuple
@@ -36,8 +37,8 @@ class Plan(NamedTuple):
     """The folders that are looked at, in order; those of days on which a year's statements rest, each with its name for
     good; of folders with a year's machines all days in them; those in which are folders of an answer to a log; the days
     on which an answer rests, or a year though they aren't named themselves, for which a signature of that is one; the
-    machines of all; how many days beside a year's are of another time, and aren't looked at; the years; and whether
-    there are answers to logs."""
+    machines of all; how many days beside a year's are of another time, and aren't looked at; the years; whether there
+    are answers to logs; and why the days on which a folder rests couldn't be found."""
 
     every: list[str]
     stated: dict[str, str]
@@ -48,6 +49,7 @@ class Plan(NamedTuple):
     of_others: int = 0
     years: tuple[str, ...] = ()
     has_answers: bool = False
+    refused: dict[str, Refusal] = {}
 
     @property
     def speaks_of(self) -> str:
@@ -61,8 +63,11 @@ def planned(folders: list[str], named: set[str], seconds: int) -> Plan:
     """Which folders are verified, for what was named."""
     stated, below, of_events, above = dict[str, str](), dict[str, list[str]](), list[str](), set[str]()
     resting, answered, spans, others = set[str](), set[str](), list[tuple[str, str]](), list[str]()
+    with_days, refused = those_among(folders, rests_on_days, seconds), dict[str, Refusal]()
     for folder in folders:
-        found = days_below(folder, named, seconds)
+        found = days_below(folder, named, seconds) if folder in with_days else Below({})
+        if isinstance(found, Refusal):
+            refused[folder], found = found, Below({})
         resting.update(found.days)
         below[folder] = [day for day in found.days if not found.is_of_events or files.absolute(day) not in named]
         if found.is_of_events:
@@ -87,7 +92,7 @@ def planned(folders: list[str], named: set[str], seconds: int) -> Plan:
             counted.update(map(files.absolute, result))
             result.clear()
     every = [each for folder in folders for each in (*below[folder], folder) if each not in of_events]
-    every = list(dict.fromkeys(every)) + of_events if of_events else every
+    every = list(dict.fromkeys(every)) + of_events
     above_of = [folder for folder in folders if files.absolute(folder) in above]
     days = [path for path in every + others if path in stated or is_day(os.path.basename(path))]
     own = frozenset(os.path.dirname(files.absolute(day)) for day in days)
@@ -96,7 +101,7 @@ def planned(folders: list[str], named: set[str], seconds: int) -> Plan:
     by_itself = named.difference(day for day in answered if not has_signature(day))
     resting = {path for path in every if files.absolute(path) in rests - by_itself}
     return Plan(every, stated, beside, above_of, frozenset(resting), machines, len(others),
-                tuple(year for year, _ in spans if year), bool(of_events))
+                tuple(year for year, _ in spans if year), bool(of_events), refused)
 
 
 def has_signature(path: str) -> bool:
@@ -122,22 +127,28 @@ def names_of(plan: Plan, seconds: int) -> dict[str, str]:
                            if isinstance(name, str) and name}
 
 
-def several_among(paths: list[str], seconds: int) -> set[str]:
-    """The folders that have an audit of several days."""
+def is_of_several(folder: Folder) -> bool:
+    """Whether a folder has an audit of several days."""
+    return len(read_any(folder.data(files.AUDIT)).entries) > 1
+
+
+def rests_on_days(folder: Folder) -> bool:
+    """Whether a year's statements are in a folder, or an answer to a log."""
+    return folder.has(files.YEAR) or folder.has(files.EVENTS)
+
+
+def those_among(paths: list[str], is_one: Callable[[Folder], bool], seconds: int) -> set[str]:
+    """The folders of which something is so, many at a process; and all of those that took too long together."""
     chunks = [paths[at:at + AT_ONCE] for at in range(0, len(paths), AT_ONCE)]
 
     def work(_: str, number: int) -> list[str]:
-        several = list[str]()
+        found = list[str]()
         for path in chunks[number]:
             with suppress(Fault), Folder(path) as folder:
-                several += [path] * (len(read_any(folder.data(files.AUDIT)).entries) > 1)
-        return several
-    found = set[str]()
-    for _, came in run_all([chunk[0] for chunk in chunks], work, list[str], seconds):
-        if isinstance(came, Refusal):
-            raise Fault(came.line, came.status)
-        found.update(came)
-    return found
+                found += [path] * is_one(folder)
+        return found
+    results = [came for _, came in run_all([chunk[0] for chunk in chunks], work, list[str], seconds)]
+    return {path for chunk, came in zip(chunks, results) for path in (chunk if isinstance(came, Refusal) else came)}
 
 
 def beside_years(plan: Plan, named: set[str]) -> set[str]:
@@ -146,7 +157,7 @@ def beside_years(plan: Plan, named: set[str]) -> set[str]:
     return {path for path in others if path not in plan.stated and path not in plan.resting} if plan.stated else set()
 
 
-def days_below(path: str, named: set[str], seconds: int) -> Below:
+def days_below(path: str, named: set[str], seconds: int) -> Below | Refusal:
     """The days on which a year's statements rest, or an answer to a log of events, if there are such in a folder, as
     far as they are there."""
     def work(path: str, _: int) -> Below:
@@ -158,8 +169,7 @@ def days_below(path: str, named: set[str], seconds: int) -> Below:
             days, year = days_of(folder, named), read_statements(folder.data(files.YEAR))
             return Below({day: name for day, name in days.items() if is_there(day)},
                          span=(str(year.year), year.made[:10]))
-    result = run_one(path, work, Below, seconds)
-    return Below({}) if isinstance(result, Refusal) else result
+    return run_one(path, work, Below, seconds)
 
 
 def days_beside(path: str, machines: list[str], rests: set[str], seconds: int) -> list[str] | Refusal:
@@ -222,6 +232,8 @@ def is_there(path: str) -> bool:
 
 
 def is_of_days(path: str) -> bool:
-    """Whether a folder holds folders of days, and no audit, year or answer of its own."""
+    """Whether a folder holds folders of days, and nothing of an audit, a year or an answer of its own."""
     with Folder(path) as folder:
-        return not any(map(folder.has, (files.AUDIT, files.YEAR, files.EVENTS)))
+        names = folder.names()
+        return not any(map(files.is_capture, names)) and \
+            files.LEFT.isdisjoint(names) and not any(map(folder.has, (files.AUDIT, files.YEAR, files.EVENTS)))

@@ -148,10 +148,10 @@ def read_lines(data: bytes) -> list[Line]:
     if len(every) > MAX_LINES:
         raise fault(f"a file of days has more than {MAX_LINES} lines")
     lines = [Line(*line.groups("")) for line in map(LINE.fullmatch, every) if line]
-    if rest or len(lines) < len(every):
+    if rest or len(lines) < len(every) or b"\0" in data:
         raise fault("a file of days isn't one")
-    if any(len(line.path) > MAX_OF_A_PATH for line in lines):
-        raise fault(f"a file of days names a path of more than {MAX_OF_A_PATH:,} characters")
+    if any(max(len(line.path), len(line.by)) > MAX_OF_A_PATH for line in lines):
+        raise fault(f"a file of days names a path or a signer of more than {MAX_OF_A_PATH:,} characters")
     return lines
 
 

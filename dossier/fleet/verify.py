@@ -30,7 +30,8 @@ from .drawing import drawn_of, likelihoods
 from .events import (OWN, EventsCall, PageOfEvents, difference as difference_of_events, folders_of, is_of_events,
                      renamed_in)
 from .judging import ONLY_MADE, Judging, Unjudgeable
-from .planning import Machines, beside_years, is_of_days, machines_below, names_of, planned, several_among
+from .planning import (Machines, beside_years, is_of_days, is_of_several, machines_below, names_of, planned,
+                       those_among)
 from .signature import GOOD, NONE, UNSEEN, Signers, in_words, signed_in
 from .statements import (Compared as YearCompared, compared as year_compared, days_of, folders_above,
                          unanswered_in)
@@ -234,7 +235,8 @@ def verify_all(folders: list[str], verifier: Verifier, signers: Signers, seconds
     plan = planned(folders, named, seconds)
     names, beside = (names_of(plan, seconds), beside_years(plan, named)) if how.sample is not None else ({}, set())
     numbers = Counter(names.values())  # (one that is drawn would be many days at once)
-    several = several_among([*names], seconds).union(path for path, name in names.items() if numbers[name] > 1)
+    alike = {path for path, name in names.items() if numbers[name] > 1}
+    several = those_among([*names], is_of_several, seconds) | alike
     alone = {path: name for path, name in names.items() if path not in several}
     drawn = drawn_of(alone, how.sample or 0, how.seed)
     verifier.known.believes = how.sample is not None and not how.answers
@@ -251,10 +253,10 @@ def verify_all(folders: list[str], verifier: Verifier, signers: Signers, seconds
             return Compared(0, ["(a year's days are in it)"], is_same=True)
         if path in plan.above and is_of_days(path):
             return Compared(0, ["(folders of an answer to a log are in it)"], is_same=True)
-        is_signed = path not in plan.resting and (how.as_signed or files.absolute(path) in named)
+        is_asked_for = how.as_signed or files.absolute(path) in named
         is_drawn = path in drawn or path in several
-        return verify(verifier, signers, is_signed, path, named, how._replace(
-            answers=how.answers and not is_drawn, known=how.known and not is_drawn), machines)
+        return verify(verifier, signers, Need(is_asked_for, path in plan.resting, plan.refused.get(path)), path, named,
+                      how._replace(answers=how.answers and not is_drawn, known=how.known and not is_drawn), machines)
     for path, came in run_all([path for path in plan.every if path not in left], work, Compared, seconds):
         result = Compared(came.status, [came.line]) if isinstance(came, Refusal) else came
         if how.answers and result.sum and result.is_same:
@@ -333,21 +335,33 @@ def before(verifier: Verifier, folder: Folder, how: How) -> Verified | None:
     return None
 
 
-def verify(verifier: Verifier, signers: Signers, is_signed: bool, path: str, named: set[str], how: How,
+class Need(NamedTuple):
+    """Whether a folder's signature has to be good, unless it is a day on which another folder rests; whether it is
+    such a day; and why its days couldn't be found, if they couldn't."""
+
+    is_signed: bool
+    is_resting: bool
+    refused: Refusal | None
+
+
+def verify(verifier: Verifier, signers: Signers, need: Need, path: str, named: set[str], how: How,
            machines: Machines) -> Compared:
     """What verifying a folder comes to. With a file of those who may sign it, a folder that nobody signed differs too,
     if its own signature has to be one, and one that a machine signed which isn't its own."""
     findings, unsigned, notes = list[str](), list[str](), list[str]()
     try:
         with Folder(path) as folder:
-            signature = signers.signature_of(folder)
+            signature, signed = signers.signature_of(folder), signed_in(folder)
+            is_signed = need.is_signed and (signed in RESTS or not need.is_resting)
             if is_signed and signature.state == GOOD and is_machines(folder, signature.signer, machines):
                 unsigned.append(f"{in_words(signature)}: {OWN_DAYS}")
             elif signature.state in (GOOD, UNSEEN) or not is_signed:
                 notes += [in_words(signature)] * (signature.state != NONE)
             elif signature.state != NONE or signers.given is not None:
                 unsigned.append(in_words(signature))
-            if (signed := signed_in(folder)) in RESTS:
+            if need.refused:
+                raise Fault(need.refused.line, need.refused.status)
+            if signed in RESTS:
                 verifier.known.renew()
                 found = difference_of_days(verifier, folder, named, signers, machines)
                 findings += filter(None, [found.difference])

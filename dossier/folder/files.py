@@ -138,9 +138,9 @@ def too_big(name: str, most: int) -> Fault:
 
 
 def read_once(place: int, file: str, name: str, take: Callable[[bytes], object], most: int,
-              follow: int = os.O_NOFOLLOW) -> str:
-    """Hands all bytes of a file on, a block at a time, and gives their SHA-256. A device isn't opened."""
-    digest, size = hashlib.sha256(), 0
+              follow: int = os.O_NOFOLLOW) -> None:
+    """Hands all bytes of a file on, a block at a time. A device isn't opened."""
+    size = 0
     try:
         has_kind(name, os.stat(file, dir_fd=place, follow_symlinks=not follow), most)
         with held(file, place, OF_A_FILE | follow) as opened:
@@ -149,11 +149,9 @@ def read_once(place: int, file: str, name: str, take: Callable[[bytes], object],
                 size += len(block)
                 if size > most:
                     raise too_big(name, most)
-                digest.update(block)
                 take(block)
     except OSError as error:
         raise unreadable(name, error) from None
-    return digest.hexdigest()
 
 
 def kind_of(place: int, name: str) -> str:
@@ -258,19 +256,28 @@ class Folder:
 
     def read(self, name: str, take: Callable[[bytes], object]) -> str:
         """Reads a file once, hands on its blocks, and gives its sum."""
+        digest = hashlib.sha256()
+
+        def take_summed(block: bytes) -> None:
+            digest.update(block)
+            take(block)
+        self.hand_on(name, take_summed)
+        if self.sums.setdefault(name, digest.hexdigest()) != digest.hexdigest():
+            raise fault(f"{name} has changed meanwhile")
+        return digest.hexdigest()
+
+    def hand_on(self, name: str, take: Callable[[bytes], object]) -> None:
+        """Reads a file once, and hands on its blocks."""
         try:
             with parent_of(self.place, name) as (parent, file):
-                sum_ = read_once(parent, file, name, take, limit_of(name))
+                read_once(parent, file, name, take, limit_of(name))
         except OSError as error:
             raise unreadable(name, error) from None
-        if self.sums.setdefault(name, sum_) != sum_:
-            raise fault(f"{name} has changed meanwhile")
-        return sum_
 
 
-def read_named(path: str, take: Callable[[bytes], object], most: int) -> str:
+def read_named(path: str, take: Callable[[bytes], object], most: int) -> None:
     """Reads a file that the command line names. A link is followed: it isn't a stranger's choice."""
-    return read_once(HOME, path, os.path.basename(path), take, most, follow=0)
+    read_once(HOME, path, os.path.basename(path), take, most, follow=0)
 
 
 def data_named(path: str, most: int = JSON) -> bytes:

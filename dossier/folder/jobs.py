@@ -17,7 +17,7 @@ import sys
 import time
 from collections.abc import Callable, Iterator, Sequence
 from contextlib import contextmanager, suppress
-from typing import Any, Generic, NamedTuple, TypeVar
+from typing import IO, Any, Generic, NamedTuple, TypeVar
 
 from ..fault import DEVICE, MEMORY, MISSING, REFUSED, Fault, fault
 from ..schema import parsed, said, typed
@@ -90,6 +90,12 @@ def begun(words: Sequence[str], **how: object) -> subprocess.Popen[bytes]:
         raise fault(f"{os.path.basename(words[0])} can't be called ({error.strerror})", DEVICE) from None
 
 
+def widen(pipe: IO[bytes]) -> None:
+    """Gives a pipe room for a block, if it may have that."""
+    with suppress(OSError):
+        fcntl.fcntl(pipe, fcntl.F_SETPIPE_SZ, BLOCK)
+
+
 def stream(words: Sequence[str], take: Callable[[bytes], object], given: str = os.devnull,
            cwd: str = ".") -> tuple[int, bytes]:
     """Calls a program with a file on its standard input, and hands on what it prints, as it comes. Its status, that of
@@ -97,6 +103,7 @@ def stream(words: Sequence[str], take: Callable[[bytes], object], given: str = o
     with nameless(cwd) as error:
         with own(given) as opened, begun(words, stdin=opened, stdout=PIPE, stderr=error, cwd=cwd) as call:
             assert call.stdout
+            widen(call.stdout)
             while block := os.read(call.stdout.fileno(), BLOCK):
                 take(block)
         return call.returncode, os.pread(error, BLOCK, 0)
@@ -118,17 +125,13 @@ def told(words: Sequence[str]) -> tuple[int, str]:
 
 class Companion:
     """A program that runs beside this one for long. What it prints is taken as it comes."""
-    ROOM = 1 << 20
-    """Bytes of its output that wait, while this process is busy."""
-
     def __init__(self, words: Sequence[str], environment: dict[str, str]):
         self.process = begun(words, stdout=PIPE, stderr=PIPE, env=environment)
         assert self.process.stdout and self.process.stderr
         self.output, self.error, self.poll = self.process.stdout, self.process.stderr, select.poll()
         for pipe in (self.output, self.error):
             self.poll.register(pipe, select.POLLIN)
-        with suppress(OSError):
-            fcntl.fcntl(self.output, fcntl.F_SETPIPE_SZ, self.ROOM)
+        widen(self.output)  # (for what waits while this process is busy)
 
     def wait(self, seconds: float) -> set[int]:
         """Waits until it has printed something, or ended, so long at most."""

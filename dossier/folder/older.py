@@ -5,6 +5,7 @@ leap seconds says have not, so of these nothing is compared, and a folder that w
 known: what is shown of it is made anew.
 """
 import json
+from functools import lru_cache
 from typing import Any
 
 from .. import VERSION
@@ -31,8 +32,10 @@ def is_older(data: bytes) -> bool:
     return OLDEST <= form_of(data) < VERSION
 
 
+@lru_cache(maxsize=1)
 def read_any(data: bytes) -> Record:
-    """The record that audit.json holds in today's form or in an older one; a fault if it is none."""
+    """The record that audit.json holds in today's form or in an older one; a fault if it is none. It is read for the
+    signature too, and for what was found before."""
     if is_older(data):
         value = parsed(data)
         for entry in value["entries"] if isinstance(value.get("entries"), list) else ():

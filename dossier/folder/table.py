@@ -1,5 +1,9 @@
 """Numbers by keys of 64 bits, in few bytes each: there may be millions."""
+import os
 from array import array
+
+FACTOR, MASK = int.from_bytes(os.urandom(8), "big") | 1, 2**64 - 1
+"""What keys are multiplied by: who chooses them doesn't know where they come to stand."""
 
 
 class Table:
@@ -20,7 +24,7 @@ class Table:
 
     def place_of(self, key: int) -> int:
         """The place of a key, or the free one where it would be."""
-        at = key % self.size
+        at = (key * FACTOR & MASK) * self.size >> 64
         while self.numbers[at] and self.keys[at] != key:
             at = (at + 1) % self.size
         return at

@@ -3,10 +3,15 @@ from typing import Annotated
 
 from ..fault import fault
 from ..records import dataclass, field
-from ..schema import Count, Name, Sum, Text, Time, is_time, length, or_nothing, read_typed, within
+from ..schema import Count, Name, Sum, Text, Time, is_name, is_time, length, or_nothing, read_typed, within
 from ..units import now
 from .entry import SKEW
 from .files import YEAR
+
+
+def is_of_days(name: str) -> bool:
+    """Whether a file of days may be called so: what is called otherwise may be larger."""
+    return is_name(name) and name.endswith(".days")
 
 
 @dataclass(frozen=True)
@@ -18,7 +23,7 @@ class Stated:
     statement: Text
     shown: Count
     days: Count
-    file: Name
+    file: Annotated[str, is_of_days]
     sha256: Sum
 
 

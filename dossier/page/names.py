@@ -29,22 +29,28 @@ def page_of(path: str) -> str:
 
 
 class Split:
-    """What a call leaves in such a folder, which isn't one on which that rests, or above one."""
+    """What a call leaves in such a folder, which isn't one on which that rests, or above one. If a file of its own may
+    be signed, no other is there that may be."""
 
-    def __init__(self, path: str, resting: Iterable[str] = ()):
+    def __init__(self, path: str, resting: Iterable[str] = (), own: str = ""):
         self.path, self.before, self.left = path, dict[str, str](), dict[str, str]()
         if inside := next((folder for folder in resting if is_within(folder, path)), ""):
             raise fault(f"nothing is written into {path}: a folder that is named is in it ({inside})", USAGE)
+        signed = other = ""
         try:
             with Folder(path) as folder:
                 signed = next(filter(folder.has, SIGNATURES.values()), "")
+                other = next((name for name in SIGNATURES if own and name != own and folder.has(name)), "")
                 if folder.has(LIST):
                     lines = map(LINE.fullmatch, folder.data(LIST).decode("utf-8", "replace").splitlines())
                     self.before = {line[2]: line[1] for line in lines if line and is_name(line[2])}
         except Fault:
-            signed = ""  # (it is made, or can't be written, which is said then)
+            pass  # (it is made, or can't be written, which is said then)
         if signed:
             raise fault(f"{path} is signed, so nothing is replaced in it: name another folder, or take {signed} away",
+                        USAGE)
+        if other:
+            raise fault(f"{path} has {other}, and a folder is a day, a year, or an answer to a log: name another one",
                         USAGE)
 
     def put(self, data: bytes, name: str) -> None:

@@ -134,7 +134,7 @@ def write_events(file: str, folders: list[str], call: EventsCall, split: str | N
         raise fault("--page takes --split: the page is written beside the log and its answer", USAGE)
     if call.asked.begin and not reading_of(call.asked.begin):
         raise fault("--from names a time, such as 2026-11-22T07:03:40Z", USAGE)
-    place = Split(split, folders) if split else None
+    place = Split(split, folders, EVENTS) if split else None
     if call.asked.page:
         templates()
     try:

@@ -6,7 +6,8 @@ from itertools import groupby
 from typing import NamedTuple
 
 from ..fault import fault
-from ..fleet.days import Twins, YearCall, days_among, is_day, machines_of, namesakes, packed, unpacked, year_of
+from ..fleet.days import (Twins, YearCall, days_among, in_a_line, is_day, machines_of, namesakes, packed, unpacked,
+                          year_of)
 from ..fleet.statements import DAYS, PAGE, lines_of, stated_of, statement
 from ..folder.entry import YES, Refusal
 from ..folder.files import YEAR
@@ -96,11 +97,13 @@ def write_year(folders: list[str], wanted: YearCall, pages: Pages, seconds: int,
     """Writes the year. The status is that of the worst machine that couldn't be looked at; 0 if all could."""
     others = days_among([folder for folder in folders if not is_day(os.path.basename(folder))], seconds, is_alone=True)
     names, worst, packs = machines_of(folders, others), 0, list[bytes]()
-    split, twins = Split(pages.split, folders) if pages.split else None, Twins()
+    split, twins = Split(pages.split, folders, YEAR) if pages.split else None, Twins()
     wanted = wanted._replace(machines=len(names), namesakes=namesakes(names))
     templates()
 
     def work(machine: str, _: int) -> Year:
+        if split and in_a_line(machine) != machine:
+            raise fault("no line of a file of days can have its path: call its folder otherwise")
         return year_of(wanted, machine, names[machine])
     for machine, result in run_all(list(names), work, Year, seconds, min(jobs, len(names))):
         if isinstance(result, Refusal):

@@ -8,8 +8,8 @@ import time
 from collections.abc import Collection
 
 from .. import VERSION
-from ..capture.captures import (AuditedCapture, around, audited, cut, falls_in, sum_of_unpacked, thinned, unpacked,
-                                unpacked_at_once)
+from ..capture.captures import (AuditedCapture, are_unpacked_at_once, around, audited, cut, falls_in, sum_of_unpacked,
+                                thinned, unpacked)
 from ..capture.classic import Classic
 from ..capture.twice import once
 from ..fault import DEVICE, Fault, fault
@@ -18,7 +18,7 @@ from ..folder.entry import Entry, LeapList, Options, Record, Refusal, is_made_an
 from ..folder.evidence import evidence_files
 from ..folder.files import (CLAIM, JOINED, MAX_OF_A_CAPTURE, Folder, is_capture, own_data, size_of, sum_of,
                             sum_of_file, too_big)
-from ..folder.placing import copy_of, move
+from ..folder.placing import copy_of, copy_unsummed, move
 from ..folder.program import Program
 from ..premise.backing import Backing, backing
 from ..records import dataclass
@@ -100,24 +100,27 @@ class Inputs:
         return re.sub(r"(?<= )[0-9]+\.pcap(?![^ ,;])", lambda match: plain(names.get(match[0], match[0])), words)
 
 
-def take_inputs(folder: Folder, record: Record | None) -> Inputs:
-    """Copies claim and captures into the current folder, under names of one's own, and takes all sums. What an earlier
-    audit names and has been packed since is unpacked."""
+def take_inputs(folder: Folder, record: Record | None, believed: dict[str, str] = {}) -> Inputs:
+    """Copies claim and captures into the current folder, under names of one's own, and takes all sums, but of what is
+    believed for now. What an earlier audit names and has been packed since is unpacked."""
     taken, packed = Inputs({}, {}), dict[str, str]()
     for name, file in inputs_of(folder, record).items():
         copy = CLAIM if name == CLAIM else f"{len(taken.copies)}.pcap" if is_capture(name) else ""
         if file != name:
             packed[name] = f"{copy}.zst"
             copy_of(folder, file, packed[name])
+        elif name in believed:
+            copy_unsummed(folder, file, copy)
         else:
             taken.sums[name] = copy_of(folder, file, copy) if copy else folder.sum(file)
         if is_capture(name):
             taken.copies[name] = copy
-    at_once = unpacked_at_once({copy: taken.copies[name] for name, copy in packed.items()})
+    is_done = are_unpacked_at_once({copy: taken.copies[name] for name, copy in packed.items()})
     for name, copy in packed.items():
-        if not at_once:
+        if not is_done:
             move(unpacked(name, copy)[0], taken.copies[name])
-        taken.sums[name] = at_once.get(taken.copies[name]) or sum_of_file(taken.copies[name])
+    taken.sums |= {name: believed.get(name) or sum_of_file(copy) for name, copy in taken.copies.items()
+                   if name not in taken.sums}
     return taken
 
 

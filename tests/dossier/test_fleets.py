@@ -420,6 +420,14 @@ def test_answers(place: Path) -> None:
         opened.write(b"\n")
     check("by answers: a file that was changed", said=(
         b"report.txt was changed since the audit" in dossier("verify", "--answers", other)[1], True))
+    first = days_of(own)[0]
+    data = (first / "f.pcap").read_bytes()
+    (first / "f.pcap").write_bytes(data[:-1] + bytes([data[-1] ^ 1]))
+    for packed in range(1 + is_here("zstd", "a capture that is packed")):
+        if packed:
+            run(["zstd", "-q", "--rm", first / "f.pcap"])
+        check(f"by answers: a capture that was changed {packed}", said=(
+            b"f.pcap isn't the file that was audited" in dossier("verify", "--answers", first)[1], True))
 
 
 TOLD_ONCE = f"""import sys; sys.path.insert(0, {str(ROOT)!r})

@@ -2,11 +2,12 @@
 import json
 import os
 import shutil
+import sys
 from pathlib import Path
 from typing import Any
 from unittest import mock
 
-from tests.support import check, is_here, run, sum_of
+from tests.support import ROOT, check, is_here, run, sum_of
 from tests.dossier.audits import ENVIRONMENT, called, dossier, rows
 from tests.dossier.test_events import NOON, log_of
 from tests.dossier.test_evidence import key_of
@@ -16,6 +17,7 @@ from dossier import units
 from dossier.fleet import days, statements
 from dossier.folder.files import Folder
 from dossier.folder.registry import Known
+from dossier.folder.table import Table
 from dossier.premise.leap import read_list
 
 OWN = "a machine's key signs its own days alone"
@@ -234,6 +236,18 @@ def test_large_files_of_days(place: Path) -> None:
         status, out, _ = dossier("verify", "--known", pages, place / "fleet", memory=1 << 29)
         check(f"another file of days of {size} bytes", status=(status, 1), said=(
             f"{pages}: {file.name} isn't the file that year.json names" in out.decode().splitlines(), True))
+    year = json.loads((pages / "year.json").read_text())
+    year["machines"][0]["file"] = "x.cap"
+    (pages / "year.json").write_text(json.dumps(year))
+    (pages / "x.cap").write_bytes(b"")
+    os.truncate(pages / "x.cap", 1 << 32)
+    status, out, _ = dossier("verify", pages, place / "fleet", memory=1 << 29)
+    check("a file of days that is called otherwise", status=(status, 4), said=("year.json" in out.decode(), True))
+    year["machines"][0]["file"] = file.name
+    (pages / "year.json").write_text(json.dumps(year))
+    file.write_bytes(kept)
+    change_lines(pages, "2001-09-09", "2001-09-0\0")
+    check("a path with a NUL", said=(b"a file of days isn't one" in dossier("verify", pages, place / "fleet")[1], True))
     deep = f"{place}{'/x' * 1500}"
     file.write_text("".join(f"{'0' * 64} verified {deep}/{number}\n" for number in range(360)))
     change_lines(pages, "", "")
@@ -261,6 +275,17 @@ def test_two_things(place: Path) -> None:
     dossier("sign", "--key", place / "ann", pages, answer, own)
     asked = ["verify", "--as-signed", "--signers", signers]
     check("one thing each", status=(dossier(*asked, pages, answer, fleet)[0], 0))
+    for one in own, pages, answer:
+        other = shutil.copytree(one, place / "other", ignore=shutil.ignore_patterns("*.sig"))
+        before = sorted(other.iterdir())
+        commands: list[tuple[Path, list[object]]] = [
+            (pages, ["year", "--year", "2001"]), (answer, ["events", place / "log.csv"])]
+        for kind, command in commands:
+            if one != kind:
+                status, _, said = dossier(*command[:1], "--split", other, *command[1:], fleet / "web-1")
+                check(f"{command[0]} into {one.name}", status=(status, 5), left=(sorted(other.iterdir()), before),
+                      said=("is a day, a year, or an answer to a log: name another one" in said.decode(), True))
+        shutil.rmtree(other)
     names, words = {own: "audit.json", pages: "year.json", answer: "events.json"}, "in one folder"
     for one, other in ((answer, own), (answer, pages), (pages, own), (own, pages), (own, answer)):
         both = place / "both" / one.relative_to(place)
@@ -274,9 +299,9 @@ def test_two_things(place: Path) -> None:
             status, out, _ = dossier(*asked, *way.split(), both, place / "both" / "fleet")
             check(f"verify {what} {way}", status=(status, 1), said=(words in out.decode(), True), last=(
                 out.decode().splitlines()[-1].startswith("not as it was signed: "), True))
-        for command in f"sign --key {place}/ann", "audit", "audit --again", "keep", "page", "page --verify":
-            status, out, _ = dossier(*command.split(), both)
-            check(f"{command} {what}", status=(status, lambda status: status > 0),
+        for call in f"sign --key {place}/ann", "audit", "audit --again", "keep", "page", "page --verify":
+            status, out, _ = dossier(*call.split(), both)
+            check(f"{call} {what}", status=(status, lambda status: status > 0),
                   said=(words in out.decode(), True))
         if one == own:
             dossier("year", "--year", "2001", "-o", place / "page.html", both.parent)
@@ -284,6 +309,100 @@ def test_two_things(place: Path) -> None:
             check(f"year and events with {what}", year=(words in (place / "page.html").read_text(), True),
                   said=(words in said.decode(), True), row=(rows.endswith(b",refused\n"), True))
         shutil.rmtree(place / "both")
+
+
+def test_resting_on_itself(place: Path) -> None:
+    """Of an answer that rests on itself and on a year neither is signed by that."""
+    if not is_here("ssh-keygen", "a year that is signed"):
+        return
+    signers, fleet = signers_of(place, "ann"), place / "fleet"
+    own = day(fleet / "web-1", 0, RIGHT)
+    dossier("audit", own)
+    pages, answer = year_of(place, fleet / "web-1"), place / "answer"
+    answer.mkdir()
+    for folder in pages, answer:
+        shutil.copy(own / "claim.json", folder)
+    log = log_of(place, f"machine,time\nweb-1,{NOON}Z\n{place.name},{NOON}Z\n")
+    dossier("events", "--split", answer, log, fleet / "web-1", place)
+    shutil.copy(own / "claim.json", answer)
+    rests = json.loads((answer / "events.json").read_text())["machines"]
+    status, out, _ = dossier("verify", "--as-signed", "--signers", signers, pages, answer, fleet)
+    check("an answer that rests on itself and on a year", made=({*rests[-1]["days"]}, {"answer", "pages"}),
+          status=(status, 1), lines=([f"{folder}: nobody signed it" in out.decode() for folder in (pages, answer)],
+                                     [True, True]), last=(
+              out.decode().splitlines()[-1].startswith(f"not as it was signed: {pages}, {answer}"), True))
+
+
+BRIEF = f"""import sys; sys.path.insert(0, {str(ROOT)!r})
+import dossier.folder.jobs as jobs
+jobs.MAX_OF_A_RESULT, jobs.BLOCK = 1_500, 500
+from dossier import command_line
+sys.exit(command_line.main(sys.argv[1:]))"""
+"""Of a folder no more may be handed back than a line or two."""
+
+
+def test_days_too_many(place: Path) -> None:
+    """If the days of a year can't be found, it isn't as it was signed."""
+    if not is_here("ssh-keygen", "a year that is signed"):
+        return
+    signers, own = signers_of(place, "ann"), place / ("x" * 200) / "web-1"
+    dossier("audit", *(day(own, number, RIGHT) for number in range(12)))
+    pages = year_of(place, own)
+    dossier("sign", "--key", place / "ann", pages)
+    asked = ["verify", "--as-signed", "--signers", signers, pages, own]
+    check("a year", status=(dossier(*asked)[0], 0))
+    status, out, _ = run([sys.executable, "-c", BRIEF, *map(str, asked)], env=ENVIRONMENT)
+    check("a year whose days are too many", status=(status, 1), said=(
+        f"{pages}: ntpaudit-dossier: its result is too big" in out.decode(), True), last=(
+            out.decode().splitlines()[-1].startswith(f"not as it was signed: {pages}"), True))
+
+
+def test_chosen_keys() -> None:
+    """Whoever chooses sums chooses no places in a table of them."""
+    class Counted(list[int]):
+        seen = 0
+
+        def __getitem__(self, at: Any) -> Any:
+            Counted.seen += 1
+            return super().__getitem__(at)
+    table = Table()
+    for number in range(1, 2_000):
+        table.put(number << 32, number)
+    table.numbers = Counted(table.numbers)  # type: ignore
+    found = [table.get(number << 32) for number in range(1, 2_000)]
+    check("chosen keys", found=(found, [*range(1, 2_000)]), looks=(Counted.seen, lambda seen: seen < 50_000))
+
+
+def test_names_of_machines(place: Path) -> None:
+    """Machines are called as they like, or are refused when the year is made."""
+    if not is_here("ssh-keygen", "a year that is signed"):
+        return
+    signers, fleet = signers_of(place, "ann", "verified"), place / "fleet"
+    own = day(fleet / "verified", 0, RIGHT)
+    dossier("audit", own, env={**ENVIRONMENT, "XDG_STATE_HOME": str(place / "own")})
+    sign(place, "verified", own / "audit.json")
+    pages = year_of(place, "--signers", signers, fleet / "verified")
+    dossier("sign", "--key", place / "ann", "--signers", signers, pages)
+    status, out, _ = dossier("verify", "--as-signed", "--signers", signers, pages, fleet)
+    check("a machine that is called verified", status=(status, 0), said=(
+        f"{pages}: {FOLLOWS}" in out.decode(), True))
+    for name in "web\n1", os.fsdecode(b"web-\xff1"):
+        other = day(fleet / name, 0, RIGHT)
+        dossier("audit", other)
+        status, _, said = dossier("year", "--year", "2001", "--split", place / "other", other.parent)
+        check(f"a machine that is called {name!r}", status=(status, lambda status: status > 0), said=(
+            b"call its folder otherwise" in said, True), left=((place / "other").exists(), False))
+
+
+def test_named_twice(place: Path) -> None:
+    """A day that is named besides its year is looked at once. A folder with what was left of a day is none of days."""
+    own, signers = day(place / "fleet" / "web-1", 0, RIGHT), ENVIRONMENT
+    within = day(own / "web-9", 0, RIGHT)
+    dossier("audit", within)
+    pages = year_of(place, own / "web-9")
+    out = dossier("verify", pages, own, within, env=signers)[1].decode()
+    check("a day that is named besides its year", lines=(out.count(f"{within}: verified: yes"), 1), copy=(
+        "copy" in out, False), above=(f"{own}: ntpaudit-dossier: not audited" in out, True))
 
 
 def test_days_within(place: Path) -> None:
