@@ -4,7 +4,6 @@ rest, and all days beside these.
 import os
 from collections.abc import Callable
 from contextlib import suppress
-from itertools import filterfalse
 from typing import NamedTuple
 
 from ..fault import Fault, fault
@@ -185,7 +184,7 @@ def days_beside(path: str, machines: list[str], rests: set[str], seconds: int) -
         for place in sorted({files.absolute(place): place for place in places}.values()):
             try:
                 found = folders_in(place, are_days=True)
-                days += filterfalse(is_of_days, found) if files.absolute(place) in rests else found
+                days += filter(may_be_signed, found) if files.absolute(place) in rests else found
             except Fault:
                 days.append(place)
             is_few(days)
@@ -231,9 +230,14 @@ def is_there(path: str) -> bool:
     return False
 
 
+def may_be_signed(path: str) -> bool:
+    """Whether an audit, a year or an answer is in a folder."""
+    with Folder(path) as folder:
+        return any(map(folder.has, files.SIGNATURES))
+
+
 def is_of_days(path: str) -> bool:
     """Whether a folder holds folders of days, and nothing of an audit, a year or an answer of its own."""
     with Folder(path) as folder:
         names = folder.names()
-        return not any(map(files.is_capture, names)) and \
-            files.LEFT.isdisjoint(names) and not any(map(folder.has, (files.AUDIT, files.YEAR, files.EVENTS)))
+        return not any(map(files.is_capture, names)) and files.LEFT.isdisjoint(names) and not may_be_signed(path)

@@ -317,8 +317,8 @@ def test_copied_years(place: Path) -> None:
           said=(b"verified: its statements follow" in dossier("verify", pages, fleet)[1], True))
     year = json.loads((pages / "year.json").read_text())
     silent = {**year["machines"][0], "statement": texts[0].partition('class="statement">')[2].partition("</p>")[0]}
-    nothing = {**silent, "machine": "web 9", "file": "empty.sums", "sha256": sum_of(b"")}
-    (pages / "empty.sums").write_bytes(b"")
+    nothing = {**silent, "machine": "web 9", "file": "empty.days", "sha256": sum_of(b"")}
+    (pages / "empty.days").write_bytes(b"")
     silent["statement"] = re.sub("A recording .*? copy[.] ", "", silent["statement"])
     for name, machines in (("a copy that isn't said", [silent, *year["machines"][1:]]),
                            ("a statement on no days", [nothing]),
