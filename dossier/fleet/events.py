@@ -45,8 +45,8 @@ MAX_NOTES = 20
 
 class EventsCall(NamedTuple):
     """What is asked for, by what is known here, a list of leap seconds and a program; how many seconds each folder has,
-    how many are worked on side by side, and what makes a page; who may have signed what isn't known here, and the
-    folders that count by that in an answer that is to be verified."""
+    how many are worked on side by side, and what makes a page; who may have signed what isn't known here, the folders
+    that count by that in an answer that is to be verified, and those of other machines."""
 
     asked: Asked
     known: Known
@@ -57,6 +57,7 @@ class EventsCall(NamedTuple):
     page: "PageOfEvents | None" = None
     signers: Signers = Signers(None)
     signed: frozenset[str] = frozenset()
+    others: frozenset[str] = frozenset()
 
 
 class Row(NamedTuple):
@@ -198,6 +199,7 @@ class Working:
 
     def __init__(self, call: EventsCall, log: Log, machines: list[Machine]):
         self.call, self.log, self.faults, self.status = call, log, list[str](), 0
+        self.alike = namesakes([*(machine.path for machine in machines), *call.others])
         self.by_name = dict[str, list[Machine]]()
         for machine in machines:
             for name in names_of(machine):
@@ -250,7 +252,7 @@ class Working:
 
     def timed(self, machine: str, path: str) -> Timed:
         """What is said of the events of a folder. Of machines that are called alike no signature counts."""
-        is_namesake = os.path.basename(absolute(machine)) in namesakes(self.wanted)
+        is_namesake = os.path.basename(absolute(machine)) in self.alike
         call = self.call._replace(signers=Signers(None)) if is_namesake else self.call
         return timed(call, machine, path, [self.log.events[k] for k in self.own[path]])
 
@@ -331,8 +333,8 @@ def folders_of(folder: Folder, named: set[str]) -> dict[str, str]:
             raise fault(f"{plain(resting.machine)}: its folder is {plain(machine.path)}, {why}")
         for name, sum_ in resting.days.items():
             path = os.path.normpath(os.path.join(machine.path, name))
-            if is_within(path, folder.path):
-                raise fault(f"{plain(resting.machine)}: a folder of it is {plain(path)}, which rests on it")
+            if is_within(path, folder.path) or not is_within(path, machine.path):
+                raise fault(f"{plain(resting.machine)}: {plain(path)} can't be a folder of it")
             if named.isdisjoint(folders_above(path)):
                 raise fault(f"{path} is in no folder that is named: if it may be read, name it too")
             days[path] = sum_

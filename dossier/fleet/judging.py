@@ -15,7 +15,7 @@ from ..folder.claim import Claim
 from ..folder.entry import (AGAINST, NOTHING_FITS, REFUTED, YES, Alert, Elsewhere, Entry, LeapList, Record,
                             Refutation)
 from ..folder.files import (CERTIFICATE, CLAIM, CLAIM_OF_0, CLAIM_OF_DRIFT, ENVELOPE, JOINED, PARTS, REFUTATION, REPORT,
-                            Folder, own_data, sum_of, sum_of_file)
+                            Folder, is_capture, own_data, sum_of, sum_of_file)
 from ..folder.placing import copy_of
 from ..folder.program import Program
 from ..premise.backing import against, backing
@@ -64,7 +64,8 @@ class Judging:
             raise Unjudgeable  # (nothing says that the moves are so, nor `check` that a course fits the whole capture)
         if isinstance(entry.reason, Elsewhere):
             raise Unjudgeable  # (that the refutation is of another time)
-        held = {record.capture} & {*record.inputs} if entry.answer == YES else set[str]()
+        is_held = entry.answer == YES and is_capture(record.capture) and record.capture in record.inputs
+        held = [record.capture] * is_held
         taken = take_inputs(self.folder, record, {name: record.inputs[name] for name in held})
         if changed := change_of(self.folder, record, taken.sums):
             return Judged(changed, "")

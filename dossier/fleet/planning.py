@@ -25,24 +25,29 @@ MAX_DAYS_AT_ONCE, AT_ONCE = 1_000_000, 1_000
 
 
 class Machines(NamedTuple):
-    """The folders of machines whose days are looked at, what these are called, and the folders in which they are."""
+    """The folders of machines whose days are looked at, what these are called, and the folders in which they are; and
+    the folders of all machines in those that are named."""
 
     folders: frozenset[str] = frozenset()
     names: frozenset[str] = frozenset()
     places: frozenset[str] = frozenset()
+    every: frozenset[str] = frozenset()
+
+    def among(self, every: frozenset[str]) -> "Machines":
+        """These among all."""
+        return self._replace(every=self.folders | every, names=self.names.union(map(os.path.basename, every)))
 
 
 class Plan(NamedTuple):
     """The folders that are looked at, in order; those of days on which a year's statements rest, each with its name for
-    good; of folders with a year's machines all days in them; those in which are folders of an answer to a log; the days
-    on which an answer rests, or a year though they aren't named themselves, for which a signature of that is one; the
-    machines of all; how many days beside a year's are of another time, and aren't looked at; the years; whether there
-    are answers to logs; and why the days on which a folder rests couldn't be found."""
+    good; what is said of those that hold days and nothing else; the days on which an answer rests, or a year though
+    they aren't named themselves, for which a signature of that is one; the machines of all; how many days beside a
+    year's are of another time, and aren't looked at; the years; whether there are answers to logs; and why the days
+    that belong to a folder couldn't be found."""
 
     every: list[str]
     stated: dict[str, str]
-    beside: dict[str, list[str] | Refusal]
-    above: list[str] = []
+    holds: dict[str, str] = {}
     resting: frozenset[str] = frozenset()
     machines: Machines = Machines()
     of_others: int = 0
@@ -80,27 +85,52 @@ def planned(folders: list[str], named: set[str], seconds: int) -> Plan:
     for machine in {os.path.dirname(day) for day in stated}:
         for path in named & folders_above(machine):
             below_of.setdefault(path, []).append(machine)
-    rests = set(map(files.absolute, resting))
+    rests, years = set(map(files.absolute, resting)), [year for year, _ in spans if year]
+    bare = those_among([folder for folder in folders if folder not in with_days] * bool(with_days), is_bare, seconds)
+    holds = {folder: holding(files.absolute(folder), below_of, above, folder in bare) for folder in folders}
+    for folder in bare if years else ():  # (days may have been left out of a year)
+        below_of.setdefault(files.absolute(folder), [])
     beside = {folder: days_beside(folder, below_of[files.absolute(folder)], rests, seconds)
               for folder in folders if files.absolute(folder) in below_of}
     counted = named | rests
     for folder, result in beside.items():
-        if not isinstance(result, Refusal):
+        if isinstance(result, Refusal):
+            refused[folder] = result
+        else:
             for day in (day for day in result if files.absolute(day) not in counted):
                 (below[folder] if is_of_years(os.path.basename(day), spans) else others).append(day)
             counted.update(map(files.absolute, result))
             result.clear()
-    every = [each for folder in folders for each in (*below[folder], folder) if each not in of_events]
-    every = list(dict.fromkeys(every)) + of_events
-    above_of = [folder for folder in folders if files.absolute(folder) in above]
+    spelled = {files.absolute(path): path for path in stated}
+    every = [spelled.get(files.absolute(each), each) for folder in folders for each in (*below[folder], folder)
+             if each not in of_events]
+    every = once(every) + of_events
     days = [path for path in every + others if path in stated or is_day(os.path.basename(path))]
     own = frozenset(os.path.dirname(files.absolute(day)) for day in days)
     split = [os.path.split(machine) for machine in own]
     machines = Machines(own, frozenset(name for _, name in split), frozenset(place for place, _ in split))
     by_itself = named.difference(day for day in answered if not has_signature(day))
     resting = {path for path in every if files.absolute(path) in rests - by_itself}
-    return Plan(every, stated, beside, above_of, frozenset(resting), machines, len(others),
-                tuple(year for year, _ in spans if year), bool(of_events), refused)
+    said = {folder: words for folder, words in holds.items() if words}
+    return Plan(every, stated, said, frozenset(resting), machines, len(others), tuple(years), bool(of_events), refused)
+
+
+def once(paths: list[str]) -> list[str]:
+    """Paths of folders, of each the first spelling."""
+    first = dict[str, str]()
+    for path in paths:
+        first.setdefault(files.absolute(path), path)
+    return list(first.values())
+
+
+def holding(path: str, below_of: dict[str, list[str]], above: set[str], is_bare: bool) -> str:
+    """What is said of a folder that holds days, and nothing else."""
+    if below_of.get(path):
+        return "a year's days are in it"
+    if path in above:
+        return "folders of an answer to a log are in it"
+    return "no year or answer that is named rests on what is in it" if is_bare and not is_day(os.path.basename(path)) \
+        else ""
 
 
 def has_signature(path: str) -> bool:
@@ -192,16 +222,21 @@ def days_beside(path: str, machines: list[str], rests: set[str], seconds: int) -
     return run_one(path, work, list[str], seconds)
 
 
-def machines_below(folders: list[str], seconds: int) -> frozenset[str]:
-    """What machines are called whose folders are in those that are named, or in a folder in these. (What is called so
-    and has no days may be of whoever signs.)"""
-    def work(*_: object) -> list[str]:
-        places = [place for folder in folders for place in (folder, *others_in(folder))]
-        return sorted({os.path.basename(path) for place in places for path in others_in(place) if has_days(path)})
+def machines_below(folders: list[str], seconds: int) -> tuple[frozenset[str], dict[str, Refusal]]:
+    """The folders of machines in those that are named, or in a folder in these; and why they can't be found in some.
+    (What is called like a machine and has no days may be of whoever signs.)"""
+    def work(path: str, _: int) -> list[str]:
+        places = [place for folder in ([path] if path else folders) for place in (folder, *others_in(folder))]
+        return sorted({files.absolute(path) for place in places for path in others_in(place) if has_days(path)})
+    found, refused = set[str](), dict[str, Refusal]()
     result = run_one("", work, list[str], seconds)
-    if isinstance(result, Refusal):
-        raise Fault(result.line, result.status)
-    return frozenset(result)
+    every = run_all(folders, work, list[str], seconds) if isinstance(result, Refusal) else [("", result)]
+    for path, came in every:  # (one by one if they are too many together)
+        if isinstance(came, Refusal):
+            refused[path] = came
+        else:
+            found.update(came)
+    return frozenset(found), refused
 
 
 def others_in(place: str) -> list[str]:
@@ -240,4 +275,10 @@ def is_of_days(path: str) -> bool:
     """Whether a folder holds folders of days, and nothing of an audit, a year or an answer of its own."""
     with Folder(path) as folder:
         names = folder.names()
-        return not any(map(files.is_capture, names)) and files.LEFT.isdisjoint(names) and not may_be_signed(path)
+        own = {*files.SIGNATURES, *files.LEFT}
+        return own.isdisjoint(names) and not any(map(files.is_capture, names))
+
+
+def is_bare(folder: Folder) -> bool:
+    """The same, and not even a claim."""
+    return not folder.has(files.CLAIM) and is_of_days(folder.path)

@@ -275,7 +275,10 @@ def compared(folder: Folder, known: Known, leaps: LeapList, signers: Signers = S
         lines = lines_in(folder, stated)
         if wrong := has_one_machine(folder, stated, lines, named):
             return Compared(wrong)
-        year = year_stated(stated, lines, wanted)
+        try:
+            year = year_stated(stated, lines, wanted)
+        except Fault as error:
+            raise error.of(plain(machine_in(stated, lines))) from None
         if wrong := other_days(stated, lines, year, wanted) or \
                 without_says(stated, lines) * bool(statements.pages):
             return Compared(wrong)

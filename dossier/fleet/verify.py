@@ -30,8 +30,9 @@ from .drawing import drawn_of, likelihoods
 from .events import (OWN, EventsCall, PageOfEvents, difference as difference_of_events, folders_of, is_of_events,
                      renamed_in)
 from .judging import ONLY_MADE, Judging, Unjudgeable
-from .planning import (Machines, beside_years, is_of_days, is_of_several, machines_below, names_of, planned,
-                       those_among)
+from .days import NAMESAKES, namesakes
+from .planning import (Machines, beside_years, is_of_days, is_of_several, machines_below, names_of, once,
+                       planned, those_among)
 from .signature import GOOD, NONE, UNSEEN, Signers, in_words, signed_in
 from .statements import (Compared as YearCompared, compared as year_compared, days_of, folders_above,
                          unanswered_in)
@@ -68,6 +69,9 @@ class How(NamedTuple):
     as_signed: bool = False
 
 
+OTHER_BUILD = "by another build of the program than the audit's"
+
+
 class Verifier:
     """Verifies folders, and records those that are. The second program judges their answers too, if there is one."""
 
@@ -82,12 +86,11 @@ class Verifier:
         record, form = read_any(data), form_of(data)
         if difference := "" if record.refusal else change_of(folder, record):
             return Verified(difference, [], None)
-        is_other = record.program.sha256 != self.program.made.sha256
+        is_other = self.is_other(record)
         making = Making(folder, self.program, record.options, self.leaps, record)
         made = replace(made_by(making, record, earlier_of(folder, record) if is_other else None), signed=record.signed)
         difference = self.compared(folder, record, made, is_other, form < VERSION)
-        notes = ["by another build of the program than the audit's"] if is_other else []
-        notes += notes_of(made)
+        notes = [OTHER_BUILD] * is_other + notes_of(made)
         if not difference:
             if form == VERSION:
                 self.known.add(sum_of(data), made)
@@ -108,7 +111,11 @@ class Verifier:
             return self.verify(folder)
         if difference:
             return Verified(difference, [], None)
-        return Verified("", self.judged_twice(record, lambda _: capture), record, is_judged=True)
+        notes = [OTHER_BUILD] * self.is_other(record)
+        return Verified("", notes + self.judged_twice(record, lambda _: capture), record, is_judged=True)
+
+    def is_other(self, record: Record) -> bool:
+        return record.program.sha256 != self.program.made.sha256
 
     def is_judged_twice(self, record: Record) -> bool:
         """Whether nothing is left for the second program, if there is one, to judge."""
@@ -231,6 +238,7 @@ class Comparison:
 def verify_all(folders: list[str], verifier: Verifier, signers: Signers, seconds: int, how: How = How()) -> int:
     """Prints `verified` and the verdict, or the first difference, a line for each folder, and notes. The status is 0 if
     all is verified and shown, and 1 if something isn't; or a fault's."""
+    folders = once(folders)
     named = {files.absolute(folder) for folder in folders}
     plan = planned(folders, named, seconds)
     names, beside = (names_of(plan, seconds), beside_years(plan, named)) if how.sample is not None else ({}, set())
@@ -242,20 +250,16 @@ def verify_all(folders: list[str], verifier: Verifier, signers: Signers, seconds
     verifier.known.believes = how.sample is not None and not how.answers
     left = set(alone).difference(drawn) | beside if how.sample is not None and not how.answers else set()
     signers.look_at([path for path in plan.every if path not in left or path in plan.stated], seconds)
-    below = machines_below(folders, seconds) if signers.given is not None else frozenset()
-    machines = plan.machines._replace(names=plan.machines.names | below)
+    below, unseen = machines_below(folders, seconds) if signers.given is not None else (frozenset(), {})
+    refused, machines = unseen | plan.refused, plan.machines.among(below)
     told, seen = Tally(how.as_signed, verifier.known.believes, plan.speaks_of), SeenFolders(len(plan.every))
 
     def work(path: str, _: int) -> Compared:  # (a year's signature is one for its days)
-        if path in plan.beside and is_of_days(path):
-            if isinstance(refusal := plan.beside[path], Refusal):
-                raise Fault(refusal.line, refusal.status)
-            return Compared(0, ["(a year's days are in it)"], is_same=True)
-        if path in plan.above and is_of_days(path):
-            return Compared(0, ["(folders of an answer to a log are in it)"], is_same=True)
+        if path in plan.holds and path not in refused and is_of_days(path):
+            return Compared(0, [f"({plan.holds[path]})"], is_same=True)
         is_asked_for = how.as_signed or files.absolute(path) in named
         is_drawn = path in drawn or path in several
-        return verify(verifier, signers, Need(is_asked_for, path in plan.resting, plan.refused.get(path)), path, named,
+        return verify(verifier, signers, Need(is_asked_for, path in plan.resting, refused.get(path)), path, named,
                       how._replace(answers=how.answers and not is_drawn, known=how.known and not is_drawn), machines)
     for path, came in run_all([path for path in plan.every if path not in left], work, Compared, seconds):
         result = Compared(came.status, [came.line]) if isinstance(came, Refusal) else came
@@ -353,8 +357,8 @@ def verify(verifier: Verifier, signers: Signers, need: Need, path: str, named: s
         with Folder(path) as folder:
             signature, signed = signers.signature_of(folder), signed_in(folder)
             is_signed = need.is_signed and (signed in RESTS or not need.is_resting)
-            if is_signed and signature.state == GOOD and is_machines(folder, signature.signer, machines):
-                unsigned.append(f"{in_words(signature)}: {OWN_DAYS}")
+            if is_signed and signature.state == GOOD and (why := not_its_own(folder, signature.signer, machines)):
+                unsigned.append(f"{in_words(signature)}: {why}")
             elif signature.state in (GOOD, UNSEEN) or not is_signed:
                 notes += [in_words(signature)] * (signature.state != NONE)
             elif signature.state != NONE or signers.given is not None:
@@ -396,19 +400,19 @@ def verify(verifier: Verifier, signers: Signers, need: Need, path: str, named: s
                     [entry.claim for entry in made.entries] if made else [], captures, sum=data if is_same else "")
 
 
-def is_machines(folder: Folder, signer: str, machines: Machines) -> bool:
-    """Whether a machine signed what isn't a day of its own: a year or an answer to a log, or a day of another one. A
-    machine is what is called so, among those that are looked at, beside their folders, below what is named, or in what
-    is signed."""
+def not_its_own(folder: Folder, signer: str, machines: Machines) -> str:
+    """Why a machine's signature doesn't count, if it doesn't: the machine signed what isn't a day of its own, a year or
+    an answer to a log, or a day of another one; or another one is called alike. A machine is what is called so, among
+    those that are looked at, beside their folders, below what is named, or in what is signed."""
     own, signed, path = signer.rpartition("@")[2], signed_in(folder), files.absolute(folder.path)
     above, names, places = os.path.dirname(path), machines.names, machines.places
     if signed == files.AUDIT:
         if own in {os.path.basename(one) for one in (path, above, *(machines.folders & folders_above(path)))}:
-            return False
+            return NAMESAKES.format(own) if own in namesakes(machines.every) else ""
         places |= {above, os.path.dirname(above)}
     else:
         names |= stated_in(folder.data(signed), signed)
-    return own in names or any(is_in(place, own) for place in places)
+    return OWN_DAYS if own in names or any(is_in(place, own) for place in places) else ""
 
 
 def stated_in(data: bytes, signed: str) -> set[str]:
@@ -435,7 +439,7 @@ def difference_of_days(verifier: Verifier, folder: Folder, named: set[str], sign
     if is_of_events(folder):
         folders_of(folder, named)
         call = EventsCall(Asked(), verifier.known, verifier.leaps, verifier.program, SECONDS, page=verifier.page,
-                          signers=signers)
+                          signers=signers, others=machines.every)
         differs, untimed = difference_of_events(folder, call)
         return YearCompared(differs, notes=renamed_in(folder) + unanswered_in(folder, OWN),
                             rest=[f"{count(untimed, 'event')} without a time"] * bool(untimed))

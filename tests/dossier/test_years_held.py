@@ -242,7 +242,7 @@ def test_large_files_of_days(place: Path) -> None:
     (pages / "x.cap").write_bytes(b"")
     os.truncate(pages / "x.cap", 1 << 32)
     status, out, _ = dossier("verify", pages, place / "fleet", memory=1 << 29)
-    check("a file of days that is called otherwise", status=(status, 4), said=("year.json" in out.decode(), True))
+    check("a file of days that is called otherwise", status=(status, 2), said=("year.json" in out.decode(), True))
     year["machines"][0]["file"] = file.name
     (pages / "year.json").write_text(json.dumps(year))
     file.write_bytes(kept)
@@ -355,6 +355,25 @@ def test_days_too_many(place: Path) -> None:
     check("a year whose days are too many", status=(status, 1), said=(
         f"{pages}: ntpaudit-dossier: its result is too big" in out.decode(), True), last=(
             out.decode().splitlines()[-1].startswith(f"not as it was signed: {pages}"), True))
+    above = day(place, 0, RIGHT, "y" * 200)
+    dossier("audit", above, day(above / "web-1", 0, RIGHT))
+    shutil.rmtree(pages)
+    dossier("sign", "--key", place / "ann", above, year_of(place, above / "web-1"))
+    asked[-1] = above
+    check("a day in which a year's days are", status=(dossier(*asked)[0], 0))
+    for number in range(12):
+        (above / "web-2" / f"2001-09-{10 + number}").mkdir(parents=True)
+    status, out, _ = run([sys.executable, "-c", BRIEF, *map(str, asked)], env=ENVIRONMENT)
+    check("a day in which too many are", status=(status, 1), said=(
+        f"{above}: ntpaudit-dossier: its result is too big" in out.decode(), True))
+    for number in range(12):
+        (place / "many" / f"{number:0200}" / "2001-09-09").mkdir(parents=True)
+    single = day(place / "web-2", 0, RIGHT)
+    dossier("audit", single)
+    dossier("sign", "--key", place / "ann", single)
+    out = run([sys.executable, "-c", BRIEF, *map(str, [*asked[:4], single, place / "many"])], env=ENVIRONMENT)[1]
+    check("beside too many machines", lines=([line in out.decode() for line in (
+        f"{single}: verified: yes", f"{place / 'many'}: ntpaudit-dossier: its result is too big")], [True, True]))
 
 
 def test_chosen_keys() -> None:
@@ -392,6 +411,53 @@ def test_names_of_machines(place: Path) -> None:
         status, _, said = dossier("year", "--year", "2001", "--split", place / "other", other.parent)
         check(f"a machine that is called {name!r}", status=(status, lambda status: status > 0), said=(
             b"call its folder otherwise" in said, True), left=((place / "other").exists(), False))
+
+
+def test_nothing_rests(place: Path) -> None:
+    """A machine on whose days nothing rests may be named beside a year or an answer; days that a year left out are
+    seen."""
+    if not is_here("ssh-keygen", "a year that is signed"):
+        return
+    signers, fleet = signers_of(place, "ann"), place / "fleet"
+    dossier("audit", day(fleet / "web-1", 0, RIGHT), day(fleet / "web-2", 0, RIGHT, client="192.0.2.11"))
+    (fleet / "web-3").mkdir()
+    pages, answer, none = year_of(place, fleet / "web-1"), answer_of(place, fleet / "web-1"), "rests on what is in it"
+    dossier("sign", "--key", place / "ann", pages, answer)
+    asked = ["verify", "--as-signed", "--signers", signers]
+    for what, status, words in rows(
+            ([answer, *fleet.iterdir()], 0, f"{fleet / 'web-2'}: (no year or answer that is named {none})"),
+            ([pages, fleet / "web-1", fleet / "web-3"], 0,
+             f"{fleet / 'web-3'}: (no year or answer that is named {none})"),
+            ([pages, *fleet.iterdir()], 1, f"{fleet / 'web-2' / '2001-09-09'}: nobody signed it"),
+            ([pages, pages / ".." / "pages", fleet], 1, f"{pages}: verified: its statements follow")):
+        told = dossier(*asked, *what)
+        check(f"verify {len(what)} folders", status=(told[0], status), said=(words in told[1].decode(), True),
+              once=(told[1].decode().count(": (signed at"), 1))
+
+
+def test_namesakes_in_answers(place: Path) -> None:
+    """Of machines that are called alike no key counts, by whatever path a log calls them; and a day of an answer is in
+    its machine's folder."""
+    if not is_here("ssh-keygen", "an answer that is signed"):
+        return
+    signers, machines = signers_of(place, "ann", "web-1"), [place / "fleet" / site / "web-1" for site in ("a", "b")]
+    for machine, client in zip(machines, ("192.0.2.10", "192.0.2.11")):
+        own = day(machine, 0, RIGHT, client=client)
+        dossier("audit", own, env={**ENVIRONMENT, "XDG_STATE_HOME": str(place / "other")})
+        sign(place, "web-1", own / "audit.json")
+    log = log_of(place, f"machine,time\n{machines[0]},{NOON}Z\n")
+    text = dossier("events", "--signers", signers, "--split", place / "answer", log, *machines)
+    check("an answer by a namesake's key", status=(text[0], 1), verdict=(
+        (place / "answer" / "answered.csv").read_bytes().endswith(b",,,not verified\n"), True))
+    status, out, _ = dossier("verify", "--as-signed", "--signers", signers, *(own / "2001-09-09" for own in machines))
+    check("days by a namesake's key", status=(status, 1), said=(
+        out.count(b": more than one machine is called web-1"), 2))
+    file = place / "answer" / "events.json"
+    events = json.loads(file.read_text())
+    events["machines"][0]["days"] = {"..": ""}
+    file.write_text(json.dumps(events))
+    out = dossier("verify", place / "answer", place / "fleet")[1]
+    check("a day above its machine", said=(f"{machines[0].parent} can't be a folder of it" in out.decode(), True))
 
 
 def test_named_twice(place: Path) -> None:
