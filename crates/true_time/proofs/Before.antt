@@ -241,7 +241,8 @@ module _ (n : ℕ) (time time' : ℤ) where
   second_is_so least Never is so = is
 
   open_is_so : (earlier later : ℕ) (order : Order) → IsAtMostBefore earlier n n time time'
-      → IsAtMostBefore later n n time' time → IsSo order n n time time' → IsSo (open_by earlier later order) n n time time'
+      → IsAtMostBefore later n n time' time → IsSo order n n time time'
+      → IsSo (open_by earlier later order) n n time time'
   open_is_so earlier later (Open e l) by_1 by_2 so = (
     of_min (λ (k : ℕ). IsAtMostBefore k n n time time') earlier e by_1 so.0,
     of_min (λ (k : ℕ). IsAtMostBefore k n n time' time) later l by_2 so.1,
